@@ -15,7 +15,7 @@ slice_get-append_left [] ys i h = absurd (omega (arith, h))
 slice_get-append_left (x ∷ xs) ys zero h = refl
 slice_get-append_left (x ∷ xs) ys (suc i) h = slice_get-append_left xs ys i (omega (arith, h))
 
--- an element of the second list stands behind the first
+-- an element of the second list stands after the first
 pub slice_get-append_right : {X : Type 0} (xs ys : List X) (i : ℕ) → slice_get (xs ++ ys) (length xs + i) ≡ slice_get ys i
 slice_get-append_right [] ys i = let e : 0 + i ≡ i = omega arith in ap (slice_get ys) e
 slice_get-append_right (x ∷ xs) ys i =
@@ -46,7 +46,7 @@ same_by_place (x ∷ xs) (y ∷ ys) h =
     let rest : xs ≡ ys = same_by_place xs ys (λ i. h (suc i)) in
     cc
 
--- a list is what stands before an element, the element, and what stands behind it
+-- a list is what stands before an element, the element, and what stands after it
 pub split_at_place : {X : Type 0} (xs : List X) (i : ℕ) (x : X) → slice_get xs i ≡ Some x → xs ≡ take i xs ++ x ∷ drop (suc i) xs
 split_at_place [] i x h = absurd (let bad : None ≡ Some x = h in cc)
 split_at_place (y ∷ ys) zero x h = let here : Some y ≡ Some x = h in let same : y ≡ x = cc in ap (λ z. z ∷ ys) same
@@ -81,7 +81,7 @@ range_with_len-push a (suc n) =
 pub range_with_len-more : (a n : ℕ) → range_with_len a (n + 1) ≡ range_with_len a n ++ (a + n) ∷ []
 range_with_len-more a n = ap (range_with_len a) (add-one n) ∙ range_with_len-push a n
 
--- a range, and the range behind it
+-- a range, and the range after it
 pub range_with_len-append : (a n m : ℕ) → range_with_len a (n + m) ≡ range_with_len a n ++ range_with_len (a + n) m
 range_with_len-append a zero m = let e : a + 0 ≡ a = omega arith in let f : 0 + m ≡ m = omega arith in rw (e, f) refl
 range_with_len-append a (suc n) m =
@@ -90,7 +90,7 @@ range_with_len-append a (suc n) m =
     let rest : range_with_len (a + 1) (n + m) ≡ range_with_len (a + 1) n ++ range_with_len (a + 1 + n) m = range_with_len-append (a + 1) n m in
     rw e (ap (λ (xs : List ℕ). a ∷ xs) (rest ∙ ap (λ (x : ℕ). range_with_len (a + 1) n ++ range_with_len x m) f))
 
--- an element behind the first n
+-- an element after the first n
 pub slice_get-drop : {X : Type 0} (n : ℕ) (xs : List X) (i : ℕ) → slice_get (drop n xs) i ≡ slice_get xs (n + i)
 slice_get-drop zero xs i = let e : i ≡ 0 + i = omega arith in ap (slice_get xs) e
 slice_get-drop (suc n) [] i = refl

@@ -1,4 +1,4 @@
--- The number under which each cause is printed (docs/REPORT.md, All refusals and Machine faults).
+-- The number under which each cause is printed (docs/REFUSALS.md, All refusals; docs/OUTPUT.md, Machine faults).
 use Rattle.std.specs.Prelude.{ℕ}
 use Rattle.base.specs.declared.causes.LogCause.{LogCause}
 use Rattle.base.specs.declared.causes.LogCause.TheVariants as log

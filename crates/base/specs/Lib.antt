@@ -3,3 +3,4 @@ pub mod Check
 pub mod Refusals
 pub mod Numbers
 pub mod Causes
+pub mod Sizes

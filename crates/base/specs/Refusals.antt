@@ -1,4 +1,4 @@
--- Refusals: the number under which each is printed, and those of the work (docs/REPORT.md, All refusals).
+-- Refusals: the number under which each is printed, and those of the work (docs/REFUSALS.md, All refusals).
 use Rattle.std.specs.Prelude.{ℕ, None}
 use Rattle.base.specs.Causes.{log_number, request_number, code_number, asm_number, verifier_number, join_number, work_number}
 use Rattle.base.specs.declared.causes.WorkCause.{WorkCause}

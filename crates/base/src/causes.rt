@@ -1,6 +1,6 @@
 //! The causes of refusals and of machine faults, each with the number under which it is printed.
 //!
-//! docs/REPORT.md has one table of all of them.
+//! docs/REFUSALS.md has one table of all of them.
 
 ghost use Rattle.std.specs.Prelude.{◌≡◌};
 ghost use Rattle.base.specs.Causes.{log_number, request_number, code_number, asm_number, verifier_number, join_number, work_number, fault_number};
@@ -43,7 +43,7 @@ impl LogCause {
     }
 }
 
-/// Why a request is refused (docs/REPORT.md, All refusals).
+/// Why a request is refused (docs/REFUSALS.md, All refusals).
 #[derive(Clone, Copy, Debug, PartialEq, Eq)]
 pub enum RequestCause {
     /// The log has too many crash images.
@@ -171,18 +171,18 @@ impl VerifierCause {
     }
 }
 
-/// Why texts are no parts of one run in a row (docs/REPORT.md, Joining parts).
+/// Why texts are no parts of one run in a row (docs/COMMANDS.md, Joining parts).
 #[derive(Clone, Copy, Debug, PartialEq, Eq, Error)]
 pub enum JoinCause {
-    #[error("the file isn't the text of a part, as 'explore --images' and 'join' print it (docs/REPORT.md, The text of a part)")]
+    #[error("the file isn't the text of a part, as 'explore --images' and 'join' print it (docs/OUTPUT.md, The text of a part)")]
     NotPart = 61,
-    #[error("the file is a part of another run than the first one: of other options, or of another log or other programs (docs/REPORT.md, Joining parts)")]
+    #[error("the file is a part of another run than the first one: of other options, or of another log or other programs (docs/COMMANDS.md, Joining parts)")]
     OtherRun = 62,
-    #[error("images are missing between the file and the part before it (docs/REPORT.md, Joining parts)")]
+    #[error("images are missing between the file and the part before it (docs/COMMANDS.md, Joining parts)")]
     Gap = 63,
-    #[error("the file has images that are in the part before it too (docs/REPORT.md, Joining parts)")]
+    #[error("the file has images that are in the part before it too (docs/COMMANDS.md, Joining parts)")]
     Overlap = 64,
-    #[error("with this file the parts have more than 1073741824 bytes (docs/REPORT.md, Joining parts)")]
+    #[error("with this file the parts have more than 1073741824 bytes (docs/COMMANDS.md, Joining parts)")]
     TooLong = 65,
     #[error("there is no memory for the join")]
     Memory = 66,
@@ -197,7 +197,7 @@ impl JoinCause {
     }
 }
 
-/// Why the work on a log was given up (docs/REPORT.md, All refusals).
+/// Why the work on a log was given up (docs/REFUSALS.md, All refusals).
 #[derive(Clone, Copy, Debug, PartialEq, Eq)]
 pub enum WorkCause {
     /// A block was handed over twice.

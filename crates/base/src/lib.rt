@@ -12,6 +12,7 @@
 //! - `refusal`: `Refusal`, a cause with its place and, where a program is at fault, the program. Every
 //!   refusal of the product, from a log that is cut short to memory that ran out in the midst of the
 //!   work, reaches the user as one, printed as a single line.
+//! - `limits`: `Limits`, how large logs and devices may be: usually, and with `--large`.
 //! - `specs/Check.antt`: an ordered list of checks and the first of them that fails. Where a refusal is
 //!   the first of some tests that fails (of a log's super block and entries, of options, of a slot's
 //!   fields, of an instruction's rules, of the machine's faults), the definition lists the tests in
@@ -19,13 +20,17 @@
 //!
 //! Its contract, in words: what is read at a place is the little-endian number of the bytes there,
 //! what is appended are the little-endian bytes of the number and nothing else, and a cause has the
-//! number that docs/REPORT.md lists.
+//! number that docs/REFUSALS.md lists.
 //!
 //! ```text
 //! let version = u64_at(log, 8);            // the number in bytes 8 to 15
 //! put_u64(&mut out, version)?;             // appends its eight bytes
 //! LogCause::Version.number()               // 3
 //! ```
+//!
+//! The contract of `Limits`:
+//!
+//! Both calls give the number of their limits (`byte_limit`, `sector_limit`), which is no more than the larger one.
 //!
 //! # Example
 //!
@@ -38,9 +43,21 @@
 //! put_u64(&mut out, version)?;                // appends its eight bytes
 //! let number = LogCause::Version.number();    // 3
 //! ```
+//!
+//! How large a log and its device may be:
+//!
+//! ```
+//! use base::limits::Limits;
+//!
+//! // 64 MiB and 8 MiB
+//! let bytes = Limits::Usual.bytes();
+//! let sectors = Limits::Usual.sectors();
+//! // bytes is 67_108_864, and sectors is 16_384
+//! ```
 #![tactic(auto)]
 
 pub mod bytes;
 pub mod causes;
+pub mod limits;
 pub mod numbers;
 pub mod refusal;

@@ -37,7 +37,7 @@ impl Cause {
 }
 
 /// A refusal: its cause, the place that the cause names (an entry, an option, a slot, a file, a block), and
-/// the program that is at fault, where one is (docs/REPORT.md, All refusals).
+/// the program that is at fault, where one is (docs/REFUSALS.md, All refusals).
 #[derive(Clone, Copy, Debug, PartialEq, Eq)]
 pub struct Refusal {
     pub code: Cause,

@@ -30,13 +30,13 @@ goes_there : (c : ℕ) (rest : List ℕ) → is_word_character c ≡ true → go
 unfolding goes_on
 goes_there c rest e = e
 
--- a whole word in front, where it does not go on behind
+-- a whole word in front, where it does not go on after
 pub word_parts : (c : ℕ) (w rest : List ℕ) → IsWord (c ∷ w) → goes_on rest ≡ false → parts ((c ∷ w) ++ rest) ≡ Word (c ∷ w) ∷ parts rest
 word_parts c [] rest h e = word_step c rest h.0 ∙ ap (λ (b : Bool). in_front c b (parts rest)) e
 word_parts c (d ∷ w) rest h e =
     word_step c ((d ∷ w) ++ rest) h.0 ∙ rw (goes_there d (w ++ rest) h.1.0, word_parts d w rest h.1 e) refl
 
--- nothing goes on behind the end
+-- nothing goes on after the end
 pub past_end : (line : List ℕ) → goes_on (drop (length line) line) ≡ false
 unfolding goes_on
 past_end line = rw (drop-length line) refl

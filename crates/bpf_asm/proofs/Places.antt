@@ -11,7 +11,7 @@ use Rattle.bpf_asm.specs.Says.{drafts_of, label_slot, slots_in, all_placed, inst
 use Rattle.bpf_asm.specs.Outlines.{slot_count, IsOutline, labels_in, LabelsFit}
 use Rattle.bpf_asm.proofs.Outlines.{label_within}
 
--- behind the first i drafts, which are these instructions, at this slot
+-- after the first i drafts, which are these instructions, at this slot
 pub record PlacedSoFar (at : List ℕ → Option ℕ) (drafts : List Draft) (i : ℕ) (instrs : List Instr) (slot : ℕ) : Type 0 where
   pub left : (all_placed at slot (drop i drafts) >>= (λ more. Some (instrs ++ more))) ≡ all_placed at 0 drafts
   pub slots : slot + slot_count (drop i drafts) ≡ slot_count drafts

@@ -5,7 +5,7 @@ use Rattle.std.proofs.Math.Seq.{drop-length}
 use Rattle.bpf_asm.specs.Words.{digit, numeral_from, numeral, in_64_bits}
 use Rattle.bpf_asm.proofs.Parts.{drop_there}
 
--- behind the first i digits, which make n
+-- after the first i digits, which make n
 pub record NumeralSoFar (base : ℕ) (digits : List ℕ) (i : ℕ) (magnitude : Option ℕ) : Type 0 where
   pub n : ℕ
   pub is : magnitude ≡ in_64_bits n

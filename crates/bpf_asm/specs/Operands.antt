@@ -15,7 +15,7 @@ abbrev pub ◌>>=◌ : {A B : Type 0} → Option A → (A → Option B) → Opti
 None >>= f = None
 (Some x) >>= f = f x
 
--- Parts that begin with an operand stand for its value, and there are the parts behind it.
+-- Parts that begin with an operand stand for its value, and there are the parts after it.
 abbrev pub Reading : Type 0 → Type 0
 Reading X = List Part → Option (X × List Part)
 
@@ -91,7 +91,7 @@ abbrev pub with_comma : {A : Type 0} → Option (A × List Part) → Option (A �
 with_comma None = None
 with_comma (Some x) = option_map (λ rest. (x.0, rest)) (mark 44 x.1)
 
--- one, two or three operands with commas between, and nothing behind them
+-- one, two or three operands with commas between, and nothing after them
 abbrev pub one : {A : Type 0} → Reading A → List Part → Option A
 one first ps = last_operand (first ps)
 
@@ -132,7 +132,7 @@ abbrev pub distance_to : (Number → Option ℤ) → Target → Option (ℤ × O
 distance_to range (At n) = option_map (λ d. (d, None)) (range n)
 distance_to range (To name) = Some (pos 0, Some name)
 
--- the operands behind the name of each instruction, then their ranges
+-- the operands after the name of each instruction, then their ranges
 unfoldable pub draft : Mnemonic → List Part → Option Draft
 draft (kind.Arithmetic w o) ps = do
   x ← two register operand ps

@@ -41,7 +41,7 @@ pub record Adds (line : List ℕ) (old new : code.Outline) (said : List Statemen
   pub read : statement_of line ≡ Some next
   pub outline : IsOutline new (said ++ next ∷ [])
 
--- a line that no program has behind these statements
+-- a line that no program has after these statements
 pub data Breaks (line : List ℕ) (said : List Statement) : Type 0 where
   unread : statement_of line ≡ None → Breaks line said
   fails : (next : Statement) → statement_of line ≡ Some next → Fails (said ++ next ∷ []) → Breaks line said
@@ -61,7 +61,7 @@ pub record Stands (o : code.Outline) : Type 0 where
   pub said : List Statement
   pub outline : IsOutline o said
 
--- each label has a slot of a program, or the one behind its end
+-- each label has a slot of a program, or the one after its end
 abbrev pub LabelsFit : (List ℕ → Option ℕ) → Type 0
 LabelsFit label_at = (name : List ℕ) (to : ℕ) → label_at name ≡ Some to → to ≤ 4096
 

@@ -29,7 +29,7 @@ unfoldable pub goes_on : List ℕ → Bool
 goes_on [] = false
 goes_on (c ∷ rest) = is_word_character c
 
--- a character of a word in front of the parts behind it: the first of the word that goes on there, or a word by itself
+-- a character of a word in front of the parts after it: the first of the word that goes on there, or a word by itself
 abbrev pub in_front : ℕ → Bool → List Part → List Part
 in_front c true (Word w ∷ rest) = Word (c ∷ w) ∷ rest
 in_front c _ rest = Word (c ∷ []) ∷ rest
@@ -43,12 +43,12 @@ parts (c ∷ rest) =
     else if is_blank c then parts rest
     else Mark c ∷ parts rest
 
--- the word that comes first, and the parts behind it
+-- the word that comes first, and the parts after it
 abbrev pub first_word : List Part → Option (List ℕ × List Part)
 first_word (Word w ∷ rest) = Some (w, rest)
 first_word _ = None
 
--- the mark that comes first, and the parts behind it
+-- the mark that comes first, and the parts after it
 abbrev pub first_mark : List Part → Option (ℕ × List Part)
 first_mark (Mark m ∷ rest) = Some (m, rest)
 first_mark _ = None

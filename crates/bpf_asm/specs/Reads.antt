@@ -9,7 +9,7 @@ use Rattle.bpf_asm.specs.declared.operand.Target.TheVariants as to
 use Rattle.bpf_asm.specs.Parts.{Part, parts}
 use Rattle.bpf_asm.specs.Operands.{Operand, InRegister, Constant, Target, At, To}
 
--- a value, seen so, and the line behind it
+-- a value, seen so, and the line after it
 abbrev pub Reads : {X Y : Type 0} → (X → Y) → Option (X × Bor (List ℕ)) → Option (Y × List Part) → Type 0
 Reads view None said = said ≡ None
 Reads view (Some x) said = said ≡ Some (view x.0, parts x.1.now)

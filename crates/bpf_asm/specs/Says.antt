@@ -24,7 +24,7 @@ drafts_of [] = []
 drafts_of (Instruction d ∷ rest) = d ∷ drafts_of rest
 drafts_of (_ ∷ rest) = drafts_of rest
 
--- the slot for which a label stands, that of the next instruction behind it, where the first has this slot
+-- the slot for which a label stands, that of the next instruction after it, where the first has this slot
 abbrev pub label_slot : ℕ → List Statement → List ℕ → Option ℕ
 label_slot slot [] name = None
 label_slot slot (Label l ∷ rest) name = if bytes_eq name l then Some slot else label_slot slot rest name
@@ -39,7 +39,7 @@ aim distance (instr.Branch w c dst source _) = instr.Branch w c dst source dista
 aim distance (instr.CallLocal _) = instr.CallLocal distance
 aim distance i = i
 
--- the distance from the slot behind an instruction to a slot
+-- the distance from the slot after an instruction to a slot
 abbrev pub away : ℕ → ℕ → ℤ
 away slot to = pos to -ℤ pos (slot + 1)
 

@@ -15,12 +15,12 @@ pub data Statement : Type 0 where
   Label : List ℕ → Statement
   Instruction : Draft → Statement
 
--- a colon, as behind a label
+-- a colon, as after a label
 abbrev pub is_colon : List Part → Bool
 is_colon (Mark m ∷ _) = m == 58
 is_colon _ = false
 
--- a name, and nothing behind the colon
+-- a name, and nothing after the colon
 abbrev pub label_line : List ℕ → List Part → Option Statement
 label_line name rest = if is_name name && is_none_left rest then Some (Label name) else None
 

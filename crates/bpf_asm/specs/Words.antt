@@ -13,7 +13,7 @@ digit c =
     else if is_in_range 65 70 c then c - 55
     else 16
 
--- the number that the digits make behind those that make n
+-- the number that the digits make after those that make n
 unfoldable pub numeral_from : ℕ → ℕ → List ℕ → Option ℕ
 numeral_from base n [] = Some n
 numeral_from base n (c ∷ rest) = if nat_lt (digit c) base then numeral_from base (base * n + digit c) rest else None
@@ -35,7 +35,7 @@ number_of word = if is_hexadecimal word then numeral 16 (drop 2 word) else numer
 abbrev pub in_64_bits : ℕ → Option ℕ
 in_64_bits n = if nat_lt n (2 ^ 64) then Some n else None
 
--- a number behind its sign
+-- a number after its sign
 abbrev pub number_with_sign : Bool → ℕ → Number
 number_with_sign negative n = record { negative = negative; magnitude = in_64_bits n }
 

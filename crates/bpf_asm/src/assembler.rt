@@ -43,7 +43,7 @@ fn aim(instr: Instr, distance: i16) -> Instr
     }
 }
 
-/// The distance from the slot behind an instruction to a slot.
+/// The distance from the slot after an instruction to a slot.
 fn distance(slot: usize, to: usize) -> i16
     requires slot { slot ≤ 4096 }
     requires to { to ≤ 4096 }

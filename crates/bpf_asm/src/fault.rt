@@ -51,7 +51,7 @@ impl<T: Drop> From<AllocFailed<T>> for AsmFault {
 pub(crate) enum LineCause {
     /// It begins with no name of an instruction, and with no label.
     Word,
-    /// What stands behind has another form.
+    /// What stands after has another form.
     Operand,
     /// A number is out of its range.
     Range,

@@ -1,4 +1,4 @@
-//! The operands of a line, each with the line behind it.
+//! The operands of a line, each with the line after it.
 #![tactic(auto, unfolding(crate::specs::Operands::register, crate::specs::Operands::magnitude_of, crate::specs::Operands::number, crate::specs::Operands::sign, crate::specs::Operands::distance, crate::specs::Operands::operand, crate::specs::Operands::place, crate::specs::Operands::target, crate::specs::Words::register_of, crate::specs::Words::is_name))]
 
 ghost use Rattle.std.specs.Prelude.{◌≡◌, option_map};
@@ -204,7 +204,7 @@ fn place_with_comma(line: &[u8]) -> Option<((Register, Number), &[u8])>
     Some((place, rest))
 }
 
-/// One register and nothing behind it.
+/// One register and nothing after it.
 pub(crate) fn one_register(line: &[u8]) -> Option<Register>
     ensures { result ≡ one register (parts line.now) }
 {

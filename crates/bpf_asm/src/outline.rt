@@ -90,7 +90,7 @@ impl<'t> Outline<'t> {
     }
 }
 
-/// The first line of a text, and the text behind it.
+/// The first line of a text, and the text after it.
 fn split_line(text: &[u8]) -> (&[u8], Option<&[u8]>)
     ensures first { IfNone result.1 (lines text.now ≡ result.0.now ∷ []) }
     ensures more { IfSome result.1 (λ rest. lines text.now ≡ result.0.now ∷ lines rest.now) }

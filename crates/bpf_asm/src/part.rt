@@ -45,7 +45,7 @@ fn word_length(line: &[u8]) -> usize
     line.len()
 }
 
-/// The word with which a line begins, and the line behind it.
+/// The word with which a line begins, and the line after it.
 pub(crate) fn word(line: &[u8]) -> Option<(&[u8], &[u8])>
     ensures { option_map (λ x. (x.0.now, parts x.1.now)) result ≡ first_word (parts line.now) }
 {
@@ -57,7 +57,7 @@ pub(crate) fn word(line: &[u8]) -> Option<(&[u8], &[u8])>
     Some(line.split_at(length))
 }
 
-/// The mark with which a line begins, and the line behind it.
+/// The mark with which a line begins, and the line after it.
 pub(crate) fn mark(line: &[u8]) -> Option<(u8, &[u8])>
     ensures { option_map (λ x. (x.0, parts x.1.now)) result ≡ first_mark (parts line.now) }
 {

@@ -20,7 +20,7 @@ pub(crate) enum Statement<'t> {
     Instruction(Draft<'t>),
 }
 
-/// A label, with the line behind its colon.
+/// A label, with the line after its colon.
 fn read_label<'t>(name: &'t [u8], line: &[u8]) -> Result<Statement<'t>, LineCause>
     ensures { Gives statement_value result (label_line name.now (parts line.now)) }
 {
@@ -33,7 +33,7 @@ fn read_label<'t>(name: &'t [u8], line: &[u8]) -> Result<Statement<'t>, LineCaus
     }
 }
 
-/// An instruction, with the line behind its name.
+/// An instruction, with the line after its name.
 fn read_named<'t>(name: &[u8], line: &'t [u8]) -> Result<Statement<'t>, LineCause>
     ensures { Gives statement_value result (instruction_line name.now (parts line.now)) }
 {

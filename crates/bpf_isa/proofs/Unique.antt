@@ -178,7 +178,7 @@ drop_fields : (f : Fields) (rest : List ℕ) → drop 8 (field_bytes f ++ rest) 
 unfolding field_bytes number_bytes
 drop_fields f rest = refl
 
--- the bytes of an instruction: those of its fields, and what is behind these
+-- the bytes of an instruction: those of its fields, and what follows these
 behind : Instr → List ℕ → List ℕ
 behind i rest = flat_map field_bytes (second_of i) ++ rest
 

@@ -23,7 +23,7 @@ abbrev pub Follows : List Fields → Option Fields → Type 0
 Follows [] next = Unit {0}
 Follows (s ∷ _) next = next ≡ Some s
 
--- these fields, and those of the slot behind, spell the instruction
+-- these fields, and those of the slot after, spell the instruction
 pub record IsSpelled (s : Fields) (next : Option Fields) (i : Instr) : Type 0 where
   pub first : fields_of i ≡ s
   pub second : Follows (second_of i) next

@@ -72,7 +72,7 @@ pub record IsWhole (bytes : List ℕ) : Type 0 where
   pub limit : length bytes ≤ 8 * 4096
 
 -- the first fault of bytes, and the slot that it names: the slot that is cut; slot 0 for their
--- number; else the first slot of an instruction, behind those that are spelled, at which a test fails
+-- number; else the first slot of an instruction, after those that are spelled, at which a test fails
 pub data FirstFault (bytes : List ℕ) : CodeCause → ℕ → Type 0 where
   cut : length bytes % 8 ≢ 0 → FirstFault bytes cause.Length (length bytes / 8)
   count : length bytes % 8 ≡ 0 → (length bytes ≡ 0) ⊎ (8 * 4096 < length bytes) → FirstFault bytes cause.SlotCount 0

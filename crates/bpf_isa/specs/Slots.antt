@@ -8,7 +8,7 @@ use Rattle.bpf_isa.specs.declared.instr.Instr.{Instr}
 abbrev pub at : List (Option Instr) → ℕ → Option Instr
 at program slot = option_and_then (λ i. i) (slice_get program slot)
 
--- The slot at a distance, in slots, from the one behind a jump or a local call. One before the first slot is a number
+-- The slot at a distance, in slots, from the one after a jump or a local call. One before the first slot is a number
 -- of which no program has a slot.
 abbrev pub target_slot : ℕ → ℤ → ℕ
 target_slot slot distance = cast_unsigned w64 (pos (slot + 1) +ℤ distance)

@@ -57,7 +57,7 @@ fn instr_at(bytes: &[u8], slot: usize) -> Result<Instr, CodeFault>
     }
 }
 
-/// Appends the slots of the instruction that begins behind those read so far.
+/// Appends the slots of the instruction that begins after those read so far.
 fn read_next(bytes: &[u8], slots: &mut Vec<Option<Instr>>) -> Result<(), CodeFault>
     requires whole { IsWhole bytes.now }
     requires more { length slots.old.items < length bytes.now / 8 }

@@ -112,7 +112,7 @@ pub enum SignedSize {
     Word,
 }
 
-/// One instruction. Distances count slots from the one behind the instruction.
+/// One instruction. Distances count slots from the one after the instruction.
 #[derive(Clone, Copy, Debug, PartialEq, Eq)]
 pub enum Instr {
     /// `dst = dst operator source`.

@@ -27,7 +27,7 @@ pub fn no_fault_in_spelled()
     ensures { NoFaultInSpelled }
 {}
 
-/// The record of each slot is that of its instruction, and one record stands behind the end.
+/// The record of each slot is that of its instruction, and one record stands after the end.
 pub fn each_ready()
     ensures { EachReady }
 {}

@@ -145,7 +145,7 @@ lowest_of program c s of broken kept = record {
       cc;
 }
 
--- the first broken rule, behind those that hold
+-- the first broken rule, after those that hold
 module _ (program : List (Option Instr)) (f : Fault) where
   pub first_target : IsBrokenAt program cause.Target f → FirstBroken program f.code f.slot
   unfolding FirstBroken

@@ -1,4 +1,4 @@
--- Lengths that come of those behind are the longest paths, and a slot without one leads to a cycle.
+-- Lengths that come of those after are the longest paths, and a slot without one leads to a cycle.
 use Rattle.std.proofs.Common.{ℕ, zero, suc, ◌≡◌, ◌+◌, ◌-◌, ◌<◌, ◌≤◌, ◌⊎◌, max, true, false, List, [], ◌∷◌, length, Option, Some, None, eqb, refl, sym, ◌∙◌, ap, inl, inr, arith}
 use Rattle.std.specs.List.{list_any, IsDistinct, AllByRecursion}
 use Rattle.std.proofs.lemmas.Map.Keys.{IsDistinct-cons}
@@ -17,7 +17,7 @@ nothing : IsDistinct eqb []
 unfolding IsDistinct
 nothing = tt
 
--- Behind an edge stands a length that is smaller by the weight.
+-- After an edge stands a length that is smaller by the weight.
 smaller : (w : ℕ) (v : List (Option ℕ)) (e : Edges) (k t : ℕ) → Comes w v e k → Leads e t → (j : ℕ) × ((length_of v t ≡ Some j) × (w + j ≤ k))
 smaller w v e k t c (inl h) = (c.next, (let there : behind_edge v (Some t) ≡ Some c.next = rw h at c.next_is in there, omega (arith, c.sum)))
 smaller w v e k t c (inr h) = (c.target, (let there : behind_edge v (Some t) ≡ Some c.target = rw h at c.target_is in there, omega (arith, c.sum)))

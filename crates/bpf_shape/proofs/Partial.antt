@@ -28,7 +28,7 @@ one_more_times a h =
     let whole : a + 1 ≡ suc a = omega arith in
     ap (λ (x : ℕ). x * h) whole ∙ suc-mul a h
 
--- a length comes of those behind both edges
+-- a length comes of those after both edges
 pub record Comes (weight : ℕ) (lengths : List (Option ℕ)) (e : Edges) (k : ℕ) : Type 0 where
   pub next : ℕ
   pub target : ℕ
@@ -45,7 +45,7 @@ comes_by (Some a) (Some b) weight lengths e k x y h =
     let is : Some (weight + max a b) ≡ Some k = rw (x, y) at h in
     record { next = a; target = b; next_is = x; target_is = y; sum = let back : weight + max a b ≡ k = cc in sym back }
 
--- a length is the weight and the greatest behind the edges
+-- a length is the weight and the greatest after the edges
 pub comes : (weight : ℕ) (lengths : List (Option ℕ)) (e : Edges) (k : ℕ) → length_from weight lengths e ≡ Some k → Comes weight lengths e k
 comes weight lengths e k h = comes_by (behind_edge lengths e.next) (behind_edge lengths e.target) weight lengths e k refl refl h
 

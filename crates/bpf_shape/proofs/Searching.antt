@@ -11,7 +11,7 @@ use Rattle.bpf_shape.specs.Search.{IsMarked, Has, unmarked_count, Met, EdgesFit,
 use Rattle.bpf_shape.proofs.Walks.{leads_more, leads_first}
 use Rattle.bpf_shape.proofs.Meeting.{has_left, has_right, has_last, same, meet_both}
 
--- A walk from one of these slots leads to each marked slot, and where a marked slot doesn't wait, the slots behind
+-- A walk from one of these slots leads to each marked slot, and where a marked slot doesn't wait, the slots after
 -- it are marked.
 pub record Searching (next : ℕ → Edges) (n : ℕ) (starts : ℕ → Type 0) (marks : List Bool) (waiting : List ℕ) : Type 0 where
   pub long : length marks ≡ n
@@ -72,7 +72,7 @@ other_starts P Q next n marks there back found = record {
   complete = λ t way. found.complete t (record { first = way.first; leads = back way.first way.leads; on = way.on });
 }
 
--- the last slot that waits goes, and the slots behind it were met
+-- the last slot that waits goes, and the slots after it were met
 pub go_on : (next : ℕ → Edges) (n : ℕ) (starts : ℕ → Type 0) (m marks : List Bool) (w waiting all : List ℕ) (s : ℕ) → EdgesFit next n
     → all ≡ w ++ s ∷ [] → Searching next n starts m all → Met (Leads (next s)) m w marks waiting → Searching next n starts marks waiting
 go_on next n starts m marks w waiting all s fits is before met =

@@ -41,7 +41,7 @@ zero_test _ = None
 unfoldable pub limit_before : List (Option Instr) → ℕ → Option ℕ
 limit_before program slot = if slot == 0 then None else option_and_then limit_of (at program (slot - 1))
 
--- the condition that a slot behind a call of `again` tests of its answer, r0
+-- the condition that a slot after a call of `again` tests of its answer, r0
 unfoldable pub answer_test : List (Option Instr) → ℕ → Option Condition
 answer_test program slot =
     if slot == 0 then None else if calls_again program (slot - 1) then option_and_then zero_test (at program slot) else None

@@ -17,7 +17,7 @@ edges next target = record { next = next; target = target }
 abbrev pub no_edges : Edges
 no_edges = edges None None
 
--- only to the slot behind an instruction of one slot
+-- only to the slot after an instruction of one slot
 abbrev pub goes_on : ℕ → Edges
 goes_on slot = edges (Some (slot + 1)) None
 

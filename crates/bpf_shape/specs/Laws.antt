@@ -53,7 +53,7 @@ abbrev pub DeeperIsTheSame : Type 0
 DeeperIsTheSame = (program : List (Option Instr)) (depth a b : ℕ) (v w : ℕ → ℕ) → IsShaped program → most_calls ≤ depth
     → AreWeights program most_calls v → AreWeights program depth w → IsLongest program v 0 a → IsLongest program w 0 b → a ≡ b
 
--- what stands around a call of `again`: K before it, a comparison for equal or not equal behind it, and
+-- what stands around a call of `again`: K before it, a comparison for equal or not equal after it, and
 -- no jump or local call leads to the call or to the comparison
 pub record IsAround (program : List (Option Instr)) (s : ℕ) : Type 0 where
   pub limit : ℕ

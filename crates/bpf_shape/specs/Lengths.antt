@@ -22,7 +22,7 @@ abbrev pub heaviest : List ℕ → ℕ
 heaviest [] = 0
 heaviest (w ∷ ws) = max w (heaviest ws)
 
--- the greatest weight that a slot of a program may have where calls are followed so many deep
+-- the greatest weight that a slot of a program may have where calls are followed that many deep
 abbrev pub most_weight : ℕ → ℕ
 most_weight zero = 1
 most_weight (suc depth) = 1 + 4096 * most_weight depth
@@ -31,12 +31,12 @@ most_weight (suc depth) = 1 + 4096 * most_weight depth
 abbrev pub length_of : List (Option ℕ) → ℕ → Option ℕ
 length_of lengths slot = get_or lengths slot None
 
--- the length behind an edge; 0 where there is no edge
+-- the length after an edge; 0 where there is no edge
 abbrev pub behind_edge : List (Option ℕ) → Option ℕ → Option ℕ
 behind_edge lengths None = Some 0
 behind_edge lengths (Some slot) = length_of lengths slot
 
--- a weight and the greater of the lengths behind two edges, where both are known
+-- a weight and the greater of the lengths after two edges, where both are known
 unfoldable pub length_from : ℕ → List (Option ℕ) → Edges → Option ℕ
 length_from weight lengths e =
     option_and_then (λ a. option_map (λ b. weight + max a b) (behind_edge lengths e.target)) (behind_edge lengths e.next)
@@ -50,7 +50,7 @@ pub record AreHeavy (n : ℕ) (weights : List ℕ) : Type 0 where
   pub long : length weights ≡ n
   pub least : (s : ℕ) → 1 ≤ weight_at weights s
 
--- each length is the weight of its slot and the greater of the lengths behind its edges
+-- each length is the weight of its slot and the greater of the lengths after its edges
 pub record ArePartial (next : ℕ → Edges) (n : ℕ) (weights : List ℕ) (lengths : List (Option ℕ)) : Type 0 where
   pub heavy : AreHeavy n weights
   pub long : length lengths ≡ n
@@ -93,7 +93,7 @@ pub record AreWeighed (program : List (Option Instr)) (lengths : List (Option �
   pub long : length weights ≡ n
   pub each : (s : ℕ) → s < n → IsWeighed program lengths (callee program s) (weight_at weights s)
 
--- the lengths of paths where calls are followed so many deep
+-- the lengths of paths where calls are followed that many deep
 pub record AreLengths (program : List (Option Instr)) (depth : ℕ) (lengths : List (Option ℕ)) : Type 0 where
   pub weights : List ℕ
   pub are : AreWeights program depth (weight_at weights)

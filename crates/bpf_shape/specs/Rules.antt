@@ -39,7 +39,7 @@ is_equality (Some cond.Eq) = true
 is_equality (Some cond.Ne) = true
 is_equality _ = false
 
--- a call of `again` at a slot has the form: K is set before it, its answer is compared behind it, and
+-- a call of `again` at a slot has the form: K is set before it, its answer is compared after it, and
 -- no jump or local call leads to the call or to the comparison
 unfoldable pub has_form : List (Option Instr) → ℕ → Bool
 has_form program slot =

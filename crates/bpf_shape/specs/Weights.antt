@@ -28,7 +28,7 @@ abbrev pub Weighs : List (Option Instr) → (ℕ → ℕ) → Option ℕ → ℕ
 Weighs program inner None n = n ≡ 1
 Weighs program inner (Some entry) n = (longest : ℕ) × (IsLongest program inner entry longest × (n ≡ 1 + longest))
 
--- What slots weigh where calls are followed so many deep: 1 where they aren't followed; else the path of
+-- What slots weigh where calls are followed that many deep: 1 where they aren't followed; else the path of
 -- a call is weighed with calls followed one less.
 abbrev pub AreWeights : List (Option Instr) → ℕ → (ℕ → ℕ) → Type 0
 AreWeights program zero weight = (slot : ℕ) → weight slot ≡ 1

@@ -94,7 +94,7 @@ pub(crate) fn limit_before(program: &Program, slot: usize) -> Option<u64>
     }
 }
 
-/// The condition that a slot behind a call of `again` tests of its answer.
+/// The condition that a slot after a call of `again` tests of its answer.
 #[tactic(auto, unfolding(crate::specs::Again::answer_test))]
 pub(crate) fn answer_test(program: &Program, slot: usize) -> Option<Condition>
     ensures { result ≡ answer_test program.now slot }
@@ -108,7 +108,7 @@ pub(crate) fn answer_test(program: &Program, slot: usize) -> Option<Condition>
     }
 }
 
-/// The again edge of a slot: the edge for r0 not 0, of the test behind a call of `again`.
+/// The again edge of a slot: the edge for r0 not 0, of the test after a call of `again`.
 #[tactic(auto, unfolding(crate::specs::Again::again_edge))]
 pub(crate) fn again_edge(program: &Program, slot: usize) -> Option<usize>
     ensures { result ≡ again_edge program.now slot }

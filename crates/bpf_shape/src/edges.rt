@@ -64,7 +64,7 @@ pub fn edges_of(slot: usize, instr: &Instr) -> Edges
     }
 }
 
-/// The slot at a distance from the one behind a jump or a local call.
+/// The slot at a distance from the one after a jump or a local call.
 pub(crate) fn target_slot(slot: usize, distance: i64) -> usize
     requires slot { slot < 4096 }
     requires low { negsuc 2147483647 ≤ℤ distance }

@@ -18,7 +18,7 @@ fn weight_at(weights: &Vec<u64>, slot: usize) -> u64
     weights[slot]
 }
 
-/// The length behind an edge; 0 where there is no edge.
+/// The length after an edge; 0 where there is no edge.
 fn behind_edge(lengths: &Vec<Option<u64>>, slot: Option<usize>) -> Option<u64>
     ensures { result ≡ behind_edge lengths.now.items slot }
 {
@@ -34,7 +34,7 @@ fn behind_edge(lengths: &Vec<Option<u64>>, slot: Option<usize>) -> Option<u64>
     }
 }
 
-/// A weight and the greater of the lengths behind two edges, where both are known.
+/// A weight and the greater of the lengths after two edges, where both are known.
 #[tactic(auto, unfolding(crate::specs::Lengths::length_from))]
 fn length_from(weight: u64, lengths: &Vec<Option<u64>>, edges: Edges) -> Option<u64>
     requires weight { weight ≤ 137438953472 }
@@ -46,7 +46,7 @@ fn length_from(weight: u64, lengths: &Vec<Option<u64>>, edges: Edges) -> Option<
     Some(weight + next.max(target))
 }
 
-/// Gives a slot its length, where it has none and those behind its edges are known.
+/// Gives a slot its length, where it has none and those after its edges are known.
 fn settle(
     program: &Program,
     weights: &Vec<u64>,

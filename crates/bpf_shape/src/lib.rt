@@ -24,7 +24,7 @@
 //! - `Chains`: which local call is within which, chains of them, the last of four, recursion.
 //! - `Weights`: `IsLongest program weight entry n`: some path that begins at a slot reached from the entry
 //!   weighs n, and no such path weighs more. `AreWeights program depth weight`: a slot weighs 1, a local call
-//!   one more than the longest path of its entry, where calls are followed so many deep.
+//!   one more than the longest path of its entry, where calls are followed that many deep.
 //! - `Budget`: `IsBudget` is one more than all K, times the longest path of slot 0 with calls followed three
 //!   deep. In a program of right shape no more are to be followed (law `deeper_is_the_same`).
 //! - `Rules`: which slot `Breaks` which rule, their `order`, and `FirstBroken`.
@@ -34,7 +34,7 @@
 //! refusal, want of memory aside, is the first broken rule in their order at the lowest slot that breaks
 //! it. A program has at most one of each and never both (`laws`), so the answer is determined. Paths are
 //! stated over all lists of slots. That the code finds the longest one follows from an equation that the
-//! lengths meet: each is the weight of its slot and the greatest of those behind its edges.
+//! lengths meet: each is the weight of its slot and the greatest of those after its edges.
 //!
 //! Further laws say what the layers above rest on: a control edge of a program of right shape leads to an
 //! instruction, and so does a local call; an edge is the again edge or a plain one; no local call is within
@@ -46,7 +46,7 @@
 //!   a local call.
 //! - `rules`: the rules that look at one slot, each tested over all slots.
 //! - `lengths`: sweeps from the highest slot to the lowest give each slot the weight of its longest path,
-//!   once those behind it are known. Where control mostly goes on to higher slots, few sweeps do; at most
+//!   once those after it are known. Where control mostly goes on to higher slots, few sweeps do; at most
 //!   there is one for each slot. A slot that gets no length leads to a cycle.
 //! - `search`: which slots are reached, by marks and a list of slots that wait. It tells the slots reached
 //!   from an entry, and for a slot without a length whether it is on a cycle itself.

@@ -4,3 +4,4 @@ pub mod Verified
 pub mod Suiting
 pub mod Alike
 pub mod Kept
+pub mod Unchanged

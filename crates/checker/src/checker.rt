@@ -18,7 +18,7 @@ use std::alloc::{AllocError, Global};
 use std::marker::Model;
 use verifier::{Verified, guarded_slots, is_guarded_at};
 
-/// Runs a program without checks, which is known to end in a verdict within so many steps.
+/// Runs a program without checks, which is known to end in a verdict within that many steps.
 #[inline(always)]
 fn run_plain<D: Device, const ROOM: usize>(
     program: &Program,
@@ -105,7 +105,7 @@ impl<'p> Model for Checker<'p> {
 }
 
 impl<'p> Checker<'p> {
-    /// A program that is run with every check, for at most so many steps.
+    /// A program that is run with every check, for at most that many steps.
     pub fn limited(program: &'p Program, limit: u64) -> Checker<'p>
         ensures { result ≡ record { program = program.now; limit = limit; verified = None; guards = None } }
     {

@@ -25,6 +25,9 @@
 //! is a list, the checker ends in the same on each device of that size that has the same bytes in these sectors
 //! (`agreeing_devices_are_judged_alike`; `specs/Footprints.antt`).
 //!
+//! A program that is accepted without guards is judged alike with them, on each image of its size, and has the same footprint
+//! (`guards_change_no_judgement`; `specs/Guards.antt`).
+//!
 //! `Checker::verified` takes memory where a program was accepted with guards, to keep its guarded slots. No other call does, and
 //! each returns.
 //!
@@ -48,4 +51,6 @@ mod checker;
 mod laws;
 
 pub use checker::Checker;
-pub use laws::{agreeing_devices_are_judged_alike, kept_is_the_footprint};
+pub use laws::{
+    agreeing_devices_are_judged_alike, guards_change_no_judgement, kept_is_the_footprint,
+};

@@ -6,8 +6,8 @@ use bpf_isa::instr::{Condition, Instr, Operator, Size, Source, Width};
 use bpf_isa::register::Register;
 use intervals::{Bounds, Range, SignedRange, reduce};
 use ranges::{
-    SectorOffsets, StackOffset, State, Value, advance_loosely, after, branch, breaks_rule, check,
-    check_with_guards, entry, is_guarded,
+    SectorOffsets, StackOffset, State, Value, after, branch, broken_rule, check, effect_behind,
+    entry, is_guarded, lead,
 };
 use std::test::Fail;
 
@@ -86,7 +86,7 @@ fn number(range: Range) -> Value {
     Value::Num(Bounds::of(range))
 }
 
-/// The state behind an instruction, on 4 sectors; the one before it, if there is none.
+/// The state after an instruction, on 4 sectors; the one before it, if there is none.
 fn behind(instr: &Instr, state: &State) -> State {
     match after(instr, state, 4) {
         Some(behind) => behind,
@@ -228,7 +228,7 @@ fn arguments(rt: HostRuntime) {
     );
 }
 
-/// The state behind `mov64 r1, 0; call 1`.
+/// The state after `mov64 r1, 0; call 1`.
 fn answered() -> State {
     behind(&call(1), &behind(&put(1, 0), &State::start()))
 }
@@ -304,7 +304,7 @@ fn joined(rt: HostRuntime) {
     assert!(rt; both.round().contains(&both));
 }
 
-/// The state behind `stdw [r10-8], 7`.
+/// The state after `stdw [r10-8], 7`.
 fn store_byte() -> State {
     behind(&store_number(10, -8), &State::start())
 }
@@ -337,7 +337,7 @@ fn inside_local_calls(rt: HostRuntime) {
     assert_eq!(rt; broken(&load(Size::Byte, 0, 10, -1), &entered), 51);
 }
 
-/// What is known behind a program without jumps, on 4 sectors.
+/// What is known after a program without jumps, on 4 sectors.
 fn known(program: &[Instr]) -> State {
     let mut state = State::start();
     for instr in program {
@@ -454,7 +454,7 @@ fn bounds(low: u64, high: u64, least: i64, greatest: i64) -> Value {
 
 #[test]
 fn signed_numbers(rt: HostRuntime) {
-    // r0 is any number behind a local call
+    // r0 is any number after a local call
     let any = known(&[Instr::CallLocal { offset: 1 }]);
     let least = i64::MIN;
     assert_eq!(rt;
@@ -486,11 +486,11 @@ fn answered_by(state: Option<State>) -> State {
     }
 }
 
-/// The state behind an instruction with guards, on 4 sectors.
+/// The state after an instruction with guards, on 4 sectors.
 fn behind_with_guards(instr: &Instr, state: &State) -> State {
-    if breaks_rule(instr, state) {
+    if check(instr, state).is_err() {
         let mut next = *state;
-        advance_loosely(instr, &mut next);
+        lead(&effect_behind(true, instr, state, 4), &mut next);
         next
     } else {
         behind(instr, state)
@@ -502,7 +502,7 @@ fn behind_with_guards(instr: &Instr, state: &State) -> State {
 fn guarded_from(state: &State, program: &[Instr]) -> (usize, u8, Option<usize>) {
     let (mut state, mut guarded) = (*state, None);
     for (place, instr) in program.iter().enumerate() {
-        if let Err(cause) = check_with_guards(instr, &state) {
+        if let Some(cause) = broken_rule(true, instr, &state) {
             return (place, cause.number(), guarded);
         }
         if is_guarded(instr, &state) {
@@ -558,7 +558,7 @@ fn refused_with_guards(rt: HostRuntime) {
     );
 }
 
-/// What r0 holds with guards behind a program without jumps, on 4 sectors.
+/// What r0 holds with guards after a program without jumps, on 4 sectors.
 fn left_with_guards(program: &[Instr]) -> Value {
     let mut state = State::start();
     for instr in program {

@@ -59,7 +59,7 @@ fn answer_0(alloc: Global) -> Result<Program, Fail> {
     program_of(alloc, &[(0xb7, 0, 0, 0), EXIT])
 }
 
-/// A table in which so many slots have the start.
+/// A table in which that many slots have the start.
 fn table_of_starts(alloc: Global, slots: usize) -> Result<Table, Fail> {
     let mut states = Vec::new(alloc);
     states.resize(slots, Some(State::start()))?;

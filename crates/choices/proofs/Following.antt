@@ -12,7 +12,7 @@ use Rattle.choices.specs.Steps.{first_picks, next_picks, after_rest, following, 
 use Rattle.choices.proofs.Rows.{below_more}
 use Rattle.choices.proofs.Ranks.{behind, length-beginning, at_beginning}
 
--- an element of the rows: its fate, its place in the row, and the rest behind its first departure
+-- an element of the rows: its fate, its place in the row, and the rest after its first departure
 pub record OfRow (a t j : ℕ) (rests : List (List Pick)) (n : ℕ) (ds : List Pick) : Type 0 where
   pub x : ℕ
   pub y : ℕ
@@ -152,7 +152,7 @@ member_length m (suc i) a (suc k) n ds h = elim (slice_get_of_append (beginning 
   | inr more ↦ member_length m (suc i) (a + 1) k (n - length (beginning a 0 m (ranked_picks m i (a + 1) k))) ds more.1
 ]
 
--- behind the last choice that begins with a part: the first of those that begin behind it
+-- after the last choice that begins with a part: the first of those that begin after it
 next_part : (m i a k x : ℕ) → 1 ≤ m → i ≤ k → m ≤ x + 1 → slice_get (ranked_picks m (suc i) (a + 1) k) 0 ≡ next_picks m (a + suc k) (record { part = a; fate = x }) i
 unfolding first_picks
 next_part m i a k x some le last = elim (cases_lt i k) [
@@ -162,7 +162,7 @@ next_part m i a k x some le last = elim (cases_lt i k) [
       ∙ sym (stepped_none m (a + suc k) (record { part = a; fate = x }) i last (omega (arith, more)))
 ]
 
--- behind a choice that begins with part a and fate x
+-- after a choice that begins with part a and fate x
 behind_row : (m i a k x y n : ℕ) → 1 ≤ m → x < m → n ≡ x * length (ranked_picks m i (a + 1) k) + y → y < length (ranked_picks m i (a + 1) k) → i ≤ k
     → (o : Option (List Pick)) → slice_get (ranked_picks m i (a + 1) k) (suc y) ≡ o
     → slice_get (beginning a 0 m (ranked_picks m i (a + 1) k) ++ ranked_picks m (suc i) (a + 1) k) (suc n)
@@ -194,7 +194,7 @@ behind_row m i a k x y n some fate at lt le None h =
           behind_end (beginning a 0 m rests) (ranked_picks m (suc i) (a + 1) k) (suc n) long ∙ next_part m i a k x some le more
     ]
 
--- the choice behind another, among those of one number of departures
+-- the choice after another, among those of one number of departures
 pub follows : (m i a k : ℕ) → 1 ≤ m → (n : ℕ) (ds : List Pick) → slice_get (ranked_picks m i a k) n ≡ Some ds
     → slice_get (ranked_picks m i a k) (suc n) ≡ following m (a + k) ds
 unfolding ranked_picks following
@@ -255,7 +255,7 @@ fewer_length m (suc s) v n ds h = elim (slice_get_of_append (fewer m s v) (ranke
   | inr more ↦ let same = member_length m s 0 v (n - length (fewer m s v)) ds more.1 in omega (arith, same)
 ]
 
--- behind the last choice of fewer than s departures comes the first of s
+-- after the last choice of fewer than s departures comes the first of s
 next_size : (m s v n : ℕ) (ds : List Pick) → 1 ≤ m → n < length (fewer m s v) → length ds < s
     → slice_get (fewer m s v) (suc n) ≡ one_more s v (length ds)
     → slice_get (fewer m s v ++ ranked_picks m s 0 v) (suc n) ≡ one_more (suc s) v (length ds)
@@ -303,7 +303,7 @@ ends_here m bound e size old now none same long (inr few) =
     let here : length old ≡ size = ap length (sym same) ∙ sym long in
     below_more m (bound + 1) e old none ∙ ap (one_more (bound + 1) e) here ∙ more_few (bound + 1) e size few
 
--- the choice behind another, among those of fewer than s departures
+-- the choice after another, among those of fewer than s departures
 pub follows_below : (m s v : ℕ) → 1 ≤ m → (n : ℕ) (ds : List Pick) → slice_get (fewer m s v) n ≡ Some ds
     → slice_get (fewer m s v) (suc n) ≡ following_below m s v ds
 unfolding fewer following_below

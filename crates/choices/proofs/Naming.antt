@@ -110,7 +110,7 @@ first_pick us m name a i number back lt at =
       ];
     }
 
--- departures that rise, with one more behind them, from an earlier part on, or below a later one
+-- departures that rise, with one more after them, from an earlier part on, or below a later one
 rising_push : (m a b : ℕ) (ps : List Pick) (p : Pick) → AreRising m a b ps → a ≤ b → b ≤ p.part → p.fate < m → AreRising m a (p.part + 1) (ps ++ p ∷ [])
 rising_push m a b [] p h le above fate = (omega (arith, le, above), omega arith, fate, tt)
 rising_push m a b (q ∷ ps) p h le above fate =

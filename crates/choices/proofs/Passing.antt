@@ -243,7 +243,7 @@ last_fate m v front last picks are is =
     let P : Pick → Type 0 = λ pick. pick.fate < m in
     subst P same here.1
 
--- so many choices in a row, in which the last departure alone changes
+-- that many choices in a row, in which the last departure alone changes
 pub pass_leads : (plan : PlanValue) (b : ℕ) (tears : Bool) (n : ℕ) (p : PickedValue) (front : List Pick) (last : Pick) (count : ℕ)
     → IsRanked plan b tears n p → CanPass (fates_of tears) (length (volatile_parts plan.by plan.log.entries p.cut)) count front last p.picks
     → IsRanked plan b tears (n + count) (with_last p front (pick_after (fates_of tears) count last))

@@ -152,12 +152,12 @@ unfolding choices_over
 over_head way es m b p [] = refl
 over_head way es m b p (c ∷ cuts) = in_front (choices_at way es m b p c) (choices_over way es m b (p + 1) cuts) 0 (choice_of way es p c []) (at_head way es m b p c)
 
--- the choice behind another: the following one of its cut, or the first of the next cut
+-- the choice after another: the following one of its cut, or the first of the next cut
 abbrev pub next_choice : By → List Entry → ℕ → ℕ → Option (List Pick) → Option ℕ → Option ChoiceValue
 next_choice way es place cut (Some picks) other = Some (choice_of way es place cut picks)
 next_choice way es place cut None other = option_map (first_at way es (place + 1)) other
 
--- where choice n of a list of cuts comes from, and which choice is behind it
+-- where choice n of a list of cuts comes from, and which choice is after it
 pub record Goes (way : By) (es : List Entry) (m b p : ℕ) (cuts : List ℕ) (n : ℕ) (c : ChoiceValue) : Type 0 where
   pub index : ℕ
   pub cut : ℕ
@@ -169,7 +169,7 @@ pub record Goes (way : By) (es : List Entry) (m b p : ℕ) (cuts : List ℕ) (n 
   pub next : slice_get (choices_over way es m b p cuts) (suc n)
       ≡ next_choice way es (p + index) cut (following_below m (suc b) (length (volatile_parts way es cut)) picks) (slice_get cuts (suc index))
 
--- behind a choice of the first cut
+-- after a choice of the first cut
 leaves : (way : By) (es : List Entry) (m b p c : ℕ) (cuts : List ℕ) (n : ℕ) → n < length (picks_within m b (length (volatile_parts way es c))) → (o : Option (List Pick))
     → slice_get (picks_within m b (length (volatile_parts way es c))) (suc n) ≡ o
     → slice_get (choices_at way es m b p c ++ choices_over way es m b (p + 1) cuts) (suc n) ≡ next_choice way es p c o (slice_get cuts 0)
@@ -271,7 +271,7 @@ sum_on plan b tears number cuts place rest own so is le =
     let ways = so.ways in
     omega (arith, before_more plan b tears place so.cut wanted, sum, ways, le)
 
--- a number that isn't at this cut has a cut behind it
+-- a number that isn't at this cut has a cut after it
 pub walk_room : (plan : PlanValue) (b : ℕ) (tears : Bool) (number : ℕ) (cuts : List ℕ) (place rest own : ℕ) → Walks plan b tears number cuts place rest own
     → cuts ≡ cuts_of plan.kind plan.log.entries → own ≤ rest → number < length (ranked_choices plan b tears) → place + 1 < length cuts
 walk_room plan b tears number cuts place rest own so is le lt =
@@ -310,7 +310,7 @@ first_past most plan b tears cuts i sum own is lt so ways low high = record {
   past = omega (arith, counted plan b tears cuts i sum own is lt so ways, low, high);
 }
 
--- behind the last cut the sum is that of all choices
+-- after the last cut the sum is that of all choices
 pub counted_all : (plan : PlanValue) (b : ℕ) (tears : Bool) (cuts : List ℕ) (i sum : ℕ) → cuts ≡ cuts_of plan.kind plan.log.entries → length cuts ≤ i
     → sum ≡ length (ranked_before plan b tears i) → sum ≡ length (ranked_choices plan b tears)
 counted_all plan b tears cuts i sum is le so = so ∙ ap length (before_all plan b tears i (omega (arith, le, ap length is)))
@@ -375,7 +375,7 @@ new_picks plan b tears n old picks so h =
     let there = stands plan b tears (n + 1) (choice_of plan.by plan.log.entries old.place old.cut picks) (stepped_on plan b tears n old picks so h) in
     picks_weaker (fates_of tears) (length (volatile_parts plan.by plan.log.entries old.cut)) picks (fates_high tears) there.picks
 
--- behind the last choice of a cut comes the first of the next cut
+-- after the last choice of a cut comes the first of the next cut
 pub moved_on : (plan : PlanValue) (b : ℕ) (tears : Bool) (n : ℕ) (old : ChoiceValue) (cut : ℕ) → Standing plan b tears n old
     → following_below (fates_of tears) (b + 1) (length (volatile_parts plan.by plan.log.entries old.cut)) old.picks ≡ None
     → slice_get (cuts_of plan.kind plan.log.entries) (old.place + 1) ≡ Some cut

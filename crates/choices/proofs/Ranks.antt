@@ -11,7 +11,7 @@ use Rattle.choices.specs.Picks.{beginning, ranked_picks, fewer}
 use Rattle.choices.specs.Ways.{ways, ways_below}
 use Rattle.choices.specs.Seeks.{Begins, Reaches}
 
--- a rest behind its first departure
+-- a rest after its first departure
 abbrev pub behind : ℕ → ℕ → List Pick → List Pick
 behind a t rest = record { part = a; fate = t } ∷ rest
 
@@ -68,7 +68,7 @@ ways_rise m i r (suc u) =
     let e : suc u + r ≡ suc (u + r) = omega arith in
     rw e (omega (arith, ways_rise m i r u))
 
--- the last choices begin behind the first u parts
+-- the last choices begin after the first u parts
 later : (m i a r u left : ℕ) → left ≤ ways m (suc i) r
     → slice_get (ranked_picks m (suc i) a (u + r)) (ways m (suc i) (u + r) - left) ≡ slice_get (ranked_picks m (suc i) (a + u) r) (ways m (suc i) r - left)
 unfolding ranked_picks ways
@@ -216,7 +216,7 @@ ways_below_rise m size (suc s) v h = elim (cases_lt size s) [
       omega (arith, ap (λ n. ways_below m n v) same, ap (λ n. ways m n v) same)
 ]
 
--- the choices of one number of departures stand behind those of fewer
+-- the choices of one number of departures stand after those of fewer
 pub at_fewer : (m s v size r : ℕ) → size < s → r < ways m size v → slice_get (fewer m s v) (ways_below m size v + r) ≡ slice_get (ranked_picks m size 0 v) r
 unfolding fewer
 at_fewer m zero v size r h lt = absurd (omega (arith, h))

@@ -38,7 +38,7 @@ following_cons : (m e : ℕ) (d : Pick) (ds : List Pick) → following m e ds �
 unfolding following
 following_cons m e d ds h = ap (λ o. after_rest d o (next_picks m e d (length ds))) h
 
--- behind the last departure nothing goes on
+-- after the last departure nothing goes on
 pub none_behind : (m e : ℕ) (ds : List Pick) (n : ℕ) → length ds ≤ n → following m e (drop n ds) ≡ None
 unfolding following
 none_behind m e [] zero h = refl

@@ -94,7 +94,7 @@ rows_before m i a k p q cs ds rests lt c d =
     ] in
     subst (λ xs. P xs ds) (sym c.is) (subst (λ ys. P (behind a (0 + c.x) c.rest) ys) (sym d.is) before)
 
--- a choice that begins with part a is before one that begins behind it
+-- a choice that begins with part a is before one that begins after it
 part_before : (m a e x : ℕ) (rest ds : List Pick) (i : ℕ) → length ds ≡ suc i → AreRising m (a + 1) e ds → Before (behind a x rest) ds
 part_before m a e x rest [] i long h = absurd (omega (arith, long))
 part_before m a e x rest (d ∷ ds) i long h = inl (omega (arith, h.0))

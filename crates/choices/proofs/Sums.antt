@@ -72,7 +72,7 @@ not_below plan b tears number sums are =
     let first = are.each 0 (omega arith) ∙ before_none plan b tears in
     omega (arith, first)
 
--- and a number of a choice isn't behind the last
+-- and a number of a choice isn't after the last
 pub not_above : (plan : PlanValue) (b : ℕ) (tears : Bool) (number : ℕ) (sums : List ℕ) → AreSums plan b tears sums → number < length (ranked_choices plan b tears)
     → number < slice_index_or sums (length sums - 1) 0
 not_above plan b tears number sums are lt =

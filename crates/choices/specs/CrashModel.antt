@@ -1,4 +1,4 @@
--- The choices of the crash model in its own words, with no list and no number behind them: what may
+-- The choices of the crash model in its own words, with no list and no number after them: what may
 -- depart, how, and which choice comes before which (docs/CRASH-MODEL.md, Fates and choices, Order and
 -- numbers of the images).
 use Rattle.std.specs.Prelude.{ℕ, ◌≡◌, ◌<◌, ◌≤◌, ◌⊎◌, Bool, true, List, length, take, slice_get, Some}

@@ -1,5 +1,5 @@
 -- Choices by the names of their departures: the number of the entry, the place of the sector in it, and the fate, as a
--- reader of the report knows them (docs/REPORT.md, The report).
+-- reader of the report knows them (docs/OUTPUT.md, The report).
 use Rattle.std.specs.Prelude.{ℕ, ◌≡◌, Bool, List, map, slice_get, Some}
 use Rattle.epochs.specs.Plan.{PlanValue}
 use Rattle.choices.specs.declared.choice.Departure.{Departure}

@@ -33,7 +33,7 @@ marked_picks (false ∷ marks) (pick ∷ picks) = marked_picks marks picks
 abbrev pub single : ℕ → ℕ → Pick
 single m number = record { part = number / m; fate = number % m }
 
--- and the one that is so many behind another
+-- and the one that is that many after another
 abbrev pub pick_after : ℕ → ℕ → Pick → Pick
 pick_after m count pick = single m (pick.part * m + pick.fate + count)
 

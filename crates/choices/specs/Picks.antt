@@ -5,7 +5,7 @@ use Rattle.std.specs.Prelude.{ℕ, zero, suc, ◌+◌, ◌*◌, ◌<◌, Bool, t
 use Rattle.std.specs.List.{All}
 use Rattle.choices.specs.declared.pick.Pick.{Pick}
 
--- in how many places a part may be torn: behind 1 to 7 of its eighths
+-- in how many places a part may be torn: after 1 to 7 of its eighths
 abbrev pub tears_of_part : ℕ
 tears_of_part = 7
 
@@ -24,7 +24,7 @@ beginning a t zero rests = []
 beginning a t (suc j) rests = map (λ (rest : List Pick). record { part = a; fate = t } ∷ rest) rests ++ beginning a (t + 1) j rests
 
 -- all choices of i departures among k parts from part a on, with m fates, in order: those that begin
--- with part a come before those that begin behind it
+-- with part a come before those that begin after it
 unfoldable pub ranked_picks : ℕ → ℕ → ℕ → ℕ → List (List Pick)
 ranked_picks m zero a k = [] ∷ []
 ranked_picks m (suc i) a zero = []

@@ -6,7 +6,7 @@ use Rattle.choices.specs.Picks.{ranked_picks}
 use Rattle.choices.specs.Ways.{ways}
 
 -- choice `number` of i departures among the parts from `begin` to below `end` begins with `pick`, and
--- goes on as choice `rest` of the other departures behind that part
+-- goes on as choice `rest` of the other departures after that part
 pub record Begins (m i begin end number : ℕ) (pick : Pick) (rest : ℕ) : Type 0 where
   pub low : begin ≤ pick.part
   pub high : pick.part < end

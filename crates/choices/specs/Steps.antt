@@ -7,7 +7,7 @@ unfoldable pub first_picks : ℕ → ℕ → List Pick
 first_picks zero a = []
 first_picks (suc i) a = record { part = a; fate = 0 } ∷ first_picks i (a + 1)
 
--- the next choice whose first departure is behind d: the next fate, or else the next part, if there is
+-- the next choice whose first departure is after d: the next fate, or else the next part, if there is
 -- one with `behind` parts after it below e
 unfoldable pub next_picks : ℕ → ℕ → Pick → ℕ → Option (List Pick)
 next_picks m e d behind =

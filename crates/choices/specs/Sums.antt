@@ -20,7 +20,7 @@ pub record AreSumsUpTo (plan : PlanValue) (bound : ℕ) (tears : Bool) (last : �
 abbrev pub AreSums : PlanValue → ℕ → Bool → List ℕ → Type 0
 AreSums plan bound tears sums = AreSumsUpTo plan bound tears (length (cuts_of plan.kind plan.log.entries)) sums
 
--- the number at that place is not above `number`, and the one behind it is
+-- the number at that place is not above `number`, and the one after it is
 pub record FallsAt (sums : List ℕ) (number place : ℕ) : Type 0 where
   pub inside : place + 1 < length sums
   pub low : slice_index_or sums place 0 ≤ number

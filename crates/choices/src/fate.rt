@@ -55,7 +55,7 @@ pub enum Fate {
     Tail(Eighths),
 }
 
-/// In how many places a part may be torn: behind 1 to 7 of its eighths.
+/// In how many places a part may be torn: after 1 to 7 of its eighths.
 pub(crate) const TEARS_OF_PART: u8 = 7;
 
 impl Fate {

@@ -13,7 +13,7 @@
 //! |---|---|
 //! | `count(plan, bound, tears)` | how many choices there are, or the cut with which they are too many |
 //! | `count_at(plan, bound, tears, cut)` | the same of one cut alone |
-//! | `count_up_to(plan, bound, tears, most)`, `count_at_up_to(.., cut, most)` | both again, where there may be so many |
+//! | `count_up_to(plan, bound, tears, most)`, `count_at_up_to(.., cut, most)` | both again, where there may be that many |
 //! | `nth(plan, bound, tears, number)` | the choice of a number |
 //! | `Starts::new(alloc, plan, bound, tears)` | a table by which the choice of a number is found at once |
 //! | `starts.nth(number)` | the choice of a number, by the table |
@@ -25,12 +25,12 @@
 //! | `choice.departures_owned()` | the same departures, for what outlives the choice |
 //! | `Picked::of(choice)`, `picked.choice(plan)` | a choice by the numbers of its departures alone, and the choice again |
 //! | `picked.next(plan, bound, tears)` | goes on to the following choice, as `next` does |
-//! | `picked.pass(tears, count)` | goes on over so many choices in which the last departure alone changes |
+//! | `picked.pass(tears, count)` | goes on over that many choices in which the last departure alone changes |
 //! | `picked.only(plan, marks)` | the choice of some of its departures |
 //!
 //! # Place
 //!
-//! The fourth layer, on `epochs`, whose `Plan` says which cuts are wanted and which parts are volatile
+//! On `epochs`, whose `Plan` says which cuts are wanted and which parts are volatile
 //! there. `images` forms the crash image of a choice. Here no byte of a log is looked at, and no call
 //! takes memory but `Starts::new`. The rules are those of docs/CRASH-MODEL.md.
 //!
@@ -44,12 +44,12 @@
 //!   which it does. `count_up_to` is the same for any greatest number, as for a run of which only a part is judged.
 //! - `count_at` is the length of one cut's part.
 //! - `nth` is its element of that number, and so is `Starts::nth`.
-//! - `next` leads from each element to the one behind it, and leaves the last as it is.
+//! - `next` leads from each element to the one after it, and leaves the last as it is.
 //! - `choice_named` answers an element at that cut of which the departures, each by its entry, its place there and its fate,
 //!   are the names, exactly where there is one (`specs/Named.antt`).
 //!
 //! A `Picked` is an element of the list too (`IsRanked`, `specs/Picked.antt`): `choice` answers this element, `next` and `pass`
-//! lead to the one that is one or so many behind it, and what `only` answers is an element as well.
+//! lead to the one that is one or that many after it, and what `only` answers is an element as well.
 //!
 //! Above the recursion stands a law, so that nobody has to believe it (`ranked_is_model`): the list has
 //! exactly the pairs of a wanted cut and an admissible choice there, each once, in the order above.
@@ -61,14 +61,13 @@
 //! # How it is written
 //!
 //! `ways` has closed forms of the numbers of choices of one cut; they stay below 2^64, at 262,144 parts and three departures
-//! too. A sum over cuts might not, so each number is compared with what is left before it is added. `rank` finds a choice by its number: the
-//! number of departures by taking off the smaller ones, then each departure by a search by halves for
-//! its part and a division for its fate. `step` changes the last departure that has a next fate or a
-//! next part. A choice keeps its departures as numbers too, so `next` needs no search but those of
-//! `Plan::part`. A `Picked` keeps the numbers alone, and needs none (`picked`). `nth` walks the wanted
-//! cuts up to its own, a few products at each. A `Starts` keeps the sums of these products, 8 bytes for
-//! each wanted cut, and finds the cut by a search by halves (`starts`). A caller that wants many choices
-//! in a row takes `nth` once, and then `next`; one that begins at many places makes a `Starts`.
+//! too. A sum over cuts might not, so each number is compared with what is left before it is added. `rank` finds a choice by its
+//! number: the number of departures by taking off the smaller ones, then each departure by a search by halves for its part and a
+//! division for its fate. `step` changes the last departure that has a next fate or a next part. A choice keeps its departures as
+//! numbers too, so `next` needs no search but those of `Plan::part`. A `Picked` keeps the numbers alone, and needs none
+//! (`picked`). `nth` walks the wanted cuts up to its own, a few products at each. A `Starts` keeps the sums of these products, 8
+//! bytes for each wanted cut, and finds the cut by a search by halves (`starts`). A caller that wants many choices in a row takes
+//! `nth` once, and then `next`; one that begins at many places makes a `Starts`.
 //!
 //! Which fates there are stands in one place: their number (`most_fates`) and what a fate's number
 //! means (`fate_of`). All else goes by numbers.

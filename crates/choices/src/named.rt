@@ -50,7 +50,7 @@ fn part_named(plan: &Plan, cut: u32, begin: u32, name: &Name) -> Option<u32>
     None
 }
 
-/// The departure that a name says, by its numbers, if its part is volatile at a cut and stands at `begin` or behind, and
+/// The departure that a name says, by its numbers, if its part is volatile at a cut and stands at `begin` or after, and
 /// its fate is one of the first `fates`.
 #[tactic(auto, using(crate::proofs::Naming::no_fate, crate::proofs::Naming::no_part, crate::proofs::Naming::first_pick))]
 fn pick_named(plan: &Plan, fates: u8, cut: u32, begin: u32, name: &Name) -> Option<Pick>

@@ -152,7 +152,7 @@ impl Picked {
         }
     }
 
-    /// Goes on over so many choices, in which the last departure alone changes. It has one.
+    /// Goes on over that many choices, in which the last departure alone changes. It has one.
     pub fn pass(&mut self, tears: bool, count: u64)
         requires { (front : List Pick) × (last : Pick) × CanPass (fates_of tears) 262144 count front last self.old.picks }
         ensures value { (front : List Pick) (last : Pick) → self.old.picks ≡ front ++ last ∷ []
@@ -169,7 +169,7 @@ impl Picked {
     }
 }
 
-/// The single departure that is so many behind another.
+/// The single departure that is that many after another.
 #[inline(always)]
 fn behind(pick: Pick, fates: u8, count: u64) -> Pick
     requires some { 1 ≤ fates }

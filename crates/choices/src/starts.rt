@@ -99,7 +99,7 @@ impl<'a> Starts<'a> {
         self.tears
     }
 
-    /// The numbers of the choices at the wanted cut of that place: the first, and the one behind the last.
+    /// The numbers of the choices at the wanted cut of that place: the first, and the one after the last.
     pub fn range_of(&self, place: usize) -> (u64, u64)
         requires { place < length (cuts_of self.now.plan.kind self.now.plan.log.entries) }
         ensures first { result.0 ≡ length (ranked_before self.now.plan self.now.bound self.now.tears place) }
@@ -139,7 +139,7 @@ fn sums_of(alloc: Global, plan: &Plan, bound: u8, tears: bool) -> Result<Vec<u64
     Ok(sums)
 }
 
-/// The place of a number that is not above `number`, while the one behind it is, by a search by halves.
+/// The place of a number that is not above `number`, while the one after it is, by a search by halves.
 fn last_up_to(sums: &[u64], number: u64) -> usize
     requires some { 1 < length sums.now }
     requires low { slice_index_or sums.now 0 0 ≤ number }

@@ -24,7 +24,7 @@ fn put_row(picks: &mut ArrayVec<Pick, 3>, count: usize, first: u32)
 }
 
 /// The next departure in place of one that `behind` others follow: its next fate, or else the next
-/// part, if the others find room behind it.
+/// part, if the others find room after it.
 #[tactic(auto, unfolding(crate::specs::Steps::next_picks))]
 fn next_pick(fates: u8, parts: u32, pick: Pick, behind: usize) -> Option<Pick>
     requires some { 1 ≤ fates }

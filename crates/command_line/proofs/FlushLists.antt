@@ -27,19 +27,19 @@ bad_first left text word rest cut none [] l h = h
 bad_first left text word rest cut none (e ∷ []) l h = h.0 cut.comma
 bad_first left text word rest cut none (e ∷ f ∷ es) l h = none e (subst (λ w. IsNumber 32 w e) (sym cut.before) h.1)
 
--- what stands behind the comma is no list
+-- what stands after the comma is no list
 pub bad_rest : (left : ℕ) (text word rest : List ℕ) → IsCut text word rest → NoFlushList (left - 1) rest → NoFlushList left text
 bad_rest left text word rest cut none [] l h = h
 bad_rest left text word rest cut none (e ∷ []) l h = h.0 cut.comma
 bad_rest left text word rest cut none (e ∷ f ∷ es) l h = none (f ∷ es) (omega arith) (subst (λ w. IsFlushList w (f ∷ es)) (sym cut.behind) h.2)
 
--- one before the comma, and others behind it
+-- one before the comma, and others after it
 more : (text word rest : List ℕ) (e : ℕ) (es : List ℕ) → IsCut text word rest → IsNumber 32 word e → IsFlushList rest es → IsFlushList text (e ∷ es)
 more text word rest e [] cut first others = absurd others
 more text word rest e (f ∷ es) cut first others =
     (cut.comma, subst (λ w. IsNumber 32 w e) cut.before first, subst (λ w. IsFlushList w (f ∷ es)) cut.behind others)
 
--- the flushes that are read behind the comma, behind one before it and those of before
+-- the flushes that are read after the comma, after one before it and those of before
 pub go_on : (left : ℕ) (text word rest before with_one : List ℕ) (e : ℕ) (r : Option Flushes)
     → IsCut text word rest → IsNumber 32 word e → with_one ≡ before ++ e ∷ []
     → MatchOption r (NoFlushList (left - 1) rest) (λ all. (es : List ℕ) × IsFlushList rest es × (places_of all ≡ with_one ++ es))

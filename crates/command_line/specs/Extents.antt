@@ -1,4 +1,4 @@
--- Images, as they stand behind --images (docs/REPORT.md, Options): two numbers with two points between.
+-- Images, as they stand after --images (docs/COMMANDS.md, Options): two numbers with two points between.
 use Rattle.std.specs.Prelude.{ℕ, ◌≡◌, ◌<◌, ◌==◌, Bool, List, ◌∷◌, length}
 use Rattle.std.specs.List.{position_or_len, before_first, after_first}
 use Rattle.command_line.specs.Number.{IsNumber}

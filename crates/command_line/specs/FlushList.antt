@@ -1,4 +1,4 @@
--- A list of entries, as it stands behind --flush (docs/REPORT.md, Options): numbers with commas between.
+-- A list of entries, as it stands after --flush (docs/COMMANDS.md, Options): numbers with commas between.
 use Rattle.std.specs.Prelude.{ℕ, ◌≡◌, ◌<◌, ◌≤◌, ◌==◌, Bool, List, [], ◌∷◌, length}
 use Rattle.std.specs.List.{position_or_len, before_first, after_first}
 use Rattle.command_line.specs.Number.{IsNumber}
@@ -16,13 +16,13 @@ pub record IsCut (text word rest : List ℕ) : Type 0 where
   pub before : word ≡ before_first is_comma text
   pub behind : rest ≡ after_first is_comma text
 
--- a text is the list of these entries: one number, or one before the first comma and the list of the others behind it
+-- a text is the list of these entries: one number, or one before the first comma and the list of the others after it
 abbrev pub IsFlushList : List ℕ → List ℕ → Type 0
 IsFlushList text [] = ⊥
 IsFlushList text (entry ∷ []) = (HasComma text → ⊥) × IsNumber 32 text entry
 IsFlushList text (entry ∷ next ∷ entries) =
     HasComma text × IsNumber 32 (before_first is_comma text) entry × IsFlushList (after_first is_comma text) (next ∷ entries)
 
--- a text is the list of no entries, so many at most
+-- a text is the list of no entries, that many at most
 abbrev pub NoFlushList : ℕ → List ℕ → Type 0
 NoFlushList most text = (entries : List ℕ) → length entries ≤ most → IsFlushList text entries → ⊥

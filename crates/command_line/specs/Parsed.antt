@@ -1,15 +1,16 @@
--- What the words of a command ask for (docs/REPORT.md, Commands and Options).
-use Rattle.std.specs.Prelude.{ℕ, ◌≡◌, ◌<◌, ◌++◌, Bool, true, false, List, [], ◌∷◌, length, map, Option, None, Some, option_map, unwrap_or, MatchOption, IsSomeAnd, codes, bytes_eq, if◌then◌else◌}
+-- What the words of a command ask for (docs/COMMANDS.md, Commands and Options).
+use Rattle.std.specs.Prelude.{ℕ, ◌≡◌, ◌<◌, ◌++◌, Bool, true, false, ◌||◌, List, [], ◌∷◌, length, map, Option, None, Some, is_some, option_map, unwrap_or, MatchOption, IsSomeAnd, codes, bytes_eq, if◌then◌else◌}
 use Rattle.std.specs.Borrow.{Bor}
-use Rattle.limits.specs.Sizes.{sector_limit}
-use Rattle.limits.specs.declared.Limits.{Limits}
-use Rattle.limits.specs.declared.Limits.TheVariants as limits
+use Rattle.base.specs.Sizes.{sector_limit}
+use Rattle.base.specs.declared.limits.Limits.{Limits}
+use Rattle.base.specs.declared.limits.Limits.TheVariants as limits
 use Rattle.epochs.specs.declared.cuts.CutKind.{CutKind}
 use Rattle.epochs.specs.declared.cuts.CutKind.TheVariants as cuts
 use Rattle.epochs.specs.declared.flushes.Flushes.{Flushes}
 use Rattle.epochs.specs.Flushes.{places_of}
 use Rattle.epochs.specs.declared.part.By.{By}
 use Rattle.epochs.specs.declared.part.By.TheVariants as by
+use Rattle.request.specs.declared.any_losses.LossWords.{LossWords}
 use Rattle.request.specs.declared.command.OptionWords.{OptionWords}
 use Rattle.request.specs.declared.command.Request.{Request}
 use Rattle.request.specs.declared.command.Request.TheVariants as asks
@@ -51,7 +52,7 @@ command_named name =
     else if bytes_eq name (codes "join") then Some verb.Join
     else None
 
--- the kind of cut behind --cuts, all cuts where nothing is; none where the word is no kind of cut
+-- the kind of cut after --cuts, all cuts where nothing is; none where the word is no kind of cut
 abbrev pub cuts_named : Option (List ℕ) → Option CutKind
 cuts_named None = Some cuts.All
 cuts_named (Some word) =
@@ -60,7 +61,7 @@ cuts_named (Some word) =
     else if bytes_eq word (codes "mark") then Some cuts.AfterMark
     else None
 
--- the kind of part behind --by, sectors where nothing is; none where the word is no kind of part
+-- the kind of part after --by, sectors where nothing is; none where the word is no kind of part
 abbrev pub parts_named : Option (List ℕ) → Option By
 parts_named None = Some by.Sector
 parts_named (Some word) =
@@ -68,13 +69,18 @@ parts_named (Some word) =
     else if bytes_eq word (codes "write") then Some by.Write
     else None
 
+-- whether the word after --bound is `any`
+abbrev pub any_named : Option (List ℕ) → Bool
+any_named None = false
+any_named (Some word) = bytes_eq word (codes "any")
+
 -- the flushes that are asked for: none without a word, and else those of the list that the word is; where it is none of 1 to 64
 -- entries, that is kept
 abbrev pub AreFlushes : Option (List ℕ) → Option Flushes → Type 0
 AreFlushes None added = IsSomeAnd added (λ flushes. places_of flushes ≡ [])
 AreFlushes (Some word) added = MatchOption added (NoFlushList 64 word) (λ flushes. IsFlushList word (places_of flushes))
 
--- the images that are asked for: those that the word behind --images says, none where it says none; without a word all images, of
+-- the images that are asked for: those that the word after --images says, none where it says none; without a word all images, of
 -- a run that may have as many as can be counted where the flag stands there
 abbrev pub IsExtent : Option (List ℕ) → Bool → Option Extent → Type 0
 IsExtent None true images = images ≡ Some extent.Wide
@@ -85,17 +91,21 @@ IsExtent (Some word) wide images = MatchOption images (NoRange word) (λ e. (fro
 abbrev pub limits_named : Bool → Limits
 limits_named large = if large then limits.Large else limits.Usual
 
--- the options, each that isn't written by its default, with these flushes and images. All commands on a device but `log` want
--- --sectors.
-abbrev pub options_with : Parsed → Option Flushes → Option Extent → OptionWords
-options_with p added meant = record {
+-- the bound: 1 where none is written, and where `any` is, that number
+abbrev pub bound_named : Parsed → ℕ → ℕ
+bound_named p any = if p.any then any else unwrap_or p.bound 1
+
+-- the options, each that isn't written by its default, with that bound for `any`, and these flushes and images. All commands on a device
+-- but `log` want --sectors.
+abbrev pub options_with : Parsed → ℕ → Option Flushes → Option Extent → OptionWords
+options_with p any added meant = record {
   sectors = unwrap_or p.sectors (sector_limit (limits_named p.large));
   limits = limits_named p.large;
   flushes = added;
   cuts = cuts_named (word_bytes p.cuts);
   from = p.from;
   to = p.to;
-  bound = unwrap_or p.bound 1;
+  bound = bound_named p any;
   tears = p.tears;
   by = parts_named (word_bytes p.by);
   workers = unwrap_or p.workers 1;
@@ -106,11 +116,27 @@ options_with p added meant = record {
   images = meant;
 }
 
--- the options that are asked for
-pub record AreOptions (p : Parsed) (w : OptionWords) : Type 0 where
+-- the options that are asked for, with that bound for `any`
+pub record AreOptionsWith (any : ℕ) (p : Parsed) (w : OptionWords) : Type 0 where
   pub added : AreFlushes (word_bytes p.flush) w.flushes
   pub meant : IsExtent (word_bytes p.images) p.wide w.images
-  pub others : w ≡ options_with p w.flushes w.images
+  pub others : w ≡ options_with p any w.flushes w.images
+
+-- the same where `any` is no bound: the number that stands for it is too great
+abbrev pub AreOptions : Parsed → OptionWords → Type 0
+AreOptions = AreOptionsWith 18446744073709551615
+
+-- any number of losses is asked for, or a word stands there that is about them
+abbrev pub asks_losses : Parsed → Bool
+asks_losses p = p.any || is_some p.torn || is_some p.at_most
+
+-- what is asked of any number of losses
+abbrev pub losses_named : Parsed → LossWords
+losses_named p = record { any = p.any; torn = p.torn; at_most = p.at_most }
+
+-- what `explore` asks for, with these options
+abbrev pub explored : Parsed → OptionWords → Request
+explored p options = if asks_losses p then asks.Cases options (losses_named p) else asks.Explore options
 
 -- the text of a choice, kept if it has at most 96 bytes
 abbrev pub choice_named : Parsed → List ℕ
@@ -127,7 +153,7 @@ trial_asked p = record { limits = limits_named p.large; epoch = unwrap_or p.epoc
 
 -- what a command asks for: its options, and the image that it means
 abbrev pub Asks : Parsed → Option Verb → Request → Type 0
-Asks p (Some verb.Explore) r = (options : OptionWords) × AreOptions p options × (r ≡ asks.Explore options)
+Asks p (Some verb.Explore) r = (options : OptionWords) × AreOptionsWith 0 p options × (r ≡ explored p options)
 Asks p (Some verb.Why) r = (options : OptionWords) × AreOptions p options × (r ≡ asks.Why options)
 Asks p (Some verb.Cure) r = (options : OptionWords) × AreOptions p options × (r ≡ asks.Cure options)
 Asks p (Some verb.Page) r = (options : OptionWords) × AreOptions p options × (r ≡ asks.Page options)
@@ -157,15 +183,20 @@ program_files (Some programs) = map (λ w. w.now) programs.now
 abbrev pub files_named : Parsed → List (List ℕ)
 files_named p = first_file (word_bytes p.file) ++ first_file (word_bytes p.image) ++ program_files p.programs ++ program_files p.texts
 
--- the number that the text behind an option is
+-- the number that the text after an option is
 pub record IsWritten (found : Found) (option : List ℕ) (number : ℕ) : Type 0 where
   pub text : List ℕ
   pub there : first_value found option ≡ Some text
   pub is : IsNumber 64 text number
 
--- the number behind an option: none where nothing stands there, and else the one that the text there is
+-- the number after an option: none where nothing stands there, and else the one that the text there is
 abbrev pub IsNumberOf : Found → List ℕ → Option ℕ → Type 0
 IsNumberOf found option number = MatchOption number (first_value found option ≡ None) (IsWritten found option)
+
+-- the number after --bound: none where `any` stands there
+abbrev pub IsBoundOf : Found → Bool → Option ℕ → Type 0
+IsBoundOf found true number = number ≡ None
+IsBoundOf found false number = IsNumberOf found (codes "bound") number
 
 -- whether a flag was found
 pub record IsFlagOf (found : Found) (option : List ℕ) (flag : Bool) : Type 0 where
@@ -185,8 +216,11 @@ pub record IsRead (found : Found) (p : Parsed) : Type 0 where
   pub cuts : word_bytes p.cuts ≡ first_value found (codes "cuts")
   pub from : IsNumberOf found (codes "from") p.from
   pub to : IsNumberOf found (codes "to") p.to
-  pub bound : IsNumberOf found (codes "bound") p.bound
+  pub any : p.any ≡ any_named (first_value found (codes "bound"))
+  pub bound : IsBoundOf found p.any p.bound
   pub tears : IsFlagOf found (codes "tears") p.tears
+  pub torn : IsNumberOf found (codes "torn") p.torn
+  pub at_most : IsNumberOf found (codes "at-most") p.at_most
   pub parts : word_bytes p.by ≡ first_value found (codes "by")
   pub workers : IsNumberOf found (codes "workers") p.workers
   pub cache : IsNumberOf found (codes "cache") p.cache

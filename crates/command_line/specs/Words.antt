@@ -1,7 +1,7 @@
--- What the words of the command line ask for (docs/REPORT.md, Commands).
+-- What the words of the command line ask for (docs/COMMANDS.md, Commands).
 use Rattle.std.specs.Prelude.{ℕ, ◌≡◌, ◌⊎◌, Bool, false, List, [], Option, None, Some, option_map}
-use Rattle.limits.specs.declared.Limits.{Limits}
-use Rattle.limits.specs.declared.Limits.TheVariants as limits
+use Rattle.base.specs.declared.limits.Limits.{Limits}
+use Rattle.base.specs.declared.limits.Limits.TheVariants as limits
 use Rattle.clap.specs.Words.{app_of, found_of, subcommand_name_of, subcommand_rows_of, HasMatchesOf}
 use Rattle.clap.specs.Walk.{rows_of}
 use Rattle.clap.specs.declared.builder.command.Command.{Command}
@@ -11,7 +11,7 @@ use Rattle.request.specs.declared.command.Request.TheVariants as asks
 use Rattle.command_line.specs.declared.parsed.Parsed.{Parsed}
 use Rattle.command_line.specs.Parsed.{Asks, command_named, files_named, word_bytes, IsRead}
 
--- the request, the names of its files in order and of that behind --base, and whether it is to be said how far an exploration is
+-- the request, the names of its files in order and of that after --base, and whether it is to be said how far an exploration is
 pub record WordsValue : Type 0 where
   pub request : Request
   pub files : List (List ℕ)
@@ -22,6 +22,7 @@ pub record WordsValue : Type 0 where
 abbrev pub sectors_asked : Request → ℕ
 sectors_asked asks.StoredRun = 0
 sectors_asked (asks.Explore w) = w.sectors
+sectors_asked (asks.Cases w losses) = w.sectors
 sectors_asked (asks.Why w) = w.sectors
 sectors_asked (asks.Cure w) = w.sectors
 sectors_asked (asks.Page w) = w.sectors
@@ -41,6 +42,7 @@ sectors_asked (asks.Join part) = 0
 abbrev pub limits_asked : Request → Limits
 limits_asked asks.StoredRun = limits.Usual
 limits_asked (asks.Explore w) = w.limits
+limits_asked (asks.Cases w losses) = w.limits
 limits_asked (asks.Why w) = w.limits
 limits_asked (asks.Cure w) = w.limits
 limits_asked (asks.Page w) = w.limits
@@ -67,7 +69,7 @@ pub record AreAsked (p : Parsed) (w : WordsValue) : Type 0 where
   pub base : w.base ≡ word_bytes p.base
   pub progress : w.progress ≡ p.progress
 
--- what `clap` found behind the name of a command, each word and option under its own name, asks for this
+-- what `clap` found after the name of a command, each word and option under its own name, asks for this
 pub record AreFoundBehind (matches : ArgMatches) (w : WordsValue) : Type 0 where
   pub behind : ArgMatches
   pub parsed : Parsed

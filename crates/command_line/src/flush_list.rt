@@ -1,4 +1,4 @@
-//! The entries behind `--flush`.
+//! The entries after `--flush`.
 
 ghost use Rattle.std.specs.Prelude.{ℕ, ◌≡◌, ◌+◌, ◌≤◌, ◌++◌, List, MatchOption};
 ghost use Rattle.epochs.specs.Flushes.{places_of};
@@ -10,14 +10,14 @@ use epochs::Flushes;
 /// How many flushes can be added.
 const MOST_FLUSHES: u8 = 64;
 
-/// What stands before and behind the first comma of a text.
+/// What stands before and after the first comma of a text.
 fn cut(text: &str) -> Option<(&str, &str)>
     ensures { MatchOption result (HasComma text.now → ⊥) (λ parts. IsCut text.now parts.0.now parts.1.now) }
 {
     text.split_once(',')
 }
 
-/// These flushes, and behind them those of the list that a text is, at most `left`.
+/// These flushes, and after them those of the list that a text is, at most `left`.
 fn read_on(found: &Flushes, left: u8, text: &str) -> Option<Flushes>
     requires { found.now.count + left ≤ 64 }
     ensures { MatchOption result (NoFlushList left text.now)

@@ -4,12 +4,12 @@
 //!
 //! On `request`, whose `Request` says what is asked for, and on `clap`. Nothing else is known of a command here than its
 //! name, its options, the names of its files and its help: `commands` performs it. No option is tested for its range, since
-//! that is the work of `options_of` in `request`, which refuses the words by the numbers of docs/REPORT.md.
+//! that is the work of `options_of` in `request`, which refuses the words by the numbers of docs/REFUSALS.md.
 //!
 //! | Call | Answers |
 //! |---|---|
 //! | `parsed.request()`, `parsed.files(alloc)` | what a command asks for of which `clap` read this, and the files that it names |
-//! | `Words::of(alloc, words)` | the command line that these words behind the program's name are |
+//! | `Words::of(alloc, words)` | the command line that these words after the program's name are |
 //! | `words.files()` | the names of its files: the log, source or program, then the programs of a run |
 //! | `words.request()` | what it asks for |
 //! | `words.progress()` | whether it is to be said how far an exploration is |
@@ -17,17 +17,18 @@
 //! Without a word, the run that the program holds itself is asked for. A word that names no kind of cut or part, or that is no
 //! list of entries or no range of images, is kept as none, and the text of a choice that is longer than any choice's likewise:
 //! these are refusals of the command, with a number and notes, and no faults of the command line. A word in the place of a number
-//! that has a sign or a zero in front is such a fault: `clap` takes it, and `Words::of` doesn't.
+//! that has a sign or a zero in front is such a fault: `clap` takes it, and `Words::of` doesn't. `--bound` takes `any` too. That asks
+//! for any number of losses of `explore`, and of other commands for a bound that is too great.
 //!
 //! The texts of the help stand in `words.rt`. `tools/man_page.py` makes `docs/crashbpf.1` of what the built program prints of
 //! them.
 //!
 //! # What is proved
 //!
-//! That no word asks for the stored run (`stored` of `Words::of`). Of any others `clap` finds a command and texts behind its
+//! That no word asks for the stored run (`stored` of `Words::of`). Of any others `clap` finds a command and texts after its
 //! options; each of these is read under its own name, with its default where it is absent, a number by the digits that are
 //! printed of it, and what is asked for is what
-//! docs/REPORT.md says of them: the command, its options, the image that is meant, the files, and whether `--progress` stands
+//! docs/COMMANDS.md says of them: the command, its options, the image that is meant, the files, and whether `--progress` stands
 //! there (`asked`; `specs/Parsed.antt`, `specs/Words.antt`). What `clap` takes, and what it finds, is `clap`'s: runs of the
 //! built program show it.
 //!

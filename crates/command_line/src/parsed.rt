@@ -1,23 +1,26 @@
 //! What `clap` read of the words, and what that asks for.
 
-ghost use Rattle.std.specs.Prelude.{◌≡◌, ◌<◌, ◌++◌, length, map, option_map, unwrap_or, string_bytes, Some, IfOk, MatchOption, MatchResult, OnOk};
-ghost use Rattle.limits.specs.Sizes.{sector_limit};
+ghost use Rattle.std.specs.Prelude.{◌≡◌, ◌<◌, ◌++◌, codes, length, map, option_map, unwrap_or, string_bytes, Some, IfOk, MatchOption, MatchResult, OnOk};
+ghost use Rattle.base.specs.Sizes.{sector_limit};
 ghost use Rattle.clap.specs.Words.{first_value, found_of};
 ghost use Rattle.command_line.specs.Number.{NoNumber as NoNumberText};
-ghost use Rattle.command_line.specs.Parsed.{Asks, AreFlushes, AreOptions, IsExtent, command_named, cuts_named, files_named, limits_named, options_with, parts_named, trial_asked, word_bytes, IsFlagOf, IsNumberOf, IsRead, IsWhich};
+ghost use Rattle.command_line.specs.Parsed.{Asks, AreFlushes, AreOptions, AreOptionsWith, IsBoundOf, IsExtent, any_named, asks_losses, bound_named, command_named, cuts_named, explored, files_named, limits_named, losses_named, options_with, parts_named, trial_asked, word_bytes, IsFlagOf, IsNumberOf, IsRead, IsWhich};
 
 use crate::extents::extent_in;
 use crate::flush_list::flushes_in;
 use crate::number::number_in;
 use arrayvec::ArrayString;
+use base::limits::Limits;
 use clap::ArgMatches;
 use epochs::{By, CutKind, Flushes};
-use limits::Limits;
-use request::{Extent, OptionWords, Request, TrialWords, Which};
+use request::{Extent, LossWords, OptionWords, Request, TrialWords, Which};
 use std::alloc::{AllocError, Global};
 
-/// What `clap` read behind the program's name: the name of the command, and what stands behind each of its words and options,
-/// none where nothing does (docs/REPORT.md, Commands and Options).
+/// The bound that stands for `any` where a command takes none: it is too great.
+const NO_BOUND: u64 = 18_446_744_073_709_551_615;
+
+/// What `clap` read after the program's name: the name of the command, and what stands after each of its words and options,
+/// none where nothing does (docs/COMMANDS.md, Commands and Options).
 #[derive(Clone, Copy)]
 pub struct Parsed<'a> {
     /// The name of the command.
@@ -28,31 +31,37 @@ pub struct Parsed<'a> {
     pub image: Option<&'a str>,
     /// The programs of a run.
     pub programs: Option<&'a [&'a str]>,
-    /// The number behind `--sectors`.
+    /// The number after `--sectors`.
     pub sectors: Option<u64>,
     /// Whether `--large` stands there.
     pub large: bool,
-    /// The word behind `--flush`.
+    /// The word after `--flush`.
     pub flush: Option<&'a str>,
-    /// The name behind `--base`.
+    /// The name after `--base`.
     pub base: Option<&'a str>,
-    /// The word behind `--cuts`.
+    /// The word after `--cuts`.
     pub cuts: Option<&'a str>,
-    /// The number behind `--from`.
+    /// The number after `--from`.
     pub from: Option<u64>,
-    /// The number behind `--to`.
+    /// The number after `--to`.
     pub to: Option<u64>,
-    /// The number behind `--bound`.
+    /// Whether `any` stands after `--bound`.
+    pub any: bool,
+    /// The number after `--bound`.
     pub bound: Option<u64>,
     /// Whether `--tears` stands there.
     pub tears: bool,
-    /// The word behind `--by`.
+    /// The number after `--torn`.
+    pub torn: Option<u64>,
+    /// The number after `--at-most`.
+    pub at_most: Option<u64>,
+    /// The word after `--by`.
     pub by: Option<&'a str>,
-    /// The number behind `--workers`.
+    /// The number after `--workers`.
     pub workers: Option<u64>,
-    /// The number behind `--cache`.
+    /// The number after `--cache`.
     pub cache: Option<u64>,
-    /// The number behind `--checked`.
+    /// The number after `--checked`.
     pub checked: Option<u64>,
     /// Whether `--guards` stands there.
     pub guards: bool,
@@ -62,25 +71,25 @@ pub struct Parsed<'a> {
     pub progress: bool,
     /// The number of an image.
     pub number: Option<u64>,
-    /// The number behind `--cut`.
+    /// The number after `--cut`.
     pub cut: Option<u64>,
-    /// The text behind `--choice`.
+    /// The text after `--choice`.
     pub choice: Option<&'a str>,
     /// Whether `--slots` stands there.
     pub slots: bool,
     /// Whether `--list` stands there.
     pub list: bool,
-    /// The number behind `--epoch`.
+    /// The number after `--epoch`.
     pub epoch: Option<u64>,
-    /// The number behind `--marks`.
+    /// The number after `--marks`.
     pub marks: Option<u64>,
-    /// The number behind `--trace`.
+    /// The number after `--trace`.
     pub trace: Option<u64>,
-    /// The word behind `--images`, of `explore`.
+    /// The word after `--images`, of `explore`.
     pub images: Option<&'a str>,
-    /// Whether `--images` stands there, of the commands that take no word behind it.
+    /// Whether `--images` stands there, of the commands that take no word after it.
     pub wide: bool,
-    /// The number behind `--parts`.
+    /// The number after `--parts`.
     pub parts: Option<u64>,
     /// Whether `--part` stands there.
     pub part: bool,
@@ -88,7 +97,7 @@ pub struct Parsed<'a> {
     pub texts: Option<&'a [&'a str]>,
 }
 
-/// The commands of the program (docs/REPORT.md, Commands).
+/// The commands of the program (docs/COMMANDS.md, Commands).
 #[derive(Clone, Copy)]
 pub(crate) enum Verb {
     Explore,
@@ -169,6 +178,16 @@ fn by_of(word: Option<&str>) -> Option<By>
     }
 }
 
+/// Whether the word after `--bound` is `any`.
+fn any_of(word: Option<&str>) -> bool
+    ensures { result ≡ any_named (option_map (λ w. w.now) word.entry) }
+{
+    match word {
+        Some("any") => true,
+        _ => false,
+    }
+}
+
 /// The flushes that a word says: none of them where there is no word.
 fn flushes_of(word: Option<&str>) -> Option<Flushes>
     ensures { AreFlushes (option_map (λ w. w.now) word.entry) result }
@@ -217,7 +236,7 @@ pub(crate) struct NoNumber<'a> {
     pub(crate) word: &'a str,
 }
 
-/// The number behind an option, if there is one.
+/// The number after an option, if there is one.
 ///
 /// # Errors
 ///
@@ -233,6 +252,20 @@ fn number_of<'a>(matches: &'a ArgMatches<'_>, option: &'a str) -> Result<Option<
         Some(number) => Ok(Some(number)),
         None => Err(NoNumber { option, word }),
     }
+}
+
+/// The number after `--bound`, if there is one: none where `any` stands there.
+///
+/// # Errors
+///
+/// What stands there is neither.
+fn bound_of<'a>(matches: &'a ArgMatches<'_>) -> Result<Option<u64>, NoNumber<'a>>
+    ensures { IfOk result (IsBoundOf (found_of matches.entry.now) (any_named (first_value (found_of matches.entry.now) (codes "bound")))) }
+{
+    if any_of(matches.get_str("bound")) {
+        return Ok(None);
+    }
+    number_of(matches, "bound")
 }
 
 /// Whether a flag stands there.
@@ -267,8 +300,11 @@ impl<'a> Parsed<'a> {
             cuts: matches.get_str("cuts"),
             from: number_of(matches, "from")?,
             to: number_of(matches, "to")?,
-            bound: number_of(matches, "bound")?,
+            any: any_of(matches.get_str("bound")),
+            bound: bound_of(matches)?,
             tears: flag_of(matches, "tears"),
+            torn: number_of(matches, "torn")?,
+            at_most: number_of(matches, "at-most")?,
             by: matches.get_str("by"),
             workers: number_of(matches, "workers")?,
             cache: number_of(matches, "cache")?,
@@ -292,9 +328,24 @@ impl<'a> Parsed<'a> {
         })
     }
 
-    /// The options that were written, each that wasn't by its default, with these flushes and images.
-    fn options_with(&self, flushes: Option<Flushes>, images: Option<Extent>) -> OptionWords
-        ensures { result ≡ options_with self.now flushes images }
+    /// The bound: 1 where none was written, and where `any` was, that number.
+    fn bound(&self, any: u64) -> u64
+        ensures { result ≡ bound_named self.now any }
+    {
+        if self.any {
+            return any;
+        }
+        self.bound.unwrap_or(1)
+    }
+
+    /// The options that were written, each that wasn't by its default, with that bound for `any`, and these flushes and images.
+    fn options_with(
+        &self,
+        any: u64,
+        flushes: Option<Flushes>,
+        images: Option<Extent>,
+    ) -> OptionWords
+        ensures { result ≡ options_with self.now any flushes images }
     {
         let limits = limits_of(self.large);
         OptionWords {
@@ -304,7 +355,7 @@ impl<'a> Parsed<'a> {
             cuts: cuts_of(self.cuts),
             from: self.from,
             to: self.to,
-            bound: self.bound.unwrap_or(1),
+            bound: self.bound(any),
             tears: self.tears,
             by: by_of(self.by),
             workers: self.workers.unwrap_or(1),
@@ -316,12 +367,48 @@ impl<'a> Parsed<'a> {
         }
     }
 
-    /// The options that were written.
+    /// The options that were written, with that bound for `any`.
+    fn options_by(&self, any: u64) -> OptionWords
+        ensures { AreOptionsWith any self.now result }
+    {
+        let images = extent_of(self.images, self.wide);
+        self.options_with(any, flushes_of(self.flush), images)
+    }
+
+    /// The options that were written, of a command that takes no `any`.
     fn options(&self) -> OptionWords
         ensures { AreOptions self.now result }
     {
-        let images = extent_of(self.images, self.wide);
-        self.options_with(flushes_of(self.flush), images)
+        self.options_by(NO_BOUND)
+    }
+
+    /// Whether any number of losses is asked for, or a word stands there that is about them.
+    fn asks_losses(&self) -> bool
+        ensures { result ≡ asks_losses self.now }
+    {
+        self.any || self.torn.is_some() || self.at_most.is_some()
+    }
+
+    /// What is asked of any number of losses.
+    fn losses(&self) -> LossWords
+        ensures { result ≡ losses_named self.now }
+    {
+        LossWords {
+            any: self.any,
+            torn: self.torn,
+            at_most: self.at_most,
+        }
+    }
+
+    /// What `explore` asks for, with these options.
+    fn explored(&self, options: OptionWords) -> Request
+        ensures { result ≡ explored self.now options }
+    {
+        if self.asks_losses() {
+            Request::Cases(options, self.losses())
+        } else {
+            Request::Explore(options)
+        }
     }
 
     /// Which image is meant: by its cut and its choice, or else by its number.
@@ -355,7 +442,7 @@ impl<'a> Parsed<'a> {
         ensures { Asks self.now (command_named self.now.command.now) result }
     {
         match verb_of(self.command) {
-            Some(Verb::Explore) => Request::Explore(self.options()),
+            Some(Verb::Explore) => self.explored(self.options_by(0)),
             Some(Verb::Why) => Request::Why(self.options()),
             Some(Verb::Cure) => Request::Cure(self.options()),
             Some(Verb::Page) => Request::Page(self.options()),
@@ -404,7 +491,7 @@ impl<'a> Parsed<'a> {
         Ok(files)
     }
 
-    /// The file behind `--base`, where that stands there.
+    /// The file after `--base`, where that stands there.
     ///
     /// # Errors
     ///

@@ -4,14 +4,15 @@ ghost use Rattle.std.specs.Prelude.{◌≡◌, ◌≢◌, [], IfOk, IsOkAnd, map
 ghost use Rattle.command_line.specs.Words.{limits_asked, sectors_asked, stored_run, AreAsked, AreFound, AreTaken};
 
 use crate::parsed::{NoNumber, Parsed};
+use base::limits::Limits;
+use clap::builder::ValueParser;
 use clap::error::ErrorKind;
 use clap::{Arg, ArgAction, ArgMatches, Command, Error};
-use limits::Limits;
 use request::Request;
 use std::alloc::{AllocError, Global};
 use std::marker::Model;
 
-/// The words behind the program's name (docs/REPORT.md, Commands).
+/// The words after the program's name (docs/COMMANDS.md, Commands).
 #[derive(Drop)]
 pub struct Words {
     request: Request,
@@ -36,7 +37,7 @@ const VERSION: &str = "0.1.0 (proved with rattle-kit-13f logic dac8208d650f15bf)
 const ABOUT: &str =
     "Judges every disk image that a power cut may leave behind a log of block writes.";
 
-/// What stands behind the help of the program.
+/// What stands after the help of the program.
 const AFTER: &str = "Without a word the program explores an empty log with a program of its own.
 
 A log has at most 64 MiB, 65,536 entries and 262,144 written or discarded sectors; a device 16,384
@@ -47,18 +48,22 @@ Exit status: 0 where the command succeeded and no image fails, 1 where an image 
 refusal (a line on standard error, as 'refused 12 at 3'), a fault of the command line, or a standard
 output that can't be written.";
 
-/// What stands behind the help of `explore`.
+/// What stands after the help of `explore`.
 const AFTER_EXPLORE: &str =
     "Each line of the report names an image, its cut, a program, what that answered, and the sectors
 that were lost or torn: 'choice 8.0:head7' is sector 0 of entry 8, of which the first seven eighths
 arrived; 'choice 8.0:tail1' is the same sector, of which the last eighth arrived. With --by write
 'choice 8:drop' is all of entry 8.
 
-Example: crashbpf explore disk.log check.bpf --sectors 64 --cuts flush --bound 2 --tears
+With --bound any no number of losses is left out. Each line then names a case: images of a cut that the
+program can't tell apart, of which one is judged for all.
+
+Examples: crashbpf explore disk.log check.bpf --sectors 64 --cuts flush --bound 2 --tears
+          crashbpf explore disk.log check.bpf --sectors 64 --bound any
 
 Exit status: 0 where no image fails, 1 where one does, 2 for a refusal.";
 
-/// What stands behind the help of `why`.
+/// What stands after the help of `why`.
 const AFTER_WHY: &str =
     "The flushes that are missing, and for each program the cuts at which it fails. The failing images of a cut
 stand in groups: in the images of a group the same parts are lost and the same parts are torn.
@@ -67,7 +72,7 @@ Example: crashbpf why disk.log check.bpf --sectors 64 --cuts flush --bound 2 --t
 
 Exit status: 0 where no image fails, 1 where one does, 2 for a refusal.";
 
-/// What stands behind the help of `cure`.
+/// What stands after the help of `cure`.
 const AFTER_CURE: &str =
     "Goes as if a flush stood at each place that is picked for the failing images, runs again, and so on, until
 no flush helps against a failing image. Each line 'round N flush before E from A failing G' is a place:
@@ -78,7 +83,7 @@ Example: crashbpf cure disk.log check.bpf --sectors 64 --cuts flush --bound 2 --
 
 Exit status: 0 where no image of the log itself fails, 1 where one does, 2 for a refusal.";
 
-/// What stands behind the help of `page`.
+/// What stands after the help of `page`.
 const AFTER_PAGE: &str =
     "One HTML file, for any browser, which fetches nothing: the log as a row of entries, the cuts between them
 coloured by the share of their images that fail, and behind a click on a cut its first eight smallest
@@ -88,7 +93,7 @@ Example: crashbpf page disk.log check.bpf --sectors 64 --cuts flush --bound 2 > 
 
 Exit status: 0 where no image fails, 1 where one does, 2 for a refusal.";
 
-/// What stands behind the help of `images`.
+/// What stands after the help of `images`.
 const AFTER_IMAGES: &str =
     "A cut with v sectors on their way, or with --by write v writes, has the sum over i up to the bound of
 C(v, i) * m^i images, where m is 15 with --tears and else 1.
@@ -108,7 +113,7 @@ Example: crashbpf export disk.log --sectors 64 > disk.images
 
 Exit status: 0, or 2 for a refusal.";
 
-/// What stands behind the help of `log`.
+/// What stands after the help of `log`.
 const AFTER_LOG: &str =
     "An entry a line, with the number that the report names: sector j of 'sector S count N' is unit j, which
 is S + j on the device. Bytes of a mark's text that aren't printed are shown as '\\x{7f}'.
@@ -117,7 +122,7 @@ Example: crashbpf log disk.log
 
 Exit status: 0, or 2 for a refusal: 1 to 10 at the entry.";
 
-/// What stands behind the help of `import`.
+/// What stands after the help of `import`.
 const AFTER_IMPORT: &str =
     "RAW is a log, or a whole log device, with sectors of 512 or 4,096 bytes; what its entries don't need isn't
 read. Each sector of 4,096 bytes becomes eight of 512, with the same bytes at the same places of the device.
@@ -126,7 +131,7 @@ Example: crashbpf import /dev/vdb > disk.log
 
 Exit status: 0, or 2 for a refusal: 1 to 10 at the entry.";
 
-/// What stands behind the help of `image`.
+/// What stands after the help of `image`.
 const AFTER_IMAGE: &str =
     "The number is that of a line of the report, with the same options. With --cut and --choice, as a line
 of the report has them, it can be left out.
@@ -136,7 +141,7 @@ Examples: crashbpf image disk.log 202 --sectors 64 --tears > broken.img
 
 Exit status: 0, or 2 for a refusal.";
 
-/// What stands behind the help of `show`.
+/// What stands after the help of `show`.
 const AFTER_SHOW: &str =
     "The image is named as for 'image'. Rows of bytes behind '<' are those of the image of the same cut where
 nothing is lost, those behind '>' of this image; of each sector the first rows that differ are shown.
@@ -145,7 +150,7 @@ Example: crashbpf show disk.log --cut 19 --choice 17.0:drop --sectors 64
 
 Exit status: 0, or 2 for a refusal.";
 
-/// What stands behind the help of `verify`.
+/// What stands after the help of `verify`.
 const AFTER_VERIFY: &str =
     "Prints 'accepted budget N': on each image of a device of that size a run takes at most N steps. With --guards
 it prints 'accepted budget N guards G': at G slots a run tests the place of a load, a store or a copy. Where
@@ -157,7 +162,7 @@ Examples: crashbpf verify check.bpf --sectors 64
 Exit status: 0 where the program is accepted, 2 for a refusal: 20 to 26 for its bytes, 40 to 60 for
 the rule that it breaks, each at its slot.";
 
-/// What stands behind the help of `check`.
+/// What stands after the help of `check`.
 const AFTER_CHECK: &str =
     "The device has as many sectors as the image. The last line is what the program ended in: its answer and the
 codes that it reported, or with --checked a fault and its slot. With --trace each of the last steps has a
@@ -169,17 +174,17 @@ Examples: crashbpf check check.bpf good.img --trace 20
 
 Exit status: 0 where the answer is 0, 1 where it isn't or there is none, 2 for a refusal.";
 
-/// What stands behind the help of `asm`.
+/// What stands after the help of `asm`.
 const AFTER_ASM: &str = "Example: crashbpf asm check.s > check.bpf
 
 Exit status: 0, or 2 for a refusal: 30 to 35 at the line.";
 
-/// What stands behind the help of `list`.
+/// What stands after the help of `list`.
 const AFTER_LIST: &str = "Example: crashbpf list check.bpf
 
 Exit status: 0, or 2 for a refusal: 20 to 26 at the slot.";
 
-/// What stands behind the help of `join`.
+/// What stands after the help of `join`.
 const AFTER_JOIN: &str =
     "The parts have each image of the run once. With --part they may be some in a row: the answer is then the text of
 a part again, which can be joined with others.
@@ -255,6 +260,22 @@ fn range_option<'a>(alloc: Global, name: &'a str, help: &'a str) -> Arg<'a> {
         .help(help)
 }
 
+/// The option that says how many parts may depart. Where it is to take `any` it takes each word.
+fn bound_option<'a>(alloc: Global, any: bool) -> Arg<'a> {
+    let parser = if any {
+        ValueParser::String
+    } else {
+        clap::value_parser!(u64)
+    };
+    Arg::new(alloc, "bound")
+        .long("bound")
+        .value_name("N")
+        .value_parser(parser)
+        .help(
+            "How many sectors, or by write how many writes, may be lost or torn, 0 to 3, or any (explore) [default: 1]",
+        )
+}
+
 /// The log of a command.
 fn log_file<'a>(alloc: Global) -> Arg<'a> {
     Arg::new(alloc, "file")
@@ -280,7 +301,7 @@ fn with_command<'a>(
 }
 
 /// A command on a log, with the options that say which of its crash images are meant.
-fn log_command<'a>(alloc: Global, name: &'a str) -> Result<Command<'a>, AllocError> {
+fn log_command<'a>(alloc: Global, name: &'a str, any: bool) -> Result<Command<'a>, AllocError> {
     Command::new(alloc, name)
         .arg(sectors_option(alloc))?
         .arg(large_option(alloc))?
@@ -298,11 +319,7 @@ fn log_command<'a>(alloc: Global, name: &'a str) -> Result<Command<'a>, AllocErr
             "to",
             "The last of the cuts [default: the last of the log]",
         ))?
-        .arg(number_option(
-            alloc,
-            "bound",
-            "How many sectors, or by write how many writes, may be lost or torn, 0 to 3 [default: 1]",
-        ))?
+        .arg(bound_option(alloc, any))?
         .arg(flag_option(
             alloc,
             "tears",
@@ -340,7 +357,7 @@ fn guards_of_run<'a>(alloc: Global) -> Result<Arg<'a>, AllocError> {
     guards_option(alloc).conflicts_with("checked")
 }
 
-/// The options of a run behind those of a log.
+/// The options of a run after those of a log.
 fn with_run_options<'a>(alloc: Global, command: Command<'a>) -> Result<Command<'a>, AllocError> {
     let command = command
         .arg(number_option(alloc, "workers", "Threads, 1 to 64 [default: 1]"))?
@@ -363,35 +380,45 @@ fn program_files<'a>(alloc: Global) -> Arg<'a> {
 }
 
 /// The command `why`.
-fn why_command<'a>(alloc: Global) -> Result<Command<'a>, AllocError> {
-    let command = log_command(alloc, "why")?
+fn why_command<'a>(alloc: Global, any: bool) -> Result<Command<'a>, AllocError> {
+    let command = log_command(alloc, "why", any)?
         .about("Tells which losses make a checker fail, cut by cut")
         .after_help(AFTER_WHY);
     with_run_options(alloc, command)?.arg(program_files(alloc))
 }
 
 /// The command `cure`.
-fn cure_command<'a>(alloc: Global) -> Result<Command<'a>, AllocError> {
-    let command = log_command(alloc, "cure")?
+fn cure_command<'a>(alloc: Global, any: bool) -> Result<Command<'a>, AllocError> {
+    let command = log_command(alloc, "cure", any)?
         .about("Tells before which entries a flush is missing, and what fails with these flushes")
         .after_help(AFTER_CURE);
     with_run_options(alloc, command)?.arg(program_files(alloc))
 }
 
 /// The command `page`.
-fn page_command<'a>(alloc: Global) -> Result<Command<'a>, AllocError> {
-    let command = log_command(alloc, "page")?
+fn page_command<'a>(alloc: Global, any: bool) -> Result<Command<'a>, AllocError> {
+    let command = log_command(alloc, "page", any)?
         .about("Shows the log and the failing cuts as a page for a browser")
         .after_help(AFTER_PAGE);
     with_run_options(alloc, command)?.arg(program_files(alloc))
 }
 
 /// The command `explore`.
-fn explore_command<'a>(alloc: Global) -> Result<Command<'a>, AllocError> {
-    let command = log_command(alloc, "explore")?
+fn explore_command<'a>(alloc: Global, any: bool) -> Result<Command<'a>, AllocError> {
+    let command = log_command(alloc, "explore", any)?
         .about("Reports the crash images on which a checker doesn't answer 0")
         .after_help(AFTER_EXPLORE);
     with_run_options(alloc, command)?
+        .arg(number_option(
+            alloc,
+            "torn",
+            "With --bound any and --tears, how many of them may be torn, 1 to 3 [default: 1]",
+        ))?
+        .arg(number_option(
+            alloc,
+            "at-most",
+            "With --bound any, how many of them may be lost or torn, 1 to 64 [default: any number]",
+        ))?
         .arg(flag_option(alloc, "first", "Report the first failing image alone"))?
         .arg(word_option(
             alloc,
@@ -411,8 +438,8 @@ fn wide_option<'a>(alloc: Global) -> Arg<'a> {
 }
 
 /// The command `images`.
-fn images_command<'a>(alloc: Global) -> Result<Command<'a>, AllocError> {
-    log_command(alloc, "images")?
+fn images_command<'a>(alloc: Global, any: bool) -> Result<Command<'a>, AllocError> {
+    log_command(alloc, "images", any)?
         .about("Tells how many crash images each cut of a log has")
         .after_help(AFTER_IMAGES)
         .arg(wide_option(alloc))?
@@ -424,8 +451,8 @@ fn images_command<'a>(alloc: Global) -> Result<Command<'a>, AllocError> {
 }
 
 /// The command `export`.
-fn export_command<'a>(alloc: Global) -> Result<Command<'a>, AllocError> {
-    log_command(alloc, "export")?
+fn export_command<'a>(alloc: Global, any: bool) -> Result<Command<'a>, AllocError> {
+    log_command(alloc, "export", any)?
         .about("Writes the bytes of all crash images, each by the sectors in which it differs")
         .after_help(AFTER_EXPORT)
         .arg(word_option(
@@ -475,26 +502,26 @@ fn choice_option<'a>(alloc: Global) -> Result<Arg<'a>, AllocError> {
 }
 
 /// A command on one crash image of a log.
-fn named_command<'a>(alloc: Global, name: &'a str) -> Result<Command<'a>, AllocError> {
-    let command = with_arg(log_command(alloc, name)?, cut_option(alloc))?;
+fn named_command<'a>(alloc: Global, name: &'a str, any: bool) -> Result<Command<'a>, AllocError> {
+    let command = with_arg(log_command(alloc, name, any)?, cut_option(alloc))?;
     let command = with_arg(command, choice_option(alloc))?;
     let command = command.arg(wide_option(alloc))?;
     with_arg(command, image_number(alloc))
 }
 
 /// The command `image`.
-fn image_command<'a>(alloc: Global) -> Result<Command<'a>, AllocError> {
+fn image_command<'a>(alloc: Global, any: bool) -> Result<Command<'a>, AllocError> {
     Ok(
-        named_command(alloc, "image")?
+        named_command(alloc, "image", any)?
             .about("Writes the bytes of one crash image, sector after sector")
             .after_help(AFTER_IMAGE),
     )
 }
 
 /// The command `show`.
-fn show_command<'a>(alloc: Global) -> Result<Command<'a>, AllocError> {
+fn show_command<'a>(alloc: Global, any: bool) -> Result<Command<'a>, AllocError> {
     Ok(
-        named_command(alloc, "show")?
+        named_command(alloc, "show", any)?
             .about(
                 "Tells one crash image in words: its cut, what was lost or torn, and which bytes differ",
             )
@@ -638,8 +665,8 @@ fn join_command<'a>(alloc: Global) -> Result<Command<'a>, AllocError> {
         .arg(texts)
 }
 
-/// All commands.
-fn commands<'a>(alloc: Global) -> Result<Command<'a>, AllocError> {
+/// All commands. Where `--bound` is to take `any` it takes each word.
+fn commands<'a>(alloc: Global, any: bool) -> Result<Command<'a>, AllocError> {
     let command = Command::new(alloc, "crashbpf")
         .bin_name("crashbpf")?
         .about(ABOUT)
@@ -647,14 +674,14 @@ fn commands<'a>(alloc: Global) -> Result<Command<'a>, AllocError> {
         .version(VERSION)
         .no_binary_name(true)
         .subcommand_required(true);
-    let command = with_command(command, explore_command(alloc))?;
-    let command = with_command(command, why_command(alloc))?;
-    let command = with_command(command, cure_command(alloc))?;
-    let command = with_command(command, page_command(alloc))?;
-    let command = with_command(command, images_command(alloc))?;
-    let command = with_command(command, export_command(alloc))?;
-    let command = with_command(command, image_command(alloc))?;
-    let command = with_command(command, show_command(alloc))?;
+    let command = with_command(command, explore_command(alloc, any))?;
+    let command = with_command(command, why_command(alloc, any))?;
+    let command = with_command(command, cure_command(alloc, any))?;
+    let command = with_command(command, page_command(alloc, any))?;
+    let command = with_command(command, images_command(alloc, any))?;
+    let command = with_command(command, export_command(alloc, any))?;
+    let command = with_command(command, image_command(alloc, any))?;
+    let command = with_command(command, show_command(alloc, any))?;
     let command = with_command(command, table_command(alloc))?;
     let command = with_command(command, import_command(alloc))?;
     let command = with_command(command, verify_command(alloc))?;
@@ -673,8 +700,24 @@ fn number_fault(alloc: Global, no: &NoNumber<'_>) -> Result<Error, AllocError> {
         message,
         "invalid value '{word}' for '{option}': a number has no sign and no zero in front"
     )?;
-    let mut command = commands(alloc)?;
+    let mut command = commands(alloc, false)?;
     command.error(ErrorKind::ValueValidation, message.as_str())
+}
+
+/// Whether `any` stands after `--bound`. Without it `--bound` takes numbers alone, and `clap` says what is wrong with others.
+fn has_any(words: &[String]) -> bool {
+    let mut is_bound = false;
+    for word in words {
+        let word = word.as_str();
+        if word == "--bound=any" || (is_bound && word == "any") {
+            return true;
+        }
+        if word == "--" {
+            return false;
+        }
+        is_bound = word == "--bound";
+    }
+    false
 }
 
 impl Words {
@@ -719,7 +762,7 @@ impl Words {
         }
     }
 
-    /// Reads the words behind the program's name. No word at all asks for the stored run.
+    /// Reads the words after the program's name. No word at all asks for the stored run.
     ///
     /// # Errors
     ///
@@ -731,7 +774,7 @@ impl Words {
         if words.is_empty() {
             return Ok(Words::of_stored_run(alloc));
         }
-        let matches = commands(alloc)?.try_get_matches_from(words)?;
+        let matches = commands(alloc, has_any(words))?.try_get_matches_from(words)?;
         Ok(Words::of_matches(alloc, &matches)?)
     }
 
@@ -757,7 +800,8 @@ impl Words {
         ensures { result ≡ sectors_asked self.now.request }
     {
         match self.request {
-            Request::Explore(words) | Request::Why(words) => words.sectors,
+            Request::Explore(words) | Request::Cases(words, _) => words.sectors,
+            Request::Why(words) => words.sectors,
             Request::Cure(words) | Request::Page(words) => words.sectors,
             Request::Images(words, _) | Request::Log(words) => words.sectors,
             Request::Export(words) => words.sectors,
@@ -775,7 +819,8 @@ impl Words {
         ensures { result ≡ limits_asked self.now.request }
     {
         match self.request {
-            Request::Explore(words) | Request::Why(words) => words.limits,
+            Request::Explore(words) | Request::Cases(words, _) => words.limits,
+            Request::Why(words) => words.limits,
             Request::Cure(words) | Request::Page(words) => words.limits,
             Request::Images(words, _) | Request::Log(words) => words.limits,
             Request::Export(words) => words.limits,

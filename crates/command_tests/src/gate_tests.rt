@@ -3,12 +3,12 @@
 
 ghost use Rattle.std.specs.Prelude.{◌≤◌};
 
+use base::limits::Limits;
 use base::refusal::Refusal;
 use commands::{
     By, CutKind, Cuts, Explored, Extent, Flushes, Gate, OpenGate, Options, Recording, Settings,
     explore, explore_with, fault_line,
 };
-use limits::Limits;
 use std::alloc::Global;
 use std::process::Abort;
 use std::sync::Wait;
@@ -44,7 +44,7 @@ fn put_sector(log: &mut Vec<u8>, head: &[u8]) -> Result<(), Fail> {
     Ok(())
 }
 
-/// The log of so many flush entries without sectors.
+/// The log of that many flush entries without sectors.
 fn flushes(alloc: Global, count: u16) -> Result<Vec<u8>, Fail> {
     let mut log = Vec::new(alloc);
     let [low, high] = count.to_le_bytes();
@@ -228,7 +228,7 @@ impl Gate for Holding {
     }
 }
 
-/// Explores a log of so many blocks by workers, of whom one is held, and answers the report.
+/// Explores a log of that many blocks by workers, of whom one is held, and answers the report.
 fn held<R: Threads + Wait + Sync + Abort>(
     rt: &R,
     alloc: Global,
@@ -354,7 +354,7 @@ const BEFORE_FLUSHES: Cuts = Cuts {
     flushes: Flushes::NONE,
 };
 
-/// The run sixteen_codes of docs/REPORT.md, with 256 images, by two workers.
+/// The run sixteen_codes of docs/OUTPUT.md, with 256 images, by two workers.
 const SIXTEEN_CODES: Settings = Settings {
     sectors: 4,
     limits: Limits::Usual,

@@ -76,7 +76,7 @@ const CASES: [Case; 11] = [
     (5, 0, Answer::Interruption, 23),
 ];
 
-/// Whether so many of the bytes go out, and whether the answer is that number or, for all of them, Ok.
+/// Whether that many of the bytes go out, and whether the answer is that number or, for all of them, Ok.
 fn goes_out(alloc: Global, case: &Case) -> bool {
     let (most, calls, at_end, count) = *case;
     let mut out = Output::new(Slow {

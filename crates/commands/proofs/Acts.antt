@@ -80,7 +80,7 @@ next_by q n place true e h =
     rw (less, more) refl
 next_by q n place false e h = absurd (let bad : None ≡ Some place = h in cc)
 
--- the first program that can't be read, behind the log
+-- the first program that can't be read, after the log
 pub unread_next : {V : Type 0} (items : V → List ℕ) (log : V) (files : List (Option V)) (place : ℕ) → position is_none files ≡ Some place
     → unread (map (option_map items) (Some log ∷ files)) ≡ Some (place + 1)
 unread_next items log files place h =
@@ -91,7 +91,7 @@ all_by : (q n : ℕ) (b : Bool) → nat_lt q n ≡ b → cond b (Some q) None �
 all_by q n true e h = absurd (let bad : Some q ≡ None = h in cc)
 all_by q n false e h = let less : nat_lt (1 + q) (suc n) ≡ false = grind (arith, nat_tests) in rw less refl
 
--- all programs can be read, behind the log
+-- all programs can be read, after the log
 pub none_unread : {V : Type 0} (items : V → List ℕ) (log : V) (files : List (Option V)) → position is_none files ≡ None
     → unread (map (option_map items) (Some log ∷ files)) ≡ None
 none_unread items log files h =

@@ -19,7 +19,7 @@ use Rattle.crash_text.specs.Shown.{numbered_text, chosen_text, choice_shown, cut
 use Rattle.request.specs.declared.settings.Settings.{Settings}
 use Rattle.request.specs.declared.command.Which.{Which}
 use Rattle.request.specs.Source.{Recording, plan_of}
-use Rattle.looks.specs.Image.{whole_view, IsShown}
+use Rattle.inspect.specs.Image.{whole_view, IsShown}
 use Rattle.commands.specs.Differences.{image_shown, image_beside, NamesSector, NamesNone, ShowNamesDifferences}
 use Rattle.commands.proofs.OneReport.{same_log}
 
@@ -101,7 +101,7 @@ range_at m n below =
     let place : get_or (range_with_len 0 m) n 0 ≡ n = get_or-range_with_len 0 m n 0 below ∙ zero_more in
     slice_get-get_or (range_with_len 0 m) n 0 (omega (arith, long, below)) ∙ ap (λ (k : ℕ). Some k) place
 
--- what is said of the sectors before one, of that one, and of those behind it
+-- what is said of the sectors before one, of that one, and of those after it
 abbrev before_it : (ℕ → List ℕ) → ℕ → ℕ → List ℕ
 before_it f m n = flat_map f (take n (range_with_len 0 m))
 

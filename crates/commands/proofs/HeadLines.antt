@@ -11,9 +11,9 @@ use Rattle.epochs.specs.declared.cuts.CutKind.TheVariants.{All, BeforeFlush, Aft
 use Rattle.epochs.specs.declared.part.By.{By}
 use Rattle.epochs.specs.declared.part.By.TheVariants as by
 use Rattle.epochs.specs.Flushes.{places_of}
-use Rattle.choice_text.specs.Words.{next_flush, flush_words, from_words, to_words, cuts_words}
-use Rattle.lines.specs.Reading.{lacks}
-use Rattle.outcomes.proofs.Plain.{both, number, is_plain, ascii}
+use Rattle.report.specs.Words.{next_flush, flush_words, from_words, to_words, cuts_words}
+use Rattle.report.specs.MarkReading.{lacks}
+use Rattle.losses.proofs.Plain.{both, number, is_plain, ascii}
 use Rattle.report.specs.declared.head.ProgramHead.{ProgramHead}
 use Rattle.report.specs.Text.{yes_or_no, cuts_word, by_words}
 use Rattle.report.specs.Report.{HeadValue, base_words, device_text, choices_text, given_text, options_line, steps_word, guards_words, steps_text, program_line, program_lines, options_text}

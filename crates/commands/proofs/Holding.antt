@@ -221,7 +221,7 @@ unfolding frames_with
 bytes_kept [] frames a small all = all
 bytes_kept (b ∷ bytes) frames a small all = bytes_kept bytes (with_byte frames a b) ((a + 1) % 2 ^ 64) (λ i. small (suc i)) (byte_kept frames a b (small 0) all)
 
--- registers behind an answer
+-- registers after an answer
 
 pub answer_kept : (registers : List (Option ℕ)) (answer : ℕ) → AreBelow (2 ^ 64) registers → answer < 2 ^ 64 → AreBelow (2 ^ 64) (with_answer registers answer)
 answer_kept registers answer all small =

@@ -10,13 +10,13 @@ use Rattle.base.specs.declared.causes.MachineFault.{MachineFault}
 use Rattle.base.specs.declared.causes.MachineFault.TheVariants as fault
 use Rattle.machine.specs.Outcome.{Ending, Verdict, Stopped, OutOfSteps, Stray}
 use Rattle.choices.specs.Named.{name_of}
-use Rattle.lines.specs.Line.{FailingLine}
-use Rattle.lines.specs.Text.{codes_text, ending_text, choice_text, line_text}
-use Rattle.choice_text.specs.Text.{names_text}
+use Rattle.report.specs.Line.{FailingLine}
+use Rattle.report.specs.LineText.{codes_text, ending_text, choice_text, line_text}
+use Rattle.report.specs.ChoiceText.{names_text}
 use Rattle.join.specs.Printable.{IsWithin, IsPrintable, ArePrintable}
 use Rattle.workers.specs.Failing.{Subject, line_of, image_lines, lines_from, failing_lines, judged_count}
-use Rattle.looks.proofs.Printed.{prints_choices}
-use Rattle.looks.proofs.Short.{names_short}
+use Rattle.inspect.proofs.Printed.{prints_choices}
+use Rattle.inspect.proofs.Short.{names_short}
 use Rattle.runs.specs.Explore.{subject_of}
 use Rattle.commands.specs.Largest.{ReportsAreBounded}
 use Rattle.commands.proofs.RunOf.{made_long, is_run}

@@ -1,6 +1,5 @@
 -- Lemmas of the crate.
 pub mod Acts
-pub mod Appending
 pub mod OneReport
 pub mod OwnRun
 pub mod Once
@@ -9,6 +8,7 @@ pub mod OneCause
 pub mod OneMissing
 pub mod OneText
 pub mod OnePage
+pub mod OneCases
 pub mod OneCure
 pub mod OneJoin
 pub mod LinesOfRun
@@ -25,3 +25,4 @@ pub mod PartsJoined
 pub mod Printed
 pub mod OtherWork
 pub mod Lengths
+pub mod Streams

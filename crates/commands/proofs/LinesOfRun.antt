@@ -1,4 +1,4 @@
--- What a failing line of a run says is within what its head says (docs/REPORT.md, Joining parts).
+-- What a failing line of a run says is within what its head says (docs/COMMANDS.md, Joining parts).
 use Rattle.std.proofs.Common.{ℕ, suc, ◌≡◌, ◌==◌, ◌<◌, ◌≤◌, ◌&&◌, ◌||◌, nat_le, nat_lt, inl, inr, Bool, true, false, List, [], ◌∷◌, length, map, slice_get, Option, Some, None, IfSome, refl, arith}
 use Rattle.std.proofs.lemmas.Bool.Decides.{nat_tests}
 use Rattle.logfmt.specs.declared.entry.Entry.{Entry}

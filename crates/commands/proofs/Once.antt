@@ -6,14 +6,14 @@ use Rattle.choices.specs.Sums.{StartsValue}
 use Rattle.choices.proofs.Plans.{before_more}
 use Rattle.checker.specs.Checker.{CheckerValue}
 use Rattle.logfmt.specs.Bounds.{LogValue}
-use Rattle.lines.specs.Line.{FailingLine}
-use Rattle.lines.specs.Marks.{marks_of}
-use Rattle.why.specs.declared.cut.CutFailures.{CutFailures}
-use Rattle.outcomes.specs.Outcomes.{outcomes_failing}
-use Rattle.why.specs.Failures.{AreImages, IsCut, AreCuts, numbers_in, first_at, failing_before, failing_at}
-use Rattle.why.specs.Laws.{EachStandsOnce, AllStand}
-use Rattle.why.proofs.Between.{of_cut}
-use Rattle.why.proofs.Ordered.{are_choices}
+use Rattle.report.specs.Line.{FailingLine}
+use Rattle.report.specs.Marks.{marks_of}
+use Rattle.losses.specs.declared.why.cut.CutFailures.{CutFailures}
+use Rattle.losses.specs.ProgramOutcomes.{outcomes_failing}
+use Rattle.losses.specs.Failures.{AreImages, IsCut, AreCuts, numbers_in, first_at, failing_before, failing_at}
+use Rattle.losses.specs.GroupLaws.{EachStandsOnce, AllStand}
+use Rattle.losses.proofs.Between.{of_cut}
+use Rattle.losses.proofs.Ordered.{are_choices}
 use Rattle.workers.specs.Failing.{failing_lines}
 use Rattle.workers.specs.Laws.{LinesAreSet}
 use Rattle.request.specs.declared.settings.Settings.{Settings}

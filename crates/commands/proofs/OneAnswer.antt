@@ -9,44 +9,50 @@ use Rattle.bpf_isa.specs.declared.instr.Instr.{Instr}
 use Rattle.bpf_asm.specs.Laws as asm
 use Rattle.verifier.specs.Laws.{OneVerdict}
 use Rattle.verifier.specs.Verdicts.{IsAccepted}
-use Rattle.lines.specs.Line.{fails}
+use Rattle.report.specs.Line.{fails}
 use Rattle.choices.specs.Choices.{ChoiceValue}
 use Rattle.checker.specs.Checker.{CheckerValue}
 use Rattle.notes.specs.LogTable.{log_table}
 use Rattle.request.specs.declared.settings.Settings.{Settings}
+use Rattle.request.specs.declared.settings.Telling.{Telling}
 use Rattle.request.specs.declared.settings.Telling.TheVariants as telling
+use Rattle.request.specs.AnyLosses.{losses_asked}
+use Rattle.request.specs.declared.any_losses.LossWords.{LossWords}
 use Rattle.request.specs.declared.command.OptionWords.{OptionWords}
 use Rattle.request.specs.declared.command.Which.{Which}
 use Rattle.request.specs.declared.command.Request.{Request}
 use Rattle.request.specs.declared.trials.Trial.{Trial}
 use Rattle.request.specs.declared.trials.TrialWords.{TrialWords}
 use Rattle.join.specs.Joining.{IsJoined}
-use Rattle.trial.specs.Image.{sectors_of as image_sectors}
-use Rattle.trial.specs.Trial.{trial_text, ending_of_trial, IsTried}
+use Rattle.inspect.specs.TrialImage.{sectors_of as image_sectors}
+use Rattle.inspect.specs.TrialText.{trial_text, ending_of_trial, IsTried}
 use Rattle.request.specs.declared.command.Request.TheVariants as request
 use Rattle.request.specs.OptionWords.{AskFor}
 use Rattle.request.specs.Source.{Recording, plan_of, images_of}
-use Rattle.runs.specs.Cured.{TellsWanted, IsAnswered}
+use Rattle.case_runs.specs.Found.{FindingIsOne}
+use Rattle.runs.specs.Why.{Tells}
+use Rattle.runs.specs.Cured.{TellsCure, IsAnswered}
 use Rattle.runs.specs.Inputs.{inputs_number}
-use Rattle.limits.specs.Sizes.{sector_limit}
-use Rattle.limits.specs.declared.Limits.{Limits}
+use Rattle.base.specs.Sizes.{sector_limit}
+use Rattle.base.specs.declared.limits.Limits.{Limits}
 use Rattle.raw_log.specs.Imported.{IsImported}
 use Rattle.raw_log.proofs.Profile.{one_import}
-use Rattle.looks.specs.Which.{IsMeant, IsOnly}
-use Rattle.looks.specs.Image.{text_in, IsImageIn, IsImage, IsShown}
-use Rattle.looks.specs.Survey.{survey_text, parts_text, IsSurvey}
-use Rattle.looks.specs.Export.{exported, IsExport}
+use Rattle.inspect.specs.Which.{IsMeant, IsOnly}
+use Rattle.inspect.specs.Image.{text_in, IsImageIn, IsImage, IsShown}
+use Rattle.inspect.specs.Survey.{survey_text, parts_text, IsSurvey}
+use Rattle.inspect.specs.Export.{exported, IsExport}
 use Rattle.export.specs.Export.{export_text}
-use Rattle.looks.specs.Table.{IsTable}
-use Rattle.looks.specs.Verifying.{verified_text, IsAcceptedText}
-use Rattle.looks.specs.Assembly.{listing_text, IsAssembled, IsListed}
+use Rattle.inspect.specs.Table.{IsTable}
+use Rattle.inspect.specs.Verifying.{verified_text, IsAcceptedText}
+use Rattle.inspect.specs.Assembly.{listing_text, IsAssembled, IsListed}
 use Rattle.runs.specs.declared.explore_command.Wanted.{Wanted}
 use Rattle.runs.specs.declared.explore_command.Wanted.TheVariants as wanted
-use Rattle.commands.specs.Acting.{Files, initial_of, recording, status_of, AnswersRun, AnswersFiles, AnswersExplore, AnswersFile, AnswersLog, AnswersOf, AnswersWith, AnswersTrial, AnswersJoin, Answers}
+use Rattle.commands.specs.Acting.{Files, initial_of, recording, status_of, AnswersRun, AnswersFiles, AnswersExplore, AnswersCases, AnswersFile, AnswersLog, AnswersOf, AnswersWith, AnswersTrial, AnswersJoin, Answers}
 use Rattle.commands.proofs.OneReport.{same_log, same_asked, one_run}
 use Rattle.commands.proofs.OneText.{one_explanation}
 use Rattle.commands.proofs.OnePage.{one_page}
 use Rattle.commands.proofs.OneCure.{one_cure}
+use Rattle.commands.proofs.OneCases.{one_cases}
 use Rattle.commands.proofs.OneJoin.{one_join}
 
 -- what the laws of the lower layers say
@@ -55,23 +61,28 @@ pub record Laws : Type 0 where
   pub programs : OneProgram
   pub verdicts : OneVerdict
   pub sources : asm.OneProgram
+  pub findings : FindingIsOne
 
 -- the same bytes and the same number
 abbrev pub Same : List ℕ → List ℕ → ℕ → ℕ → Type 0
 Same bytes others status ended = (bytes ≡ others) × (status ≡ ended)
 
 -- what is told of a log and of checkers is one
-one_told : (w : Wanted) (inputs : ℕ) (s : Settings) (value : LogValue) (checkers : List CheckerValue) (bytes others : List ℕ)
-    → TellsWanted w inputs s value checkers bytes → TellsWanted w inputs s value checkers others → bytes ≡ others
-one_told (wanted.Told telling.Report) inputs s value checkers bytes others a b = a ∙ sym b
-one_told (wanted.Told telling.Causes) inputs s value checkers bytes others a b = one_explanation _ _ _ bytes others a b
-one_told (wanted.Told telling.Page) inputs s value checkers bytes others a b = one_page _ _ _ _ bytes others a b
-one_told wanted.Cured inputs s value checkers bytes others a b = one_cure s value checkers bytes others a b
+one_told : (t : Telling) (inputs : ℕ) (s : Settings) (value : LogValue) (checkers : List CheckerValue) (bytes others : List ℕ)
+    → Tells t inputs s value checkers bytes → Tells t inputs s value checkers others → bytes ≡ others
+one_told telling.Report inputs s value checkers bytes others a b = a ∙ sym b
+one_told telling.Causes inputs s value checkers bytes others a b = one_explanation _ _ _ bytes others a b
+one_told telling.Page inputs s value checkers bytes others a b = one_page _ _ _ _ bytes others a b
 
 answered_once : Laws → (w : Wanted) (text : Recording) (files : List (List ℕ)) (s : Settings) (bytes others : List ℕ) (failing fails : Bool)
     → IsAnswered w text files s bytes failing → IsAnswered w text files s others fails → (bytes ≡ others) × (failing ≡ fails)
-answered_once laws w text files =
-    one_run laws.texts laws.programs laws.verdicts (λ s value checkers bytes. TellsWanted w (inputs_number text.text files) s value checkers bytes) (one_told w (inputs_number text.text files)) text files
+answered_once laws (wanted.Told t) text files s bytes others failing fails a b =
+    one_run laws.texts laws.programs laws.verdicts (λ s value checkers bytes. Tells t (inputs_number text.text files) s value checkers bytes) (one_told t (inputs_number text.text files)) text files
+    s bytes others failing fails a b
+answered_once laws wanted.Cured text files s bytes others failing fails a b =
+    one_run laws.texts laws.programs laws.verdicts TellsCure (λ s value checkers bytes others x y. one_cure s value checkers bytes others x y) text files s bytes others failing fails a b
+answered_once laws (wanted.Cases l) text files s bytes others failing fails a b =
+    one_cases laws.texts laws.programs laws.verdicts laws.findings l text files s bytes others failing fails a b
 
 run_once : Laws → (t : Wanted) (s : Settings) (log : Recording) (programs : List (List ℕ)) (bytes others : List ℕ) (status ended : ℕ)
     → AnswersRun t s log programs bytes status → AnswersRun t s log programs others ended → Same bytes others status ended
@@ -115,6 +126,13 @@ explore_once : Laws → (t : Wanted) (w : OptionWords) (files : Files) (bytes ot
 explore_once laws t w files bytes others status ended a b =
     let same = same_settings w b.settings a.settings b.asked a.asked in
     files_once laws t a.settings files bytes others status ended a.answers (subst (λ (s : Settings). AnswersFiles t s files others ended) same b.answers)
+
+cases_once : Laws → (w : OptionWords) (l : LossWords) (files : Files) (bytes others : List ℕ) (status ended : ℕ)
+    → AnswersCases w l files bytes status → AnswersCases w l files others ended → Same bytes others status ended
+cases_once laws w l files bytes others status ended a b =
+    let same = same_settings w b.settings a.settings b.asked a.asked in
+    files_once laws (wanted.Cases (losses_asked l a.settings)) a.settings files bytes others status ended a.answers
+    (subst (λ (s : Settings). AnswersFiles (wanted.Cases (losses_asked l s)) s files others ended) same b.answers)
 
 -- what is said of a file is one
 abbrev IsOne : (List ℕ → List ℕ → Type 0) → Type 0
@@ -239,6 +257,7 @@ pub one_answer : Laws → (r : Request) (files : Files) (bytes others : List ℕ
     → Answers r files bytes status → Answers r files others ended → (bytes ≡ others) × (status ≡ ended)
 one_answer laws request.StoredRun files bytes others status ended a b = run_once laws (wanted.Told telling.Report) _ _ _ bytes others status ended a b
 one_answer laws (request.Explore w) files bytes others status ended a b = explore_once laws (wanted.Told telling.Report) w files bytes others status ended a b
+one_answer laws (request.Cases w l) files bytes others status ended a b = cases_once laws w l files bytes others status ended a b
 one_answer laws (request.Why w) files bytes others status ended a b = explore_once laws (wanted.Told telling.Causes) w files bytes others status ended a b
 one_answer laws (request.Cure w) files bytes others status ended a b = explore_once laws wanted.Cured w files bytes others status ended a b
 one_answer laws (request.Page w) files bytes others status ended a b = explore_once laws (wanted.Told telling.Page) w files bytes others status ended a b

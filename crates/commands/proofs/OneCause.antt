@@ -2,12 +2,12 @@
 use Rattle.std.proofs.Common.{ℕ, ◌≡◌, List, length, map, Some, sym, ◌∙◌, ap, subst}
 use Rattle.choices.specs.Choices.{ranked_at}
 use Rattle.choices.specs.Sums.{StartsValue}
-use Rattle.groups.specs.Folded.{AreFolded}
-use Rattle.groups.proofs.Folds.{stands_under_one}
-use Rattle.why.specs.declared.group.Group.{Group}
-use Rattle.why.specs.declared.cut.CutFailures.{CutFailures}
-use Rattle.why.specs.Groups.{groups_of, AreGrouped}
-use Rattle.why.specs.Failures.{first_at, failing_before, failing_at, numbers_in, IsCut, AreCuts}
+use Rattle.losses.specs.Folded.{AreFolded}
+use Rattle.losses.proofs.Folds.{stands_under_one}
+use Rattle.losses.specs.declared.why.group.Group.{Group}
+use Rattle.losses.specs.declared.why.cut.CutFailures.{CutFailures}
+use Rattle.losses.specs.CountedGroups.{groups_of, AreGrouped}
+use Rattle.losses.specs.Failures.{first_at, failing_before, failing_at, numbers_in, IsCut, AreCuts}
 use Rattle.commands.proofs.Alike.{AreAlike, alike, same_list}
 
 -- cuts with the same numbers and the same groups

@@ -8,14 +8,14 @@ use Rattle.epochs.specs.Cuts.{cuts_of}
 use Rattle.choices.specs.Picks.{fates_of}
 use Rattle.choices.specs.Choices.{choices_at, choices_over, ranked_before, limit, IsFirstPast}
 use Rattle.checker.specs.Checker.{CheckerValue}
-use Rattle.flushes.specs.declared.window.Window.{Window}
-use Rattle.flushes.specs.declared.counted.MissingFlush.{MissingFlush}
-use Rattle.flushes.specs.Counted.{AreMissing}
-use Rattle.lines.specs.Line.{FailingLine}
+use Rattle.losses.specs.declared.flushes.window.Window.{Window}
+use Rattle.losses.specs.declared.flushes.counted.MissingFlush.{MissingFlush}
+use Rattle.losses.specs.Counted.{AreMissing}
+use Rattle.report.specs.Line.{FailingLine}
 use Rattle.report.specs.Report.{HeadValue}
-use Rattle.cure.specs.declared.failure.Failure.{Failure}
-use Rattle.cure.specs.Failures.{windows_in, places_in}
-use Rattle.cure.specs.Text.{begin_text, uncured_text, rounds_text, refused_line}
+use Rattle.losses.specs.declared.cure.failure.Failure.{Failure}
+use Rattle.losses.specs.FailureWindows.{windows_in, places_in}
+use Rattle.losses.specs.CureText.{begin_text, uncured_text, rounds_text, refused_line}
 use Rattle.request.specs.declared.settings.Settings.{Settings}
 use Rattle.request.specs.Source.{plan_of}
 use Rattle.runs.specs.Explore.{head_of}
@@ -67,7 +67,7 @@ same_end s cs value _ _ (with_refusal cut past) (with_totals fs few fail none) =
 same_end s cs value _ _ (with_refusal cut past) (with_refusal other behind) =
     ap refused_line (same_past s value cut other past behind)
 
--- behind the last run there is no round
+-- after the last run there is no round
 no_round : (s : Settings) (cs : List CheckerValue) (value : LogValue) (ms : List MissingFlush) (end : List ℕ) → IsRound s cs value ms → Ends s cs value end → ⊥
 no_round s cs value ms _ round (with_totals fs few fail none) =
     round.some (ap windows_in (same_fails s cs value round.failures fs round.fail fail) ∙ none)

@@ -8,8 +8,8 @@ use Rattle.std.proofs.lemmas.List.Elements.{All-nil, All-cons}
 use Rattle.std.proofs.lemmas.List.Sums.{sum_by-cons}
 use Rattle.std.proofs.lemmas.List.Sorted.{All-permutation, sum_by-IsPermutation, IsPermutation-sym, length_permutation}
 use Rattle.base.specs.declared.causes.JoinCause.TheVariants as cause
-use Rattle.lines.specs.Line.{FailingLine}
-use Rattle.lines.specs.Marks.{mark_of, marks_of}
+use Rattle.report.specs.Line.{FailingLine}
+use Rattle.report.specs.Marks.{mark_of, marks_of}
 use Rattle.join.specs.declared.fault.JoinFault.{JoinFault}
 use Rattle.join.specs.Order.{in_order}
 use Rattle.join.specs.Text.{IsSpan}

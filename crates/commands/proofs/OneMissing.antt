@@ -4,14 +4,14 @@ use Rattle.std.proofs.lemmas.Bool.{false≢true}
 use Rattle.logfmt.specs.declared.entry.Entry.{Entry}
 use Rattle.epochs.specs.declared.part.By.{By}
 use Rattle.choices.specs.declared.choice.Departure.{Departure}
-use Rattle.flushes.specs.declared.window.Window.{Window}
-use Rattle.flushes.specs.declared.counted.MissingFlush.{MissingFlush}
-use Rattle.flushes.specs.Windows.{IsWindow, HasNoWindow}
-use Rattle.flushes.specs.Places.{Covers, IsNext, ArePlaces}
-use Rattle.flushes.specs.Counted.{missing, AreMissing}
-use Rattle.lines.specs.Line.{FailingLine}
-use Rattle.cure.specs.declared.failure.Failure.{Failure}
-use Rattle.cure.specs.Failures.{IsWindowIf, IsFailure, AreFailures}
+use Rattle.losses.specs.declared.flushes.window.Window.{Window}
+use Rattle.losses.specs.declared.flushes.counted.MissingFlush.{MissingFlush}
+use Rattle.losses.specs.Windows.{IsWindow, HasNoWindow}
+use Rattle.losses.specs.Places.{Covers, IsNext, ArePlaces}
+use Rattle.losses.specs.Counted.{missing, AreMissing}
+use Rattle.report.specs.Line.{FailingLine}
+use Rattle.losses.specs.declared.cure.failure.Failure.{Failure}
+use Rattle.losses.specs.FailureWindows.{IsWindowIf, IsFailure, AreFailures}
 
 -- a window ends at one entry
 not_behind : (way : By) (es : List Entry) (cut : ℕ) (ds : List Departure) (v w : Window) → IsWindow way es cut ds v → IsWindow way es cut ds w → v.end < w.end → ⊥
@@ -64,7 +64,7 @@ same_failures way es (l ∷ ls) (f ∷ fs) (g ∷ gs) a b =
     let rest = same_failures way es ls fs gs (rest_of way es l ls f fs a) (rest_of way es l ls g gs b) in
     λ i. one i ∷ rest i
 
--- behind some places one is the next
+-- after some places one is the next
 same_next : (ws : List Window) (ps : List ℕ) (p q : ℕ) → IsNext ws ps p → IsNext ws ps q → p ≡ q
 same_next ws ps p q a b =
     let low : p ≤ b.window.end = a.first b.number b.window b.there b.none in
@@ -79,7 +79,7 @@ no_next ws ps p all next =
     let one = all next.number next.window next.there in
     next.none one.number one.place one.there one.holds
 
--- each of these places is next behind some before and those before it
+-- each of these places is next after some before and those before it
 abbrev AreNext : List Window → List ℕ → List ℕ → Type 0
 AreNext ws before ps = (i p : ℕ) → slice_get ps i ≡ Some p → IsNext ws (before ++ take i ps) p
 

@@ -3,15 +3,15 @@ use Rattle.std.proofs.Common.{ℕ, suc, ◌≡◌, ◌+◌, ◌-◌, ◌==◌, �
 use Rattle.std.specs.Fmt.{decimal}
 use Rattle.logfmt.specs.declared.entry.Entry.{Entry}
 use Rattle.choices.specs.Sums.{StartsValue}
-use Rattle.flushes.specs.declared.counted.MissingFlush.{MissingFlush}
-use Rattle.cure.specs.declared.failure.Failure.{Failure}
-use Rattle.cure.specs.Failures.{windows_in}
-use Rattle.lines.specs.Line.{FailingLine}
-use Rattle.outcomes.specs.Outcomes.{outcomes_failing}
+use Rattle.losses.specs.declared.flushes.counted.MissingFlush.{MissingFlush}
+use Rattle.losses.specs.declared.cure.failure.Failure.{Failure}
+use Rattle.losses.specs.FailureWindows.{windows_in}
+use Rattle.report.specs.Line.{FailingLine}
+use Rattle.losses.specs.ProgramOutcomes.{outcomes_failing}
 use Rattle.report.specs.declared.head.ProgramHead.{ProgramHead}
 use Rattle.report.specs.Report.{HeadValue}
-use Rattle.why.specs.declared.cut.CutFailures.{CutFailures}
-use Rattle.why.specs.declared.group.Group.{Group}
+use Rattle.losses.specs.declared.why.cut.CutFailures.{CutFailures}
+use Rattle.losses.specs.declared.why.group.Group.{Group}
 use Rattle.crash_page.specs.declared.program.ProgramFailures.{ProgramFailures}
 use Rattle.crash_page.specs.Shares.{legend_text}
 use Rattle.crash_page.specs.Lacking.{advice_text}
@@ -70,7 +70,7 @@ same_head s program is_open groups c d h =
     by_groups (cut_head s (record { program = program; is_open = is_open; groups = groups })) c d h
     (join_row (cut_open is_open c) (stand_text s c) (bar_text c) (first_text s c.groups.items) (first_text s d.groups.items) (cut_body program c) (ap (first_text s) h.groups))
 
--- a cut with so many of its groups
+-- a cut with that many of its groups
 same_shown : (s : StartsValue) (outcomes : List (List ℕ)) (program : ℕ) (is_open : Bool) (groups : ℕ) (c d : CutFailures) → SameCut c d
     → cut_shown s outcomes (record { program = program; is_open = is_open; groups = groups }) c ≡ cut_shown s outcomes (record { program = program; is_open = is_open; groups = groups }) d
 unfolding cut_shown

@@ -25,40 +25,50 @@ use Rattle.request.specs.declared.command.Request.TheVariants as request
 use Rattle.request.specs.Settings.{option_refusal, settings_refusal}
 use Rattle.request.specs.OptionWords.{AskFor, settings_with, words_refusal}
 use Rattle.request.specs.Source.{Recording, plan_of, images_of, HasImages}
-use Rattle.runs.specs.Explore.{RefusesWanted}
+use Rattle.case_runs.specs.Found.{FindingIsOne}
+use Rattle.checker.specs.Checker.{CheckerValue}
+use Rattle.runs.specs.CaseCuts.{HasTooMany}
+use Rattle.request.specs.AnyLosses.{losses_asked, losses_refusal}
+use Rattle.request.specs.declared.any_losses.AnyLosses.{AnyLosses}
+use Rattle.request.specs.declared.any_losses.LossWords.{LossWords}
+use Rattle.runs.specs.Explore.{RefusesWanted, for_extent, for_rest, for_cases}
 use Rattle.runs.specs.Inputs.{inputs_number}
-use Rattle.runs.specs.Cured.{TellsWanted}
+use Rattle.runs.specs.Cured.{TellsCure, IsAnswered}
+use Rattle.runs.specs.Cases.{IsCases}
+use Rattle.runs.specs.Why.{Tells}
+use Rattle.runs.specs.Judged.{takes}
 use Rattle.runs.specs.declared.explore_command.Wanted.{Wanted}
 use Rattle.runs.specs.declared.explore_command.Wanted.TheVariants as wanted
-use Rattle.limits.specs.Sizes.{sector_limit}
-use Rattle.limits.specs.declared.Limits.{Limits}
+use Rattle.base.specs.Sizes.{sector_limit}
+use Rattle.base.specs.declared.limits.Limits.{Limits}
 use Rattle.raw_log.specs.Imported.{IsImported}
 use Rattle.raw_log.proofs.NoFault.{imported_has_no_fault}
-use Rattle.looks.specs.Import.{RefusesImport, with_raw_fault, no_raw_memory}
-use Rattle.looks.specs.Which.{IsMeant}
-use Rattle.looks.specs.Image as image
-use Rattle.looks.specs.Image.{IsImage, RefusesImage, IsShown}
-use Rattle.looks.specs.Survey as survey
-use Rattle.looks.specs.Survey.{Fits, IsSurvey, RefusesSurvey}
-use Rattle.looks.specs.Export as export
-use Rattle.looks.specs.Export.{IsExport, RefusesExport}
-use Rattle.looks.specs.Layout.{is_layout}
-use Rattle.looks.specs.Table as table
-use Rattle.looks.specs.Table.{IsTable, RefusesTable}
-use Rattle.looks.specs.Verifying.{IsAcceptedText, RefusesVerified, with_code_fault, no_code_memory, with_verifier_fault, no_verifier_memory, no_text_memory}
-use Rattle.looks.specs.Assembly as assembly
-use Rattle.looks.specs.Assembly.{IsAssembled, IsListed, RefusesText, RefusesBytes}
-use Rattle.commands.specs.Acting.{Files, initial_of, recording, first_held, unread, AnswersRun, AnswersFiles, AnswersExplore, AnswersFile, AnswersOf, AnswersWith, Answers, RefusesWith, for_words, for_settings, RefusesFile, for_file, for_held, RefusesRecording, for_log_file, for_base_file, for_recording, RefusesFiles, for_unread, for_base, for_run, for_memory, RefusesToAct}
+use Rattle.inspect.specs.Import.{RefusesImport, with_raw_fault, no_raw_memory}
+use Rattle.inspect.specs.Which.{IsMeant}
+use Rattle.inspect.specs.Image as image
+use Rattle.inspect.specs.Image.{IsImage, RefusesImage, IsShown}
+use Rattle.inspect.specs.Survey as survey
+use Rattle.inspect.specs.Survey.{Fits, IsSurvey, RefusesSurvey}
+use Rattle.inspect.specs.Export as export
+use Rattle.inspect.specs.Export.{IsExport, RefusesExport}
+use Rattle.inspect.specs.Layout.{is_layout}
+use Rattle.inspect.specs.Table as table
+use Rattle.inspect.specs.Table.{IsTable, RefusesTable}
+use Rattle.inspect.specs.Verifying.{IsAcceptedText, RefusesVerified, with_code_fault, no_code_memory, with_verifier_fault, no_verifier_memory, no_text_memory}
+use Rattle.inspect.specs.Assembly as assembly
+use Rattle.inspect.specs.Assembly.{IsAssembled, IsListed, RefusesText, RefusesBytes}
+use Rattle.commands.specs.Acting.{Files, initial_of, recording, first_held, unread, AnswersRun, AnswersFiles, AnswersExplore, AnswersCases, AnswersFile, AnswersOf, AnswersWith, Answers, RefusesWith, for_words, for_settings, RefusesFile, for_file, for_held, RefusesRecording, for_log_file, for_base_file, for_recording, RefusesCases, for_losses, for_cases_of, RefusesFiles, for_unread, for_base, for_run, for_memory, RefusesToAct}
 use Rattle.request.specs.declared.trials.Trial.{Trial}
 use Rattle.request.specs.declared.trials.TrialWords.{TrialWords}
-use Rattle.trial.specs.Image.{sectors_of}
-use Rattle.trial.specs.Trial as trials
-use Rattle.trial.specs.Trial.{IsTried, RefusesLimit, RefusesTrial}
+use Rattle.inspect.specs.TrialImage.{sectors_of}
+use Rattle.inspect.specs.TrialText as trials
+use Rattle.inspect.specs.TrialText.{IsTried, RefusesLimit, RefusesTrial}
 use Rattle.commands.specs.Acting.{AnswersTrial, RefusesCheck, for_trial_words, for_program_file, for_image_file, for_trial}
 use Rattle.commands.specs.Acting.{AnswersJoin, JoinsTexts, RefusesTexts, for_texts, RefusesParts, for_no_part, for_many_parts, for_unread_part, for_parts, for_part_memory}
 use Rattle.commands.specs.Laws.{IsOfMemory}
 use Rattle.commands.proofs.OneJoin.{joined_or_refused}
-use Rattle.commands.proofs.OneReport.{Below, same_log, of_log, of_source, refused_as, wanted_or_refusal}
+use Rattle.commands.proofs.OneReport.{Below, same_log, same_checkers, of_log, of_source, refused_as, of_refuses, told_apart, cured_apart, wanted_or_refusal}
+use Rattle.commands.proofs.OneCases.{not_too_many}
 use Rattle.commands.proofs.OneAnswer.{same_files, same_initial, same_settings, same_held, tried_alike}
 
 -- words that ask for settings are not refused
@@ -144,32 +154,64 @@ none_unread x xs place h =
     (nat_lt (position_or_len is_none (map Some (x ∷ xs))) (length (map Some (x ∷ xs)))) refl
     (subst (λ (n : ℕ). n ≤ position_or_len is_none (map Some (x ∷ xs))) (sym long) all) h
 
-of_files : Below → (t : Wanted) (files : Files) (s : Settings) (bytes : List ℕ) (status : ℕ) (r : Refusal) → AnswersFiles t s files bytes status → RefusesFiles t files s r
+-- a run by cases
+same_losses : (l m : AnyLosses) → wanted.Cases l ≡ wanted.Cases m → m ≡ l
+same_losses l m is = let both : wanted.Cases l ≡ wanted.Cases m = is in cc
+
+cases_or_refusal : Below → FindingIsOne → (l : AnyLosses) (text : Recording) (files : List (List ℕ)) (s : Settings) (bytes : List ℕ) (failing : Bool) (r : Refusal)
+    → takes (wanted.Cases l) s.extent ≡ true → IsCases l text files s bytes failing → RefusesWanted (wanted.Cases l) text files s r → IsOfMemory r.code
+cases_or_refusal below one l text files s bytes failing _ taken h (for_extent other) = absurd (false≢true (sym other ∙ taken))
+cases_or_refusal below one l text files s bytes failing _ taken h (for_rest r chosen why) = of_refuses below text files s h.value h.checkers r h.count h.source h.made why
+cases_or_refusal below one l text files s bytes failing _ taken h (for_cases m value checkers cut is chosen count source made many) =
+    let losses = subst (λ (x : AnyLosses). HasTooMany x s value checkers cut) (same_losses l m is) many in
+    let by_value = subst (λ (v : LogValue). HasTooMany l s v checkers cut) (same_log below.texts text s value h.value source h.source) losses in
+    let by_checkers = subst (λ (cs : List CheckerValue). HasTooMany l s h.value cs cut) (same_checkers below.programs below.verdicts s files checkers h.checkers made h.made) by_value in
+    absurd (not_too_many one l s h.value h.checkers bytes failing cut h.tells by_checkers)
+
+-- whatever is wanted
+answer_or_none : Below → FindingIsOne → (t : Wanted) (text : Recording) (files : List (List ℕ)) (s : Settings) (bytes : List ℕ) (failing : Bool) (r : Refusal)
+    → takes t s.extent ≡ true → IsAnswered t text files s bytes failing → RefusesWanted t text files s r → IsOfMemory r.code
+answer_or_none below one (wanted.Told kind) text files s bytes failing r taken h why =
+    wanted_or_refusal below (wanted.Told kind) (λ s value checkers bytes. Tells kind (inputs_number text.text files) s value checkers bytes) (λ l is. told_apart kind l is) text files s bytes
+    failing r taken h why
+answer_or_none below one wanted.Cured text files s bytes failing r taken h why =
+    wanted_or_refusal below wanted.Cured TellsCure (λ l is. cured_apart l is) text files s bytes failing r taken h why
+answer_or_none below one (wanted.Cases l) text files s bytes failing r taken h why = cases_or_refusal below one l text files s bytes failing r taken h why
+
+of_files : Below → FindingIsOne → (t : Wanted) (files : Files) (s : Settings) (bytes : List ℕ) (status : ℕ) (r : Refusal) → AnswersFiles t s files bytes status → RefusesFiles t files s r
     → IsOfMemory r.code
-of_files below t files s bytes status _ h (for_unread place unreadable) =
+of_files below one t files s bytes status _ h (for_unread place unreadable) =
     absurd (none_unread h.log h.programs place (subst (λ (fs : List (Option (List ℕ))). unread fs ≡ Some place) h.read unreadable))
-of_files below t files s bytes status _ h (for_base readable none) = absurd (let bad : None ≡ Some h.initial = sym none ∙ h.based in cc)
-of_files below t files s bytes status _ h (for_run log programs initial r read based why) =
+of_files below one t files s bytes status _ h (for_base readable none) = absurd (let bad : None ≡ Some h.initial = sym none ∙ h.based in cc)
+of_files below one t files s bytes status _ h (for_run log programs initial r read based why) =
     let all : log ∷ programs ≡ h.log ∷ h.programs = same_files files.named (log ∷ programs) (h.log ∷ h.programs) read h.read in
     let text : log ≡ h.log = cc in
     let others : programs ≡ h.programs = cc in
     let same : recording log initial ≡ recording h.log h.initial = λ i. recording (text i) (same_initial files initial h.initial based h.based i) in
     let by_log = subst (λ (held : Recording). RefusesWanted t held programs s r) same why in
-    wanted_or_refusal below t (λ s value checkers bytes. TellsWanted t (inputs_number h.log h.programs) s value checkers bytes) (recording h.log h.initial) h.programs s bytes h.answers.failing r
+    answer_or_none below one t (recording h.log h.initial) h.programs s bytes h.answers.failing r
     h.answers.taken h.answers.told
     (subst (λ (ps : List (List ℕ)). RefusesWanted t (recording h.log h.initial) ps s r) others by_log)
-of_files below t files s bytes status _ h (for_memory readable) = refl
+of_files below one t files s bytes status _ h (for_memory readable) = refl
 
-of_explore : Below → (t : Wanted) (w : OptionWords) (files : Files) (bytes : List ℕ) (status : ℕ) (r : Refusal) → AnswersExplore t w files bytes status
+of_explore : Below → FindingIsOne → (t : Wanted) (w : OptionWords) (files : Files) (bytes : List ℕ) (status : ℕ) (r : Refusal) → AnswersExplore t w files bytes status
     → RefusesWith w (RefusesFiles t files) r → IsOfMemory r.code
-of_explore below t w files bytes status r h why =
-    of_words w h.settings (RefusesFiles t files) r h.asked (λ q. of_files below t files h.settings bytes status q h.answers) why
+of_explore below one t w files bytes status r h why =
+    of_words w h.settings (RefusesFiles t files) r h.asked (λ q. of_files below one t files h.settings bytes status q h.answers) why
 
-of_stored : Below → (t : Wanted) (text : Recording) (files : List (List ℕ)) (s : Settings) (bytes : List ℕ) (status : ℕ) (r : Refusal) → AnswersRun t s text files bytes status
+of_cases : Below → FindingIsOne → (w : OptionWords) (l : LossWords) (files : Files) (bytes : List ℕ) (status : ℕ) (r : Refusal) → AnswersCases w l files bytes status
+    → RefusesWith w (RefusesCases l files) r → IsOfMemory r.code
+of_cases below one w l files bytes status r h why = of_words w h.settings (RefusesCases l files) r h.asked (λ q. rest q) why
+  where
+    rest : (q : Refusal) → RefusesCases l files h.settings q → IsOfMemory q.code
+    rest _ (for_losses q bad) = absurd (let both : None ≡ Some q = sym h.good ∙ bad in cc)
+    rest _ (for_cases_of q good refused) = of_files below one (wanted.Cases (losses_asked l h.settings)) files h.settings bytes status q h.answers refused
+
+of_stored : Below → FindingIsOne → (t : Wanted) (text : Recording) (files : List (List ℕ)) (s : Settings) (bytes : List ℕ) (status : ℕ) (r : Refusal) → AnswersRun t s text files bytes status
     → (r ≡ memory_refusal) ⊎ RefusesWanted t text files s r → IsOfMemory r.code
-of_stored below t text files s bytes status r h (inl same) = subst (λ (q : Refusal). IsOfMemory q.code) (sym same) refl
-of_stored below t text files s bytes status r h (inr why) =
-    wanted_or_refusal below t (λ s value checkers bytes. TellsWanted t (inputs_number text.text files) s value checkers bytes) text files s bytes h.failing r h.taken h.told why
+of_stored below one t text files s bytes status r h (inl same) = subst (λ (q : Refusal). IsOfMemory q.code) (sym same) refl
+of_stored below one t text files s bytes status r h (inr why) =
+    answer_or_none below one t text files s bytes h.failing r h.taken h.told why
 
 not_laid : (parts : Option ℕ) (count images : ℕ) → parts ≡ Some count → Fits parts images → is_layout images count ≡ false → ⊥
 not_laid None count images same fits lack = let bad : None ≡ Some count = same in cc
@@ -276,31 +318,32 @@ of_join part files bytes status _ h (for_parts texts r read few why) =
     of_texts part h.texts bytes status r h.joins (subst (λ (ts : List (List ℕ)). RefusesTexts part ts r) (same_files files.named texts h.texts read h.read) why)
 of_join part files bytes status _ h (for_part_memory readable) = refl
 
-pub answer_or_refusal : Below → (r : Request) (files : Files) (bytes : List ℕ) (status : ℕ) (refusal : Refusal) → Answers r files bytes status → RefusesToAct r files refusal
+pub answer_or_refusal : Below → FindingIsOne → (r : Request) (files : Files) (bytes : List ℕ) (status : ℕ) (refusal : Refusal) → Answers r files bytes status → RefusesToAct r files refusal
     → IsOfMemory refusal.code
-answer_or_refusal below request.StoredRun files bytes status refusal h why = of_stored below (wanted.Told telling.Report) _ _ _ bytes status refusal h why
-answer_or_refusal below (request.Explore w) files bytes status refusal h why = of_explore below (wanted.Told telling.Report) w files bytes status refusal h why
-answer_or_refusal below (request.Why w) files bytes status refusal h why = of_explore below (wanted.Told telling.Causes) w files bytes status refusal h why
-answer_or_refusal below (request.Cure w) files bytes status refusal h why = of_explore below wanted.Cured w files bytes status refusal h why
-answer_or_refusal below (request.Page w) files bytes status refusal h why = of_explore below (wanted.Told telling.Page) w files bytes status refusal h why
-answer_or_refusal below (request.Images w parts) files bytes status refusal h why =
+answer_or_refusal below findings request.StoredRun files bytes status refusal h why = of_stored below findings (wanted.Told telling.Report) _ _ _ bytes status refusal h why
+answer_or_refusal below findings (request.Explore w) files bytes status refusal h why = of_explore below findings (wanted.Told telling.Report) w files bytes status refusal h why
+answer_or_refusal below findings (request.Cases w l) files bytes status refusal h why = of_cases below findings w l files bytes status refusal h why
+answer_or_refusal below findings (request.Why w) files bytes status refusal h why = of_explore below findings (wanted.Told telling.Causes) w files bytes status refusal h why
+answer_or_refusal below findings (request.Cure w) files bytes status refusal h why = of_explore below findings wanted.Cured w files bytes status refusal h why
+answer_or_refusal below findings (request.Page w) files bytes status refusal h why = of_explore below findings (wanted.Told telling.Page) w files bytes status refusal h why
+answer_or_refusal below findings (request.Images w parts) files bytes status refusal h why =
     of_log_with w (λ s text. IsSurvey parts text s) (λ s text. RefusesSurvey parts text s) (of_survey below parts) files bytes status refusal h why
-answer_or_refusal below (request.Export w) files bytes status refusal h why =
+answer_or_refusal below findings (request.Export w) files bytes status refusal h why =
     of_log_with w (λ s text. IsExport text s) (λ s text. RefusesExport text s) (of_export below) files bytes status refusal h why
-answer_or_refusal below (request.Log w) files bytes status refusal h why =
+answer_or_refusal below findings (request.Log w) files bytes status refusal h why =
     of_log_with w (λ s text. IsTable text s) (λ s text. RefusesTable text s) (of_table below) files bytes status refusal h why
-answer_or_refusal below (request.Image w which) files bytes status refusal h why =
+answer_or_refusal below findings (request.Image w which) files bytes status refusal h why =
     of_log_with w (λ s text. IsImage text s which) (λ s text. RefusesImage text s which)
     (λ s text shown r k. of_meant below which s text k.value k.choice r k.source k.meant.is) files bytes status refusal h why
-answer_or_refusal below (request.Show w which) files bytes status refusal h why =
+answer_or_refusal below findings (request.Show w which) files bytes status refusal h why =
     of_log_with w (λ s text. IsShown text s which) (λ s text. RefusesImage text s which)
     (λ s text shown r k. of_meant below which s text k.value k.choice r k.source k.meant.is) files bytes status refusal h why
-answer_or_refusal below (request.Verify w listed) files bytes status refusal h why =
+answer_or_refusal below findings (request.Verify w listed) files bytes status refusal h why =
     of_with w (λ s code. IsAcceptedText code s listed) (λ s code. RefusesVerified code s) (of_verified below listed) files bytes status refusal h why
-answer_or_refusal below (request.Import limits) files bytes status refusal h why =
+answer_or_refusal below findings (request.Import limits) files bytes status refusal h why =
     of_alone (λ raw. IsImported raw (sector_limit limits) limits) (RefusesImport limits) (of_imported limits) files bytes status refusal h why
-answer_or_refusal below (request.Check w) files bytes status refusal h why = of_trial below w files bytes status refusal h why
-answer_or_refusal below request.Asm files bytes status refusal h why = of_alone IsAssembled RefusesText of_assembled files bytes status refusal h why
-answer_or_refusal below (request.List numbered) files bytes status refusal h why =
+answer_or_refusal below findings (request.Check w) files bytes status refusal h why = of_trial below w files bytes status refusal h why
+answer_or_refusal below findings request.Asm files bytes status refusal h why = of_alone IsAssembled RefusesText of_assembled files bytes status refusal h why
+answer_or_refusal below findings (request.List numbered) files bytes status refusal h why =
     of_alone (IsListed numbered) RefusesBytes (of_listed below numbered) files bytes status refusal h why
-answer_or_refusal below (request.Join part) files bytes status refusal h why = of_join part files bytes status refusal h why
+answer_or_refusal below findings (request.Join part) files bytes status refusal h why = of_join part files bytes status refusal h why

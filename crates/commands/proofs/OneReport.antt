@@ -16,19 +16,22 @@ use Rattle.bpf_isa.specs.Laws.{OneProgram, NoFaultInSpelled}
 use Rattle.verifier.specs.Verdicts.{VerifiedValue, RefusedWith}
 use Rattle.verifier.specs.Laws.{OneVerdict}
 use Rattle.checker.specs.Checker.{CheckerValue, checker_of}
-use Rattle.lines.specs.Line.{FailingLine}
+use Rattle.report.specs.Line.{FailingLine}
 use Rattle.workers.specs.Failing.{failing_lines}
 use Rattle.request.specs.declared.settings.Settings.{Settings}
+use Rattle.request.specs.declared.settings.Telling.{Telling}
 use Rattle.logfmt.specs.Flushed.{with_flushes}
 use Rattle.epochs.specs.Flushes.{places_of}
 use Rattle.request.specs.Source.{Recording, plan_of, images_of, HasImages, IsLogOf, IsRecorded, lacking, RefusesLog, past_device, with_fault, no_memory, lacks, RefusesPlan, too_many, lacks_images, no_plan_memory, RefusesSource, for_log, for_plan}
 use Rattle.request.specs.Extents.{most_images, has_extent}
 use Rattle.runs.specs.Inputs.{inputs_number}
 use Rattle.runs.specs.Judged.{takes}
+use Rattle.request.specs.declared.any_losses.AnyLosses.{AnyLosses}
 use Rattle.runs.specs.declared.explore_command.Wanted.{Wanted}
+use Rattle.runs.specs.declared.explore_command.Wanted.TheVariants as wanted
 use Rattle.runs.specs.Programs.{IsAcceptedChecker, IsRunWithin}
 use Rattle.runs.specs.Explore as explore
-use Rattle.runs.specs.Explore.{IsCheckerOf, AreCheckersOf, subject_of, report_of, IsRun, RefusesProgram, with_code_fault, with_verifier_fault, no_code_memory, no_verifier_memory, no_list_memory, Refuses, for_count, for_program, RefusesWanted, for_extent, for_rest}
+use Rattle.runs.specs.Explore.{IsProgramCount, IsCheckerOf, AreCheckersOf, subject_of, report_of, IsRun, RefusesProgram, with_code_fault, with_verifier_fault, no_code_memory, no_verifier_memory, no_list_memory, Refuses, for_count, for_program, RefusesWanted, for_extent, for_rest, for_cases}
 use Rattle.commands.specs.Laws.{IsOfMemory, OneReport}
 
 same_recorded : TextOfOneLog → (text : Recording) (s : Settings) (v w : LogValue) → IsRecorded text s v → IsRecorded text s w → v ≡ w
@@ -192,14 +195,24 @@ of_program below s files checkers r made (no_code_memory program bytes before fi
 of_program below s files checkers r made (no_verifier_memory program bytes slots before first there spelled unlimited) = refl
 of_program below s files checkers r made no_list_memory = refl
 
-pub run_or_refusal : Below → (Tells : Settings → LogValue → List CheckerValue → List ℕ → Type 0) (text : Recording) (files : List (List ℕ)) (s : Settings) (bytes : List ℕ) (failing : Bool)
-    (r : Refusal) → IsRun Tells text files s bytes failing → Refuses text files s r → IsOfMemory r.code
-run_or_refusal below Tells text files s bytes failing r h (for_count none) = absurd (none h.count)
-run_or_refusal below Tells text files s bytes failing _ h (explore.for_source r count why) = of_source below text s h.value r h.source why
-run_or_refusal below Tells text files s bytes failing _ h (for_program r value count images why) = of_program below s files h.checkers r h.made why
+-- the refusals of a log and of programs that can be read
+pub of_refuses : Below → (text : Recording) (files : List (List ℕ)) (s : Settings) (value : LogValue) (checkers : List CheckerValue) (r : Refusal) → IsProgramCount (length files)
+    → HasImages text s value → AreCheckersOf s files checkers → Refuses text files s r → IsOfMemory r.code
+of_refuses below text files s value checkers r counted source made (for_count none) = absurd (none counted)
+of_refuses below text files s value checkers _ counted source made (explore.for_source r count why) = of_source below text s value r source why
+of_refuses below text files s value checkers _ counted source made (for_program r other count images why) = of_program below s files checkers r made why
 
--- a run that judges the images that are meant
-pub wanted_or_refusal : Below → (w : Wanted) (Tells : Settings → LogValue → List CheckerValue → List ℕ → Type 0) (text : Recording) (files : List (List ℕ)) (s : Settings) (bytes : List ℕ)
-    (failing : Bool) (r : Refusal) → takes w s.extent ≡ true → IsRun Tells text files s bytes failing → RefusesWanted w text files s r → IsOfMemory r.code
-wanted_or_refusal below w Tells text files s bytes failing _ taken h (for_extent other) = absurd (false≢true (sym other ∙ taken))
-wanted_or_refusal below w Tells text files s bytes failing _ taken h (for_rest r chosen why) = run_or_refusal below Tells text files s bytes failing r h why
+-- what is told of failing images isn't told by cases
+pub told_apart : (t : Telling) (l : AnyLosses) → wanted.Told t ≡ wanted.Cases l → ⊥
+told_apart t l is = let bad : wanted.Told t ≡ wanted.Cases l = is in cc
+
+pub cured_apart : (l : AnyLosses) → wanted.Cured ≡ wanted.Cases l → ⊥
+cured_apart l is = let bad : wanted.Cured ≡ wanted.Cases l = is in cc
+
+-- a run that judges the images that are meant, and isn't asked for cases
+pub wanted_or_refusal : Below → (w : Wanted) (Tells : Settings → LogValue → List CheckerValue → List ℕ → Type 0) → ((l : AnyLosses) → w ≡ wanted.Cases l → ⊥)
+    → (text : Recording) (files : List (List ℕ)) (s : Settings) (bytes : List ℕ) (failing : Bool) (r : Refusal) → takes w s.extent ≡ true → IsRun Tells text files s bytes failing
+    → RefusesWanted w text files s r → IsOfMemory r.code
+wanted_or_refusal below w Tells apart text files s bytes failing _ taken h (for_extent other) = absurd (false≢true (sym other ∙ taken))
+wanted_or_refusal below w Tells apart text files s bytes failing _ taken h (for_rest r chosen why) = of_refuses below text files s h.value h.checkers r h.count h.source h.made why
+wanted_or_refusal below w Tells apart text files s bytes failing _ taken h (for_cases l value checkers cut is chosen count source made many) = absurd (apart l is)

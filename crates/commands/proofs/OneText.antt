@@ -3,14 +3,14 @@ use Rattle.std.proofs.Common.{ℕ, ◌≡◌, ◌+◌, ◌==◌, if◌then◌els
 use Rattle.std.specs.List.{flat_map}
 use Rattle.epochs.specs.declared.part.By.{By}
 use Rattle.choices.specs.Sums.{StartsValue}
-use Rattle.flushes.specs.declared.window.Window.{Window}
-use Rattle.flushes.specs.Counted.{AreMissing}
-use Rattle.lines.specs.Line.{FailingLine}
+use Rattle.losses.specs.declared.flushes.window.Window.{Window}
+use Rattle.losses.specs.Counted.{AreMissing}
+use Rattle.report.specs.Line.{FailingLine}
 use Rattle.report.specs.Report.{HeadValue}
-use Rattle.cure.specs.Failures.{windows_in}
-use Rattle.outcomes.specs.Outcomes.{outcomes_failing}
-use Rattle.why.specs.declared.cut.CutFailures.{CutFailures}
-use Rattle.why.specs.Text.{group_line, cut_head, cut_text, cuts_text}
+use Rattle.losses.specs.FailureWindows.{windows_in}
+use Rattle.losses.specs.ProgramOutcomes.{outcomes_failing}
+use Rattle.losses.specs.declared.why.cut.CutFailures.{CutFailures}
+use Rattle.losses.specs.WhyText.{group_line, cut_head, cut_text, cuts_text}
 use Rattle.runs.specs.Why.{images_failing, causes_from, why_head, missing_text, why_text, TellsCauses}
 use Rattle.commands.proofs.Alike.{AreAlike, alike, same_text}
 use Rattle.commands.proofs.OneCause.{SameCut, same_cuts}

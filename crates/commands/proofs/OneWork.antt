@@ -1,5 +1,5 @@
 -- Who does the work changes no answer.
-use Rattle.std.proofs.Common.{ℕ, ◌≡◌, nat_le, Bool, true, false, ◌&&◌, List, [], ◌∷◌, Option, None, Some, option_map, sym, ap, subst}
+use Rattle.std.proofs.Common.{ℕ, ◌≡◌, ◌==◌, nat_le, Bool, true, false, not, ◌&&◌, ◌||◌, is_some, List, [], ◌∷◌, Option, None, Some, option_map, sym, ap, subst}
 use Rattle.std.specs.Option.{option_map_or, option_and_then}
 use Rattle.base.specs.Check.{Check, check, first_failing}
 use Rattle.logfmt.specs.Bounds.{LogValue}
@@ -8,14 +8,18 @@ use Rattle.epochs.specs.declared.flushes.Flushes.{Flushes}
 use Rattle.epochs.specs.declared.part.By.{By}
 use Rattle.request.specs.declared.settings.OptionPlace.{OptionPlace}
 use Rattle.request.specs.declared.settings.OptionPlace.TheVariants as place
-use Rattle.limits.specs.Sizes.{sector_limit}
+use Rattle.base.specs.Sizes.{sector_limit}
 use Rattle.request.specs.declared.settings.Settings.{Settings}
+use Rattle.request.specs.declared.settings.Telling.{Telling}
 use Rattle.request.specs.declared.settings.Telling.TheVariants as telling
+use Rattle.request.specs.declared.any_losses.AnyLosses.{AnyLosses}
+use Rattle.request.specs.declared.any_losses.LossWords.{LossWords}
+use Rattle.request.specs.AnyLosses.{is_torn_asked, is_lost_asked, loss_checks, losses_refusal, losses_asked}
 use Rattle.request.specs.declared.command.OptionWords.{OptionWords}
 use Rattle.request.specs.declared.command.Request.{Request}
 use Rattle.request.specs.declared.command.Request.TheVariants as request
 use Rattle.request.specs.declared.extent.Extent.{Extent}
-use Rattle.request.specs.Extents.{is_extent}
+use Rattle.request.specs.Extents.{is_extent, is_whole}
 use Rattle.runs.specs.Inputs.{inputs_number}
 use Rattle.request.specs.Settings.{is_one_kind, is_ordered, option_refusal, option_checks, settings_refusal}
 use Rattle.request.specs.OptionWords.{settings_with, AskFor}
@@ -23,17 +27,20 @@ use Rattle.request.specs.Source.{Recording, IsLogOf, HasImages}
 use Rattle.runs.specs.Explore.{AreCheckersOf, head_of}
 use Rattle.checker.specs.Checker.{CheckerValue}
 use Rattle.logfmt.specs.Flushed.{with_flushes}
-use Rattle.cure.specs.Failures.{places_in}
-use Rattle.runs.specs.Cured.{AreRounds, Ends, with_totals, with_refusal, TellsWanted, IsAnswered}
-use Rattle.flushes.specs.declared.counted.MissingFlush.{MissingFlush}
+use Rattle.losses.specs.FailureWindows.{places_in}
+use Rattle.runs.specs.Cured.{AreRounds, Ends, with_totals, with_refusal, TellsCure, IsAnswered}
+use Rattle.runs.specs.Cases.{IsCases}
+use Rattle.runs.specs.Explore.{IsRun}
+use Rattle.runs.specs.Why.{Tells}
+use Rattle.losses.specs.declared.flushes.counted.MissingFlush.{MissingFlush}
 use Rattle.runs.specs.declared.explore_command.Wanted.{Wanted}
 use Rattle.runs.specs.declared.explore_command.Wanted.TheVariants as wanted
-use Rattle.looks.specs.Image.{IsImage, IsShown}
-use Rattle.looks.specs.Survey.{IsSurvey}
-use Rattle.looks.specs.Export.{IsExport}
-use Rattle.looks.specs.Table.{IsTable}
-use Rattle.looks.specs.Verifying.{IsAcceptedText}
-use Rattle.commands.specs.Acting.{Files, recording, AnswersExplore, AnswersOf, AnswersWith, Answers}
+use Rattle.inspect.specs.Image.{IsImage, IsShown}
+use Rattle.inspect.specs.Survey.{IsSurvey}
+use Rattle.inspect.specs.Export.{IsExport}
+use Rattle.inspect.specs.Table.{IsTable}
+use Rattle.inspect.specs.Verifying.{IsAcceptedText}
+use Rattle.commands.specs.Acting.{Files, recording, AnswersExplore, AnswersCases, AnswersOf, AnswersWith, Answers}
 use Rattle.commands.specs.OneAnswer.{OneAnswer, alone, asked_alone, WorkChangesNothing}
 
 -- the same settings for one worker without a cache
@@ -109,11 +116,11 @@ ends_alone (with_totals failures few fail none) = with_totals failures few fail 
 ends_alone (with_refusal cut past) = with_refusal cut (record { place = past.place; wanted = past.wanted; before = past.before; past = past.past })
 
 -- what is told is the same
-tells_alone : (w : Wanted) (inputs : ℕ) (s : Settings) (value : LogValue) (cs : List CheckerValue) (bytes : List ℕ) → TellsWanted w inputs s value cs bytes
-    → TellsWanted w inputs (set_alone s) value cs bytes
+tells_alone : (t : Telling) (inputs : ℕ) (s : Settings) (value : LogValue) (cs : List CheckerValue) (bytes : List ℕ) → Tells t inputs s value cs bytes
+    → Tells t inputs (set_alone s) value cs bytes
 unfolding head_of
-tells_alone (wanted.Told telling.Report) inputs s value cs bytes h = h
-tells_alone (wanted.Told telling.Causes) inputs s value cs bytes h =
+tells_alone telling.Report inputs s value cs bytes h = h
+tells_alone telling.Causes inputs s value cs bytes h =
     record {
       failures = h.failures;
       missing = h.missing;
@@ -123,7 +130,7 @@ tells_alone (wanted.Told telling.Causes) inputs s value cs bytes h =
       each = h.each;
       text = h.text;
     }
-tells_alone (wanted.Told telling.Page) inputs s value cs bytes h =
+tells_alone telling.Page inputs s value cs bytes h =
     record {
       failures = h.failures;
       are_failures = h.are_failures;
@@ -131,7 +138,10 @@ tells_alone (wanted.Told telling.Page) inputs s value cs bytes h =
       are = record { all = h.are.all; named = h.are.named; each = h.are.each };
       page = h.page;
     }
-tells_alone wanted.Cured inputs s value cs bytes h =
+
+cure_alone : (s : Settings) (value : LogValue) (cs : List CheckerValue) (bytes : List ℕ) → TellsCure s value cs bytes → TellsCure (set_alone s) value cs bytes
+unfolding head_of
+cure_alone s value cs bytes h =
     let tells = h.tells in
     record {
       failures = h.failures;
@@ -147,19 +157,41 @@ tells_alone wanted.Cured inputs s value cs bytes h =
       text = h.text;
     }
 
-answered_alone : (w : Wanted) (text : Recording) (files : List (List ℕ)) (s : Settings) (bytes : List ℕ) (failing : Bool)
-    → IsAnswered w text files s bytes failing → IsAnswered w text files (set_alone s) bytes failing
-answered_alone w text files s bytes failing h =
+run_alone : (Is : Settings → LogValue → List CheckerValue → List ℕ → Type 0)
+    → ((s : Settings) (value : LogValue) (cs : List CheckerValue) (bytes : List ℕ) → Is s value cs bytes → Is (set_alone s) value cs bytes)
+    → (text : Recording) (files : List (List ℕ)) (s : Settings) (bytes : List ℕ) (failing : Bool) → IsRun Is text files s bytes failing → IsRun Is text files (set_alone s) bytes failing
+run_alone Is keeps text files s bytes failing h =
     record {
       count = h.count;
       value = h.value;
       source = images_alone h.source;
       checkers = h.checkers;
       made = checkers_alone s files h.checkers h.made;
-      tells = tells_alone w (inputs_number text.text files) s h.value h.checkers bytes h.tells;
+      tells = keeps s h.value h.checkers bytes h.tells;
       fails = h.fails;
       faultless = h.faultless;
     }
+
+cases_alone : (l : AnyLosses) (text : Recording) (files : List (List ℕ)) (s : Settings) (bytes : List ℕ) (failing : Bool) → IsCases l text files s bytes failing
+    → IsCases l text files (set_alone s) bytes failing
+unfolding head_of
+cases_alone l text files s bytes failing h =
+    let tells = h.tells in
+    record {
+      count = h.count;
+      value = h.value;
+      source = images_alone h.source;
+      checkers = h.checkers;
+      made = checkers_alone s files h.checkers h.made;
+      tells = record { found = tells.found; are = tells.are; few = tells.few; text = tells.text; fails = tells.fails };
+    }
+
+answered_alone : (w : Wanted) (text : Recording) (files : List (List ℕ)) (s : Settings) (bytes : List ℕ) (failing : Bool)
+    → IsAnswered w text files s bytes failing → IsAnswered w text files (set_alone s) bytes failing
+answered_alone (wanted.Told t) text files s bytes failing h =
+    run_alone (λ s value checkers bytes. Tells t (inputs_number text.text files) s value checkers bytes) (tells_alone t (inputs_number text.text files)) text files s bytes failing h
+answered_alone wanted.Cured text files s bytes failing h = run_alone TellsCure cure_alone text files s bytes failing h
+answered_alone (wanted.Cases l) text files s bytes failing h = cases_alone l text files s bytes failing h
 
 explore_alone : (t : Wanted) (w : OptionWords) (files : Files) (bytes : List ℕ) (status : ℕ)
     → AnswersExplore t w files bytes status → AnswersExplore t (alone w) files bytes status
@@ -168,6 +200,42 @@ explore_alone t w files bytes status h =
     record {
       settings = set_alone h.settings;
       asked = ask_alone w h.settings h.asked;
+      answers = record {
+        log = h.answers.log;
+        programs = h.answers.programs;
+        initial = h.answers.initial;
+        read = h.answers.read;
+        based = h.answers.based;
+        answers = record { taken = run.taken; failing = run.failing; told = answered_alone t (recording h.answers.log h.answers.initial) h.answers.programs h.settings bytes run.failing run.told; ends = run.ends };
+      };
+    }
+
+-- what is asked of losses without a cache is asked so for one worker
+losses_alone : (l : LossWords) (s : Settings) → losses_refusal l s ≡ None → losses_refusal l (set_alone s) ≡ None
+unfolding loss_checks
+losses_alone l s h =
+    by_checks (l.any || not (is_some l.torn)) l.any (is_torn_asked l.torn s.tears) (is_lost_asked l.at_most) (s.cache == 0) (is_whole s.extent) (not s.first) h
+  where
+    by_checks : (a b c d e f g : Bool)
+        → option_map option_refusal (first_failing (check place.Torn a ∷ check place.AtMost b ∷ check place.Torn c ∷ check place.AtMost d ∷ check place.Cache e ∷ check place.Images f
+        ∷ check place.First g ∷ [])) ≡ None
+        → option_map option_refusal (first_failing (check place.Torn a ∷ check place.AtMost b ∷ check place.Torn c ∷ check place.AtMost d ∷ check place.Cache true ∷ check place.Images f
+        ∷ check place.First g ∷ [])) ≡ None
+    by_checks false b c d e f g k = k
+    by_checks true false c d e f g k = k
+    by_checks true true false d e f g k = k
+    by_checks true true true false e f g k = k
+    by_checks true true true true false f g k = absurd (let bad : Some (option_refusal place.Cache) ≡ None = k in cc)
+    by_checks true true true true true f g k = k
+
+cases_answered_alone : (w : OptionWords) (l : LossWords) (files : Files) (bytes : List ℕ) (status : ℕ) → AnswersCases w l files bytes status → AnswersCases (alone w) l files bytes status
+cases_answered_alone w l files bytes status h =
+    let run = h.answers.answers in
+    let t = wanted.Cases (losses_asked l h.settings) in
+    record {
+      settings = set_alone h.settings;
+      asked = ask_alone w h.settings h.asked;
+      good = losses_alone l h.settings h.good;
       answers = record {
         log = h.answers.log;
         programs = h.answers.programs;
@@ -210,6 +278,7 @@ of_alone w Is keeps files bytes status h =
 pub answers_alone : (r : Request) (files : Files) (bytes : List ℕ) (status : ℕ) → Answers r files bytes status → Answers (asked_alone r) files bytes status
 answers_alone request.StoredRun files bytes status h = h
 answers_alone (request.Explore w) files bytes status h = explore_alone (wanted.Told telling.Report) w files bytes status h
+answers_alone (request.Cases w l) files bytes status h = cases_answered_alone w l files bytes status h
 answers_alone (request.Why w) files bytes status h = explore_alone (wanted.Told telling.Causes) w files bytes status h
 answers_alone (request.Cure w) files bytes status h = explore_alone wanted.Cured w files bytes status h
 answers_alone (request.Page w) files bytes status h = explore_alone (wanted.Told telling.Page) w files bytes status h

@@ -16,8 +16,8 @@ use Rattle.bpf_isa.specs.Laws.{OneProgram}
 use Rattle.verifier.specs.Laws.{OneVerdict}
 use Rattle.checker.specs.Checker.{CheckerValue}
 use Rattle.machine.specs.Outcome.{Ending}
-use Rattle.lines.specs.Line.{FailingLine, first_lines}
-use Rattle.lines.specs.Text.{line_text}
+use Rattle.report.specs.Line.{FailingLine, first_lines}
+use Rattle.report.specs.LineText.{line_text}
 use Rattle.report.specs.Report.{shown_lines, report_bytes}
 use Rattle.join.specs.declared.fault.JoinFault.{JoinFault}
 use Rattle.join.specs.Text.{RunValue, IsSpan, span_of, lines_between, part_bytes}
@@ -36,7 +36,7 @@ use Rattle.request.specs.declared.extent.Extent.TheVariants as extent
 use Rattle.request.specs.declared.settings.Settings.{Settings}
 use Rattle.request.specs.Extents.{most_images, is_extent, has_extent}
 use Rattle.base.specs.Check.{Check, check, first_failing}
-use Rattle.limits.specs.Sizes.{sector_limit}
+use Rattle.base.specs.Sizes.{sector_limit}
 use Rattle.request.specs.declared.settings.OptionPlace.{OptionPlace}
 use Rattle.request.specs.declared.settings.OptionPlace.TheVariants as place
 use Rattle.request.specs.Settings.{is_one_kind, is_ordered, option_checks, IsAsked}

@@ -3,9 +3,9 @@ use Rattle.std.proofs.Common.{ℕ, ◌≡◌, ◌<◌, ◌≤◌, ◌&&◌, nat_
 use Rattle.std.specs.Option.{option_map, option_map_or, option_and_then}
 use Rattle.std.proofs.lemmas.Bool.Decides.{nat_tests}
 use Rattle.base.specs.Check.{check, first_failing}
-use Rattle.limits.specs.declared.Limits.{Limits}
-use Rattle.limits.specs.declared.Limits.TheVariants as limits
-use Rattle.limits.specs.Sizes.{most_sectors, sector_limit}
+use Rattle.base.specs.declared.limits.Limits.{Limits}
+use Rattle.base.specs.declared.limits.Limits.TheVariants as limits
+use Rattle.base.specs.Sizes.{most_sectors, sector_limit}
 use Rattle.epochs.specs.declared.cuts.CutKind.{CutKind}
 use Rattle.epochs.specs.declared.flushes.Flushes.{Flushes}
 use Rattle.epochs.specs.declared.part.By.{By}

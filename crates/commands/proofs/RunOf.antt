@@ -6,7 +6,7 @@ use Rattle.std.proofs.lemmas.Bool.Decides.{nat_tests}
 use Rattle.std.proofs.lemmas.Option.{slice_get_within}
 use Rattle.std.proofs.Math.Nat.{mod-lt}
 use Rattle.base.specs.Check.{Check, check, first_failing}
-use Rattle.limits.specs.Sizes.{sector_limit}
+use Rattle.base.specs.Sizes.{sector_limit}
 use Rattle.logfmt.specs.declared.entry.Entry.{Entry}
 use Rattle.logfmt.specs.Bounds.{LogValue}
 use Rattle.logfmt.specs.Flushed.{is_place}
@@ -32,9 +32,9 @@ use Rattle.images.specs.Number.{initial_mix, initial_number}
 use Rattle.images.specs.Views.{view_of, sectors_of, context_at}
 use Rattle.checker.specs.Checker.{CheckerValue, judgement}
 use Rattle.checker.proofs.Counted.{few_guarded}
-use Rattle.lines.specs.declared.marks.Mark.{Mark}
-use Rattle.lines.specs.Line.{FailingLine}
-use Rattle.lines.specs.Marks.{mark_of, marks_of}
+use Rattle.report.specs.declared.lines.marks.Mark.{Mark}
+use Rattle.report.specs.Line.{FailingLine}
+use Rattle.report.specs.Marks.{mark_of, marks_of}
 use Rattle.report.specs.declared.head.ProgramHead.{ProgramHead}
 use Rattle.report.specs.Report.{HeadValue}
 use Rattle.join.specs.Printable.{IsWithin, IsPrintable, ArePrintable, IsLineOfRun, AreLinesOfRun}
@@ -56,7 +56,7 @@ use Rattle.request.specs.Extents.{most_images, is_extent}
 use Rattle.request.specs.Settings.{is_one_kind, is_ordered, option_checks, IsAsked}
 use Rattle.request.specs.Source.{Recording, plan_of, images_of, cut_past, lacking, HasImages}
 use Rattle.request.proofs.Logs.{bounds_of}
-use Rattle.looks.proofs.Printed.{names_are}
+use Rattle.inspect.proofs.Printed.{names_are}
 use Rattle.runs.specs.Inputs.{with_byte, file_bytes, inputs_number}
 use Rattle.runs.specs.Programs.{IsRunWithin}
 use Rattle.runs.specs.Explore.{IsProgramCount, AreCheckersOf, subject_of, program_head, head_of}
@@ -106,7 +106,7 @@ behind_one a b (inr (same, less)) =
     let none : nat_lt a.image b.image ≡ false = grind (arith, nat_tests, same) in
     rw (none, image, program) refl
 
--- where a line stands, behind one
+-- where a line stands, after one
 record StandsIn (from to : ℕ) (last : Option Mark) (l : FailingLine) : Type 0 where
   low : from ≤ l.image
   high : l.image < to

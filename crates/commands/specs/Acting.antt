@@ -1,4 +1,4 @@
--- What a command answers on what its files hold, and when it is refused (docs/REPORT.md, Commands and Refusals
+-- What a command answers on what its files hold, and when it is refused (docs/COMMANDS.md, Commands; docs/REFUSALS.md, Refusals
 -- in their order).
 use Rattle.std.specs.Prelude.{ℕ, ◌≡◌, ◌⊎◌, ◌<◌, ◌≤◌, ◌^◌, Bool, true, if◌then◌else◌, List, [], ◌∷◌, length, map, position, is_none, Option, None, Some}
 use Rattle.std.specs.Option.{option_map}
@@ -11,6 +11,8 @@ use Rattle.commands.specs.declared.action.Look.{Look}
 use Rattle.commands.specs.declared.action.Look.TheVariants as look
 use Rattle.commands.specs.Stored.{stored_log, stored_programs, stored_settings}
 use Rattle.request.specs.declared.settings.Settings.{Settings}
+use Rattle.request.specs.declared.any_losses.LossWords.{LossWords}
+use Rattle.request.specs.AnyLosses.{losses_asked, losses_refusal}
 use Rattle.request.specs.declared.command.OptionWords.{OptionWords}
 use Rattle.request.specs.declared.command.Request.{Request}
 use Rattle.request.specs.declared.command.Request.TheVariants as request
@@ -28,18 +30,18 @@ use Rattle.runs.specs.Judged.{takes}
 use Rattle.runs.specs.Cured.{IsAnswered}
 use Rattle.join.specs.declared.fault.JoinFault.{JoinFault}
 use Rattle.join.specs.Joining.{IsJoin, RefusesJoin, size_of}
-use Rattle.limits.specs.Sizes.{sector_limit}
+use Rattle.base.specs.Sizes.{sector_limit}
 use Rattle.raw_log.specs.Imported.{IsImported}
-use Rattle.looks.specs.Import.{RefusesImport}
-use Rattle.looks.specs.Image.{IsImage, RefusesImage, IsShown}
-use Rattle.looks.specs.Survey.{IsSurvey, RefusesSurvey}
-use Rattle.looks.specs.Export.{IsExport, RefusesExport}
-use Rattle.looks.specs.Table.{IsTable, RefusesTable}
-use Rattle.looks.specs.Verifying.{IsAcceptedText, RefusesVerified}
-use Rattle.looks.specs.Assembly.{IsAssembled, RefusesText, IsListed, RefusesBytes}
-use Rattle.trial.specs.Trial.{IsTried, RefusesTrial}
+use Rattle.inspect.specs.Import.{RefusesImport}
+use Rattle.inspect.specs.Image.{IsImage, RefusesImage, IsShown}
+use Rattle.inspect.specs.Survey.{IsSurvey, RefusesSurvey}
+use Rattle.inspect.specs.Export.{IsExport, RefusesExport}
+use Rattle.inspect.specs.Table.{IsTable, RefusesTable}
+use Rattle.inspect.specs.Verifying.{IsAcceptedText, RefusesVerified}
+use Rattle.inspect.specs.Assembly.{IsAssembled, RefusesText, IsListed, RefusesBytes}
+use Rattle.inspect.specs.TrialText.{IsTried, RefusesTrial}
 
--- what each file of a command holds, none where it can't be read: those that it names by themselves, and the one behind --base,
+-- what each file of a command holds, none where it can't be read: those that it names by themselves, and the one after --base,
 -- where that stands there
 pub record Files : Type 0 where
   pub named : List (Option (List ℕ))
@@ -111,6 +113,13 @@ pub record AnswersExplore (t : Wanted) (w : OptionWords) (files : Files) (bytes 
   pub settings : Settings
   pub asked : AskFor w settings
   pub answers : AnswersFiles t settings files bytes status
+
+-- the same of what the words ask of any number of losses: its cases
+pub record AnswersCases (w : OptionWords) (l : LossWords) (files : Files) (bytes : List ℕ) (status : ℕ) : Type 0 where
+  pub settings : Settings
+  pub asked : AskFor w settings
+  pub good : losses_refusal l settings ≡ None
+  pub answers : AnswersFiles (wanted.Cases (losses_asked l settings)) settings files bytes status
 
 -- what a command on one file answers, by what that file holds; its status is 0
 pub record AnswersFile (Is : List ℕ → List ℕ → Type 0) (files : Files) (bytes : List ℕ) (status : ℕ) : Type 0 where
@@ -184,6 +193,7 @@ Shows (look.Show which) s text = IsShown text s which
 abbrev pub Answers : Request → Files → List ℕ → ℕ → Type 0
 Answers request.StoredRun files bytes status = AnswersRun (wanted.Told telling.Report) stored_settings (recording stored_log []) stored_programs bytes status
 Answers (request.Explore w) files bytes status = AnswersExplore (wanted.Told telling.Report) w files bytes status
+Answers (request.Cases w l) files bytes status = AnswersCases w l files bytes status
 Answers (request.Why w) files bytes status = AnswersExplore (wanted.Told telling.Causes) w files bytes status
 Answers (request.Cure w) files bytes status = AnswersExplore wanted.Cured w files bytes status
 Answers (request.Page w) files bytes status = AnswersExplore (wanted.Told telling.Page) w files bytes status
@@ -217,7 +227,7 @@ pub data RefusesRecording (files : Files) (Rest : Recording → Refusal → Type
   for_recording : (held initial : List ℕ) (r : Refusal) → first_held files ≡ Some held → initial_of files.base ≡ Some initial
       → Rest (recording held initial) r → RefusesRecording files Rest r
 
--- the refusals of a run's command behind its options: the first file that can't be read, that of the initial content last, then
+-- the refusals of a run's command after its options: the first file that can't be read, that of the initial content last, then
 -- those of the run; or want of memory
 pub data RefusesFiles (t : Wanted) (files : Files) (s : Settings) : Refusal → Type 0 where
   for_unread : (place : ℕ) → unread files.named ≡ Some place → RefusesFiles t files s (file_refusal place)
@@ -225,6 +235,11 @@ pub data RefusesFiles (t : Wanted) (files : Files) (s : Settings) : Refusal → 
   for_run : (log : List ℕ) (programs : List (List ℕ)) (initial : List ℕ) (r : Refusal) → files.named ≡ map Some (log ∷ programs)
       → initial_of files.base ≡ Some initial → RefusesWanted t (recording log initial) programs s r → RefusesFiles t files s r
   for_memory : unread files.named ≡ None → RefusesFiles t files s memory_refusal
+
+-- the refusals of a run by cases after its options: what is asked of losses first
+pub data RefusesCases (l : LossWords) (files : Files) (s : Settings) : Refusal → Type 0 where
+  for_losses : (r : Refusal) → losses_refusal l s ≡ Some r → RefusesCases l files s r
+  for_cases_of : (r : Refusal) → losses_refusal l s ≡ None → RefusesFiles (wanted.Cases (losses_asked l s)) files s r → RefusesCases l files s r
 
 -- the refusals of a program on an image: of the words; of good words, that the program's file can't be read; that it can be, and the
 -- image's can't be; then those of what they hold
@@ -264,6 +279,7 @@ RefusesLook (look.Show which) s text = RefusesImage text s which
 abbrev pub RefusesToAct : Request → Files → Refusal → Type 0
 RefusesToAct request.StoredRun files r = (r ≡ memory_refusal) ⊎ RefusesWanted (wanted.Told telling.Report) (recording stored_log []) stored_programs stored_settings r
 RefusesToAct (request.Explore w) files r = RefusesWith w (RefusesFiles (wanted.Told telling.Report) files) r
+RefusesToAct (request.Cases w l) files r = RefusesWith w (RefusesCases l files) r
 RefusesToAct (request.Why w) files r = RefusesWith w (RefusesFiles (wanted.Told telling.Causes) files) r
 RefusesToAct (request.Cure w) files r = RefusesWith w (RefusesFiles wanted.Cured files) r
 RefusesToAct (request.Page w) files r = RefusesWith w (RefusesFiles (wanted.Told telling.Page) files) r

@@ -1,11 +1,11 @@
--- What `show` says of an image is all that sets it apart (docs/REPORT.md, The text of `show`).
+-- What `show` says of an image is all that sets it apart (docs/OUTPUT.md, The text of `show`).
 use Rattle.std.specs.Prelude.{ℕ, ◌≡◌, ◌≢◌, List, ◌++◌, codes, slice_get, Some}
 use Rattle.std.specs.Fmt.{decimal}
 use Rattle.images.specs.Views.{view_of, sectors_of}
 use Rattle.request.specs.declared.settings.Settings.{Settings}
 use Rattle.request.specs.declared.command.Which.{Which}
 use Rattle.request.specs.Source.{Recording, plan_of}
-use Rattle.looks.specs.Image.{whole_view, IsShown}
+use Rattle.inspect.specs.Image.{whole_view, IsShown}
 
 -- the sectors of the image that is shown
 abbrev pub image_shown : (text : Recording) (s : Settings) (which : Which) (bytes : List ℕ) → IsShown text s which bytes → List (List ℕ)

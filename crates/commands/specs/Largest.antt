@@ -1,7 +1,7 @@
--- How large a report may get (docs/REPORT.md, Notes).
+-- How large a report may get (docs/REFUSALS.md, Notes).
 use Rattle.std.specs.Prelude.{ℕ, ◌*◌, ◌≤◌, Bool, List, length}
 use Rattle.std.specs.List.{flat_map}
-use Rattle.lines.specs.Text.{line_text}
+use Rattle.report.specs.LineText.{line_text}
 use Rattle.workers.specs.Failing.{judged_count, failing_lines}
 use Rattle.request.specs.declared.settings.Settings.{Settings}
 use Rattle.request.specs.Source.{Recording}
@@ -12,7 +12,7 @@ use Rattle.commands.specs.Parts.{IsAnswer}
 abbrev pub longest_line : ℕ
 longest_line = 528
 
--- the most bytes of the failing lines of so many images, of so many programs
+-- the most bytes of the failing lines of that many images, of that many programs
 abbrev pub most_bytes : ℕ → ℕ → ℕ
 most_bytes images programs = images * programs * longest_line
 

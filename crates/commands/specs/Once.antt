@@ -2,11 +2,11 @@
 use Rattle.std.specs.Prelude.{ℕ, ◌≡◌, Bool, List, length, map, slice_get, Some}
 use Rattle.std.specs.List.{sum_by}
 use Rattle.choices.specs.Sums.{StartsValue}
-use Rattle.why.specs.declared.group.Group.{Group}
-use Rattle.why.specs.declared.cut.CutFailures.{CutFailures}
-use Rattle.outcomes.specs.Outcomes.{outcomes_failing}
-use Rattle.why.specs.Failures.{numbers_in, first_at, failing_before, failing_at}
-use Rattle.why.specs.Laws.{StandOnce}
+use Rattle.losses.specs.declared.why.group.Group.{Group}
+use Rattle.losses.specs.declared.why.cut.CutFailures.{CutFailures}
+use Rattle.losses.specs.ProgramOutcomes.{outcomes_failing}
+use Rattle.losses.specs.Failures.{numbers_in, first_at, failing_before, failing_at}
+use Rattle.losses.specs.GroupLaws.{StandOnce}
 use Rattle.workers.specs.Failing.{failing_lines}
 use Rattle.request.specs.declared.settings.Settings.{Settings}
 use Rattle.request.specs.Source.{Recording}

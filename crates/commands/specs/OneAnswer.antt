@@ -42,6 +42,7 @@ alone w = record {
 abbrev pub asked_alone : Request → Request
 asked_alone request.StoredRun = request.StoredRun
 asked_alone (request.Explore w) = request.Explore (alone w)
+asked_alone (request.Cases w l) = request.Cases (alone w) l
 asked_alone (request.Why w) = request.Why (alone w)
 asked_alone (request.Cure w) = request.Cure (alone w)
 asked_alone (request.Page w) = request.Page (alone w)

@@ -1,4 +1,4 @@
--- Parts of a run that were made by other numbers of workers, and with caches of other sizes, come to the same (docs/REPORT.md,
+-- Parts of a run that were made by other numbers of workers, and with caches of other sizes, come to the same (docs/COMMANDS.md,
 -- Joining parts).
 use Rattle.std.specs.Prelude.{Bool, ℕ, ◌≡◌, ◌≤◌, List, [], ◌∷◌, map, Some}
 use Rattle.choices.specs.Choices.{limit}

@@ -1,4 +1,4 @@
--- The texts of the parts of a run, joined, are what the run answers for these images (docs/REPORT.md, Joining parts).
+-- The texts of the parts of a run, joined, are what the run answers for these images (docs/COMMANDS.md, Joining parts).
 use Rattle.std.specs.Prelude.{ℕ, ◌≡◌, ◌-◌, ◌≤◌, ◌⊎◌, ◌==◌, ◌&&◌, Bool, false, if◌then◌else◌, List, [], ◌∷◌, length, map, Some}
 use Rattle.logfmt.specs.Bounds.{LogValue}
 use Rattle.choices.specs.Choices.{limit}
@@ -40,13 +40,13 @@ AnswerParts text files s [] (t ∷ texts) = ⊥
 AnswerParts text files s (x ∷ ranges) [] = ⊥
 AnswerParts text files s (x ∷ ranges) (t ∷ texts) = HasAnswer text files (part_of s x) t × AnswerParts text files s ranges texts
 
--- a run has so many images
+-- a run has that many images
 pub record HasCount (text : Recording) (s : Settings) (n : ℕ) : Type 0 where
   pub value : LogValue
   pub reads : IsLogOf text s value
   pub is : n ≡ length (images_of s value)
 
--- the texts are answers for parts of a run, which together have each image of a range once, of a run with so many
+-- the texts are answers for parts of a run, which together have each image of a range once, of a run with that many
 pub record AreTextsOf (text : Recording) (files : List (List ℕ)) (s : Settings) (texts : List (List ℕ)) (x : Range) (images : ℕ) : Type 0 where
   pub ranges : List Range
   pub answers : AnswerParts text files s ranges texts
@@ -54,7 +54,7 @@ pub record AreTextsOf (text : Recording) (files : List (List ℕ)) (s : Settings
   pub count : HasCount text s images
   pub within : x.to ≤ images
 
--- the images of a range are all of a run with so many, or a part
+-- the images of a range are all of a run with that many, or a part
 abbrev pub extent_of : ℕ → Range → Extent
 extent_of images x = if x.from == 0 && x.to == images then extent.Wide else extent.Part x.from x.to
 
@@ -90,7 +90,7 @@ PrintParts w files [] (t ∷ texts) = ⊥
 PrintParts w files (x ∷ ranges) [] = ⊥
 PrintParts w files (x ∷ ranges) (t ∷ texts) = PrintsPart w files x t × PrintParts w files ranges texts
 
--- the words and the files are of a run with so many images
+-- the words and the files are of a run with that many images
 pub record CountsImages (w : OptionWords) (files : Files) (images : ℕ) : Type 0 where
   pub settings : Settings
   pub asked : AskFor (asking extent.Whole w) settings

@@ -1,6 +1,6 @@
--- The run that the product holds itself (docs/REPORT.md, Commands): what `explore` is asked without a word.
+-- The run that the product holds itself (docs/COMMANDS.md, The stored run): what `explore` is asked without a word.
 use Rattle.std.specs.Prelude.{ℕ, false, List, [], ◌∷◌, ◌++◌, Some, pos}
-use Rattle.limits.specs.declared.Limits.TheVariants as limit
+use Rattle.base.specs.declared.limits.Limits.TheVariants as limit
 use Rattle.bpf_isa.specs.Program.{spelling}
 use Rattle.bpf_isa.specs.declared.instr.Instr.TheVariants as instr
 use Rattle.bpf_isa.specs.declared.instr.Operator.TheVariants as op

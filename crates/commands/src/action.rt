@@ -7,28 +7,29 @@ ghost use Rattle.request.specs.declared.command.Request.TheVariants as asks;
 ghost use Rattle.runs.specs.Explore.{RefusesWanted};
 ghost use Rattle.request.specs.Refusals.{file_refusal};
 ghost use Rattle.runs.specs.declared.explore_command.Wanted.TheVariants as wants;
-ghost use Rattle.commands.specs.Acting.{first_held, second_held, files_of, held_by, initial_of, recording, status_of, HoldsRecording, RefusesRecording, AnswersRun, AnswersFiles, AnswersExplore, Shows, AnswersOf, Answers, JoinsTexts, RefusesTexts, join_refusal, most_texts, RefusesWith, RefusesLook, RefusesToAct, RefusesFiles};
+ghost use Rattle.commands.specs.Acting.{first_held, second_held, files_of, held_by, initial_of, recording, status_of, HoldsRecording, RefusesRecording, AnswersRun, AnswersFiles, AnswersExplore, AnswersCases, Shows, AnswersOf, Answers, JoinsTexts, RefusesTexts, join_refusal, most_texts, RefusesWith, RefusesCases, RefusesLook, RefusesToAct, RefusesFiles};
 ghost use Rattle.commands.specs.Stored.{stored_log, stored_programs, stored_settings};
 ghost use Rattle.request.specs.declared.settings.Telling.TheVariants as tells;
 
 use crate::stored::{stored_files, stored_options};
 use base::causes::JoinCause;
+use base::limits::Limits;
 use base::refusal::{Cause, Refusal};
 use command_line::Words;
-use facts::{Facts, Recording};
-use join::{JoinFault, join};
-use limits::Limits;
-use looks::{
+use inspect::looks::{
     assemble, export_images, image, import, list, show, shown_log, survey, verify_program,
 };
+use inspect::trial::try_image;
+use join::{JoinFault, join};
+use request::facts::{Facts, Recording};
 use request::{
-    OptionWords, Options, Request, Telling, TrialWords, Which, options_of, trial_of, unreadable,
+    LossWords, OptionWords, Options, Request, Telling, TrialWords, Which, losses_of, options_of,
+    trial_of, unreadable,
 };
 use runs::{Question, Wanted, run_with};
 use std::alloc::{AllocError, Global};
 use std::sync::Wait;
 use std::thread::Threads;
-use trial::try_image;
 use workers::Gate;
 
 /// How many texts of parts are joined at most.
@@ -37,7 +38,7 @@ const MOST_TEXTS: usize = 4096;
 /// What is shown of a log, for which no program runs.
 #[derive(Clone, Copy)]
 pub(crate) enum Look {
-    /// How many crash images each cut has, and how the run is laid out in so many parts, where that is asked for.
+    /// How many crash images each cut has, and how the run is laid out in that many parts, where that is asked for.
     Images(Option<u64>),
     /// The bytes of its crash images.
     Export,
@@ -49,7 +50,7 @@ pub(crate) enum Look {
     Show(Which),
 }
 
-/// What each file of a command holds, none where it could not be read: those that it names by themselves, and the one behind
+/// What each file of a command holds, none where it could not be read: those that it names by themselves, and the one after
 /// `--base`, where that stands there.
 #[derive(Clone, Copy)]
 pub(crate) struct Held<'x> {
@@ -80,7 +81,7 @@ impl<'x> Held<'x> {
         }
     }
 
-    /// What the device held before entry 0: what the file behind `--base` holds, and no bytes without it.
+    /// What the device held before entry 0: what the file after `--base` holds, and no bytes without it.
     fn initial(&self) -> Result<&'x [u8], Refusal>
         ensures { MatchResult result (λ bytes. initial_of (held_by self.now).base ≡ Some bytes.now)
             (λ r. (initial_of (held_by self.now).base ≡ None) × (r ≡ file_refusal (length (held_by self.now).named))) }
@@ -93,7 +94,7 @@ impl<'x> Held<'x> {
     }
 
     /// The log that the first file holds, over what the device held before entry 0.
-    fn recording(&self) -> Result<Recording<'x>, Refusal>
+    pub(crate) fn recording(&self) -> Result<Recording<'x>, Refusal>
         ensures { MatchResult result (HoldsRecording (held_by self.now)) (RefusesRecording (held_by self.now) (λ text r. ⊥)) }
     {
         let log = self.first()?;
@@ -170,6 +171,29 @@ fn act_explore<G: Gate + Sync, R: Threads + Wait + Sync>(
 {
     let options = options_of(asked.words)?;
     explore_readable(rt, alloc, gate, asked, &options, facts)
+}
+
+/// Finds the failing cases of any number of losses in the files of a command, of which the first is the log.
+fn act_cases<G: Gate + Sync, R: Threads + Wait + Sync>(
+    rt: &R,
+    alloc: Global,
+    gate: &G,
+    words: OptionWords,
+    losses: LossWords,
+    files: &Held<'_>,
+    facts: &mut Facts,
+) -> Result<(Vec<u8>, u8), Refusal>
+    ensures answers { IfOk result (λ answer. AnswersCases words losses (held_by files.now) answer.0.items answer.1) }
+    ensures refused { IfErr result (RefusesWith words (RefusesCases losses (held_by files.now))) }
+{
+    let options = options_of(words)?;
+    let meant = losses_of(losses, &options)?;
+    let asked = Asked {
+        wanted: Wanted::Cases(meant),
+        words,
+        files,
+    };
+    explore_readable(rt, alloc, gate, &asked, &options, facts)
 }
 
 /// Explores files, each of which has to be readable.
@@ -413,6 +437,7 @@ pub(crate) fn act_known<G: Gate + Sync, R: Threads + Wait + Sync>(
             let asked = files.run_asked_for(Wanted::Told(Telling::Report), words);
             act_explore(rt, alloc, gate, &asked, facts)
         }
+        Request::Cases(words, losses) => { act_cases(rt, alloc, gate, words, losses, files, facts) }
         Request::Why(words) => {
             let asked = files.run_asked_for(Wanted::Told(Telling::Causes), words);
             act_explore(rt, alloc, gate, &asked, facts)
@@ -447,7 +472,7 @@ pub(crate) fn act_known<G: Gate + Sync, R: Threads + Wait + Sync>(
 ///
 /// # Errors
 ///
-/// The first refusal in the order of docs/REPORT.md: an option, a file, then those of `explore`,
+/// The first refusal in the order of docs/REFUSALS.md: an option, a file, then those of `explore`,
 /// `survey` or `image`; those of a source text, and those of a program.
 pub fn act<G: Gate + Sync, R: Threads + Wait + Sync>(
     rt: &R,

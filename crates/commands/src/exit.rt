@@ -7,7 +7,7 @@ ghost use Rattle.commands.specs.Exits.{Exits};
 use crate::action::{Held, act_known};
 use base::refusal::Refusal;
 use command_line::Words;
-use facts::Facts;
+use request::facts::Facts;
 use std::alloc::Global;
 use std::sync::Wait;
 use std::thread::Threads;
@@ -16,7 +16,7 @@ use workers::Gate;
 /// The status of a process that was refused.
 const REFUSED: u8 = 2;
 
-/// How the process ends (docs/REPORT.md, Exit status).
+/// How the process ends (docs/COMMANDS.md, Exit status).
 #[derive(Drop)]
 pub struct Exit {
     /// All that goes to standard output.

@@ -21,7 +21,7 @@ pub fn lines_of_image(words: &Words) -> u64 {
     }
 }
 
-/// How many bytes the lines of so many images may have, with so many for each; 2^64 - 1 where they are more than that.
+/// How many bytes the lines of that many images may have, with that many for each; 2^64 - 1 where they are more than that.
 pub(crate) fn most_bytes(images: u64, lines: u64) -> u64
     ensures { result ≡ min (most_bytes images lines) (2 ^ 64 - 1) }
 {

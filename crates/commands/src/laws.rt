@@ -11,10 +11,11 @@ ghost use Rattle.commands.specs.OtherWork.{JoinIsExploreByOwn};
 ghost use Rattle.commands.specs.Parts.{JoinIsExplore, JoinedPartsAreRun, PartsOfRunAreJoined};
 
 use bpf_isa::laws::{no_fault_in_spelled, one_program};
+use case_runs::finding_is_one;
 use choices::list_is_set;
 use logfmt::{text_has_no_fault, text_of_one_log};
+use losses::why::{all_stand, each_stands_once};
 use verifier::laws::one_verdict;
-use why::{all_stand, each_stands_once};
 use workers::lines_are_set;
 
 /// For given bytes of a log and of programs and given options there is at most one report.
@@ -41,6 +42,7 @@ pub fn one_answer()
     one_program();
     one_verdict();
     one_source();
+    finding_is_one();
 }
 
 /// Where there is an answer to a request, a refusal is for want of memory alone.
@@ -52,6 +54,7 @@ pub fn answer_or_refusal()
     one_program();
     no_fault_in_spelled();
     one_verdict();
+    finding_is_one();
 }
 
 /// Two command lines that differ in the number of workers, the size of the cache and the line of progress alone have the same

@@ -4,7 +4,7 @@
 //! A log tells what was written to a device, in order. A power cut leaves one of many crash images of
 //! it (docs/CRASH-MODEL.md). A checker, a BPF program, looks at an image and answers 0 where it is
 //! good. `explore` judges every image within the bounds that it is asked for, and reports each one
-//! on which a checker answers otherwise (docs/REPORT.md).
+//! on which a checker answers otherwise (docs/COMMANDS.md).
 //!
 //! # Place
 //!
@@ -14,9 +14,9 @@
 //! - `request`: what a run is asked, and `Options`, tested in their order; what each command reads of a log; the line of a
 //!   refusal.
 //! - `command_line`: the words of the command line, and their help.
-//! - `runs`: `explore`, `why`, `page` and `cure_run`, from bytes to bytes.
-//! - `looks`: `images`, `image`, `show`, `log`, `verify`, `asm` and `list`.
-//! - `command_notes`: the notes behind a refusal and beside an answer.
+//! - `runs`: `explore`, with a bound or with any number of losses, `why`, `page` and `cure_run`, from bytes to bytes.
+//! - `inspect`: `images`, `image`, `show`, `log`, `verify`, `asm` and `list`.
+//! - `notes`: the notes after a refusal and beside an answer.
 //!
 //! What stands here:
 //!
@@ -28,17 +28,20 @@
 //! - `laws`: that there is one answer at most to what is asked, and no refusal beside it but for memory; that workers, cache
 //!   and progress change nothing of it; that `show` names each sector that differs; that each failing image stands once in what
 //!   `why` says; that the parts of a run, joined, are what the run answers.
-//! - `writing`: `emit`, which writes all of an answer to an `Output`, a writer that is asked no more once a write has failed.
+//! - `streamed`: `perform_export`, which writes the answer of `export` as it is made. `emit` writes all of another answer to an `Output`, a
+//!   writer that is asked no more once a write has failed; both come from `export`.
 //! - `progress`: the gate that says on standard error how far an exploration is, and before it begins how large its report may get.
 //! - `largest`: how large a report may get.
 //!
 //! # What is proved
 //!
 //! `act` answers for each command exactly the bytes that the contract of its call says, over the options that the words ask for
-//! and what the files hold, with status 1 where a run found a failing image (of `cure` the first), and 0 else. Its refusals come in the order of
-//! docs/REPORT.md: of the words, of a file that can't be read, then those of the call (`specs/Acting.antt`). Without a word it
-//! explores the log and the program that it holds itself (`specs/Stored.antt`). `perform` gives the status 2 and an empty
-//! standard output where `act` refuses, and else `act`'s own (`specs/Exits.antt`).
+//! and what the files hold, with status 1 where a run found a failing image (of `cure` the first), and 0 else. Its refusals come
+//! in the order of docs/REFUSALS.md: of the words, of a file that can't be read, then those of the call (`specs/Acting.antt`).
+//! Without a word it explores the log and the program that it holds itself (`specs/Stored.antt`). `perform` gives the status 2
+//! and an empty standard output where `act` refuses, and else `act`'s own (`specs/Exits.antt`). `perform_export` writes an answer
+//! of `export`, as `act` gives it whole; or it is refused, as `act` refuses, and nothing is written; or the first bytes of an
+//! answer are written, and not all (`IsWritten`, `IsStopped`).
 //!
 //! For what is asked and what the files hold there is at most one answer with one status, whatever the command, and an answer
 //! and a refusal for another cause than memory exclude each other (`one_answer`, `answer_or_refusal`; of reports alone
@@ -51,8 +54,8 @@
 //! prints of such files what `explore` prints of the whole run, with the same status (`join_is_explore`), whatever workers and
 //! caches the parts were made by (`join_is_explore_by_own`). The failing lines of a report have no more bytes than are said before
 //! the run (`reports_are_bounded`). `emit` writes all
-//! bytes, or says how many were written before the writer failed. What a run reports, and what the other commands show, stands
-//! on the pages of `runs` and `looks`.
+//! bytes, or says how many were written before the writer failed. What a run reports, and what the other commands show, stands on
+//! the pages of `runs` and `inspect`.
 //!
 //! # Example
 //!
@@ -74,24 +77,27 @@ mod largest;
 mod laws;
 mod progress;
 mod stored;
-mod writing;
+mod streamed;
 
 pub use action::act;
 pub use command_line::Words;
-pub use command_notes::{notes_behind, notes_beside};
 pub use epochs::{By, CutKind, Cuts, Flushes};
 pub use escaping::escaped_words;
 pub use exit::{Exit, perform};
-pub use facts::{Facts, Recording};
+pub use export::{Fault, Output, emit};
+pub use inspect::looks::{Stopped, choices_are_short, image, report_prints_choices, show, survey};
 pub use largest::lines_of_image;
 pub use laws::{
     answer_or_refusal, each_image_stands_once, join_is_explore, join_is_explore_by_own,
     joined_parts_are_run, one_answer, one_report, parts_of_run_are_joined, report_or_refusal,
     reports_are_bounded, show_names_differences, work_changes_nothing,
 };
-pub use looks::{choices_are_short, image, report_prints_choices, show, survey};
+pub use notes::command_notes::{notes_behind, notes_beside};
 pub use progress::Progress;
-pub use request::{Extent, OptionPlace, Options, Settings, Telling, Which, fault_line};
+pub use request::facts::{Facts, Recording};
+pub use request::{
+    Extent, OptionPlace, OptionWords, Options, Request, Settings, Telling, Which, fault_line,
+};
 pub use runs::{Explored, Question, cure_run, explore, explore_with, page, why};
+pub use streamed::{Streamed, perform_export};
 pub use workers::{Gate, OpenGate};
-pub use writing::{Output, emit};

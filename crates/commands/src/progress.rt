@@ -6,7 +6,7 @@ use std::time::{Clock, Instant};
 use workers::{BLOCK, Gate};
 
 /// A gate that says on standard error how many images are judged, of how many. Of each exploration it is one
-/// line, which is written again once a second at most, with a carriage return behind it. It is ended where the
+/// line, which is written again once a second at most, with a carriage return after it. It is ended where the
 /// next exploration begins, and by `end`. Where that isn't asked for, or the clock can't be read, nothing is said. Before the first
 /// image is judged it says how large the report may get, where that is much.
 #[derive(Drop)]
@@ -25,7 +25,7 @@ pub struct Progress<'r, R> {
 }
 
 impl<'r, R: Clock + Eprint> Progress<'r, R> {
-    /// The progress of an exploration that hasn't begun, whose report may have so many lines for each image.
+    /// The progress of an exploration that hasn't begun, whose report may have that many lines for each image.
     pub fn new(rt: &'r R, wanted: bool, lines: u64) -> Progress<'r, R> {
         Progress {
             rt,
@@ -44,7 +44,7 @@ impl<'r, R: Clock + Eprint> Progress<'r, R> {
         }
     }
 
-    /// Says how large the report of so many images may get, where that is more than a GiB.
+    /// Says how large the report of that many images may get, where that is more than a GiB.
     fn warn(&self, images: u64) {
         let most = most_bytes(images, self.lines);
         if most > LARGE {
@@ -78,7 +78,7 @@ impl<'r, R: Clock + Eprint> Progress<'r, R> {
     }
 }
 
-/// How many images a block has, of a run of so many.
+/// How many images a block has, of a run of that many.
 fn images_in(block: u32, images: u64) -> u64 {
     images.saturating_sub(BLOCK * u64::from(block)).min(BLOCK)
 }

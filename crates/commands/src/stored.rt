@@ -3,8 +3,8 @@
 ghost use Rattle.std.specs.Prelude.{◌≡◌, IfOk, map};
 ghost use Rattle.commands.specs.Stored.{stored_log, stored_programs, stored_settings};
 
+use base::limits::Limits;
 use epochs::{By, Cuts};
-use limits::Limits;
 use request::{Extent, Options, Settings};
 use std::alloc::{AllocError, Global};
 

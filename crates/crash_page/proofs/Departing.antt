@@ -1,6 +1,6 @@
 -- Choices of a plan, and those where nothing departs.
 use Rattle.std.proofs.Common.{ℕ, suc, ◌≡◌, ◌<◌, ◌≤◌, Bool, All, List, [], ◌∷◌, length, map, slice_get, None, Some, refl, sym, ◌∙◌, ap, subst, arith}
-use Rattle.limits.specs.Sizes.{most_sectors}
+use Rattle.base.specs.Sizes.{most_sectors}
 use Rattle.logfmt.specs.Bounds.{LogValue, IsLog}
 use Rattle.epochs.specs.Plan.{PlanValue}
 use Rattle.choices.specs.declared.choice.Departure.{Departure}
@@ -11,8 +11,8 @@ use Rattle.images.specs.Views.{ViewValue, IsMember, view_of, sectors_of}
 use Rattle.images.specs.Laws.{ImagesAreDevices}
 use Rattle.images.proofs.Members.{member_cut as cut_of_member}
 use Rattle.choices.specs.Sums.{StartsValue}
-use Rattle.why.specs.declared.group.Group.{Group}
-use Rattle.why.specs.Text.{IsNumbered}
+use Rattle.losses.specs.declared.why.group.Group.{Group}
+use Rattle.losses.specs.WhyText.{IsNumbered}
 
 pub member_of : (plan : PlanValue) (bound : ℕ) (tears : Bool) (n : ℕ) (c : ChoiceValue) → slice_get (ranked_choices plan bound tears) n ≡ Some c → IsMember plan c
 member_of plan bound tears n c there = record { bound = bound; tears = tears; number = n; there = there }

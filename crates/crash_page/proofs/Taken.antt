@@ -2,7 +2,7 @@
 use Rattle.std.proofs.Common.{get_or, slice_get}
 use Rattle.std.proofs.lemmas.Option.{slice_get-get_or}
 use Rattle.choices.proofs.Plans.{wanted_within}
-use Rattle.why.specs.declared.cut.CutFailures.{CutFailures}
+use Rattle.losses.specs.declared.why.cut.CutFailures.{CutFailures}
 use Rattle.crash_page.specs.Laws.{FailuresAreOfRun}
 
 pub failures_are_of_run : FailuresAreOfRun

@@ -4,7 +4,7 @@ use Rattle.std.specs.List.{flat_map, range_with_len}
 use Rattle.std.specs.Option.{option_map_or}
 use Rattle.std.specs.Fmt.{decimal}
 use Rattle.logfmt.specs.declared.entry.Entry.{Entry}
-use Rattle.flushes.specs.declared.counted.MissingFlush.{MissingFlush}
+use Rattle.losses.specs.declared.flushes.counted.MissingFlush.{MissingFlush}
 use Rattle.epochs.specs.Units.{epoch_at}
 use Rattle.notes.specs.LogTable.{word_text, is_write, line_at}
 use Rattle.crash_page.specs.declared.pieces.Piece.TheVariants as piece

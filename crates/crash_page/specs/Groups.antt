@@ -6,12 +6,12 @@ use Rattle.std.specs.Option.{option_map_or}
 use Rattle.epochs.specs.Units.{epoch_at, marks_at}
 use Rattle.choices.specs.Choices.{ChoiceValue, ranked_choices}
 use Rattle.choices.specs.Sums.{StartsValue}
-use Rattle.choice_text.specs.Text.{departures_text}
+use Rattle.report.specs.ChoiceText.{departures_text}
 use Rattle.images.specs.Views.{ViewValue, view_of, sectors_of}
 use Rattle.crash_text.specs.Shown.{shown_text}
-use Rattle.why.specs.declared.cut.CutFailures.{CutFailures}
-use Rattle.why.specs.declared.group.Group.{Group}
-use Rattle.why.specs.Groups.{ends_at}
+use Rattle.losses.specs.declared.why.cut.CutFailures.{CutFailures}
+use Rattle.losses.specs.declared.why.group.Group.{Group}
+use Rattle.losses.specs.CountedGroups.{ends_at}
 use Rattle.crash_page.specs.declared.pieces.Piece.TheVariants as piece
 use Rattle.crash_page.specs.Pieces.{piece_text}
 use Rattle.crash_page.specs.declared.cut.Showing.{Showing}
@@ -109,14 +109,14 @@ cut_head s how c = cut_open how.is_open c ++ stand_text s c ++ bar_text c ++ fir
 unfoldable pub rest_text : ℕ → List ℕ
 rest_text n = if n == 0 then [] else piece_text piece.RestOpen ++ decimal n ++ piece_text piece.RestClose
 
--- how many groups of a cut are shown, where so many may still be
+-- how many groups of a cut are shown, where that many may still be
 abbrev pub most_of_cut : ℕ
 most_of_cut = 8
 
 abbrev pub shown_of : ℕ → CutFailures → ℕ
 shown_of left c = length (take left (take most_of_cut c.groups.items))
 
--- a cut, with so many of its groups; where it is open, the first of them is, too
+-- a cut, with that many of its groups; where it is open, the first of them is, too
 unfoldable pub cut_shown : StartsValue → List (List ℕ) → Showing → CutFailures → List ℕ
 cut_shown s outcomes how c =
     cut_head s how c ++ groups_text s outcomes how.is_open (take how.groups c.groups.items) ++ rest_text (length c.groups.items - how.groups)
@@ -126,7 +126,7 @@ cut_shown s outcomes how c =
 abbrev pub cut_text : StartsValue → List (List ℕ) → Showing → CutFailures → List ℕ
 cut_text s outcomes how c = if c.failing == 0 then [] else cut_shown s outcomes how c
 
--- how a cut is shown, where so many groups may still be, and no cut before it failed or one did
+-- how a cut is shown, where that many groups may still be, and no cut before it failed or one did
 abbrev pub showing : ℕ → Bool → ℕ → CutFailures → Showing
 showing program is_first left c = record { program = program; is_open = is_first; groups = shown_of left c }
 

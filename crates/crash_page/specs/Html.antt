@@ -1,4 +1,4 @@
--- Text on a page (docs/REPORT.md, The page of `page`).
+-- Text on a page (docs/OUTPUT.md, The page of `page`).
 use Rattle.std.specs.Prelude.{ℕ, ◌==◌, nat_lt, ◌||◌, Bool, true, if◌then◌else◌, List, [], ◌∷◌, ◌++◌, codes, chars}
 use Rattle.std.specs.List.{flat_map}
 use Rattle.std.specs.Str.{is_utf8}

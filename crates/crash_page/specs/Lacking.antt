@@ -1,9 +1,9 @@
--- The flushes that are missing: in the row of entries, each right before its entry, and in words above it (docs/REPORT.md, The page of `page`).
+-- The flushes that are missing: in the row of entries, each right before its entry, and in words above it (docs/OUTPUT.md, The page of `page`).
 use Rattle.std.specs.Prelude.{ℕ, ◌+◌, ◌-◌, ◌==◌, if◌then◌else◌, List, [], ◌∷◌, ◌++◌, codes, length, take, slice_get}
 use Rattle.std.specs.List.{position}
 use Rattle.std.specs.Option.{option_map_or, option_and_then}
 use Rattle.std.specs.Fmt.{decimal}
-use Rattle.flushes.specs.declared.counted.MissingFlush.{MissingFlush}
+use Rattle.losses.specs.declared.flushes.counted.MissingFlush.{MissingFlush}
 use Rattle.crash_page.specs.declared.pieces.Piece.TheVariants as piece
 use Rattle.crash_page.specs.Pieces.{piece_text}
 
@@ -35,7 +35,7 @@ lack_at program ms n = option_map_or (flush_text program) (option_and_then (λ (
 abbrev pub most_named : ℕ
 most_named = 16
 
--- what stands before the one of that number, of so many
+-- what stands before the one of that number, of that many
 abbrev pub between_text : ℕ → ℕ → List ℕ
 between_text count number = if number == 0 then [] else if number + 1 == count then codes " and " else codes ", "
 
@@ -44,7 +44,7 @@ unfoldable pub named_text : ℕ → ℕ → ℕ → MissingFlush → List ℕ
 named_text program count number m =
     between_text count number ++ piece_text piece.NamedOpen ++ flush_name program m.at ++ piece_text piece.LinkEnd ++ decimal m.at ++ piece_text piece.NamedClose
 
--- those from that number on, of so many
+-- those from that number on, of that many
 abbrev pub named_from : ℕ → ℕ → ℕ → List MissingFlush → List ℕ
 named_from program count number [] = []
 named_from program count number (m ∷ ms) = named_text program count number m ++ named_from program count (number + 1) ms

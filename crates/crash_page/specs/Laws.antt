@@ -1,9 +1,9 @@
 -- The laws of pages.
 use Rattle.std.specs.Prelude.{ℕ, ◌≡◌, ◌==◌, ◌||◌, Bool, false, List, All, slice_get, Some}
 use Rattle.choices.specs.Sums.{StartsValue}
-use Rattle.why.specs.declared.cut.CutFailures.{CutFailures}
-use Rattle.why.specs.Failures.{AreCuts}
-use Rattle.why.specs.Text.{AreAllNumbered}
+use Rattle.losses.specs.declared.why.cut.CutFailures.{CutFailures}
+use Rattle.losses.specs.Failures.{AreCuts}
+use Rattle.losses.specs.WhyText.{AreAllNumbered}
 use Rattle.crash_page.specs.Html.{html, mark_label}
 use Rattle.crash_page.specs.Page.{IsOfRun}
 
@@ -16,7 +16,7 @@ abbrev pub TextIsNoMarkup : Type 0
 TextIsNoMarkup =
     (bytes : List ℕ) (i b : ℕ) → (slice_get (html bytes) i ≡ Some b → is_markup b ≡ false) × (slice_get (mark_label bytes) i ≡ Some b → is_markup b ≡ false)
 
--- what `failures` tells of images of a run, of which so many fail, is what a page takes
+-- what `failures` tells of images of a run, of which that many fail, is what a page takes
 abbrev pub FailuresAreOfRun : Type 0
 FailuresAreOfRun = (s : StartsValue) (failing : List ℕ) (outcomes : List (List ℕ)) (lines : ℕ) (cs : List CutFailures) → AreCuts s failing outcomes cs → AreAllNumbered s lines cs
     → All (IsOfRun s lines) cs

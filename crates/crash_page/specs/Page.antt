@@ -1,4 +1,4 @@
--- The page of a run (docs/REPORT.md, The page of `page`).
+-- The page of a run (docs/OUTPUT.md, The page of `page`).
 use Rattle.std.specs.Prelude.{ℕ, ◌+◌, ◌≤◌, ◌==◌, not, nat_lt, Bool, true, if◌then◌else◌, List, [], ◌∷◌, ◌++◌, All, codes, length, map, filter}
 use Rattle.std.specs.Fmt.{decimal}
 use Rattle.logfmt.specs.declared.entry.Entry.{Entry}
@@ -7,8 +7,8 @@ use Rattle.notes.specs.LogTable.{word_text}
 use Rattle.choices.specs.Sums.{StartsValue}
 use Rattle.report.specs.declared.head.ProgramHead.{ProgramHead}
 use Rattle.report.specs.Report.{steps_text}
-use Rattle.why.specs.declared.cut.CutFailures.{CutFailures}
-use Rattle.why.specs.Text.{IsNumbered}
+use Rattle.losses.specs.declared.why.cut.CutFailures.{CutFailures}
+use Rattle.losses.specs.WhyText.{IsNumbered}
 use Rattle.crash_page.specs.declared.pieces.Piece.TheVariants as piece
 use Rattle.crash_page.specs.Pieces.{piece_text}
 use Rattle.crash_page.specs.declared.program.ProgramFailures.{ProgramFailures}
@@ -23,7 +23,7 @@ use Rattle.crash_page.specs.Groups.{cuts_text}
 abbrev pub fails : CutFailures → Bool
 fails c = not (c.failing == 0)
 
--- on how many images a program fails, at how many of so many cuts
+-- on how many images a program fails, at how many of that many cuts
 unfoldable pub bad_text : ProgramFailures → List ℕ
 bad_text f = piece_text piece.BadOpen ++ decimal f.failing ++ piece_text piece.BadCuts ++ decimal (length (filter fails f.cuts.items)) ++ piece_text piece.Of
 
@@ -92,7 +92,7 @@ head_text l = piece_text piece.Opening ++ log_name l ++ piece_text piece.Style +
 unfoldable pub page_text : List ℕ → StartsValue → List ProgramFailures → List ℕ
 page_text about s fs = head_text s.plan.log ++ about_text about ++ programs_text s 0 fs ++ list_text s.plan.log.entries ++ piece_text piece.Closing
 
--- what fails at a cut is of the images of a run, of which so many fail
+-- what fails at a cut is of the images of a run, of which that many fail
 pub record IsOfRun (s : StartsValue) (lines : ℕ) (c : CutFailures) : Type 0 where
   pub cut : c.cut ≤ length s.plan.log.entries
   pub groups : All (IsNumbered s lines) c.groups.items

@@ -6,7 +6,7 @@ use Rattle.crash_page.specs.declared.share.Share.TheVariants as share
 use Rattle.crash_page.specs.declared.pieces.Piece.TheVariants as piece
 use Rattle.crash_page.specs.Pieces.{piece_text}
 
--- a share with a bound is at most one image in so many
+-- a share with a bound is at most one image in that many
 abbrev pub one_in : Share → ℕ
 one_in share.Hundredth = 100
 one_in share.Tenth = 10
@@ -16,7 +16,7 @@ one_in _ = 1
 abbrev pub is_within : ℕ → ℕ → Share → Bool
 is_within images failing s = nat_le failing (images / one_in s)
 
--- the share of so many failing images among those of a cut: none, all, the first bound that holds, or more
+-- the share of that many failing images among those of a cut: none, all, the first bound that holds, or more
 abbrev pub share_of : ℕ → ℕ → Share
 share_of images failing =
     if failing == 0 then share.No else if nat_le images failing then share.All else if is_within images failing share.Hundredth then share.Hundredth

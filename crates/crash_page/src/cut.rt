@@ -3,8 +3,8 @@
 ghost use Rattle.std.specs.Prelude.{◌≡◌, ◌<◌, ◌≤◌, ◌++◌, ◌-◌, All, false, length, map, take, OnOk, string_bytes};
 ghost use Rattle.std.specs.List.{flat_map};
 ghost use Rattle.choices.specs.Choices.{ranked_choices};
-ghost use Rattle.why.specs.declared.group.Group.{Group as GroupValue};
-ghost use Rattle.why.specs.Text.{IsNumbered};
+ghost use Rattle.losses.specs.declared.why.group.Group.{Group as GroupValue};
+ghost use Rattle.losses.specs.WhyText.{IsNumbered};
 ghost use Rattle.crash_page.specs.Groups.{group_text, groups_text, first_text, stand_text, bar_text, cut_line, cut_open, cut_body, cut_head, rest_text, most_of_cut, shown_of, cut_shown, cut_text};
 ghost use Rattle.crash_page.specs.Page.{IsOfRun};
 
@@ -13,8 +13,8 @@ use crate::pieces::{Piece, put, put_number};
 use crate::run::Run;
 use crate::share::{put_class, share_of};
 use crate::strip::{put_count, put_place_name};
+use losses::why::{CutFailures, Group};
 use std::alloc::{AllocError, Global};
-use why::{CutFailures, Group};
 
 /// How many groups of a cut are shown.
 const MOST_GROUPS_OF_CUT: usize = 8;
@@ -181,7 +181,7 @@ fn put_groups(
     }
 }
 
-/// How many groups of a cut are shown, where so many may still be.
+/// How many groups of a cut are shown, where that many may still be.
 pub(crate) fn shown_of(left: usize, cut: &CutFailures) -> usize
     ensures value { result ≡ shown_of left cut.now }
     ensures left { result ≤ left }

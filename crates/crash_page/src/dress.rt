@@ -84,7 +84,7 @@ li:target,details:has(>:target){background:var(--aim)}
 pub(crate) const LEGEND: &str =
     "<p class='key'><span><b class='write'></b>write</span><span><b class='discard'></b>discard</span><span><u>17</u> FUA</span><span><b class='flush'></b>flush</span><span><b class='lack'></b>flush missing</span><span><b class='mark'></b>mark</span><span><b class='even'></b><b class='odd'></b>epochs in turn</span><span>images of a cut that fail:</span>";
 
-/// What stands behind the list of entries: a script that opens the cut to which a link leads, shows the line of an entry beside
+/// What stands after the list of entries: a script that opens the cut to which a link leads, shows the line of an entry beside
 /// the pointer, and leads from cell to cell of the row of entries by the arrow keys. Without it the page has the same text.
 pub(crate) const CLOSING: &str = "</main>
 <script>

@@ -3,18 +3,18 @@
 ghost use Rattle.std.specs.Prelude.{◌≡◌, ◌<◌, ◌++◌, [], length, map, IfOk, OnOk, string_bytes};
 ghost use Rattle.choices.specs.Choices.{ranked_choices};
 ghost use Rattle.images.specs.Views.{IsMember};
-ghost use Rattle.why.specs.Text.{IsNumbered};
+ghost use Rattle.losses.specs.WhyText.{IsNumbered};
 ghost use Rattle.crash_page.specs.Groups.{image_text, block_text, choice_at, sides_text, group_open, group_choice, group_size, same_text, group_end, group_line, chosen_text, group_text};
 
 use crate::html::{put_html, put_sided};
 use crate::pieces::{Piece, put, put_number};
 use crate::run::Run;
-use choice_text::put_departures;
 use choices::{Choice, Starts, choice_named};
 use crash_text::put_shown;
 use images::images_are_devices;
+use losses::why::Group;
+use report::choice_text::put_departures;
 use std::alloc::{AllocError, Global};
-use why::Group;
 
 /// How long a text is that stands on the page.
 const LONGEST: usize = 16384;

@@ -132,7 +132,7 @@ fn put_begin(out: &mut String, begins: bool, byte: u8) -> Result<(), AllocError>
     if begins { put_side(out, byte) } else { Ok(()) }
 }
 
-/// Appends what ends a line, behind its newline.
+/// Appends what ends a line, after its newline.
 fn put_end(out: &mut String, byte: u8) -> Result<(), AllocError>
     ensures { OnOk result (string_bytes out.new ≡ string_bytes out.old ++ end_text byte) }
 {

@@ -2,11 +2,11 @@
 
 ghost use Rattle.std.specs.Prelude.{◌≡◌, ◌<◌, ◌≤◌, ◌==◌, ◌++◌, length, OnOk, string_bytes};
 ghost use Rattle.std.specs.List.{position};
-ghost use Rattle.flushes.specs.declared.counted.MissingFlush.{MissingFlush as FlushValue};
+ghost use Rattle.losses.specs.declared.flushes.counted.MissingFlush.{MissingFlush as FlushValue};
 ghost use Rattle.crash_page.specs.Lacking.{flush_name, from_text, flush_title, flush_link, flush_text, lack_at, between_text, named_text, named_from, more_text, entries_word, flushes_text, cure_text, uncured_text, advice_text};
 
 use crate::pieces::{Piece, put, put_number};
-use flushes::MissingFlush;
+use losses::flushes::MissingFlush;
 use std::alloc::AllocError;
 
 /// How many flushes are named in words.
@@ -94,7 +94,7 @@ pub(crate) fn put_lacking(
     }
 }
 
-/// Appends what stands before the entry of that number, of so many that are named.
+/// Appends what stands before the entry of that number, of that many that are named.
 fn put_between(out: &mut String, count: usize, number: usize) -> Result<(), AllocError>
     requires { number < count }
     ensures { OnOk result (string_bytes out.new ≡ string_bytes out.old ++ between_text count number) }
@@ -128,7 +128,7 @@ fn put_named(
     put(out, Piece::NamedClose)
 }
 
-/// Appends the first of so many flushes.
+/// Appends the first of that many flushes.
 #[tactic(auto, using(crate::proofs::Rows::named_more, crate::proofs::Rows::named_end))]
 fn put_names(
     out: &mut String,

@@ -7,7 +7,7 @@ pub fn text_is_no_markup()
     ensures { TextIsNoMarkup }
 {}
 
-/// What `why::failures` answers of images of a run is what a page takes: its cuts are cuts of the log, and the images of its
+/// What `losses::why::failures` answers of images of a run is what a page takes: its cuts are cuts of the log, and the images of its
 /// groups are images of the run.
 pub fn failures_are_of_run()
     ensures { FailuresAreOfRun }

@@ -1,16 +1,16 @@
 //! crash_page, a run as a page for a browser: the log as a row of entries with the cuts between them and the flushes that are
-//! missing, and of each cut at which images fail its groups, each with the image of its example in words (docs/REPORT.md, The page
+//! missing, and of each cut at which images fail its groups, each with the image of its example in words (docs/OUTPUT.md, The page
 //! of `page`).
 //!
 //! # Place
 //!
-//! On `why`, whose groups it shows, on `flushes`, whose missing flushes it draws, on `crash_text` for the text of an image, on `images`,
-//! which forms the two images that this text compares, on `report` for what it says of a program at its head, and on `notes` for the
-//! lines of entries. It judges nothing: `runs` hands it what fails.
+//! On `losses`, whose groups (`why`) it shows and whose missing flushes (`flushes`) it draws, on `crash_text` for the text of an
+//! image, on `images`, which forms the two images that this text compares, on `report` for what it says of a program at its head,
+//! and on `notes` for the lines of entries. It judges nothing: `runs` hands it what fails.
 //!
 //! | Call | Appends |
 //! |---|---|
-//! | `put_page(alloc, out, about, run, programs)` | the page, of programs that fail on so many images at these cuts |
+//! | `put_page(alloc, out, about, run, programs)` | the page, of programs that fail on that many images at these cuts |
 //!
 //! # What is proved
 //!
@@ -18,13 +18,13 @@
 //! at each cut. The parts that are the same on each page are constants of `dress`, of which nothing is claimed. Which share of failing
 //! images has which colour is one definition (`specs/Shares.antt`), of which the cells and the legend are made. Text that comes from a
 //! log stands on the page by `html` or `mark_label` alone: no byte of it is `<`, `>`, `"` or `'` (`text_is_no_markup`). What `put_page`
-//! asks of the failures that it is given holds of what `why::failures` answers (`failures_are_of_run`).
+//! asks of the failures that it is given holds of what `losses::why::failures` answers (`failures_are_of_run`).
 //!
 //! # How it is written
 //!
 //! Each call appends to the page, piece after piece, as its definition is composed. `entry` has the cells and lines of entries,
 //! `lacking` the flushes that are missing, in the row and in words, `strip` the cells of cuts between entries, `share` their colours,
-//! `cut` and `group` what stands behind a click on a cut.
+//! `cut` and `group` what stands after a click on a cut.
 //!
 //! # Example
 //!
@@ -33,7 +33,7 @@
 //! use crash_text::Numbering;
 //! use epochs::{By, Cuts};
 //! use report::ProgramHead;
-//! use why::failures;
+//! use losses::why::failures;
 //!
 //! // `starts` and `history` are those of `plan`, which has all cuts of `log`; the program fails on image 104 alone
 //! let numbering = Numbering { plan: &plan, log: &log, cuts: Cuts::ALL, by: By::Sector, bound: 2, tears: true };
@@ -49,7 +49,7 @@
 //! };
 //! let mut page = String::new(alloc);
 //! put_page(alloc, &mut page, "disk.log", &run, &[program])?;
-//! // a page with the row of the log, and behind the cut of image 104 its group
+//! // a page with the row of the log, and after the cut of image 104 its group
 //! ```
 #![tactic(auto)]
 

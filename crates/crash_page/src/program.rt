@@ -13,11 +13,11 @@ use crate::pieces::{Piece, put, put_number};
 use crate::run::Run;
 use crate::share::put_legend;
 use crate::strip::put_strip;
-use flushes::MissingFlush;
 use logfmt::Log;
+use losses::flushes::MissingFlush;
+use losses::why::CutFailures;
 use report::{ProgramHead, put_steps};
 use std::alloc::{AllocError, Global};
-use why::CutFailures;
 
 /// How many groups of a program are shown.
 const MOST_GROUPS_OF_PROGRAM: usize = 500;
@@ -85,7 +85,7 @@ fn put_failing(out: &mut String, failures: &ProgramFailures<'_>) -> Result<(), A
     }
 }
 
-/// Appends what a program comes to, of so many cuts.
+/// Appends what a program comes to, of that many cuts.
 #[tactic(auto, unfolding(crate::specs::Page::judged_text))]
 fn put_judged(out: &mut String, failures: &ProgramFailures<'_>) -> Result<(), AllocError>
     ensures { OnOk result (string_bytes out.new ≡ string_bytes out.old ++ judged_text failures.now) }
@@ -106,7 +106,7 @@ fn put_verdict(out: &mut String, failures: &ProgramFailures<'_>) -> Result<(), A
     }
 }
 
-/// Appends what begins a row of so many entries.
+/// Appends what begins a row of that many entries.
 #[tactic(auto, unfolding(crate::specs::Page::strip_open))]
 fn put_strip_open(out: &mut String, log: &Log) -> Result<(), AllocError>
     ensures { OnOk result (string_bytes out.new ≡ string_bytes out.old ++ strip_open log.now.entries) }

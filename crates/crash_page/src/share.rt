@@ -30,14 +30,14 @@ fn one_in(share: Share) -> u64
     }
 }
 
-/// Whether so many images of a cut are within the bound of a share.
+/// Whether that many images of a cut are within the bound of a share.
 fn is_within(images: u64, failing: u64, share: Share) -> bool
     ensures { result ≡ is_within images failing share }
 {
     failing <= images / one_in(share)
 }
 
-/// Which share of the images of a cut so many failing ones are.
+/// Which share of the images of a cut that many failing ones are.
 pub(crate) fn share_of(images: u64, failing: u64) -> Share
     ensures { result ≡ share_of images failing }
 {

@@ -2,7 +2,7 @@
 
 ghost use Rattle.std.specs.Prelude.{◌≡◌, ◌≤◌, ◌++◌, All, length, OnOk, string_bytes};
 ghost use Rattle.crash_page.specs.Cells.{place_name, count_text, passing_text, failing_class, failing_link, failing_title, failing_text, cut_cell, strip_from};
-ghost use Rattle.why.specs.declared.cut.CutFailures.{CutFailures as CutValue};
+ghost use Rattle.losses.specs.declared.why.cut.CutFailures.{CutFailures as CutValue};
 
 use crate::entry::{put_cells, put_shade};
 use crate::lacking::Lacking;
@@ -11,8 +11,8 @@ use crate::run::Run;
 use crate::share::{Share, put_class, share_of};
 use epochs::Plan;
 use logfmt::Log;
+use losses::why::CutFailures;
 use std::alloc::{AllocError, Global};
-use why::CutFailures;
 
 /// Appends the name of a cut's place on the page.
 #[tactic(auto, unfolding(crate::specs::Cells::place_name))]

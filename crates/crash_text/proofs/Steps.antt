@@ -86,7 +86,7 @@ part_more f parts p n old new head there so_far appended =
     take_next (x ∷ xs) zero p h = let same : x ≡ p = same_Some x p h in rw same refl
     take_next (x ∷ xs) (suc n) p h = let e : suc n + 1 ≡ suc (n + 1) = omega arith in rw e (ap (λ (ys : List Part). x ∷ ys) (take_next xs n p h))
 
--- as many as there are, and so many at most
+-- as many as there are, and that many at most
 pub first_of : (f : Part → List ℕ) (parts : List Part) (n shown count : ℕ) (text head : List ℕ) → n ≡ shown → count ≡ length parts → ((count < 32) × (shown ≡ count)) ⊎ ((32 ≤ count) × (shown ≡ 32))
     → text ≡ head ++ flat_map f (take n parts) → text ≡ head ++ flat_map f (take 32 parts)
 first_of f parts n shown count text head end told (inl (few, all)) so_far =

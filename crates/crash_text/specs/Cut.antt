@@ -1,4 +1,4 @@
--- What stands at a cut (docs/REPORT.md, The text of `show`).
+-- What stands at a cut (docs/OUTPUT.md, The text of `show`).
 use Rattle.std.specs.Prelude.{ℕ, ◌+◌, ◌-◌, ◌*◌, ◌==◌, Bool, false, if◌then◌else◌, List, ◌++◌, codes, length, take, filter, slice_get, Option, None}
 use Rattle.std.specs.List.{flat_map, range_with_len, last_or}
 use Rattle.std.specs.Option.{option_map_or}
@@ -19,7 +19,7 @@ unfoldable pub place_text : Part → List ℕ
 place_text p =
     codes "entry " ++ decimal p.entry ++ (if p.count == 1 then codes ", sector " ++ decimal p.sector else codes ", " ++ decimal p.count ++ codes " sectors from " ++ decimal p.sector ++ codes " on")
 
--- what of a part of so many sectors arrived
+-- what of a part of that many sectors arrived
 abbrev pub arrived_text : ℕ → Fate → List ℕ
 arrived_text count fate.Drop = codes "nothing of it arrived"
 arrived_text count (fate.Head eighths) = codes "only its first " ++ decimal (64 * (eighths * count)) ++ codes " bytes arrived"

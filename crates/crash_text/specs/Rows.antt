@@ -1,4 +1,4 @@
--- Rows of 16 bytes of a device, as `xxd` prints them (docs/REPORT.md, The text of `show`).
+-- Rows of 16 bytes of a device, as `xxd` prints them (docs/OUTPUT.md, The text of `show`).
 use Rattle.std.specs.Prelude.{ℕ, ◌+◌, ◌*◌, ◌/◌, ◌%◌, ◌&&◌, nat_lt, nat_le, if◌then◌else◌, List, [], ◌∷◌, ◌++◌, codes, slice_index}
 use Rattle.std.specs.List.{flat_map, range_with_len}
 

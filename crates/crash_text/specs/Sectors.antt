@@ -1,4 +1,4 @@
--- What in an image differs from another one (docs/REPORT.md, The text of `show`).
+-- What in an image differs from another one (docs/OUTPUT.md, The text of `show`).
 use Rattle.std.specs.Prelude.{ℕ, ◌+◌, ◌-◌, ◌*◌, ◌/◌, ◌==◌, Bool, not, nat_lt, if◌then◌else◌, List, [], ◌++◌, codes, length, filter, slice_get, slice_index, Option, Some, None}
 use Rattle.std.specs.List.{flat_map, range_with_len}
 use Rattle.std.specs.Option.{option_map_or}
@@ -9,7 +9,7 @@ use Rattle.crash_text.specs.Rows.{row_text}
 abbrev pub differs : List ℕ → List ℕ → ℕ → Bool
 differs left right i = not (slice_index left i == slice_index right i)
 
--- the bytes that differ, of so many from one on
+-- the bytes that differ, of that many from one on
 unfoldable pub differences : List ℕ → List ℕ → ℕ → ℕ → List ℕ
 differences left right start count = filter (differs left right) (range_with_len start count)
 
@@ -42,7 +42,7 @@ both_there n None right = []
 both_there n (Some left) None = []
 both_there n (Some left) (Some right) = sector_difference n left right
 
--- each sector in which two devices differ, the first one's rows behind `<`
+-- each sector in which two devices differ, the first one's rows after `<`
 abbrev pub sector_at : List (List ℕ) → List (List ℕ) → ℕ → List ℕ
 sector_at lefts rights n = both_there n (slice_get lefts n) (slice_get rights n)
 

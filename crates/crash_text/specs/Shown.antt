@@ -1,4 +1,4 @@
--- A crash image in words (docs/REPORT.md, The text of `show`).
+-- A crash image in words (docs/OUTPUT.md, The text of `show`).
 use Rattle.std.specs.Prelude.{ℕ, Bool, if◌then◌else◌, List, ◌++◌, codes, length}
 use Rattle.std.specs.List.{flat_map}
 use Rattle.std.specs.Fmt.{decimal}
@@ -9,8 +9,8 @@ use Rattle.epochs.specs.declared.part.By.TheVariants as by
 use Rattle.epochs.specs.Units.{epoch_at, marks_at}
 use Rattle.epochs.specs.Plan.{PlanValue}
 use Rattle.choices.specs.Choices.{ChoiceValue}
-use Rattle.choice_text.specs.Text.{departures_text}
-use Rattle.choice_text.specs.Words.{cuts_words}
+use Rattle.report.specs.ChoiceText.{departures_text}
+use Rattle.report.specs.Words.{cuts_words}
 use Rattle.crash_text.specs.declared.cut.Told.TheVariants as told
 use Rattle.crash_text.specs.Cut.{departed_line, volatile_text, last_text, before_text}
 use Rattle.crash_text.specs.Sectors.{difference_text}

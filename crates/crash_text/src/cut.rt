@@ -25,7 +25,7 @@ fn put_place(out: &mut String, part: Part) -> Result<(), AllocError>
     }
 }
 
-/// Appends what of a part of so many sectors arrived.
+/// Appends what of a part of that many sectors arrived.
 fn put_arrived(out: &mut String, count: u32, fate: Fate) -> Result<(), AllocError>
     ensures { OnOk result (string_bytes out.new ≡ string_bytes out.old ++ arrived_text count fate) }
 {
@@ -64,7 +64,7 @@ fn put_volatile_part(out: &mut String, part: Part) -> Result<(), AllocError>
     out.push_str("\n")
 }
 
-/// How many of so many volatile parts are shown.
+/// How many of that many volatile parts are shown.
 fn shown_parts(parts: u32) -> u32
     ensures { ((parts < 32) × (result ≡ parts)) ⊎ ((32 ≤ parts) × (result ≡ 32)) }
 {

@@ -1,15 +1,15 @@
 //! crash_text, a crash image in words: what stands at its cut, what departed, and what in it differs from the
-//! image of the same cut where nothing departed (docs/REPORT.md, The text of `show`).
+//! image of the same cut where nothing departed (docs/OUTPUT.md, The text of `show`).
 //!
 //! # Place
 //!
-//! On `epochs` and `choices`, whose plan and choice it puts into words, on `choice_text` for the text of the
-//! choice, on `notes` for the lines of entries, and on `helpers`, whose trait `Device` the images are read by.
-//! It forms no image and finds no choice: `commands` hands them over.
+//! On `epochs` and `choices`, whose plan and choice it puts into words, on `report` for the text of the choice, on `notes` for
+//! the lines of entries, and on `helpers`, whose trait `Device` the images are read by. It forms no image and finds no choice:
+//! `commands` hands them over.
 //!
 //! | Call | Appends |
 //! |---|---|
-//! | `put_shown(out, numbering, choice, whole, image)` | all of the below, behind a line of what images are numbered by |
+//! | `put_shown(out, numbering, choice, whole, image)` | all of the below, after a line of what images are numbered by |
 //! | `put_choice(out, numbering, choice)` | the cut and the choice in a line, and a line for each departure |
 //! | `put_cut(out, numbering, cut)` | what is volatile at a cut, the last entries before it, its last flush and its last mark |
 //! | `put_differences(out, whole, image)` | each sector in which two devices differ: how many bytes, the first of them, and rows of both |

@@ -1,7 +1,7 @@
 //! Rows of 16 bytes.
 
 ghost use Rattle.std.specs.Prelude.{ℕ, [], ◌∷◌, ◌≡◌, ◌+◌, ◌*◌, ◌<◌, ◌≤◌, ◌++◌, OnOk, string_bytes, slice_index};
-ghost use Rattle.limits.specs.Sizes.{most_sectors};
+ghost use Rattle.base.specs.Sizes.{most_sectors};
 ghost use Rattle.crash_text.specs.Rows.{hex_digit, hex_byte, address_text, pair_text, character_of, pairs_text, characters_text, row_text};
 
 use std::alloc::AllocError;

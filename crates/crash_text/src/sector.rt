@@ -1,7 +1,7 @@
 //! What in a device differs from another one.
 
 ghost use Rattle.std.specs.Prelude.{ℕ, if◌then◌else◌, ◌≡◌, ◌+◌, ◌*◌, ◌<◌, ◌≤◌, ◌++◌, [], ◌∷◌, length, filter, slice_get, IfSome, OnOk, string_bytes};
-ghost use Rattle.limits.specs.Sizes.{most_sectors};
+ghost use Rattle.base.specs.Sizes.{most_sectors};
 ghost use Rattle.crash_text.specs.Sectors.{differs, differences, row_difference, rows_from, difference_head, difference_rows, difference_at, sector_difference, sector_at, difference_text};
 
 use crate::row::put_row;
@@ -26,7 +26,7 @@ fn count_at(left: &[u8; 512], right: &[u8; 512], place: usize) -> usize
     if differs(left, right, place) { 1 } else { 0 }
 }
 
-/// How many bytes differ, of so many from one on.
+/// How many bytes differ, of that many from one on.
 fn count_differences(left: &[u8; 512], right: &[u8; 512], start: usize, count: usize) -> usize
     requires { start + count ≤ 512 }
     ensures value { result ≡ length (differences left.now right.now start count) }
@@ -161,7 +161,7 @@ fn put_sector_of<W: Device, I: Device>(
 }
 
 /// Appends each sector in which an image differs from the one where nothing departs: how many bytes, the first of them,
-/// and the first rows that differ, those of the first device behind `<`.
+/// and the first rows that differ, those of the first device after `<`.
 #[tactic(auto, using(crate::proofs::Steps::text_next), unfolding(crate::specs::Sectors::difference_text))]
 pub fn put_differences<W: Device, I: Device>(
     out: &mut String,

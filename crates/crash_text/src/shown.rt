@@ -1,16 +1,16 @@
 //! An image in words.
 
 ghost use Rattle.std.specs.Prelude.{ℕ, ◌≡◌, ◌<◌, ◌≤◌, ◌++◌, length, codes, true, if◌then◌else◌, OnOk, string_bytes};
-ghost use Rattle.limits.specs.Sizes.{most_sectors};
+ghost use Rattle.base.specs.Sizes.{most_sectors};
 ghost use Rattle.crash_text.specs.Shown.{cuts_word, by_word, numbered_text, chosen_text, cut_text, choice_line, departed_text, choice_shown, shown_text};
 
 use crate::cut::{put_cut, put_departed};
 use crate::numbering::Numbering;
 use crate::sector::put_differences;
-use choice_text::{put_cuts_words, put_departures};
 use choices::Choice;
 use epochs::{By, CutKind};
 use helpers::Device;
+use report::choice_text::{put_cuts_words, put_departures};
 use std::alloc::AllocError;
 
 /// What the kinds of cuts are called.

@@ -4,7 +4,10 @@ use Rattle.std.specs.Option.{option_map}
 use Rattle.std.specs.Io.KnownBytes.{Appends, Keeps}
 use Rattle.base.specs.declared.refusal.Refusal.{Refusal}
 use Rattle.commands.specs.Acting.{Files, Answers, RefusesToAct, files_of}
-use Rattle.commands.specs.Exits.{Exits}
+use Rattle.request.specs.declared.command.Request.{Request}
+use Rattle.inspect.specs.declared.looks.export_command.Stopped.{Stopped}
+use Rattle.inspect.specs.declared.looks.export_command.Stopped.TheVariants as stopped
+use Rattle.commands.specs.Exits.{Exits, IsWritten, IsStopped}
 use Rattle.input_files.specs.Reads.{InputsValue}
 use Rattle.crashbpf.specs.Ending.{held_in, Ends, answered, refused, unwritten}
 
@@ -49,3 +52,22 @@ nothing_written (Some xs) = refl
 pub ends_refused : (request : _) (held : Files) (before : Option (List ℕ)) (r : Refusal) (last : ℕ) → RefusesToAct request held r → last ≡ 2 → Ends (Answers request held) (RefusesToAct request held) before before last
 ends_refused request held before r last refuses two =
     subst (λ (s : ℕ). Ends (Answers request held) (RefusesToAct request held) before before s) (sym two) (refused r refuses (nothing_written before))
+
+-- an answer that was written as it was made, all of it
+pub ends_written : {T : Type 0} (request asked : Request) (given held : Files) (before after : Option (List ℕ)) (r : Result T Stopped) (done : T) → request ≡ asked → given ≡ held → r ≡ Ok done
+    → OnOk r (IsWritten asked given before after) → Ends (Answers request held) (RefusesToAct request held) before after 0
+ends_written request asked given held before after r done same files is all =
+    let w : IsWritten asked given before after = subst (λ (x : Result _ Stopped). OnOk x (IsWritten asked given before after)) is all in
+    answered w.answer 0 (subst (λ q. Answers q held w.answer 0) (sym same) (subst (λ f. Answers asked f w.answer 0) files w.answers)) w.all
+
+-- or not
+stops_so : (request : Request) (held : Files) (before after : Option (List ℕ)) (why : Stopped) → IsStopped request held before after why → Ends (Answers request held) (RefusesToAct request held) before after 2
+stops_so request held before after (stopped.Refused r) s = refused r s.0 s.1
+stops_so request held before after (stopped.Cut fault) s = unwritten s.answer 0 s.part.0 s.answers s.part.1 s.part.2
+
+pub ends_stopped : {T : Type 0} (request asked : Request) (given held : Files) (before after : Option (List ℕ)) (r : Result T Stopped) (why : Stopped) (last : ℕ) → request ≡ asked → given ≡ held → r ≡ Err why
+    → IfErr r (IsStopped asked given before after) → last ≡ 2 → Ends (Answers request held) (RefusesToAct request held) before after last
+ends_stopped request asked given held before after r why last same files is stops two =
+    let s : IsStopped asked given before after why = subst (λ (x : Result _ Stopped). IfErr x (IsStopped asked given before after)) is stops in
+    subst (λ (n : ℕ). Ends (Answers request held) (RefusesToAct request held) before after n) (sym two)
+    (subst (λ q. Ends (Answers q held) (RefusesToAct q held) before after 2) (sym same) (subst (λ f. Ends (Answers asked f) (RefusesToAct asked f) before after 2) files (stops_so asked given before after why s)))

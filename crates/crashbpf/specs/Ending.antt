@@ -1,4 +1,4 @@
--- How the process ends (docs/REPORT.md, Exit status).
+-- How the process ends (docs/COMMANDS.md, Exit status).
 use Rattle.std.specs.Prelude.{ℕ, ◌≡◌, ◌⊎◌, ◌<◌, List, length, take, Option}
 use Rattle.std.specs.Io.KnownBytes.{Appends, Keeps}
 use Rattle.base.specs.declared.refusal.Refusal.{Refusal}

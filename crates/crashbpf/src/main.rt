@@ -4,7 +4,7 @@
 //! A log tells what was written to a device, in order. A power cut leaves one of many crash images of
 //! it (docs/CRASH-MODEL.md). A checker, a BPF program, looks at an image and answers 0 where it is
 //! good. This program judges every image within the bounds that it is asked for, and reports each one
-//! on which a checker answers otherwise (docs/REPORT.md).
+//! on which a checker answers otherwise (docs/COMMANDS.md).
 //!
 //! # Place
 //!
@@ -21,12 +21,13 @@
 //! `run` performs the command on what was read of its files, and ends by that (`specs/Ending.antt`): with an answer of the command, all of
 //! it written, and its status; or with status 2, where only the first bytes of an answer were written, or where the command is refused
 //! and nothing was. `read_and_run` does so on what `Inputs::read` read for the words: of the files that they name, in their order, and
-//! of the one behind `--base`, within the limits that they ask for. What a file of the system holds and what standard output takes
+//! of the one after `--base`, within the limits that they ask for. What a file of the system holds and what standard output takes
 //! no contract can say. Nor does one say what stands on standard error. That is shown by runs of the built program.
 #![tactic(auto)]
 
 ghost use Rattle.std.specs.Prelude.{◌≡◌, ◌<◌, length, take, OnOk, OnErr, IfErr};
 ghost use Rattle.std.specs.Io.KnownBytes.{Appends};
+ghost use Rattle.request.specs.declared.command.Request.TheVariants as asks;
 ghost use Rattle.command_line.specs.Words.{limits_asked, sectors_asked};
 ghost use Rattle.commands.specs.Acting.{Answers, RefusesToAct};
 ghost use Rattle.input_files.specs.Reads.{AreInputs};
@@ -35,8 +36,8 @@ ghost use Rattle.crashbpf.specs.Ending.{held_in, Ends, EndsOn};
 use base::refusal::Refusal;
 use clap::error::ErrorKind as WordsFault;
 use commands::{
-    Facts, Output, Progress, Words, emit, escaped_words, fault_line, lines_of_image, notes_behind,
-    notes_beside, perform,
+    Facts, Fault, OptionWords, Output, Progress, Request, Stopped, Streamed, Words, emit,
+    escaped_words, fault_line, lines_of_image, notes_behind, notes_beside, perform, perform_export,
 };
 use input_files::{DeviceSize, Inputs, Source};
 use std::alloc::AllocError;
@@ -110,9 +111,9 @@ fn put_answer<W: Write>(writer: W, answer: &[u8]) -> (Result<(), u64>, W)
     (written, output.into_writer())
 }
 
-/// Performs a command on the files that were read for it, and ends as it says: with its answer on standard output, or with
-/// the line of its refusal on standard error, and with the notes on it there.
-fn run<R: AllocGlobal + Eprint + Clock + Threads + Wait + Sync, W: Write>(
+/// Performs a command on the files that were read for it, whose whole answer is made and then written, and ends as it says: with its
+/// answer on standard output, or with the line of its refusal on standard error, and with the notes on it there.
+fn run_whole<R: AllocGlobal + Eprint + Clock + Threads + Wait + Sync, W: Write>(
     rt: &R,
     words: &Words,
     inputs: &Inputs,
@@ -150,6 +151,84 @@ fn run<R: AllocGlobal + Eprint + Clock + Threads + Wait + Sync, W: Write>(
     }
 }
 
+/// Performs `export` with such words on the files that were read for it, whose answer is written as it is made.
+fn run_streamed<R: AllocGlobal + Eprint, W: Write>(
+    rt: &R,
+    words: &Words,
+    asked: OptionWords,
+    inputs: &Inputs,
+    writer: W,
+) -> Ended<W>
+    requires { words.now.request ≡ asks.Export asked }
+    ensures { Ends (Answers words.now.request (held_in inputs.now)) (RefusesToAct words.now.request (held_in inputs.now)) (W.contents writer) (W.contents result.writer) result.status }
+{
+    let files = inputs.contents();
+    let ended = perform_export(rt.alloc(), asked, files, inputs.base(), writer);
+    let Streamed {
+        written,
+        writer,
+        facts,
+    } = ended;
+    match written {
+        Ok(()) => {
+            print_notes(rt, notes_beside(rt.alloc(), words, &facts));
+            Ended { status: 0, writer }
+        }
+        Err(why) => {
+            let status = print_stopped(rt, words, inputs, why, &facts);
+            Ended { status, writer }
+        }
+    }
+}
+
+/// Prints why an answer isn't written, or not all of it: a refusal with its notes, or that it is cut off.
+fn print_stopped<R: AllocGlobal + Eprint>(
+    rt: &R,
+    words: &Words,
+    inputs: &Inputs,
+    why: Stopped,
+    facts: &Facts,
+) -> u8
+    ensures { result ≡ 2 }
+{
+    match why {
+        Stopped::Refused(refusal) => {
+            let refusal = inputs.refusal(refusal);
+            let status = print_refusal(rt, &refusal);
+            let files = inputs.contents();
+            print_notes(rt, notes_behind(rt.alloc(), words, files, &refusal, facts));
+            rt.eprint(inputs.note(&refusal)).ok();
+            status
+        }
+        Stopped::Cut(fault) => print_cut(rt, fault),
+    }
+}
+
+/// Prints why an answer is cut off.
+fn print_cut<R: AllocGlobal + Eprint>(rt: &R, fault: Fault) -> u8
+    ensures { result ≡ 2 }
+{
+    match fault {
+        Fault::Memory => print_refusal(rt, &Refusal::of_memory()),
+        Fault::Unwritten => print_line(rt, UNWRITTEN),
+    }
+}
+
+/// Performs a command on the files that were read for it, and ends as it says.
+fn run<R: AllocGlobal + Eprint + Clock + Threads + Wait + Sync, W: Write>(
+    rt: &R,
+    words: &Words,
+    inputs: &Inputs,
+    writer: W,
+) -> Ended<W>
+    ensures { Ends (Answers words.now.request (held_in inputs.now)) (RefusesToAct words.now.request (held_in inputs.now)) (W.contents writer) (W.contents result.writer) result.status }
+{
+    match words.request() {
+        Request::Export(asked) => run_streamed(rt, words, asked, inputs, writer),
+        _ => run_whole(rt, words, inputs, writer),
+    }
+}
+
 /// Reads the files of a command, and performs it.
 fn read_and_run<S: Source + AllocGlobal + Eprint + Clock + Threads + Wait + Sync, W: Write>(
     rt: &S,
@@ -178,7 +257,7 @@ fn read_and_run<S: Source + AllocGlobal + Eprint + Clock + Threads + Wait + Sync
     }
 }
 
-/// The words behind the program's name.
+/// The words after the program's name.
 fn words_of<R: Env + AllocGlobal>(rt: &R) -> io::Result<Vec<String>> {
     let mut words: Vec<String> = env::args(rt)?.collect(rt.alloc())?;
     if !words.is_empty() {
@@ -199,7 +278,7 @@ fn print_fault<R: AllocGlobal + Print + Eprint>(rt: &R, words: &[String]) -> u8 
     }
 }
 
-/// The status behind a text that was to be printed: that of the text, or 2 where it couldn't be.
+/// The status after a text that was to be printed: that of the text, or 2 where it couldn't be.
 fn status_behind<R: Eprint>(rt: &R, printed: io::Result<()>, status: u8) -> u8
     ensures printed { OnOk printed (result ≡ status) }
     ensures unprinted { OnErr printed (result ≡ 2) }

@@ -75,7 +75,7 @@ filter_parts_alike way p q n e (x ∷ xs) h room =
     let parts_q = filter-append q (parts_of_entry way e x) (of_entries (parts_of_entry way) (suc e) xs) in
     parts_p ∙ rw (first, rest) (sym parts_q)
 
--- a flush entry behind e and before the next cut
+-- a flush entry after e and before the next cut
 flush_between-next : (es : List Entry) (e k : ℕ) (x : Entry) → slice_get es k ≡ Some x → e < k
     → is_flush_between es e (suc k) ≡ (is_flush_between es e k || x.flags.flush)
 flush_between-next es e k x here lt =
@@ -89,7 +89,7 @@ flush_between-next es e k x here lt =
     let one : get_or rest i x ≡ x = get_or-drop (e + 1) es i x ∙ ap (λ n. get_or es n x) back ∙ get_or_from_slice_get es k x x here in
     ap (λ n. list_any p (take n rest)) next ∙ list_any_more p rest i x inside ∙ ap (λ entry. list_any p (take i rest) || p entry) one
 
--- no entry stands behind entry k and before cut k + 1
+-- no entry stands after entry k and before cut k + 1
 no_flush_between : (es : List Entry) (k : ℕ) → is_flush_between es k (suc k) ≡ false
 no_flush_between es k =
     let none : suc k - (k + 1) ≡ 0 = omega arith in

@@ -45,7 +45,7 @@ parts_few by.Write x = elim (eqb_tells x.count 0) [
       omega (arith, le, one)
 ]
 
--- a later part begins behind an earlier one
+-- a later part begins after an earlier one
 pub parts_rise : (way : By) (x : Entry) (i j : ℕ) → i < j → j < part_count way x → i * part_size way x < j * part_size way x
 parts_rise by.Sector x i j less lt = omega (arith, less)
 parts_rise by.Write x i j less lt = let none : j ≡ 0 = (one_part x j lt).0 in absurd (omega (arith, none, less))
@@ -61,7 +61,7 @@ part_found by.Write x place count is some le = elim (eqb_tells x.count 0) [
       (0, omega (arith, one), omega (arith, is, le))
 ]
 
--- two parts of an entry, of which one begins behind the other, have no sector in common
+-- two parts of an entry, of which one begins after the other, have no sector in common
 pub parts_apart : (way : By) (x : Entry) (a b count other : ℕ) → count ≡ part_size way x → other ≡ part_size way x → 1 ≤ other → b + other ≤ x.count → a < b
     → a + count ≤ b
 parts_apart by.Sector x a b count other is so some le less = omega (arith, is, less)

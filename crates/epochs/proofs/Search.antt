@@ -78,7 +78,7 @@ own_there way e x j lt =
     ] in
     by_flag x.flags.fua refl (omega (arith, lt, long))
 
--- the part of a number lies in the entry whose parts begin at or before it and end behind it
+-- the part of a number lies in the entry whose parts begin at or before it and end after it
 pub part_at : (way : By) (es : List Entry) (e : ℕ) (x : Entry) (t : ℕ) → slice_get es e ≡ Some x → length (unforced_parts way es e) ≤ t
     → t < length (unforced_parts way es (suc e))
     → (slice_get (unforced_parts way es (suc e)) t ≡ Some (part_of way e x (t - length (unforced_parts way es e)))) × (t - length (unforced_parts way es e) < part_count way x)
@@ -105,7 +105,7 @@ rows_rise way es rows are i j d le lt =
     let second = row_at way es rows j d are (omega (arith, are.count, lt)) in
     omega (arith, first.start, second.start, unforced_parts-rise way es i j le (omega (arith, are.count, lt)))
 
--- what the search tells: the rows before `count` start at or before t, the others behind it
+-- what the search tells: the rows before `count` start at or before t, the others after it
 pub record Splits (rows : List Row) (t count : ℕ) : Type 0 where
   pub bound : count ≤ length rows
   pub before : (k : ℕ) (d : Row) → k < count → (slice_index_or rows k d).start ≤ t
@@ -114,7 +114,7 @@ pub record Splits (rows : List Row) (t count : ℕ) : Type 0 where
 blank : Row
 blank = record { start = 0; durable = 0; epoch = 0; marks = 0 }
 
--- the row of cut 0 starts at or before each part, that of the last cut behind each
+-- the row of cut 0 starts at or before each part, that of the last cut after each
 pub some_row : (way : By) (es : List Entry) (rows : List Row) (t count : ℕ) → AreRows way es rows → t < length (unforced_parts way es (length es)) → Splits rows t count
     → (1 ≤ count) × (count ≤ length es)
 some_row way es rows t count are lt splits =
@@ -174,7 +174,7 @@ inside_run way es k row i is lt =
     let long = ap length is.volatile ∙ length-drop row.durable (unforced_parts way es k) in
     omega (arith, long, lt)
 
--- a volatile part of a cut is one of the parts that are not forced, behind the durable ones
+-- a volatile part of a cut is one of the parts that are not forced, after the durable ones
 pub inside_all : (way : By) (es : List Entry) (k : ℕ) (row : Row) (i : ℕ) → IsRow way es k row → i < length (volatile_parts way es k) → k ≤ length es
     → row.durable + i < length (unforced_parts way es (length es))
 inside_all way es k row i is lt within =

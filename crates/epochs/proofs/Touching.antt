@@ -51,7 +51,7 @@ filter_shift p a b (suc n) =
     ap (λ xs. cond (p (a + b)) ((a + b) ∷ xs) xs) rest
     ∙ map_cond f (p (a + b)) b (filter (λ j. p (a + j)) (range_with_len (b + 1) n))
 
--- the places in a list that has another behind it
+-- the places in a list that has another after it
 pub places-append : {A : Type 0} (p : A → Bool) (xs ys : List A) → places_where p (xs ++ ys) ≡ places_where p xs ++ map (λ j. length xs + j) (places_where p ys)
 places-append {A = A} p xs ys =
     let n : ℕ = length xs in
@@ -72,7 +72,7 @@ places-append {A = A} p xs ys =
     ∙ ap (λ zs. zs ++ filter t (range_with_len (0 + n) m)) first
     ∙ ap (λ zs. places_where p xs ++ zs) second
 
--- the places in a list of so many elements that are made of their places
+-- the places in a list of that many elements that are made of their places
 places_made : {A : Type 0} (p : A → Bool) (f : ℕ → A) (n : ℕ) → places_where p (map f (range_with_len 0 n)) ≡ filter (λ j. p (f j)) (range_with_len 0 n)
 places_made {A = A} p f n =
     let xs : List A = map f (range_with_len 0 n) in
@@ -150,7 +150,7 @@ none_told way e x sectors first (suc n) le none =
     (none_within x.sector (x.sector + x.count) (x.sector + n * size) (x.sector + n * size + size) sectors (omega arith) (omega (arith, inside)) none)
     ∙ none_told way e x sectors first n (omega (arith, le)) none
 
--- the numbers of the parts of an entry, behind those before it
+-- the numbers of the parts of an entry, after those before it
 own_told : (way : By) (e : ℕ) (x : Entry) (sectors : List ℕ) (first : ℕ)
     → map (λ j. first + j) (places_where (touches sectors) (own_parts way e x)) ≡ touching_parts way e x sectors first (length (own_parts way e x))
 unfolding touching_parts

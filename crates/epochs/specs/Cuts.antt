@@ -23,7 +23,7 @@ is_of_kind kind.All es k = true
 is_of_kind kind.BeforeFlush es k = (k == length es) || is_flush_at es k
 is_of_kind kind.AfterMark es k = is_behind_mark es k
 
--- cut k isn't before the first cut that is wanted, where one is given, and not behind the last
+-- cut k isn't before the first cut that is wanted, where one is given, and not after the last
 abbrev pub is_behind_first : Option ℕ → ℕ → Bool
 is_behind_first first k = option_map_or (λ n. nat_le n k) first true
 

@@ -58,7 +58,7 @@ abbrev pub UnitIsSector : Type 0
 UnitIsSector = (log : LogValue) (u : LogUnit) → IsLog log → IsUnit log u → length (unit_content log.entries u) ≡ 512
 
 -- cut k is one of that kind: each cut of the log; the last, and each right before a flush entry; each right
--- behind a mark
+-- after a mark
 abbrev pub IsOfKind : CutKind → List Entry → ℕ → Type 0
 IsOfKind kind.All es k = k ≤ length es
 IsOfKind kind.BeforeFlush es k = (k ≡ length es) ⊎ ((entry : Entry) × (slice_get es k ≡ Some entry) × (entry.flags.flush ≡ true))

@@ -18,7 +18,7 @@ abbrev pub part_count : By → Entry → ℕ
 part_count by.Sector entry = entry.count
 part_count by.Write entry = if entry.count == 0 then 0 else 1
 
--- part j of entry e: as many sectors, behind those of the parts before it
+-- part j of entry e: as many sectors, after those of the parts before it
 abbrev pub part_of : By → ℕ → Entry → ℕ → Part
 part_of way e entry j = record {
   entry = e;

@@ -31,7 +31,7 @@ pub record AreRows (way : By) (es : List Entry) (rows : List Row) : Type 0 where
   pub count : length rows ≡ length es + 1
   pub each : (k : ℕ) (row : Row) → slice_get rows k ≡ Some row → IsRow way es k row
 
--- the row behind an entry
+-- the row after an entry
 abbrev pub next_row : By → Row → Entry → Row
 next_row way row entry = record {
   start = row.start + (if entry.flags.fua then 0 else part_count way entry);

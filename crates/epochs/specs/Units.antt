@@ -7,7 +7,7 @@ use Rattle.base.specs.Numbers.{zeros}
 use Rattle.logfmt.specs.declared.entry.Entry.{Entry}
 use Rattle.epochs.specs.declared.unit.Unit.{Unit as LogUnit}
 
--- unit j of entry e covers the device sector j behind the entry's first
+-- unit j of entry e covers the device sector j after the entry's first
 abbrev pub unit_of : ℕ → Entry → ℕ → LogUnit
 unit_of e entry j = record { entry = e; place = j; sector = entry.sector + j }
 
@@ -33,7 +33,7 @@ unit_content es u =
 abbrev pub is_forced : List Entry → ℕ → Bool
 is_forced es e = option_map_or (λ (entry : Entry). entry.flags.fua) (slice_get es e) false
 
--- a flush entry stands behind entry e and before cut k
+-- a flush entry stands after entry e and before cut k
 abbrev pub is_flush_between : List Entry → ℕ → ℕ → Bool
 is_flush_between es e k = list_any (λ (entry : Entry). entry.flags.flush) (slice_range es (e + 1) k)
 

@@ -61,7 +61,7 @@ fn is_behind_first(first: Option<u64>, cut: u32) -> bool
     }
 }
 
-/// Whether a cut isn't behind the last that is wanted.
+/// Whether a cut isn't after the last that is wanted.
 fn is_before_last(last: Option<u64>, cut: u32) -> bool
     ensures { result ≡ is_before_last last cut }
 {

@@ -6,7 +6,7 @@ ghost use Rattle.std.specs.Prelude.{◌≤◌};
 /// (docs/CRASH-MODEL.md, Added flushes).
 #[derive(Clone, Copy)]
 pub struct Flushes {
-    /// The entries. Those behind the first `count` mean nothing.
+    /// The entries. Those after the first `count` mean nothing.
     pub entries: [u32; 64],
     /// How many there are.
     pub count: u8,

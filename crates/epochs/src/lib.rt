@@ -21,7 +21,7 @@
 //!
 //! # Place
 //!
-//! The third layer, on `logfmt`, whose `Log` a plan borrows. `choices` numbers the sets of volatile
+//! On `logfmt`, whose `Log` a plan borrows. `choices` numbers the sets of volatile
 //! parts that may depart, and `images` forms what a crash leaves of them. Here no byte of a log's data
 //! is looked at. The rules are those of docs/CRASH-MODEL.md.
 //!

@@ -69,7 +69,7 @@ impl By {
     }
 }
 
-/// A part of a log: so many sectors of a write or a discard, in a row.
+/// A part of a log: that many sectors of a write or a discard, in a row.
 #[derive(Clone, Copy, Debug, PartialEq, Eq)]
 pub struct Part {
     /// The number of its entry in the log.
@@ -82,7 +82,7 @@ pub struct Part {
     pub sector: u32,
 }
 
-/// Whether one of those sectors is at or behind `first`, and before `end`.
+/// Whether one of those sectors is at or after `first`, and before `end`.
 #[inline(always)]
 fn touches(first: u64, end: u64, sectors: &[u32]) -> bool
     ensures { result ≡ list_any (λ n. nat_le first n && nat_lt n end) sectors.now }

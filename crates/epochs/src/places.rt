@@ -14,7 +14,7 @@ impl Flushes {
         &self.entries[..usize::from(self.count)]
     }
 
-    /// These, and one more behind them.
+    /// These, and one more after them.
     pub fn with(&self, entry: u32) -> Flushes
         requires { self.now.count < 64 }
         ensures places { places_of result ≡ places_of self.now ++ entry ∷ [] }

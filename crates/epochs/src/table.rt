@@ -23,7 +23,7 @@ pub(crate) struct Row {
 }
 
 impl Row {
-    /// The row of the next cut, behind that entry.
+    /// The row of the next cut, after that entry.
     fn after(self, by: By, entry: &Entry) -> Row
         requires units { self.start + entry.now.count ≤ 262144 }
         requires epoch { self.epoch ≤ 65536 }

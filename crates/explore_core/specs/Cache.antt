@@ -1,4 +1,4 @@
--- The cache: outcomes by key (docs/PROVED.md, The exploration as a list of events).
+-- The cache: outcomes by key (docs/PROVED.md, Threads and the cache).
 use Rattle.std.specs.Prelude.{ℕ, ◌==◌, not, List, filter, find, Option, option_map}
 use Rattle.std.specs.List.{list_any}
 use Rattle.explore_core.specs.declared.cache.Entry.{Entry}

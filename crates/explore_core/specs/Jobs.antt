@@ -1,4 +1,4 @@
--- Jobs in blocks (docs/PROVED.md, The exploration as a list of events).
+-- Jobs in blocks (docs/PROVED.md, Threads and the cache).
 use Rattle.std.specs.Prelude.{ℕ, ◌≡◌, ◌≤◌, nat_lt, Bool, List, [], ◌∷◌, filter, find, Option, option_map, Some, slice_get, unwrap_or}
 use Rattle.std.specs.List.{flat_map, list_all}
 use Rattle.explore_core.specs.declared.job.Job.{Job}

@@ -1,4 +1,4 @@
--- The workers' lists of drawn blocks (docs/PROVED.md, The exploration as a list of events).
+-- The workers' lists of drawn blocks (docs/PROVED.md, Threads and the cache).
 use Rattle.std.specs.Prelude.{ℕ, ◌==◌, ◌&&◌, not, Bool, List, filter}
 use Rattle.std.specs.List.{list_any}
 use Rattle.explore_core.specs.declared.lists.Drawn.{Drawn}

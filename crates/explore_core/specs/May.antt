@@ -1,4 +1,4 @@
--- When an event may change the state (docs/PROVED.md, The exploration as a list of events).
+-- When an event may change the state (docs/PROVED.md, Threads and the cache).
 use Rattle.std.specs.Prelude.{ℕ, ◌≡◌, ◌<◌, ◌⊎◌, true, false, List, length, Some, slice_get}
 use Rattle.explore_core.specs.declared.job.Job.{Job}
 use Rattle.explore_core.specs.declared.hand.Hand.TheVariants.{Idle, Holding}

@@ -1,4 +1,4 @@
--- What holds after every list of events (docs/PROVED.md, The exploration as a list of events).
+-- What holds after every list of events (docs/PROVED.md, Threads and the cache).
 use Rattle.std.specs.Prelude.{ℕ, ◌≡◌, ◌+◌, ◌<◌, ◌≤◌, ◌==◌, Bool, true, false, List, [], ◌∷◌, ◌++◌, length, filter, take, Option, None, Some, slice_get}
 use Rattle.std.specs.List.{count_by, flat_map, range_with_len}
 use Rattle.explore_core.specs.declared.job.Job.{Job}

@@ -1,5 +1,5 @@
 -- The state of an exploration, and what each event makes of it
--- (docs/PROVED.md, The exploration as a list of events).
+-- (docs/PROVED.md, Threads and the cache).
 use Rattle.std.specs.Prelude.{ℕ, ◌+◌, ◌-◌, ◌==◌, nat_lt, min, Bool, true, false, if◌then◌else◌, List, [], ◌∷◌, ◌++◌, length, replicate, Option, None, Some, slice_get, slice_set, unwrap_or}
 use Rattle.explore_core.specs.declared.job.Job.{Job}
 use Rattle.explore_core.specs.declared.hand.Hand.{Hand}

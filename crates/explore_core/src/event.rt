@@ -34,7 +34,7 @@ impl Keys {
     }
 }
 
-/// One atomic step of a worker (docs/PROVED.md, The exploration as a list of events).
+/// One atomic step of a worker (docs/PROVED.md, Threads and the cache).
 #[derive(Drop)]
 pub enum Event {
     /// The worker draws the next block into its list, or draws no more where none is left.

@@ -5,7 +5,7 @@
 //! shared cache of outcomes, and hand over what they found.
 //! Here the whole of it is a plain state, and each atomic step of a worker is an event. A schedule of
 //! threads is then a list of events, and what holds after every list holds under every schedule
-//! (docs/PROVED.md, The exploration as a list of events).
+//! (docs/PROVED.md, Threads and the cache).
 //!
 //! | Type or call | What it is |
 //! |---|---|

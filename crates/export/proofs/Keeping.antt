@@ -164,7 +164,7 @@ recent_put a i key at after held put recent last same k h there = elim (eqb_tell
       (omega (arith, lt), was.1)
 ]
 
--- behind an image that isn't new
+-- after an image that isn't new
 pub kept_same : (a : AskedValue) (i key : ℕ) (shown near new : ViewValue) (own sum fresh marks : ℕ) (at after : ℕ → Option Held) (held : Held)
     → IsKept a i shown near own fresh at → IsNext a i new marks sum → held.last ≡ i → first_same a i ≡ Some held.first → firsts at key ≡ Some held.first
     → ((q : ℕ) → after q ≡ cond (key == q) (Some held) (at q)) → IsKept a (i + 1) shown new sum fresh after
@@ -186,7 +186,7 @@ kept_same a i key shown near new own sum fresh marks at after held is next last 
       };
     }
 
--- behind one that is
+-- after one that is
 pub kept_new : (a : AskedValue) (i key : ℕ) (shown near new next_shown : ViewValue) (own sum fresh marks : ℕ) (at after : ℕ → Option Held) (held : Held)
     → IsKept a i shown near own fresh at → IsNext a i new marks sum → next_shown.log ≡ a.plan.log → sectors_of next_shown ≡ device_at a i
     → IsFree a i (firsts at) key → held.first ≡ i → held.last ≡ i
@@ -214,7 +214,7 @@ kept_new a i key shown near new next_shown own sum fresh marks at after held is 
       };
     }
 
--- so many numbers at most
+-- that many numbers at most
 pub few_of_range : (p : ℕ → Bool) (count : ℕ) (xs : List ℕ) → xs ≡ filter p (range_with_len 0 count) → length xs ≤ count
 few_of_range p count xs is =
     let long = ap length is in

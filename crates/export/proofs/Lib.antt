@@ -11,3 +11,6 @@ pub mod Told
 pub mod Keeping
 pub mod Walking
 pub mod Index
+pub mod Appending
+pub mod Streaming
+pub mod Putting

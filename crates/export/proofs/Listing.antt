@@ -67,7 +67,7 @@ pub listed_so_far : (one other : ViewValue) (xs : List ℕ) (p : ℕ → Bool) (
     → Lists one other xs p More
 listed_so_far one other xs p More is none = record { chosen = p; is = is; stays = λ n h. h; more = λ n h. absurd (none n h) }
 
--- one step behind another
+-- one step after another
 pub lists_on : (one other : ViewValue) (xs ys : List ℕ) (p : ℕ → Bool) (Before Here More : ℕ → Type 0) (so : Lists one other xs p Before)
     → Lists one other ys so.chosen Here → ((n : ℕ) → More n → Before n ⊎ Here n) → Lists one other ys p More
 lists_on one other xs ys p Before Here More so step by = record {

@@ -5,7 +5,7 @@ use Rattle.epochs.specs.declared.part.By.{By}
 use Rattle.epochs.specs.Units.{epoch_at, marks_at}
 use Rattle.choices.specs.Choices.{ChoiceValue}
 use Rattle.choices.specs.declared.choice.Departure.{Departure}
-use Rattle.choice_text.specs.Text.{departures_text}
+use Rattle.report.specs.ChoiceText.{departures_text}
 use Rattle.images.specs.Keys.{ChangedValue}
 use Rattle.export.specs.Export.{AskedValue, head_text, told_text, image_text, choice_at, records_at, first_same}
 use Rattle.export.specs.Kept.{place_text, new_text, same_text}

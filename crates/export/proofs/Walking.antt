@@ -56,7 +56,7 @@ same_by_sectors a i j one other numbers empty own log first second marks these i
             let none : numbers ≡ [] = these ∙ nothing_differs (sectors_of one) (sectors_of other) one.log.sectors alike in
             absurd (let bad : true ≡ false = sym (ap (λ (ns : List ℕ). length ns == 0) none) ∙ e in cc)
 
--- the key that follows one by so many steps
+-- the key that follows one by that many steps
 pub key_is : (a : AskedValue) (i sum marks key step at : ℕ) → sum ≡ sum_of (device_at a i) → marks ≡ marks_before a i → key ≡ key_by sum marks
     → at ≡ (key + step) % 2 ^ 64 → at ≡ key_behind (key_at a i) step
 unfolding key_at
@@ -141,7 +141,7 @@ none_new a count size none =
     let all : a.to - a.from ≡ 0 = omega (arith, size, none) in
     sym (ap (λ n. length (filter (is_new a) (range_with_len 0 n))) all)
 
--- the choice behind one, as the walk goes on to it
+-- the choice after one, as the walk goes on to it
 pub next_there : (a : AskedValue) (plan : PlanValue) (bound : ℕ) (tears : Bool) (place count : ℕ) (moved : Bool) (old new : ChoiceValue)
     → plan ≡ a.plan → bound ≡ a.bound → tears ≡ a.tears → IsAsked a → a.from + count ≡ a.to
     → slice_get (ranked_choices a.plan a.bound a.tears) (a.from + place) ≡ Some old

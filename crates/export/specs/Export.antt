@@ -1,5 +1,5 @@
 -- The text of `export`: the crash images of a plan from one number to below another, each by what differs from the last that was
--- new (docs/REPORT.md, The text of `export`). They have places from 0: image a.from + i stands at place i.
+-- new (docs/OUTPUT.md, The text of `export`). They have places from 0: image a.from + i stands at place i.
 use Rattle.std.specs.Prelude.{ℕ, zero, suc, ◌+◌, ◌-◌, ◌==◌, nat_eq, Bool, ◌&&◌, if◌then◌else◌, List, [], ◌++◌, length, map, filter, slice_get, codes, Option, Some, None}
 use Rattle.std.specs.Fmt.{decimal}
 use Rattle.std.specs.List.{slice_index_or, range_with_len, flat_map}
@@ -11,7 +11,7 @@ use Rattle.logfmt.specs.Initial.{initial_sector}
 use Rattle.epochs.specs.Units.{epoch_at, marks_at}
 use Rattle.epochs.specs.Plan.{PlanValue}
 use Rattle.choices.specs.Choices.{ChoiceValue, ranked_choices}
-use Rattle.choice_text.specs.Text.{departures_text}
+use Rattle.report.specs.ChoiceText.{departures_text}
 use Rattle.images.specs.Views.{sectors_of, view_of}
 use Rattle.images.specs.Keys.{ChangedValue, changed_sectors}
 

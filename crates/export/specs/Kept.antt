@@ -1,5 +1,5 @@
 -- What is kept while images are gone through: the sums by which equal ones are found, and where each new one is kept.
-use Rattle.std.specs.Prelude.{ℕ, bit_xor, ◌+◌, ◌*◌, ◌/◌, ◌%◌, ◌^◌, ◌≡◌, ◌<◌, ◌≤◌, ◌&&◌, filter, Bool, true, false, List, [], ◌++◌, length, map, sum_by, slice_get, codes, Option, Some, None, MatchOption}
+use Rattle.std.specs.Prelude.{ℕ, bit_xor, ◌+◌, ◌-◌, ◌*◌, ◌/◌, ◌%◌, ◌^◌, ◌≡◌, ◌<◌, ◌≤◌, ◌&&◌, filter, Bool, true, false, List, [], ◌++◌, length, map, sum_by, slice_get, codes, Option, Some, None, MatchOption}
 use Rattle.std.specs.Option.{option_map}
 use Rattle.std.specs.Fmt.{decimal}
 use Rattle.std.specs.List.{range_with_len, flat_map}
@@ -11,7 +11,8 @@ use Rattle.images.specs.Table.{AreParts}
 use Rattle.images.specs.Keys.{ChangedValue, content_at, with_content, differs}
 use Rattle.logfmt.specs.declared.entry.Entry.{Entry}
 use Rattle.choices.specs.declared.choice.Departure.{Departure}
-use Rattle.export.specs.Export.{AskedValue, device_at, marks_before, is_same, first_same, last_new, records_at, record_text, new_count}
+use Rattle.export.specs.Export.{AskedValue, device_at, marks_before, is_same, first_same, last_new, records_at, record_text, image_text, new_count}
+use Rattle.export.specs.Streaming.{StreamValue, Puts}
 use Rattle.export.specs.declared.walk.Held.{Held}
 use Rattle.export.specs.declared.walk.Found.{Found}
 use Rattle.export.specs.declared.walk.Found.TheVariants as found
@@ -80,7 +81,7 @@ pub record IsHeld (a : AskedValue) (n : ℕ) (at : ℕ → Option Held) : Type 0
   pub index : IsIndex a n (firsts at)
   pub recent : (k : ℕ) (h : Held) → at k ≡ Some h → (h.last < n) × (is_same a h.last h.first ≡ true)
 
--- a sector is one of so many from one on
+-- a sector is one of that many from one on
 abbrev pub Spans : ℕ → ℕ → ℕ → Type 0
 Spans first count n = (first ≤ n) × (n < first + count)
 
@@ -147,7 +148,11 @@ abbrev pub place_text : ℕ → ℕ → ℕ → ℕ → List ℕ
 place_text number cut epoch marks =
     codes "image " ++ decimal number ++ codes " cut " ++ decimal cut ++ codes " epoch " ++ decimal epoch ++ codes " marks " ++ decimal marks ++ codes " choice "
 
--- the text behind the head of a new image, and of one that isn't new
+-- of the images asked for the text of the first ones was put, of some
+abbrev pub PutsImages : AskedValue → StreamValue → StreamValue → Type 0
+PutsImages a before after = (n : ℕ) × (n ≤ a.to - a.from) × Puts before after (flat_map (image_text a) (range_with_len 0 n))
+
+-- the text after the head of a new image, and of one that isn't new
 abbrev pub new_text : List ChangedValue → List ℕ
 new_text sectors = codes " new " ++ decimal (length sectors) ++ codes "\n" ++ flat_map record_text sectors
 

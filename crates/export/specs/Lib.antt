@@ -2,3 +2,4 @@
 pub mod Export
 pub mod Laws
 pub mod Kept
+pub mod Streaming

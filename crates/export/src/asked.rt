@@ -18,7 +18,7 @@ pub struct Wanted {
     pub tears: bool,
     /// The number of the first image.
     pub from: u64,
-    /// The number behind that of the last.
+    /// The number after that of the last.
     pub to: u64,
 }
 

@@ -75,7 +75,7 @@ fn put_sector(
     Ok(())
 }
 
-/// Puts so many sectors from one on into the list, of them those in which the images differ.
+/// Puts that many sectors from one on into the list, of them those in which the images differ.
 fn put_sectors(
     numbers: &mut Vec<u32>,
     one: &Image<'_>,

@@ -9,27 +9,29 @@
 //! image 2 cut 1 epoch 0 marks 0 choice 0.0:drop same 0
 //! ```
 //!
-//! After a line with `new R` stand R records, each the number of a sector in 8 bytes and its 512 bytes. docs/REPORT.md, 'The text
+//! After a line with `new R` stand R records, each the number of a sector in 8 bytes and its 512 bytes. docs/OUTPUT.md, 'The text
 //! of `export`', has the grammar, and what a reader does.
 //!
 //! | Call | Answer |
 //! |---|---|
 //! | `Asked::of(log, plan, wanted)` | the images of a plan that are wanted: from a number to before another, by a bound, with tears or without |
-//! | `export(alloc, &asked)` | their text, as bytes |
+//! | `export(alloc, &asked, output)` | writes their text, as it is made |
+//! | `Output::new(writer)`, `emit(&mut output, bytes)` | a writer that is asked no more once a write has failed, and writing all of some bytes to it |
 //!
 //! # Place
 //!
-//! Beside `cases` and `flushes`: above `images`, whose crash images it tells of, `choices`, which numbers them, and `choice_text`,
-//! which prints a choice. `looks` prints the text for the command `export`. It counts the images of its plan, makes an `Asked` of the
-//! options, and answers the bytes as they are; `AllocError` is its refusal for want of memory. Each `requires` of `Asked::of` is a fact
-//! that it has then: the bound of its options, the number that was counted, and a part of at most 16,777,216 images that lies within it.
+//! Above `images`, whose crash images it tells of, `choices`, which numbers them, and `report`, which prints a choice. `inspect`
+//! prints the text for the command `export`. It counts the images of its plan, makes an `Asked` of the options, and says why a
+//! text is cut off; `Fault::Memory` is then its refusal for want of memory. Each `requires` of `Asked::of` is a fact that it has
+//! then: the bound of its options, the number that was counted, and a part of at most 16,777,216 images that lies within it.
 //!
 //! # What is proved
 //!
-//! `export` answers `export_text` (`specs/Export.antt`) to the byte, or that memory was refused. An image is told to be `same`
-//! exactly where an earlier one has the same bytes and as many marks before its cut, and the first of these is named. Of a new one
-//! the records are exactly the sectors whose bytes differ from those of the last new image before it; the first begins at what the
-//! device held before entry 0.
+//! `export` writes `export_text` (`specs/Export.antt`) to the byte. Where memory is refused or the writer takes no more, the
+//! first bytes of it were written, and not all (`TakesPart`, `specs/Streaming.antt`): so the last line is then missing or cut. An
+//! image is told to be `same` exactly where an earlier one has the same bytes and as many marks before its cut, and the first of
+//! these is named. Of a new one the records are exactly the sectors whose bytes differ from those of the last new image before
+//! it; the first begins at what the device held before entry 0.
 //!
 //! `exports_are_images` is the law above it, whatever the plan and the range (`ReadersHaveImages`, `specs/Laws.antt`). After the
 //! line and the records of a new image the device of whoever writes the records is that image. The image that `same` names is an
@@ -49,6 +51,9 @@
 //! writes (`agree`, `proofs/Elsewhere.antt`). These are compared, and those that differ are listed in order (`differing`). So an
 //! image costs what departs and what is written between it and the image before it, and the last that is the same, or, where it is
 //! new, the last new one; the size of the device costs nothing. Only the sum of the initial content goes over all sectors, once.
+//! What is put goes to a `Stream`: it waits until there is a piece of 64 KiB, and is then written. The walk puts bytes and asks
+//! only between images whether the stream is closed. What was put before and what is written and waits agree at each moment
+//! (`Puts`): so one lemma says that some bytes and then more are all of them (`puts_more`). `writing` has `emit` and `Output`.
 //! `image` holds a view with its cut and departures. It stands too for what the device held before entry 0, which no view shows.
 //!
 //! # Example
@@ -56,14 +61,16 @@
 //! ```
 //! use choices::count;
 //! use epochs::{By, Cuts, Plan};
-//! use export::{Asked, Wanted, export};
+//! use export::{Asked, Output, Wanted, export};
 //!
 //! // `log` writes sector 0 twice, first 0x11 and then 0x22
 //! let plan = Plan::new(alloc, &log, Cuts::ALL, By::Sector)?;
 //! let images = count(&plan, 1, false)?;
 //! let wanted = Wanted { by: By::Sector, bound: 1, tears: false, from: 0, to: images };
-//! let bytes = export(alloc, &Asked::of(&log, &plan, wanted))?;
-//! // begins with the line 'image 0 cut 0 epoch 0 marks 0 choice - new 0', and ends with 'total 6 new 3'
+//! let output = Output::new(Vec::new(alloc));
+//! let (written, output) = export(alloc, &Asked::of(&log, &plan, wanted), output);
+//! // written: Ok(()); output.into_writer() begins with the line 'image 0 cut 0 epoch 0 marks 0 choice - new 0',
+//! // and ends with 'total 6 new 3'
 //! ```
 #![tactic(auto)]
 
@@ -71,10 +78,14 @@ mod asked;
 mod differing;
 mod image;
 mod laws;
+mod stream;
 mod sums;
 mod text;
 mod walk;
+mod writing;
 
 pub use asked::{Asked, Wanted};
 pub use laws::exports_are_images;
+pub use stream::Fault;
 pub use walk::export;
+pub use writing::{Output, emit};

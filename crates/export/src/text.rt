@@ -1,19 +1,23 @@
 //! The text of an image.
 
-ghost use Rattle.std.specs.Prelude.{◌≡◌, ◌++◌, ◌+◌, ◌<◌, ◌≤◌, ℕ, length, map, slice_get, Some, OnOk, codes, string_bytes};
+ghost use Rattle.std.specs.Prelude.{◌≡◌, ◌++◌, ◌+◌, ◌<◌, ◌≤◌, ℕ, length, map, slice_get, Some, OnOk, IfOk, codes, string_bytes};
+ghost use Rattle.base.specs.Numbers.{number_bytes};
 ghost use Rattle.std.specs.Fmt.{decimal};
 ghost use Rattle.std.specs.List.{flat_map};
 ghost use Rattle.images.specs.Keys.{ChangedValue, with_content};
 ghost use Rattle.images.specs.Views.{sectors_of};
 ghost use Rattle.export.specs.Export.{head_text, record_text, total_text};
-ghost use Rattle.export.specs.Kept.{place_text, new_text, same_text};
+ghost use Rattle.export.specs.Kept.{place_text, same_text};
+ghost use Rattle.export.specs.Streaming.{stream_of, Puts};
 
 use crate::asked::Asked;
 use crate::image::Image;
-use base::numbers::put_u64;
-use choice_text::put_departures;
+use crate::stream::Stream;
+use byteorder::{ByteOrder, LittleEndian};
 use choices::Choice;
+use report::choice_text::put_departures;
 use std::alloc::{AllocError, Global};
+use std::io::Write;
 
 /// Appends which image it is: its number, its cut, the epoch of the cut and the marks before it.
 fn put_place(
@@ -54,65 +58,70 @@ pub(crate) fn put_head(
     Ok(())
 }
 
-/// Appends a sector: its number, and its bytes.
-#[tactic(auto, unfolding(crate::specs::Export::record_text))]
-fn put_record(out: &mut Vec<u8>, image: &Image<'_>, number: u32) -> Result<(), AllocError>
-    requires { number < image.now.log.sectors }
-    ensures { OnOk result (out.new.items ≡ out.old.items ++ record_text (with_content (sectors_of image.now) number)) }
+/// The eight bytes of a number.
+#[tactic(auto, unfolding(base::specs::Numbers::number_bytes))]
+fn bytes_of(number: u64) -> [u8; 8]
+    ensures { result ≡ number_bytes 8 number }
 {
-    put_u64(out, u64::from(number))?;
-    out.extend_from_slice(image.sector(number).as_slice())
+    let mut bytes = [0u8; 8];
+    LittleEndian::write_u64(&mut bytes, number);
+    bytes
 }
 
-/// Appends sectors of an image.
-pub(crate) fn put_records(
-    out: &mut Vec<u8>,
-    image: &Image<'_>,
-    numbers: &[u32],
-) -> Result<(), AllocError>
+/// Puts a sector: its number, and its bytes.
+fn put_record<W: Write>(out: &mut Stream<W>, image: &Image<'_>, number: u32)
+    requires { number < image.now.log.sectors }
+    ensures { Puts (stream_of (W.contents out.old.output.writer) out.old.waiting.items out.old.output.has_failed) (stream_of (W.contents out.new.output.writer) out.new.waiting.items out.new.output.has_failed) (record_text (with_content (sectors_of image.now) number)) }
+{
+    let bytes = bytes_of(u64::from(number));
+    out.put(&bytes);
+    out.put(image.sector(number).as_slice());
+}
+
+/// Puts sectors of an image.
+pub(crate) fn put_records<W: Write>(out: &mut Stream<W>, image: &Image<'_>, numbers: &[u32])
     requires { (i n : ℕ) → slice_get numbers.now i ≡ Some n → n < image.now.log.sectors }
-    ensures { OnOk result (out.new.items ≡ out.old.items ++ flat_map record_text (map (with_content (sectors_of image.now)) numbers.now)) }
+    ensures { Puts (stream_of (W.contents out.old.output.writer) out.old.waiting.items out.old.output.has_failed) (stream_of (W.contents out.new.output.writer) out.new.waiting.items out.new.output.has_failed) (flat_map record_text (map (with_content (sectors_of image.now)) numbers.now)) }
 {
     for number in numbers {
-        put_record(out, image, *number)?;
+        put_record(out, image, *number);
     }
-    Ok(())
 }
 
-/// Appends the line of a new image to its head, and all of it and the records to the text.
-pub(crate) fn put_new(
-    out: &mut Vec<u8>,
-    head: &mut String,
+/// Puts the line of a new image, and its records.
+pub(crate) fn put_new<W: Write>(
+    out: &mut Stream<W>,
+    line: &[u8],
     image: &Image<'_>,
     numbers: &[u32],
-) -> Result<(), AllocError>
+)
     requires { (i n : ℕ) → slice_get numbers.now i ≡ Some n → n < image.now.log.sectors }
-    ensures { OnOk result (out.new.items ≡ out.old.items ++ (string_bytes head.old ++ new_text (map (with_content (sectors_of image.now)) numbers.now))) }
+    ensures { Puts (stream_of (W.contents out.old.output.writer) out.old.waiting.items out.old.output.has_failed) (stream_of (W.contents out.new.output.writer) out.new.waiting.items out.new.output.has_failed) (line.now ++ flat_map record_text (map (with_content (sectors_of image.now)) numbers.now)) }
 {
-    write!(head, " new {}\n", numbers.len())?;
-    out.extend_from_slice(head.as_bytes())?;
-    put_records(out, image, numbers)
+    out.put(line);
+    put_records(out, image, numbers);
 }
 
-/// Appends the line of an image that is as another to its head, and all of it to the text.
-pub(crate) fn put_same(out: &mut Vec<u8>, head: &mut String, number: u64) -> Result<(), AllocError>
-    ensures { OnOk result (out.new.items ≡ out.old.items ++ (string_bytes head.old ++ same_text number)) }
+/// Appends to the head of a new image how many sectors it differs in.
+pub(crate) fn end_new(line: &mut String, count: usize) -> Result<(), AllocError>
+    ensures { OnOk result (string_bytes line.new ≡ string_bytes line.old ++ (codes " new " ++ decimal count ++ codes "\n")) }
 {
-    write!(head, " same {number}\n")?;
-    out.extend_from_slice(head.as_bytes())
+    write!(line, " new {count}\n")
 }
 
-/// Appends the last line.
+/// Appends to the head of an image the number of that which is the same.
+pub(crate) fn end_same(line: &mut String, number: u64) -> Result<(), AllocError>
+    ensures { OnOk result (string_bytes line.new ≡ string_bytes line.old ++ same_text number) }
+{
+    write!(line, " same {number}\n")
+}
+
+/// The last line.
 #[tactic(auto, unfolding(crate::specs::Export::total_text))]
-pub(crate) fn put_total(
-    alloc: Global,
-    out: &mut Vec<u8>,
-    images: u64,
-    new: u64,
-) -> Result<(), AllocError>
-    ensures { OnOk result (out.new.items ≡ out.old.items ++ total_text images new) }
+pub(crate) fn total_line(alloc: Global, images: u64, new: u64) -> Result<String, AllocError>
+    ensures { IfOk result (λ line. string_bytes line ≡ total_text images new) }
 {
     let mut line = String::new(alloc);
     write!(line, "total {images} new {new}\n")?;
-    out.extend_from_slice(line.as_bytes())
+    Ok(line)
 }

@@ -1,23 +1,28 @@
 //! The walk over a range of images.
 
-ghost use Rattle.std.specs.Prelude.{◌≡◌, ◌+◌, ◌-◌, ◌++◌, ◌<◌, ◌≤◌, ℕ, nat_eq, slice_get, Some, IfOk, OnOk, IsTrue, filter, length};
+ghost use Rattle.std.specs.Prelude.{◌≡◌, ◌+◌, ◌-◌, ◌++◌, ◌<◌, ◌≤◌, ℕ, nat_eq, slice_get, Some, IfOk, OnOk, OnErr, IsTrue, filter, length, map, [], false, string_bytes};
 ghost use Rattle.std.specs.HashMap.{get};
 ghost use Rattle.std.specs.List.{flat_map, range_with_len};
 ghost use Rattle.choices.specs.Choices.{ranked_choices};
-ghost use Rattle.images.specs.Keys.{differs};
+ghost use Rattle.images.specs.Keys.{differs, with_content};
 ghost use Rattle.images.specs.Views.{sectors_of};
-ghost use Rattle.export.specs.Export.{device_at, marks_before, is_same, first_same, new_count, image_text, export_text};
-ghost use Rattle.export.specs.Kept.{OfOneLog, sum_of, firsts, IsHeld, IsNext, IsFree, IsFound, IsKept};
+ghost use Rattle.export.specs.Export.{device_at, marks_before, is_same, first_same, new_count, image_text, record_text, export_text};
+ghost use Rattle.std.specs.Io.KnownBytes.{Appends};
+ghost use Rattle.export.specs.Streaming.{stream_of, Puts, PutsAll, PutsPart, TakesPart};
+ghost use Rattle.export.specs.Kept.{OfOneLog, sum_of, firsts, IsHeld, IsNext, IsFree, IsFound, IsKept, PutsImages};
 
 use crate::asked::Asked;
 use crate::differing::put_differing;
 use crate::image::Image;
+use crate::stream::{Fault, Stream};
 use crate::sums::{key_of, sum_of, sum_over};
-use crate::text::{put_head, put_new, put_same, put_total};
+use crate::text::{end_new, end_same, put_head, put_new, total_line};
+use crate::writing::Output;
 use choices::{Choice, Starts, next};
 use images::History;
 use std::alloc::{AllocError, Global};
 use std::collections::HashMap;
+use std::io::Write;
 use std::marker::Model;
 
 /// What images are made of.
@@ -255,7 +260,8 @@ impl<'a> Source<'a> {
         requires kept { IsKept self.now place kept.old.shown kept.old.near kept.old.sum kept.old.fresh (get nat_eq kept.old.places) }
         requires next { IsNext self.now place next.image next.marks next.sum }
         requires free { IsFree self.now place (firsts (get nat_eq kept.old.places)) key }
-        ensures { OnOk result (IsKept self.now (place + 1) kept.new.shown kept.new.near kept.new.sum kept.new.fresh (get nat_eq kept.new.places)) }
+        ensures kept { OnOk result (IsKept self.now (place + 1) kept.new.shown kept.new.near kept.new.sum kept.new.fresh (get nat_eq kept.new.places)) }
+        ensures near { OnOk result (kept.new.near ≡ next.entry.image) }
     {
         let shown = self.image(alloc, place, choice)?;
         kept.places.insert(
@@ -272,11 +278,10 @@ impl<'a> Source<'a> {
         Ok(())
     }
 
-    /// Appends the text of the image at a place, and keeps what the next ones need.
-    fn put_image(
+    /// Tells of the image at a place, by a line and by the sectors that stand after it, and keeps what the next ones need.
+    fn tell(
         &self,
         alloc: Global,
-        out: &mut Vec<u8>,
         kept: &mut Kept<'a>,
         scratch: &mut Scratch,
         place: u32,
@@ -285,34 +290,37 @@ impl<'a> Source<'a> {
         requires place { self.now.from + place < self.now.to }
         requires choice { slice_get (ranked_choices self.now.plan self.now.bound self.now.tears) (self.now.from + place) ≡ Some choice.now }
         requires kept { IsKept self.now place kept.old.shown kept.old.near kept.old.sum kept.old.fresh (get nat_eq kept.old.places) }
-        ensures text { OnOk result (out.new.items ≡ out.old.items ++ image_text self.now place) }
+        ensures text { OnOk result (string_bytes scratch.new.line ++ flat_map record_text (map (with_content (sectors_of kept.new.near)) scratch.new.differing.items) ≡ image_text self.now place) }
+        ensures inside { OnOk result ((i n : ℕ) → slice_get scratch.new.differing.items i ≡ Some n → n < kept.new.near.log.sectors) }
         ensures kept { OnOk result (IsKept self.now (place + 1) kept.new.shown kept.new.near kept.new.sum kept.new.fresh (get nat_eq kept.new.places)) }
     {
         let next = self.next(alloc, kept, &mut scratch.compared, place, choice)?;
         scratch.line.clear();
+        scratch.differing.clear();
         put_head(&mut scratch.line, self.asked, place, choice)?;
         let found = self.find(alloc, &kept.places, &mut scratch.compared, place, &next)?;
         match found {
             Found::Same(key, first) => {
                 let number = self.asked.from() + u64::from(first);
-                put_same(out, &mut scratch.line, number)?;
+                end_same(&mut scratch.line, number)?;
                 self.keep_same(kept, place, next, key, first)?;
                 Ok(())
             }
             Found::Free(key) => {
                 put_differing(&mut scratch.differing, &kept.shown, &next.image)?;
-                let differing = scratch.differing.as_slice();
-                put_new(out, &mut scratch.line, &next.image, differing)?;
+                end_new(&mut scratch.line, scratch.differing.len())?;
                 self.keep_new(alloc, kept, place, choice, next, key)?;
                 Ok(())
             }
         }
     }
 
-    /// Appends the text of each image, and answers how many are new.
-    fn put_each(&self, alloc: Global, out: &mut Vec<u8>) -> Result<u64, AllocError>
-        ensures text { OnOk result (out.new.items ≡ out.old.items ++ flat_map (image_text self.now) (range_with_len 0 (self.now.to - self.now.from))) }
+    /// Puts the text of each image, and answers how many are new.
+    #[tactic(auto, using(crate::proofs::Streaming::puts_nothing))]
+    fn put_each<W: Write>(&self, alloc: Global, out: &mut Stream<W>) -> Result<u64, Fault>
+        ensures text { OnOk result (Puts (stream_of (W.contents out.old.output.writer) out.old.waiting.items out.old.output.has_failed) (stream_of (W.contents out.new.output.writer) out.new.waiting.items out.new.output.has_failed) (flat_map (image_text self.now) (range_with_len 0 (self.now.to - self.now.from)))) }
         ensures fresh { IfOk result (λ fresh. fresh ≡ new_count self.now (self.now.to - self.now.from)) }
+        ensures part { OnErr result (PutsImages self.now (stream_of (W.contents out.old.output.writer) out.old.waiting.items out.old.output.has_failed) (stream_of (W.contents out.new.output.writer) out.new.waiting.items out.new.output.has_failed)) }
     {
         let asked = self.asked;
         let mut kept = Kept::new(alloc, asked);
@@ -327,39 +335,91 @@ impl<'a> Source<'a> {
         };
         let mut choice = self.choice(0);
         for place in 0..count {
-            self.put_image(alloc, out, &mut kept, &mut scratch, place, &choice)?;
+            if out.is_closed() {
+                return Err(out.fault());
+            }
+            match self.tell(alloc, &mut kept, &mut scratch, place, &choice) {
+                Ok(()) => {}
+                Err(_error) => return Err(Fault::Memory),
+            }
+            let line = scratch.line.as_bytes();
+            put_new(out, line, &kept.near, scratch.differing.as_slice());
             let _moved = next(asked.plan(), asked.bound(), asked.tears(), &mut choice);
         }
         Ok(kept.fresh)
     }
 
-    /// Appends the text of all images.
-    fn put_all(&self, alloc: Global, out: &mut Vec<u8>) -> Result<(), AllocError>
-        ensures { OnOk result (out.new.items ≡ out.old.items ++ export_text self.now) }
+    /// Puts the text of all images.
+    fn put_all<W: Write>(&self, alloc: Global, out: &mut Stream<W>) -> Result<(), Fault>
+        ensures all { OnOk result (Puts (stream_of (W.contents out.old.output.writer) out.old.waiting.items out.old.output.has_failed) (stream_of (W.contents out.new.output.writer) out.new.waiting.items out.new.output.has_failed) (export_text self.now)) }
+        ensures part { OnErr result (PutsPart (stream_of (W.contents out.old.output.writer) out.old.waiting.items out.old.output.has_failed) (stream_of (W.contents out.new.output.writer) out.new.waiting.items out.new.output.has_failed) (export_text self.now)) }
     {
-        let fresh = self.put_each(alloc, out)?;
-        put_total(alloc, out, u64::from(self.asked.count()), fresh)?;
-        Ok(())
+        let fresh = match self.put_each(alloc, out) {
+            Ok(fresh) => fresh,
+            Err(fault) => return Err(fault),
+        };
+        match total_line(alloc, u64::from(self.asked.count()), fresh) {
+            Ok(line) => {
+                out.put(line.as_bytes());
+                Ok(())
+            }
+            Err(_error) => Err(Fault::Memory),
+        }
+    }
+
+    /// Writes the text of all images.
+    fn write_all<W: Write>(&self, alloc: Global, out: &mut Stream<W>) -> Result<(), Fault>
+        ensures all { OnOk result (PutsAll (stream_of (W.contents out.old.output.writer) out.old.waiting.items out.old.output.has_failed) (stream_of (W.contents out.new.output.writer) out.new.waiting.items out.new.output.has_failed) (export_text self.now)) }
+        ensures part { OnErr result (PutsPart (stream_of (W.contents out.old.output.writer) out.old.waiting.items out.old.output.has_failed) (stream_of (W.contents out.new.output.writer) out.new.waiting.items out.new.output.has_failed) (export_text self.now)) }
+    {
+        match self.put_all(alloc, out) {
+            Ok(()) => out.finish(),
+            Err(fault) => Err(fault),
+        }
     }
 }
 
-/// The text of the images that are asked for (docs/REPORT.md, The text of `export`). Beside the text it keeps at most some 60 bytes
-/// for each new image: a key and two places, in a map.
-///
-/// # Errors
-///
-/// Want of memory.
-pub fn export(alloc: Global, asked: &Asked<'_>) -> Result<Vec<u8>, AllocError>
-    ensures { IfOk result (λ bytes. bytes.items ≡ export_text asked.now) }
+/// Writes the text of the images that are asked for.
+fn write_images<W: Write>(
+    alloc: Global,
+    asked: &Asked<'_>,
+    out: &mut Stream<W>,
+) -> Result<(), Fault>
+    ensures all { OnOk result (PutsAll (stream_of (W.contents out.old.output.writer) out.old.waiting.items out.old.output.has_failed) (stream_of (W.contents out.new.output.writer) out.new.waiting.items out.new.output.has_failed) (export_text asked.now)) }
+    ensures part { OnErr result (PutsPart (stream_of (W.contents out.old.output.writer) out.old.waiting.items out.old.output.has_failed) (stream_of (W.contents out.new.output.writer) out.new.waiting.items out.new.output.has_failed) (export_text asked.now)) }
 {
-    let history = History::new(alloc, asked.plan(), asked.log())?;
-    let starts = Starts::new(alloc, asked.plan(), asked.bound(), asked.tears())?;
+    let history = match History::new(alloc, asked.plan(), asked.log()) {
+        Ok(history) => history,
+        Err(_error) => return Err(Fault::Memory),
+    };
+    let starts = match Starts::new(alloc, asked.plan(), asked.bound(), asked.tears()) {
+        Ok(starts) => starts,
+        Err(_error) => return Err(Fault::Memory),
+    };
     let source = Source {
         asked,
         history: &history,
         starts: &starts,
     };
-    let mut out = Vec::new(alloc);
-    source.put_all(alloc, &mut out)?;
-    Ok(out)
+    source.write_all(alloc, out)
+}
+
+/// Writes the text of the images that are asked for (docs/OUTPUT.md, The text of `export`) as it is made. It keeps a piece of it of at
+/// most 64 KiB and a record, and at most some 60 bytes for each new image: a key and two places, in a map.
+///
+/// # Errors
+///
+/// Want of memory, or that the writer takes no more: of the text the first bytes were written, and not all.
+pub fn export<W: Write>(
+    alloc: Global,
+    asked: &Asked<'_>,
+    output: Output<W>,
+) -> (Result<(), Fault>, Output<W>)
+    requires going { output.has_failed ≡ false }
+    ensures all { OnOk result.0 (Appends (W.contents output.writer) (W.contents result.1.writer) (export_text asked.now)) }
+    ensures part { OnErr result.0 (TakesPart (W.contents output.writer) (W.contents result.1.writer) (export_text asked.now)) }
+{
+    let mut out = Stream::new(alloc, output);
+    let written = write_images(alloc, asked, &mut out);
+    (written, out.into_output())
 }

@@ -33,7 +33,7 @@ pub looked_both : (device : List (List ℕ)) (f : FootprintValue) (xs ys : List 
 looked_both device f xs ys =
     sym (noted_append f (on_device device xs) (on_device device ys)) ∙ ap (footprint_after f) (sym (filter_both device xs ys))
 
--- no device has a sector with a byte behind position 2 ^ 64
+-- no device has a sector with a byte after position 2 ^ 64
 pub nothing_over : (device : List (List ℕ)) (position count : ℕ) → length device < 2 ^ 32 → 2 ^ 64 ≤ position + count
     → on_device device (sectors_of position count) ≡ on_device device (position / 512 ∷ [])
 nothing_over device position count few over =

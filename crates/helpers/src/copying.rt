@@ -5,7 +5,7 @@ ghost use Rattle.helpers.specs.Answers.{device_byte, device_bytes, copy_answer};
 
 use crate::device::Device;
 
-/// The byte at this position and so many behind it, or 0 past the end of the device.
+/// The byte at this position and that many after it, or 0 past the end of the device.
 #[tactic(auto, unfolding(crate::specs::Answers::device_byte))]
 fn byte_of<D: Device>(device: &D, position: u64, distance: u64) -> u8
     requires { distance < 512 }
@@ -37,7 +37,7 @@ pub fn copy<D: Device>(device: &D, position: u64, window: &mut [u8]) -> u64
     past(device, position, window.len() as u64)
 }
 
-/// 1 where one of so many bytes from this position on is past the device, else 0.
+/// 1 where one of that many bytes from this position on is past the device, else 0.
 #[tactic(auto, unfolding(crate::specs::Answers::copy_answer))]
 fn past<D: Device>(device: &D, position: u64, count: u64) -> u64
     requires { count ≤ 512 }

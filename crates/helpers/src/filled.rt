@@ -5,7 +5,7 @@ ghost use Rattle.std.specs.Prelude.{◌≡◌};
 use crate::device::Device;
 use std::marker::Model;
 
-/// A device of so many sectors with the same byte everywhere, as one on which nothing was written.
+/// A device of that many sectors with the same byte everywhere, as one on which nothing was written.
 #[derive(Drop)]
 pub struct Filled {
     count: u32,
@@ -25,7 +25,7 @@ impl Model for Filled {
 }
 
 impl Filled {
-    /// So many sectors of this byte.
+    /// That many sectors of this byte.
     #[tactic(auto, unfolding(crate::specs::Filled::filled_sector))]
     pub fn new(count: u32, byte: u8) -> Filled
         ensures { result ≡ record { count = count; byte = byte } }

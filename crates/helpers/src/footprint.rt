@@ -83,7 +83,7 @@ impl<const ROOM: usize> Footprint<ROOM> {
         }
     }
 
-    /// It looks at so many bytes from an address on.
+    /// It looks at that many bytes from an address on.
     #[inline(always)]
     #[tactic(auto, using(crate::proofs::CallerLemmas::looked_both))]
     pub fn look_from<D: Device>(&mut self, device: &D, address: u64, count: u8)
@@ -94,7 +94,7 @@ impl<const ROOM: usize> Footprint<ROOM> {
         self.look_at(device, address.wrapping_add(u64::from(count) - 1));
     }
 
-    /// It looks at so many bytes of the device, from a position on.
+    /// It looks at that many bytes of the device, from a position on.
     #[inline(always)]
     #[tactic(auto, using(crate::proofs::CallerLemmas::looked_both, crate::proofs::CallerLemmas::nothing_over))]
     pub fn look_over<D: Device>(&mut self, device: &D, position: u64, count: u64)

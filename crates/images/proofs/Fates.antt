@@ -55,7 +55,7 @@ one_departure ds u i d f one is =
     survives_by_own ds u i ∙ ap (list_all (keeps_of u i)) one ∙ and_true (keeps_of u i d)
     ∙ ap (λ g. keeps g d.part.count (byte_in d.part u i)) is
 
--- of the departures behind the one whose part a unit is in none is of the unit
+-- of the departures after the one whose part a unit is in none is of the unit
 rest_survives : (d : Departure) (ds : List Departure) (u : LogUnit) (i : ℕ) → length (departures_of (d ∷ ds) u) ≤ 1 → is_in d.part u ≡ true
     → survives ds i u ≡ true
 unfolding departures_of

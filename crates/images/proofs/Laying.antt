@@ -63,7 +63,7 @@ sector_laid log us u ds new old made kept content below size survived bytes =
     ∙ sym (byte_after-push log us u ds u.sector i)
     ∙ sym (get_or-map-range_with_len byte 0 512 i i 0 within here))
 
--- two sectors spliced behind m bytes
+-- two sectors spliced after m bytes
 pub spliced_size : (front behind : List ℕ) (m : ℕ) → m ≤ 512 → length front ≡ 512 → length behind ≡ 512 → length (take m front ++ drop m behind) ≡ 512
 spliced_size front behind m le first second =
     omega (arith, length-append (take m front) (drop m behind), length-take-le m front (omega (arith, first, le)), length-drop m behind, second, le)

@@ -57,7 +57,7 @@ changes_of_key base image a (suc k) =
     ap (λ xs. option_to_list (change_at (content_at base) (content_at image) a) ++ xs) (changes_of_key base image (a + 1) k)
     ∙ listed_one base image a (filter (differs base image) (range_with_len (a + 1) k)) (pointwise nat_eq (content_at base a) (content_at image a))
 
--- what is listed before a sector, the sector, and what is listed behind it
+-- what is listed before a sector, the sector, and what is listed after it
 pub changes_split : (base image : ℕ → List ℕ) (a p q : ℕ)
     → changes base image a (p + suc q) ≡ changes base image a p ++ (option_to_list (change_at base image (a + p)) ++ changes base image (a + p + 1) q)
 unfolding changes

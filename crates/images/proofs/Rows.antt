@@ -207,7 +207,7 @@ later_by es k (suc m) le = elim (slice_get_cases es (k + m)).1 [
   | inr past ↦ absurd (omega (arith, past.0, le))
 ]
 
--- the units of later entries stand behind
+-- the units of later entries stand after
 pub later_units : (es : List Entry) (k n : ℕ) → k ≤ n → n ≤ length es → Later es k n
 later_units es k n le within =
     let back : k + (n - k) ≡ n = omega (arith, le) in

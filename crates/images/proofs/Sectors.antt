@@ -14,7 +14,7 @@ use Rattle.images.specs.Images.{sector_after, device_after}
 use Rattle.images.specs.Views.{ViewValue, sectors_of}
 use Rattle.images.specs.Keys.{base_of}
 
--- the last flush entry is not behind the cut
+-- the last flush entry is not after the cut
 pub flush_within : (es : List Entry) (k : ℕ) → last_flush es k ≤ k
 flush_within es zero = omega arith
 flush_within es (suc k) =

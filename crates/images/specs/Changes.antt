@@ -24,7 +24,7 @@ changes base image a (suc k) = option_to_list (change_at base image a) ++ change
 abbrev pub with_sector : (ℕ → List ℕ) → ℕ → List ℕ → ℕ → List ℕ
 with_sector image s content n = if n == s then content else image n
 
--- an image with the content of another in so many sectors from one on
+-- an image with the content of another in that many sectors from one on
 abbrev pub with_sectors : (ℕ → List ℕ) → ℕ → ℕ → (ℕ → List ℕ) → ℕ → List ℕ
 with_sectors image first count other n = if nat_le first n && nat_lt n (first + count) then other n else image n
 

@@ -14,7 +14,7 @@ use Rattle.images.specs.Views.{ViewValue, sectors_of, context_at, ContextFits}
 use Rattle.images.specs.Keys.{KeyValue, base_of, key_of}
 use Rattle.images.specs.Equal.{same_key}
 
--- before the first unit there is the initial content; a unit behind others: its own byte stands where it writes that byte, and
+-- before the first unit there is the initial content; a unit after others: its own byte stands where it writes that byte, and
 -- else what the others leave
 pub record LastWriterShows : Type 0 where
   pub nothing : (log : LogValue) (ds : List Departure) (s i : ℕ) → byte_after log [] ds s i ≡ initial_byte log.initial s i
@@ -23,8 +23,8 @@ pub record LastWriterShows : Type 0 where
   pub lost : (log : LogValue) (us : List LogUnit) (u : LogUnit) (ds : List Departure) (s i : ℕ) → writes ds s i u ≡ false
       → byte_after log (us ++ u ∷ []) ds s i ≡ byte_after log us ds s i
 
--- a unit behind others, by the fate of its part: whole it is its sector, dropped it changes nothing, and torn what it has of
--- the part's head stands before the rest of what the others leave, or what it has of the tail behind the beginning of that;
+-- a unit after others, by the fate of its part: whole it is its sector, dropped it changes nothing, and torn what it has of
+-- the part's head stands before the rest of what the others leave, or what it has of the tail after the beginning of that;
 -- other sectors stay
 pub record FatesShow : Type 0 where
   pub whole : (log : LogValue) (us : List LogUnit) (u : LogUnit) (ds : List Departure) → IsLog log → IsUnit log u → departures_of ds u ≡ []

@@ -1,4 +1,4 @@
--- The number by which a report tells the initial content of a log (docs/REPORT.md).
+-- The number by which a report tells the initial content of a log (docs/OUTPUT.md).
 use Rattle.std.specs.Prelude.{ℕ, ◌%◌, ◌^◌, ◌==◌, if◌then◌else◌, length, Option, Some, None}
 use Rattle.lanes.specs.Sector.{mix, horner}
 use Rattle.logfmt.specs.Bounds.{LogValue}

@@ -49,7 +49,7 @@ versions es k s = covering s (units_before es k)
 abbrev pub DepartOnce : List Departure → Type 0
 DepartOnce ds = (u : LogUnit) → length (departures_of ds u) ≤ 1
 
--- a unit of which only the first, or the last, so many eighths are of what a torn part keeps; none where it is whole
+-- a unit of which only the first, or the last, that many eighths are of what a torn part keeps; none where it is whole
 abbrev pub head_of : ℕ → Option Fate
 head_of kept = if kept == 0 then Some fate.Drop else if nat_lt kept 8 then Some (fate.Head kept) else None
 

@@ -1,4 +1,4 @@
--- A view is a device: so many sectors, each of 512 bytes.
+-- A view is a device: that many sectors, each of 512 bytes.
 use Rattle.std.specs.Prelude.{ℕ, zero, suc, ◌≡◌, List, [], ◌∷◌, length, map, slice_get, Some, None}
 use Rattle.std.specs.List.{range_with_len}
 use Rattle.std.proofs.Common.{sym, ◌∙◌, ap}

@@ -1,7 +1,7 @@
 //! The sectors of an image that differ from the base of its cut.
 
 ghost use Rattle.std.specs.Prelude.{◌≡◌, ◌+◌, ◌<◌, ◌≤◌, ◌++◌, ◌∷◌, [], ℕ, List, length, slice_get, sum_by, Some, IfOk, OnOk, MatchOption};
-ghost use Rattle.limits.specs.Sizes.{most_sectors};
+ghost use Rattle.base.specs.Sizes.{most_sectors};
 ghost use Rattle.choices.specs.declared.choice.Departure.{Departure as LogDeparture};
 ghost use Rattle.logfmt.specs.Bounds.{LogValue};
 ghost use Rattle.epochs.specs.declared.unit.Unit.{Unit as LogUnit};
@@ -82,7 +82,7 @@ impl<'a> Changes<'a> {
     /// the cut.
     ///
     /// From one cut to a later one of the same epoch it looks at the sectors that the entries between
-    /// them cover, and from any other at those that were covered behind the last flush. At a cut that is
+    /// them cover, and from any other at those that were covered after the last flush. At a cut that is
     /// known it looks at the sectors of the departures alone.
     ///
     /// # Errors

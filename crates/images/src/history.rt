@@ -1,4 +1,4 @@
-//! What a log may leave behind, choice after choice.
+//! What a crash may leave of a log, choice after choice.
 
 ghost use Rattle.std.specs.Prelude.{◌≡◌, IfOk, IsOk};
 

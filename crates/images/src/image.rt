@@ -31,7 +31,7 @@ fn is_in(part: Part, unit: Unit) -> bool
             && u64::from(unit.place) < u64::from(part.place) + u64::from(part.count))
 }
 
-/// A unit of which the first so many eighths are of what a torn part keeps; `None` where it is whole.
+/// A unit of which the first that many eighths are of what a torn part keeps; `None` where it is whole.
 fn head_of(kept: u64) -> Option<Fate>
     ensures { result ≡ head_of kept }
 {
@@ -44,7 +44,7 @@ fn head_of(kept: u64) -> Option<Fate>
     }
 }
 
-/// A unit of which the last so many eighths are of what a torn part keeps; `None` where it is whole.
+/// A unit of which the last that many eighths are of what a torn part keeps; `None` where it is whole.
 fn tail_of(kept: u64) -> Option<Fate>
     ensures { result ≡ tail_of kept }
 {
@@ -57,7 +57,7 @@ fn tail_of(kept: u64) -> Option<Fate>
     }
 }
 
-/// What becomes of a sector of a part of so many sectors, before which so many others stand, by the fate of the part.
+/// What becomes of a sector of a part of that many sectors, before which that many others stand, by the fate of the part.
 #[tactic(auto, using(crate::proofs::Shares::one_head, crate::proofs::Shares::one_tail))]
 fn share_of(fate: Fate, count: u64, before: u64) -> Option<Fate>
     requires count { count < 2 ^ 32 }
@@ -150,7 +150,7 @@ pub(crate) fn content_of(log: &Log, unit: Unit) -> &Sector
     }
 }
 
-/// What a sector held before entry 0. Behind the end of the initial content, and so for each sector of a
+/// What a sector held before entry 0. After the end of the initial content, and so for each sector of a
 /// log without any, it is one comparison more than to lend a sector of zeros.
 #[inline(always)]
 pub(crate) fn initial_of(log: &Log, number: u32) -> &Sector

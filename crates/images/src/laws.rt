@@ -11,7 +11,7 @@ pub fn last_writer_shows()
 
 /// A unit that is laid over others replaces its sector where it is whole, changes nothing where it is
 /// dropped, and where it is torn puts its head before the rest of what the others leave, or its tail
-/// behind the beginning of that.
+/// after the beginning of that.
 pub fn fates_show()
     ensures { FatesShow }
 {}
@@ -22,7 +22,7 @@ pub fn epoch_has_base()
 {}
 
 /// Two keys of one log are the same exactly where program, context and image are. So images of equal
-/// bytes at cuts of different epochs, or behind different numbers of marks, have different keys.
+/// bytes at cuts of different epochs, or after different numbers of marks, have different keys.
 pub fn keys_tell()
     ensures { KeysTell }
 {}

@@ -38,7 +38,7 @@
 //!
 //! # Place
 //!
-//! The fifth layer. It stands on `epochs` and `choices`, whose plan and choices it takes, on `logfmt`
+//! It stands on `epochs` and `choices`, whose plan and choices it takes, on `logfmt`
 //! for the contents of the units, on `lanes` to form torn sectors and to compare sectors, and on
 //! `helpers`, whose trait `Device` a view implements. Programs are run on views, and a cache of their
 //! outcomes goes by keys. The rules are those of docs/CRASH-MODEL.md, 'Fates and choices', 'Crash
@@ -99,7 +99,7 @@
 //! leave, back to the last whole one (`form_sector` in `image`). An image in which no part is torn owns none.
 //!
 //! `changes` makes keys. It keeps the sectors in which the image where nothing departs differs from the
-//! base, and carries this list to a later cut by adding what the entries between the two write; behind
+//! base, and carries this list to a later cut by adding what the entries between the two write; after
 //! a further flush, or at an earlier cut, it begins anew at the flush entry (`specs/Changes.antt`). The
 //! key of an image is this list, but for the sectors of the parts that depart, which are compared with
 //! the base. `listing` keeps such a list in order: one search by halves for each sector.
@@ -118,7 +118,7 @@
 //! // `log` writes sector 0 twice, first 0x11 and then 0x22, and `plan` has all of its cuts
 //! let history = History::new(alloc, &plan, &log)?;
 //! let view = history.view(alloc, &nth(&plan, 1, true, 34))?;
-//! // the cut behind both, of the second write only the first eighth arrived: bytes 0 to 63 of
+//! // the cut after both, of the second write only the first eighth arrived: bytes 0 to 63 of
 //! // view.sector(0) are 0x22, and bytes 64 to 511 are 0x11
 //! let mut changes = Changes::new(alloc, &history);
 //! let key = changes.key(alloc, &view)?;

@@ -84,7 +84,7 @@ pub(crate) fn put<'a>(
     Ok(())
 }
 
-/// The same sectors, with room for so many more.
+/// The same sectors, with room for that many more.
 pub(crate) fn copy_sectors<'a>(
     alloc: Global,
     sectors: &[ChangedSector<'a>],

@@ -22,7 +22,7 @@ fn joined_mixes(log: &Log) -> u64
     mixed
 }
 
-/// The number of a log's initial content (docs/REPORT.md); `None` where none is given. It is the same for the same content of
+/// The number of a log's initial content (docs/OUTPUT.md); `None` where none is given. It is the same for the same content of
 /// the device, with whatever zeros at the end it was given.
 #[tactic(auto, unfolding(crate::specs::Number::initial_number))]
 pub fn initial_number(log: &Log) -> Option<u64>

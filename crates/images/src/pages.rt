@@ -12,7 +12,7 @@ use std::marker::Model;
 /// How many rows a page has at most.
 const PAGE: usize = 64;
 
-/// The rows of sectors that follow one another: of each the units that cover it, in order. Behind the last row nothing covers a
+/// The rows of sectors that follow one another: of each the units that cover it, in order. After the last row nothing covers a
 /// sector.
 ///
 /// Contracts see the rows.
@@ -63,7 +63,7 @@ impl Page {
     }
 }
 
-/// Adds empty rows, up to so many.
+/// Adds empty rows, up to that many.
 fn grow_rows(rows: &mut Vec<Vec<Unit>>, alloc: Global, count: usize) -> Result<(), AllocError>
     ensures long { OnOk result (count ≤ length rows.new.items) }
     ensures same { OnOk result (HaveSameRows (map (λ r. r.items) rows.new.items) (map (λ r. r.items) rows.old.items)) }
@@ -74,7 +74,7 @@ fn grow_rows(rows: &mut Vec<Vec<Unit>>, alloc: Global, count: usize) -> Result<(
     Ok(())
 }
 
-/// Adds empty pages, up to so many.
+/// Adds empty pages, up to that many.
 fn grow_pages(pages: &mut Vec<Page>, alloc: Global, count: usize) -> Result<(), AllocError>
     ensures long { OnOk result (count ≤ length pages.new.items) }
     ensures same { OnOk result (HaveSameRows pages.new.items pages.old.items) }

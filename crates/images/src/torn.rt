@@ -1,7 +1,7 @@
 //! The sectors of a crash image in which a torn unit shows.
 
 ghost use Rattle.std.specs.Prelude.{◌≡◌, ◌+◌, ◌<◌, ◌≤◌, [], ℕ, IsFalse, false, length, slice_get, Some};
-ghost use Rattle.limits.specs.Sizes.{most_sectors};
+ghost use Rattle.base.specs.Sizes.{most_sectors};
 ghost use Rattle.choices.specs.declared.choice.Departure.{Departure as LogDeparture};
 ghost use Rattle.epochs.specs.Plan.{IsPart};
 ghost use Rattle.logfmt.specs.Bounds.{IsLog};
@@ -29,7 +29,7 @@ impl Default for TornSector {
     }
 }
 
-/// In which of its sectors a part of so many is torn; the first where it is dropped.
+/// In which of its sectors a part of that many is torn; the first where it is dropped.
 fn tear_of(fate: Fate, count: u32) -> u32
     requires some { 1 ≤ count }
     requires few { count ≤ most_sectors }

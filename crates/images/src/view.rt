@@ -1,7 +1,7 @@
 //! The view of a crash image.
 
 ghost use Rattle.std.specs.Prelude.{◌≡◌, ◌<◌, ◌≤◌, length, slice_get, Some, IfOk};
-ghost use Rattle.limits.specs.Sizes.{most_sectors};
+ghost use Rattle.base.specs.Sizes.{most_sectors};
 
 use crate::changed::ChangedSector;
 use crate::changes::Changes;
@@ -125,7 +125,7 @@ impl<'a> View<'a> {
     }
 
     /// The key of the image and of the program with that number: `None` where more than 64 sectors
-    /// differ from the base of the cut. Each call looks at the sectors that were covered behind the last
+    /// differ from the base of the cut. Each call looks at the sectors that were covered after the last
     /// flush; who wants the keys of many images keeps a `Changes`.
     pub fn key(&self, alloc: Global, program: u8) -> Result<Option<Key<'a>>, AllocError>
         ensures { IfOk result (λ key. key ≡ key_of self.now program) }

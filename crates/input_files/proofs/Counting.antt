@@ -8,7 +8,7 @@ use Rattle.input_files.specs.Contents.{counted_length, long_length, told_length,
 use Rattle.input_files.specs.Standing.{standing}
 use Rattle.input_files.proofs.Contents.{few_told, many_told}
 
--- known bytes lost so many from their front
+-- known bytes lost that many from their front
 abbrev pub Passed : Option (List ℕ) → Option (List ℕ) → ℕ → Type 0
 Passed None new n = Unit {0}
 Passed (Some xs) None n = ⊥

@@ -1,7 +1,7 @@
 -- The files of a command, read one after the other.
 use Rattle.std.proofs.Common.{ℕ, ◌≡◌, ◌+◌, ◌<◌, ◌≤◌, List, [], ◌∷◌, ◌++◌, length, map, take, get_or, Bool, true, false, not, Option, Some, None, IsSome, is_some, option_map, refl, sym, subst, ◌∙◌, ap, arith}
 use Rattle.std.proofs.lemmas.List.{take_all, take_more, map-append, length-take-le, length-map}
-use Rattle.limits.specs.declared.Limits.{Limits}
+use Rattle.base.specs.declared.limits.Limits.{Limits}
 use Rattle.input_files.specs.declared.kind.FileKind.{FileKind}
 use Rattle.input_files.specs.Kinds.{is_part, kind_of, left_behind, most_of_parts}
 use Rattle.input_files.specs.Reads.{AreInputs, AreRead, HoldsBase, InputsValue, IsBase, IsRead, none_read, one_more}
@@ -30,7 +30,7 @@ next_read command limits Read left rest place names files new_files lengths new_
     (one_more left rest names files lengths name held told before (subst (λ j. Read name j held told) same read)
     (subst (λ j. is_part j ≡ true → IsSome held) same some) (subst (λ j. left_behind j told ≡ Some rest) same room)))
 
--- the files of a command were read, and the one behind --base
+-- the files of a command were read, and the one after --base
 pub inputs_read : {F : Type 0} → (named : F → List ℕ → Type 0) (remaining : F → Option (List ℕ)) (command : List ℕ) (sectors : ℕ) (limits : Limits) (names all : List (List ℕ)) (base : Option (List ℕ)) (left : ℕ)
     (before after : InputsValue) → AreRead command limits (IsRead named remaining) left names before.files before.lengths → HoldsBase (IsBase named remaining sectors limits) base after.base
     → names ≡ all → after.files ≡ before.files → after.lengths ≡ before.lengths → AreInputs named remaining command sectors limits all base after

@@ -3,10 +3,10 @@ use Rattle.std.proofs.Common.{ℕ, ◌≡◌, ◌+◌, ◌<◌, ◌≤◌, nat_l
 use Rattle.std.proofs.lemmas.Bool.Decides.{nat_tests}
 use Rattle.std.proofs.lemmas.List.{length-take-le, take_all}
 use Rattle.base.specs.Check.{first_failing}
-use Rattle.limits.specs.Sizes.{byte_limit}
+use Rattle.base.specs.Sizes.{byte_limit}
 use Rattle.base.specs.declared.causes.LogCause.TheVariants as cause
-use Rattle.limits.specs.declared.Limits.{Limits}
-use Rattle.limits.specs.declared.Limits.TheVariants as limit
+use Rattle.base.specs.declared.limits.Limits.{Limits}
+use Rattle.base.specs.declared.limits.Limits.TheVariants as limit
 use Rattle.logfmt.specs.Faults.{in_super, super_checks}
 use Rattle.input_files.specs.Logs.{read_log, ShortLogIsRead, LongLogIsRefusedAlike}
 

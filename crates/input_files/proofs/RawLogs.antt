@@ -5,8 +5,8 @@ use Rattle.std.proofs.lemmas.Int.{clamps}
 use Rattle.std.proofs.lemmas.Bool.{cases_lt}
 use Rattle.std.proofs.lemmas.Option.{same_Some}
 use Rattle.std.proofs.lemmas.List.{length-take, length-take-le, take-append-drop, take_all}
-use Rattle.limits.specs.Sizes.{byte_limit}
-use Rattle.limits.specs.declared.Limits.{Limits}
+use Rattle.base.specs.Sizes.{byte_limit}
+use Rattle.base.specs.declared.limits.Limits.{Limits}
 use Rattle.base.specs.Check.{Check, check, first_failing}
 use Rattle.base.specs.Numbers.{number_at}
 use Rattle.base.specs.declared.causes.LogCause.{LogCause}
@@ -121,7 +121,7 @@ passes (x ∷ rest) zero c h there =
     ap (λ y. y.passes) (sym (same_Some x c here)) ∙ (each_passes x rest h).0
 passes (x ∷ rest) (suc i) c h there = passes rest i c (each_passes x rest h).1 there
 
--- of first bytes and what stands behind them, the checks of the super block
+-- of first bytes and what stands after them, the checks of the super block
 super_alike : (xs ys : List ℕ) → 512 ≤ length xs → (is_known xs ≡ true → size_at xs ≤ length xs)
     → first_failing (raw_super_checks xs) ≡ first_failing (raw_super_checks (xs ++ ys))
 unfolding raw_super_checks
@@ -141,7 +141,7 @@ super_alike xs ys long whole =
     ] in
     by_size (is_known xs) refl
 
--- the checks of an entry that ends within the first bytes, or behind what may be needed
+-- the checks of an entry that ends within the first bytes, or after what may be needed
 entry_alike : (k sectors : ℕ) (xs ys : List ℕ) (s u w : ℕ) → 1 ≤ k → (s + bytes_in k 1 ≤ 201326592 → s + bytes_in k 1 ≤ length xs)
     → (s + bytes_in k 1 ≤ length xs → s + bytes_in k (1 + data_sectors xs s) ≤ 201326592 → s + bytes_in k (1 + data_sectors xs s) ≤ length xs)
     → first_failing (raw_entry_checks k xs sectors s u w) ≡ first_failing (raw_entry_checks k (xs ++ ys) sectors s u w)

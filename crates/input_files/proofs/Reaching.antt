@@ -30,7 +30,7 @@ pub nothing_read : (a : Option (List ℕ)) → Consumes a a []
 nothing_read None = tt
 nothing_read (Some x) = refl
 
--- behind the first entry that is left
+-- after the first entry that is left
 next_header : (bytes : List ℕ) (size reached left extent : ℕ) → IsNext bytes size reached left → extent ≡ data_sectors bytes (reached - size) * size
     → header (times_at bytes) bytes (suc (entries_of bytes - left)) ≡ reached + extent
 next_header bytes size reached left extent next told =
@@ -45,7 +45,7 @@ next_header bytes size reached left extent next told =
     let size_is = next.sector in
     omega (arith, bytes_are, spread, here, at, size_is)
 
--- one header more behind it
+-- one header more after it
 one_more : (bytes : List ℕ) (i : ℕ) → is_known bytes ≡ true → header (times_at bytes) bytes i + size_at bytes ≤ header (times_at bytes) bytes (suc i)
 one_more bytes i known =
     let k : ℕ = times_at bytes in
@@ -125,7 +125,7 @@ told_alike raw rest h within =
     let word = number_kept 8 (h + 16) raw rest (omega (arith, within)) in
     rw (count, word) refl
 
--- the extent behind the first entry that is left, and the header behind them
+-- the extent after the first entry that is left, and the header after them
 pub go_on : (raw rest : List ℕ) (r : Reach) (extent sum next reached : ℕ) → 0 < r.left → 512 ≤ r.size → r.size ≤ r.needed → r.needed ≤ length raw
     → extent ≡ min (data_sectors raw (r.needed - r.size) * r.size) (2 ^ 64 - 1) → (r.left - 1 ≡ 0 → next ≡ 0) → (0 < r.left - 1 → next ≡ r.size)
     → sum ≡ min (r.needed + extent) (2 ^ 64 - 1) → reached ≡ min (sum + next) (2 ^ 64 - 1) → Reaches (raw ++ rest) r

@@ -1,4 +1,4 @@
--- What is kept of a file, and what is told for its length (docs/REPORT.md, How files are read).
+-- What is kept of a file, and what is told for its length (docs/COMMANDS.md, How files are read).
 use Rattle.std.specs.Prelude.{ℕ, ◌≡◌, ◌+◌, ◌≤◌, ◌<◌, nat_le, if◌then◌else◌, List, length, take, Option, None, Some}
 use Rattle.bpf_isa.specs.Program.{HasNoFault}
 use Rattle.input_files.specs.declared.kind.FileKind.{FileKind}
@@ -24,7 +24,7 @@ read_bytes kind.Raw bytes = read_raw bytes
 read_bytes (kind.Part left) bytes = part_read (left + 1) bytes
 read_bytes k bytes = take (read_of k) bytes
 
--- the length that is told of a file of that kind with these bytes, which is said to have so many: how many are read; but of a program
+-- the length that is told of a file of that kind with these bytes, which is said to have that many: how many are read; but of a program
 -- of which as many are read as may be, how many it has
 abbrev pub told_length : FileKind → Option ℕ → List ℕ → ℕ
 told_length kind.Program said bytes = if nat_le (read_of kind.Program) (length bytes) then long_length said (length bytes) else length bytes
@@ -37,11 +37,11 @@ kept kind.Program told bytes = Some (take (standing told) bytes)
 kept kind.Text told bytes = if nat_le told (most_of kind.Text) then Some (read_bytes kind.Text bytes) else None
 kept k told bytes = Some (read_bytes k bytes)
 
--- what was read of a file of that kind with these bytes, which is said to have so many: the length that is told, and what is kept
+-- what was read of a file of that kind with these bytes, which is said to have that many: the length that is told, and what is kept
 abbrev pub Holds : FileKind → Option ℕ → List ℕ → Option (List ℕ) → ℕ → Type 0
 Holds k said bytes held told = (told ≡ told_length k said bytes) × (held ≡ kept k told bytes)
 
--- what is kept of a program which is said to have so many bytes
+-- what is kept of a program which is said to have that many bytes
 abbrev pub kept_program : Option ℕ → List ℕ → List ℕ
 kept_program said bytes = take (standing (told_length kind.Program said bytes)) bytes
 

@@ -1,7 +1,7 @@
--- What a command takes a file for, and how much of it is read (docs/REPORT.md, Files).
+-- What a command takes a file for, and how much of it is read (docs/COMMANDS.md, How files are read).
 use Rattle.std.specs.Prelude.{ℕ, ◌==◌, ◌+◌, ◌-◌, ◌*◌, Bool, true, false, min, nat_le, nat_lt, ◌&&◌, ◌||◌, if◌then◌else◌, List, bytes_eq, codes, Option, None, Some}
-use Rattle.limits.specs.Sizes.{byte_limit, sector_limit}
-use Rattle.limits.specs.declared.Limits.{Limits}
+use Rattle.base.specs.Sizes.{byte_limit, sector_limit}
+use Rattle.base.specs.declared.limits.Limits.{Limits}
 use Rattle.base.specs.declared.causes.AsmCause.TheVariants as asm
 use Rattle.base.specs.declared.causes.CodeCause.TheVariants as code
 use Rattle.base.specs.declared.causes.LogCause.TheVariants as log
@@ -24,7 +24,7 @@ most_parts = 4096
 abbrev pub most_of_parts : ℕ
 most_of_parts = 1024 * 1024 * 1024
 
--- what the command of that name takes the file at that place for, within these limits; for parts so many bytes are left
+-- what the command of that name takes the file at that place for, within these limits; for parts that many bytes are left
 abbrev pub kind_of : List ℕ → ℕ → Limits → ℕ → FileKind
 kind_of command place limits left =
     if bytes_eq command (codes "asm") then kind.Text
@@ -50,12 +50,12 @@ read_of kind.Program = most_of kind.Program + 8
 read_of kind.Raw = most_of kind.Raw
 read_of k = most_of k + 1
 
--- how many bytes are read of what a device of so many sectors held: one more than it has; there is no larger device than the limits
+-- how many bytes are read of what a device of that many sectors held: one more than it has; there is no larger device than the limits
 -- allow
 abbrev pub base_read : ℕ → Limits → ℕ
 base_read sectors limits = 512 * min sectors (sector_limit limits) + 1
 
--- the number of the program at a place behind a log
+-- the number of the program at a place after a log
 abbrev pub number_of : ℕ → Option ℕ
 number_of place = if nat_le 1 place && nat_le place 256 then Some (place - 1) else None
 
@@ -68,12 +68,12 @@ memory_of kind.Text place = record { code = Asm asm.Memory; at = 0; program = No
 memory_of (kind.Image limits) place = memory_refusal
 memory_of (kind.Part left) place = record { code = Join joining.Memory; at = 0; program = None }
 
--- how many bytes are left for parts behind a file of so many; none where it is a part that has more than were left
+-- how many bytes are left for parts after a file of that many; none where it is a part that has more than were left
 abbrev pub left_behind : FileKind → ℕ → Option ℕ
 left_behind (kind.Part left) length = if nat_le length left then Some (left - length) else None
 left_behind k length = Some most_of_parts
 
--- whether so many files are more than the command of that name takes
+-- whether that many files are more than the command of that name takes
 abbrev pub are_too_many : List ℕ → ℕ → Bool
 are_too_many command count = bytes_eq command (codes "join") && nat_lt most_parts count
 

@@ -1,8 +1,8 @@
 -- The first bytes of a long log, which are read of it (docs/LOG-FORMAT.md, Limits).
 use Rattle.std.specs.Prelude.{ℕ, ◌≡◌, ◌<◌, ◌≤◌, List, length, take}
-use Rattle.limits.specs.Sizes.{byte_limit}
+use Rattle.base.specs.Sizes.{byte_limit}
 use Rattle.base.specs.declared.causes.LogCause.TheVariants as cause
-use Rattle.limits.specs.declared.Limits.{Limits}
+use Rattle.base.specs.declared.limits.Limits.{Limits}
 use Rattle.logfmt.specs.Faults.{FirstFault}
 use Rattle.input_files.specs.declared.kind.FileKind.TheVariants as kind
 use Rattle.input_files.specs.Kinds.{read_of}

@@ -1,4 +1,4 @@
--- What is read of the text of a part (docs/REPORT.md, How files are read).
+-- What is read of the text of a part (docs/COMMANDS.md, How files are read).
 use Rattle.std.specs.Prelude.{ℕ, ◌≡◌, ◌⊎◌, min, if◌then◌else◌, List, bytes_eq, codes, take}
 use Rattle.join.specs.Reading.{NoPartText}
 
@@ -10,7 +10,7 @@ part_line = codes "crash part 1\n"
 abbrev pub beginning : ℕ → List ℕ → List ℕ
 beginning most bytes = take (min most 13) bytes
 
--- what is read of a file, of which at most so many bytes may be: all of these where it begins with that line, and else no more
+-- what is read of a file, of which at most that many bytes may be: all of these where it begins with that line, and else no more
 unfoldable pub part_read : ℕ → List ℕ → List ℕ
 part_read most bytes = if bytes_eq (beginning most bytes) part_line then take most bytes else beginning most bytes
 

@@ -1,6 +1,6 @@
 -- The first bytes of a raw log, which are read of it: those that its entries need (docs/LOG-FORMAT.md, Importing a raw log).
 use Rattle.std.specs.Prelude.{ℕ, ◌+◌, ◌-◌, ◌≡◌, ◌==◌, ◌<◌, ◌≤◌, Bool, true, ◌||◌, min, if◌then◌else◌, List, length, take}
-use Rattle.limits.specs.declared.Limits.{Limits}
+use Rattle.base.specs.declared.limits.Limits.{Limits}
 use Rattle.base.specs.Numbers.{number_at}
 use Rattle.base.specs.declared.causes.LogCause.{LogCause}
 use Rattle.logfmt.specs.declared.entry.Entry.{Entry}
@@ -25,7 +25,7 @@ needed_length bytes = if is_known bytes then min 201326592 (header (times_at byt
 abbrev pub read_raw : List ℕ → List ℕ
 read_raw bytes = take (needed_length bytes) bytes
 
--- what is imported of the bytes that are read is imported of the raw log: the bytes behind change nothing
+-- what is imported of the bytes that are read is imported of the raw log: the bytes after change nothing
 abbrev pub RawIsImportedAlike : Type 0
 RawIsImportedAlike =
     (bytes text : List ℕ) (sectors : ℕ) (limits : Limits) → IsImported (read_raw bytes) sectors limits text → IsImported bytes sectors limits text

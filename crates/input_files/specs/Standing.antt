@@ -1,4 +1,4 @@
--- The text that stands for a long program (docs/REPORT.md, How files are read).
+-- The text that stands for a long program (docs/COMMANDS.md, How files are read).
 use Rattle.std.specs.Prelude.{ℕ, ◌≡◌, ◌==◌, ◌+◌, ◌/◌, ◌%◌, ◌<◌, ◌≤◌, nat_le, if◌then◌else◌, List, length, slice_get, take, Option, None, Some}
 use Rattle.base.specs.declared.causes.CodeCause.{CodeCause}
 use Rattle.base.specs.declared.causes.CodeCause.TheVariants as code
@@ -33,7 +33,7 @@ LongIsRefusedAlike = (bytes : List ℕ) → 32768 < length bytes → (c : CodeCa
 abbrev pub LongIsRefused : Type 0
 LongIsRefused = (bytes : List ℕ) → 32768 < length bytes → HasNoFault (stand_in bytes) → ⊥
 
--- the place among the files of the one that a refusal is of: the program of that number stands behind a log
+-- the place among the files of the one that a refusal is of: the program of that number stands after a log
 abbrev pub file_of : Option ℕ → ℕ
 file_of None = 0
 file_of (Some program) = program + 1

@@ -12,8 +12,8 @@ use crate::kind::{FileKind, MOST_OF_PARTS, MOST_PARTS, are_too_many, too_long_at
 use crate::reading::{Piece, read_base, read_file};
 use crate::source::Source;
 use base::causes::RequestCause;
+use base::limits::Limits;
 use base::refusal::{Cause, Refusal};
-use limits::Limits;
 use std::alloc::AllocError;
 use std::io;
 use std::io::ErrorKind;
@@ -30,7 +30,7 @@ pub struct DeviceSize {
 
 /// What is said of an assembly text that is too long.
 const TOO_LONG: &str =
-    "note: an assembly text has at most 16777216 bytes (docs/REPORT.md, How files are read)\n";
+    "note: an assembly text has at most 16777216 bytes (docs/COMMANDS.md, How files are read)\n";
 
 /// What the files of a command hold, in order.
 #[derive(Drop)]
@@ -137,7 +137,7 @@ impl Inputs {
         Ok(inputs)
     }
 
-    /// Reads one more file of the command of that name. So many bytes are left for parts; answers how many are left behind it.
+    /// Reads one more file of the command of that name. That many bytes are left for parts; answers how many are left after it.
     fn read_next<S: Source + AllocGlobal>(
         &mut self,
         rt: &S,

@@ -4,8 +4,8 @@ ghost use Rattle.std.specs.Prelude.{◌≡◌};
 ghost use Rattle.input_files.specs.Kinds.{are_too_many, checked_kind, kind_of, left_behind, most_of, read_of, number_of, memory_of, is_part, too_long_at, unreadable_at};
 
 use base::causes::{AsmCause, CodeCause, JoinCause, LogCause, RequestCause};
+use base::limits::Limits;
 use base::refusal::{Cause, Refusal};
-use limits::Limits;
 
 /// How many parts are joined at most.
 pub(crate) const MOST_PARTS: usize = 4096;
@@ -13,7 +13,7 @@ pub(crate) const MOST_PARTS: usize = 4096;
 /// How many bytes they have together at most: 1 GiB.
 pub(crate) const MOST_OF_PARTS: u32 = 1_073_741_824;
 
-/// What a command takes a file for (docs/REPORT.md, Commands).
+/// What a command takes a file for (docs/COMMANDS.md, Commands).
 #[derive(Clone, Copy)]
 pub enum FileKind {
     /// A log within these limits.
@@ -25,12 +25,12 @@ pub enum FileKind {
     Text,
     /// The bytes of a device within these limits.
     Image(Limits),
-    /// The text of a part of a run, for which so many bytes are left.
+    /// The text of a part of a run, for which that many bytes are left.
     Part(u32),
 }
 
 impl FileKind {
-    /// What the command of that name takes the file at that place for, within these limits. For parts so many bytes are left.
+    /// What the command of that name takes the file at that place for, within these limits. For parts that many bytes are left.
     pub fn of(command: &str, place: usize, limits: Limits, left: u32) -> FileKind
         ensures { result ≡ kind_of command.now place limits left }
     {
@@ -99,7 +99,7 @@ impl FileKind {
         }
     }
 
-    /// How many bytes are left for parts behind this file, which has so many; none where it is a part that has more than were left.
+    /// How many bytes are left for parts after this file, which has that many; none where it is a part that has more than were left.
     pub fn left_behind(self, length: u64) -> Option<u32>
         ensures { result ≡ left_behind self length }
     {
@@ -122,7 +122,7 @@ pub(crate) fn unreadable_at(place: usize) -> Refusal
     }
 }
 
-/// Whether so many files are more than the command of that name takes.
+/// Whether that many files are more than the command of that name takes.
 pub(crate) fn are_too_many(command: &str, count: usize) -> bool
     ensures { result ≡ are_too_many command.now count }
 {

@@ -5,7 +5,7 @@
 //!
 //! # Place
 //!
-//! On `base` and `limits`, and on the definitions of `logfmt`, `raw_log`, `bpf_isa` and `join`, below the program. `commands` says what a command
+//! On `base`, and on the definitions of `logfmt`, `raw_log`, `bpf_isa` and `join`, below the program. `commands` says what a command
 //! answers on what its files hold; this crate reads them.
 //!
 //! # What is read
@@ -20,13 +20,13 @@
 //! | an image | 8 MiB and a byte; with `--large` 512 MiB and a byte | is refused, 14 at 1 |
 //! | parts | 1 GiB and a byte of all together; one that doesn't begin as the text of a part to its first 13 bytes | are refused, 65 at the part with which they pass it; is refused, 61 |
 //!
-//! How long a program is tells a regular file's length; of any other file what is behind the first 32,776 bytes is read and
+//! How long a program is tells a regular file's length; of any other file what follows the first 32,776 bytes is read and
 //! counted, but not kept, and one that doesn't end within 64 MiB counts as one of too many whole slots. Of more than 4,096 parts
-//! none is read, and behind a part that can't be read no other.
+//! none is read, and after a part that can't be read no other.
 //!
 //! # What is proved
 //!
-//! `FileKind::of` says what a file is taken for, `left_behind` how many bytes are left for parts behind one of them,
+//! `FileKind::of` says what a file is taken for, `left_behind` how many bytes are left for parts after one of them,
 //! `standing_length` how many bytes stand for a program, and
 //! `refusal_of_whole` what the refusal of these bytes says of the whole file. Laws (`laws`) tie them to what `logfmt` and
 //! `bpf_isa` say of a first fault. A log that isn't too long is read whole, and a longer one is refused for its length, as is

@@ -9,7 +9,7 @@ use base::numbers::{u32_at, u64_at};
 /// How many bytes of a raw log its entries may need: 192 MiB.
 const MOST_NEEDED: u64 = 201_326_592;
 
-/// The flag of a discard, behind whose header no data stands.
+/// The flag of a discard, after whose header no data stands.
 const DISCARD: u64 = 4;
 
 /// How far a raw log is to be read. Where entries are left, that is to the end of the header of the first of them.
@@ -45,7 +45,7 @@ impl Reach {
         Reach { size, needed, left }
     }
 
-    /// That behind the first entry that is left, of a raw log that was read as far as this one says.
+    /// That after the first entry that is left, of a raw log that was read as far as this one says.
     pub(crate) fn behind(self, raw: &[u8]) -> Reach
         requires left { 0 < self.left }
         requires there { self.needed ≤ length raw.now }
@@ -69,7 +69,7 @@ impl Reach {
     }
 }
 
-/// How many bytes of data stand behind the header at a byte, in sectors of `size` bytes.
+/// How many bytes of data stand after the header at a byte, in sectors of `size` bytes.
 #[tactic(auto, unfolding(logfmt::specs::Flags::has_bit))]
 fn data_bytes(raw: &[u8], header: usize, size: u64) -> u64
     requires { header + 32 ≤ length raw.now }

@@ -14,7 +14,7 @@ use crate::cut::standing_length;
 use crate::kind::FileKind;
 use crate::reach::Reach;
 use crate::source::Source;
-use limits::Limits;
+use base::limits::Limits;
 use std::alloc::Global;
 use std::fs::{Metadata, OpenFile};
 use std::io;
@@ -76,7 +76,7 @@ fn read_first<F: Read>(
     Ok(bytes)
 }
 
-/// Reads on, at most so many bytes, and answers whether the file is at its end.
+/// Reads on, at most that many bytes, and answers whether the file is at its end.
 fn read_part<F: Read>(
     alloc: Global,
     file: &mut F,
@@ -194,7 +194,7 @@ fn count_rest<F: Read>(alloc: Global, file: &mut F, most: u64) -> io::Result<u64
     Err(io::Error::from(ErrorKind::Interrupted))
 }
 
-/// The length that is told of a program of which so many bytes are counted.
+/// The length that is told of a program of which that many bytes are counted.
 fn counted_length(counted: u64) -> u64
     ensures { result ≡ counted_length counted }
 {
@@ -205,7 +205,7 @@ fn counted_length(counted: u64) -> u64
     }
 }
 
-/// How many bytes a program has of which as many were read as there may be: those that are behind are counted.
+/// How many bytes a program has of which as many were read as there may be: those after them are counted.
 fn count_all<F: Read>(alloc: Global, file: &mut F, read: usize) -> io::Result<u64>
     requires { read ≡ 32776 }
     ensures no_fewer { IfOk result (λ n. read ≤ n) }
@@ -269,7 +269,7 @@ fn read_raw_piece<F: Read>(alloc: Global, file: &mut F) -> io::Result<Piece>
     })
 }
 
-/// How many bytes a file is expected to have, of which at most so many are read.
+/// How many bytes a file is expected to have, of which at most that many are read.
 fn expected_length(most: usize, said: Option<u64>) -> usize {
     match said {
         Some(length) if length <= most as u64 => length as usize,
@@ -285,7 +285,7 @@ fn expected_of(kind: FileKind, said: Option<u64>) -> usize {
     }
 }
 
-/// Reads a program, which is said to have so many bytes.
+/// Reads a program, which is said to have that many bytes.
 fn read_program<F: Read>(alloc: Global, file: &mut F, said: Option<u64>) -> io::Result<Piece>
     ensures held { IfOk result (λ piece. IfSome (F.remaining file.old) (λ xs. Holds kinds.Program said xs (option_map (λ b. b.items) piece.bytes) piece.length)) }
     ensures some { IfOk result (λ piece. IsSome piece.bytes) }
@@ -341,7 +341,7 @@ fn read_whole<F: Read>(
     })
 }
 
-/// Reads a file of that kind, which is said to have so many bytes, where it is a regular one. What is kept of it is its
+/// Reads a file of that kind, which is said to have that many bytes, where it is a regular one. What is kept of it is its
 /// first bytes, all of them where it isn't too long; of a raw log those that its entries need.
 ///
 /// # Errors
@@ -386,14 +386,14 @@ fn said_length<F: OpenFile>(file: &F) -> Option<u64> {
     }
 }
 
-/// How many bytes are read of what a device of so many sectors held, within these limits.
+/// How many bytes are read of what a device of that many sectors held, within these limits.
 fn most_of_base(sectors: u64, limits: Limits) -> usize
     ensures { result ≡ base_read sectors limits }
 {
     512 * sectors.min(u64::from(limits.sectors())) as usize + 1
 }
 
-/// The first bytes of the file of that name, one more than a device of so many sectors has.
+/// The first bytes of the file of that name, one more than a device of that many sectors has.
 ///
 /// # Errors
 ///

@@ -1,6 +1,6 @@
 //! What a local call saves.
 
-/// The slot behind a local call, and registers 6 to 10 as they were.
+/// The slot after a local call, and registers 6 to 10 as they were.
 #[derive(Clone, Copy)]
 pub(crate) struct Caller {
     pub(crate) slot: u32,

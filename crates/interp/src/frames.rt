@@ -25,7 +25,7 @@ const NO_CALLER: Caller = Caller {
     r10: None,
 };
 
-/// Places for the frames above the first, of which the first so many are open. A frame that is entered
+/// Places for the frames above the first, of which the first that many are open. A frame that is entered
 /// again finds the bytes of its stack as they were, and none of them is set.
 #[derive(Drop)]
 pub(crate) struct Frames {

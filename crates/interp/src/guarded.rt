@@ -10,7 +10,7 @@ use crate::outcome::{Noted, Outcome, Verdict};
 use helpers::{Context, Device};
 use plain::{Guarded, GuardedEnd, run_guarded};
 
-/// Runs a checker with guards (docs/MACHINE.md, Guards), which is known to end within so many steps in a verdict, or to
+/// Runs a checker with guards (docs/MACHINE.md, Guards), which is known to end within that many steps in a verdict, or to
 /// stray at a guarded slot. It is run by `plain`, so of all checks the places of guarded slots alone are tested.
 #[inline(always)]
 pub fn run_with_guards<D: Device, const ROOM: usize>(

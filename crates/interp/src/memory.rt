@@ -47,7 +47,7 @@ pub(crate) struct Spot {
     pub(crate) place: usize,
 }
 
-/// A place in a stack, if so many bytes fit behind it.
+/// A place in a stack, if that many bytes fit after it.
 #[inline(always)]
 fn spot_within(spot: Spot, count: u64) -> Result<Spot, MachineFault>
     requires place { spot.place < 512 }
@@ -61,7 +61,7 @@ fn spot_within(spot: Spot, count: u64) -> Result<Spot, MachineFault>
     }
 }
 
-/// Reads an access that begins at the sectors or behind them.
+/// Reads an access that begins at the sectors or after them.
 fn read_sector<D: Device, const COUNTS: usize, const FRAMES: usize>(
     machine: &Machine<COUNTS, FRAMES>,
     world: &World<D>,
@@ -89,7 +89,7 @@ fn plain_fault(within: bool) -> MachineFault
     }
 }
 
-/// The fault of bytes that are written from the sectors or behind them on.
+/// The fault of bytes that are written from the sectors or after them on.
 fn sector_fault<D: Device, const COUNTS: usize, const FRAMES: usize>(
     machine: &Machine<COUNTS, FRAMES>,
     world: &World<D>,
@@ -108,7 +108,7 @@ fn sector_fault<D: Device, const COUNTS: usize, const FRAMES: usize>(
     }
 }
 
-/// The fault of bytes that are written to the context, or from the sectors or behind them on.
+/// The fault of bytes that are written to the context, or from the sectors or after them on.
 fn block_fault<D: Device, const COUNTS: usize, const FRAMES: usize>(
     machine: &Machine<COUNTS, FRAMES>,
     world: &World<D>,

@@ -10,7 +10,7 @@ use Rattle.std.proofs.Math.Nat.{mod-le, pow-suc, mul-suc, suc-mul, mul_comm, div
 use Rattle.intervals.specs.Spans.{Span, IsSpan, Within}
 use Rattle.intervals.specs.Rounding.{floor, ceiling, round_span, IsFloor, IsCeiling}
 
--- The digits of a word: so many as stand behind its leading zeros.
+-- The digits of a word: as many as stand after its leading zeros.
 pub record Digits (a : ℕ) : Type 0 where
   pub count : ℕ
   pub zeros_are : leading_zeros w64 a + count ≡ 64

@@ -66,7 +66,7 @@ sign_extended e x =
 unfoldable pub extended_result : SignExtension → Span → Span
 extended_result e x = sign_extended e (part_of_width (extension_width e) x)
 
--- the greatest number of so many bits
+-- the greatest number of that many bits
 abbrev pub most_of : OrderSize → ℕ
 most_of bits.Bits16 = 2 ^ 16 - 1
 most_of bits.Bits32 = 2 ^ 32 - 1

@@ -128,7 +128,7 @@ fn sign_extended(extension: SignExtension, x: Range) -> Range
     }
 }
 
-/// The greatest number of so many bits.
+/// The greatest number of that many bits.
 fn most_of(size: OrderSize) -> u64
     ensures { result ≡ most_of size }
 {

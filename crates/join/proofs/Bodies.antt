@@ -1,15 +1,15 @@
 -- Failing lines, read from a text to the byte.
 use Rattle.std.proofs.Common.{ℕ, ◌≡◌, ◌≢◌, ◌+◌, ◌<◌, ◌^◌, true, false, List, map, ◌∷◌, ◌++◌, length, length-append, append_assoc, codes, refl, sym, subst, ◌∙◌, ap, arith}
 use Rattle.std.specs.Fmt.{decimal}
-use Rattle.lines.specs.declared.marks.Mark.{Mark}
-use Rattle.lines.specs.Line.{FailingLine}
-use Rattle.lines.specs.Reading.{lacks, ReadsField}
-use Rattle.lines.specs.Text.{line_text}
-use Rattle.lines.proofs.Back.{lacks_both, end_lacks, words_of as line_words}
+use Rattle.report.specs.declared.lines.marks.Mark.{Mark}
+use Rattle.report.specs.Line.{FailingLine}
+use Rattle.report.specs.MarkReading.{lacks, ReadsField}
+use Rattle.report.specs.LineText.{line_text}
+use Rattle.report.proofs.Back.{lacks_both, end_lacks, words_of as line_words}
 use Rattle.join.specs.declared.line.Words.{Words}
 use Rattle.epochs.specs.declared.part.By.{By}
 use Rattle.choices.specs.Named.{name_of}
-use Rattle.choice_text.specs.Text.{AreNames}
+use Rattle.report.specs.ChoiceText.{AreNames}
 use Rattle.report.specs.Report.{HeadValue}
 use Rattle.join.specs.Printable.{IsEnd, IsPrintable, IsLineOfRun, has_program_and_cut, are_names_of_run, end_text}
 use Rattle.join.specs.Reading.{words_text, words_of, body_text, ReadsWords, Fit, IsBody, NoBody, IsCut, NoCut, IsLine, NoLine}

@@ -6,12 +6,12 @@ use Rattle.epochs.specs.declared.part.By.TheVariants as by
 use Rattle.choices.specs.declared.name.Name.{Name}
 use Rattle.choices.specs.declared.choice.Departure.{Departure}
 use Rattle.choices.specs.Named.{name_of}
-use Rattle.choice_text.specs.Text.{name_text, next_name_text, names_text, part_text, IsName, NoNames}
-use Rattle.choice_text.specs.Reading.{ReadsAs}
-use Rattle.lines.specs.Reading.{lacks}
-use Rattle.lines.specs.Text.{ending_text, choice_text, departure_text, next_departure_text, part_text as printed_part}
-use Rattle.lines.proofs.Back.{lacks_both}
-use Rattle.outcomes.proofs.Plain.{ending_lacks}
+use Rattle.report.specs.ChoiceText.{name_text, next_name_text, names_text, part_text, IsName, NoNames}
+use Rattle.report.specs.Reading.{ReadsAs}
+use Rattle.report.specs.MarkReading.{lacks}
+use Rattle.report.specs.LineText.{ending_text, choice_text, departure_text, next_departure_text, part_text as printed_part}
+use Rattle.report.proofs.Back.{lacks_both}
+use Rattle.losses.proofs.Plain.{ending_lacks}
 use Rattle.join.specs.Printable.{IsEnd}
 use Rattle.join.specs.Reading.{IsCut, NoCut}
 use Rattle.report.specs.Report.{HeadValue}
@@ -123,7 +123,7 @@ choice_at text begun rest ending choice cut front back = record {
         let parts = both_parts text begun rest xs ys cut own e in
         (cancel_end ending xs (sym front ∙ parts.0), cancel (codes "oice ") choice ys (sym back ∙ parts.1))
 
--- what a line has behind its program, by its two halves
+-- what a line has after its program, by its two halves
 pub end_found : (h : HeadValue) (cut : ℕ) (text ending choice : List ℕ) → IsAtChoice text ending choice → IsEnding ending → IsChoice h cut choice → IsEnd h cut text
 end_found h cut text ending choice at e c = record {
   ending = e.ending;

@@ -3,11 +3,11 @@ use Rattle.std.proofs.Common.{ℕ, zero, suc, ◌≡◌, ◌+◌, ◌<◌, ◌�
 use Rattle.std.proofs.lemmas.Bool.{eq-eqb}
 use Rattle.std.proofs.lemmas.Bool.Decides.{nat_tests, eqb_tells}
 use Rattle.std.specs.List.Sorted.{IsNonDecreasing}
-use Rattle.lines.specs.declared.marks.Mark.{Mark}
-use Rattle.lines.specs.Line.{FailingLine, first_lines}
-use Rattle.lines.specs.Marks.{mark_of, marks_of}
-use Rattle.lines.specs.Images.{images_of, failing_images, first_image, changes_behind, is_same}
-use Rattle.lines.proofs.Order.{changes_are_images}
+use Rattle.report.specs.declared.lines.marks.Mark.{Mark}
+use Rattle.report.specs.Line.{FailingLine, first_lines}
+use Rattle.report.specs.Marks.{mark_of, marks_of}
+use Rattle.report.specs.Images.{images_of, failing_images, first_image, changes_behind, is_same}
+use Rattle.report.proofs.Order.{changes_are_images}
 use Rattle.report.specs.declared.span.Span.{Span}
 use Rattle.join.specs.declared.tally.Tally.{Tally}
 use Rattle.join.specs.Order.{is_behind, follows, in_order}

@@ -1,4 +1,4 @@
--- What a line has behind its program, read to the byte.
+-- What a line has after its program, read to the byte.
 use Rattle.std.proofs.Common.{ℕ, zero, suc, ◌≡◌, ◌≢◌, ◌+◌, ◌-◌, ◌<◌, ◌≤◌, ◌^◌, ◌==◌, nat_lt, ◌⊎◌, ◌↔◌, inl, inr, Bool, true, false, not, IsTrue, leb, List, [], ◌∷◌, ◌++◌, All, length, get_or, append_assoc, append-nil, codes, Result, Ok, Err, refl, sym, subst, ◌∙◌, ap, arith}
 use Rattle.std.specs.Fmt.{decimal}
 use Rattle.std.specs.List.{flat_map}
@@ -11,11 +11,11 @@ use Rattle.base.specs.Causes.{fault_number}
 use Rattle.base.specs.declared.causes.MachineFault.{MachineFault}
 use Rattle.base.specs.declared.causes.MachineFault.TheVariants as fault
 use Rattle.machine.specs.Outcome.{Ending, Verdict, Stopped, OutOfSteps, Stray}
-use Rattle.lines.specs.Reading.{lacks}
-use Rattle.lines.specs.Text.{codes_text, ending_text}
+use Rattle.report.specs.MarkReading.{lacks}
+use Rattle.report.specs.LineText.{codes_text, ending_text}
 use Rattle.join.specs.Printable.{IsWithin}
 use Rattle.join.specs.Reading.{IsCut, NoCut}
-use Rattle.lines.specs.Line.{fails as failing_end}
+use Rattle.report.specs.Line.{fails as failing_end}
 use Rattle.join.specs.Endings.{IsPlain, IsNumber, IsAnswer, IsFaultNumber, numbers_text, AreNumbers, AreCodes, IsVerdict, IsFault, IsEnding}
 use Rattle.join.proofs.Texts.{one_cut, has_it, cancel}
 use Rattle.join.proofs.Spans.{number_lacks, blank_lacks}
@@ -77,7 +77,7 @@ always b is r = (λ e. r, λ r. is)
 pub like : {P R : Type 0} (b : Bool) → IsTrue b ↔ P → (P → R) → (R → P) → IsTrue b ↔ R
 like b test to back = (λ e. to (test.0 e), λ r. test.1 (back r))
 
--- one number, or one and more behind a comma
+-- one number, or one and more after a comma
 pub none_left : (left : ℕ) (text : List ℕ) → left ≡ 0 → AreNumbers left text → ⊥
 none_left left text none are = let few = are.few in omega (arith, few, none)
 
@@ -225,7 +225,7 @@ codes_said text are = by_numbers are.numbers are.few are.within are.is
 pub other_codes : (text : List ℕ) → (text ≡ codes "-" → ⊥) → AreCodes text → AreNumbers 16 text
 other_codes text other are = elim (codes_said text are) [ inl is ↦ absurd (other is) | inr numbers ↦ numbers ]
 
--- a verdict behind `answer `
+-- a verdict after `answer `
 verdict_words : (a : ℕ) (said : List ℕ) → decimal a ++ codes " codes " ++ said ≡ decimal a ++ 32 ∷ (codes "codes " ++ said)
 verdict_words a said = append_assoc (decimal a) (codes " codes ") said
 
@@ -257,7 +257,7 @@ verdict_found text answer more said cut parts number are = record {
   is = cut.is ∙ (let a = number.is in rw (a, parts) (sym (verdict_words number.number said)));
 }
 
--- a fault behind `fault `
+-- a fault after `fault `
 fault_words : (n slot : ℕ) → decimal n ++ codes " slot " ++ decimal slot ≡ decimal n ++ 32 ∷ (codes "slot " ++ decimal slot)
 fault_words n slot = append_assoc (decimal n) (codes " slot ") (decimal slot)
 

@@ -2,10 +2,10 @@
 use Rattle.std.proofs.Common.{ℕ, ◌≡◌, ◌≢◌, ◌≤◌, ◌==◌, if◌then◌else◌, Bool, true, false, List, [], ◌∷◌, ◌++◌, length, get_or, append_assoc, codes, Option, Some, None, refl, sym, ◌∙◌, ap, arith}
 use Rattle.std.specs.Fmt.{decimal}
 use Rattle.std.specs.List.{flat_map}
-use Rattle.lines.specs.Line.{FailingLine}
-use Rattle.lines.specs.Marks.{marks_of}
-use Rattle.lines.specs.Images.{failing_images, first_image}
-use Rattle.lines.specs.Text.{line_text}
+use Rattle.report.specs.Line.{FailingLine}
+use Rattle.report.specs.Marks.{marks_of}
+use Rattle.report.specs.Images.{failing_images, first_image}
+use Rattle.report.specs.LineText.{line_text}
 use Rattle.report.specs.Report.{totals_line, first_line, image_text, findings_text}
 use Rattle.report.specs.declared.span.Span.{Span}
 use Rattle.join.specs.declared.tally.Tally.{Tally}
@@ -14,9 +14,9 @@ use Rattle.join.proofs.LinesRead.{Any}
 use Rattle.join.specs.Reading.{none_read, tallied, last_text, body_text, words_of, BeginsImage, NoLine}
 use Rattle.machine.specs.Outcome.{Verdict}
 use Rattle.epochs.specs.declared.part.By.TheVariants as by
-use Rattle.lines.specs.Reading.{lacks}
-use Rattle.lines.specs.Text.{codes_text, choice_text}
-use Rattle.lines.proofs.Back.{lacks_both, end_lacks}
+use Rattle.report.specs.MarkReading.{lacks}
+use Rattle.report.specs.LineText.{codes_text, choice_text}
+use Rattle.report.proofs.Back.{lacks_both, end_lacks}
 use Rattle.join.specs.Printable.{IsPrintable, ArePrintable, end_text}
 use Rattle.join.proofs.Texts.{cancel, one_cut}
 use Rattle.join.proofs.Bodies.{by_words, body_lacks, line_is}
@@ -30,7 +30,7 @@ pub first_is : (images : ℕ) (t : Tally) (ls : List FailingLine) → t.first �
 unfolding first_line last_text
 first_is images t ls first = rw first refl
 
--- what stands behind the head, by what was counted of the lines
+-- what stands after the head, by what was counted of the lines
 pub findings_are : (first : Bool) (images : ℕ) (s : Span) (ls : List FailingLine) → in_order s.from s.to None (marks_of ls) ≡ true → (first ≡ true → failing_images ls ≤ 1)
     → findings_text first images ls ≡ flat_map line_text ls ++ last_text first images (tallied s none_read (marks_of ls))
 findings_are false images s ls order one =

@@ -5,9 +5,9 @@ use Rattle.std.specs.List.{flat_map}
 use Rattle.std.proofs.lemmas.Bool.Decides.{nat_tests}
 use Rattle.epochs.specs.declared.flushes.Flushes.{Flushes}
 use Rattle.epochs.specs.Flushes.{places_of}
-use Rattle.choice_text.specs.Words.{next_flush}
-use Rattle.lines.specs.Reading.{lacks}
-use Rattle.lines.proofs.Back.{lacks_both}
+use Rattle.report.specs.Words.{next_flush}
+use Rattle.report.specs.MarkReading.{lacks}
+use Rattle.report.proofs.Back.{lacks_both}
 use Rattle.join.specs.Heads.{join_words, entries_text, flush_list, AreEntries, AreWords, IsWord, IsOtherFirst, ReadsWord, ReadsEntries, ReadsFlushes}
 use Rattle.join.specs.Reading.{IsCut, NoCut}
 use Rattle.join.proofs.Texts.{one_cut, has_it}
@@ -30,7 +30,7 @@ first_of e es all = all 0 0 (omega arith)
 pub rest_of : (e : ℕ) (es : List ℕ) → AreEntries (e ∷ es) → AreEntries es
 rest_of e es all = λ k d small. all (suc k) d (omega (arith, small))
 
--- one more entry behind others
+-- one more entry after others
 pub entries_push : (es fs : List ℕ) (e : ℕ) → e < 2 ^ 32 → fs ≡ es ++ e ∷ [] → AreEntries es → AreEntries fs
 entries_push es fs e small is all = subst (λ (xs : List ℕ). AreEntries xs) (sym is) (push es all)
   where

@@ -4,8 +4,8 @@ use Rattle.std.specs.Str.{IsUtf8, IsCharBoundary}
 use Rattle.std.proofs.lemmas.List.{get_or-append-add}
 use Rattle.std.proofs.lemmas.Str.{IsCharBoundary-before_ascii, IsUtf8-take}
 use Rattle.std.proofs.Math.Seq.{take-append_seam}
-use Rattle.lines.specs.Reading.{lacks}
-use Rattle.lines.proofs.Back.{lacks_both}
+use Rattle.report.specs.MarkReading.{lacks}
+use Rattle.report.proofs.Back.{lacks_both}
 use Rattle.join.specs.Text.{IsHeadLine, AreHeadLines, lines_text}
 use Rattle.join.specs.Reading.{IsCut, NoCut, BeginsImage, IsBehindHead, NoHead}
 use Rattle.join.proofs.Texts.{one_cut, has_it}

@@ -8,9 +8,9 @@ use Rattle.epochs.specs.declared.flushes.Flushes.{Flushes}
 use Rattle.epochs.specs.declared.part.By.{By}
 use Rattle.epochs.specs.declared.part.By.TheVariants as by
 use Rattle.epochs.specs.Flushes.{places_of}
-use Rattle.choice_text.specs.Words.{next_flush, flush_words, from_words, to_words, cuts_words}
-use Rattle.lines.specs.Reading.{lacks, IsCutAt}
-use Rattle.lines.proofs.Back.{lacks_both}
+use Rattle.report.specs.Words.{next_flush, flush_words, from_words, to_words, cuts_words}
+use Rattle.report.specs.MarkReading.{lacks, IsCutAt}
+use Rattle.report.proofs.Back.{lacks_both}
 use Rattle.report.specs.declared.head.ProgramHead.{ProgramHead}
 use Rattle.report.specs.Text.{yes_or_no, cuts_word, by_words}
 use Rattle.report.specs.Report.{HeadValue, base_words, device_text, choices_text, given_text, options_line, options_text, program_lines}
@@ -226,7 +226,7 @@ given_is v = simp append_assoc
 abbrev line_of : HeadValue → List ℕ
 line_of v = join_words (device_words v ++ (choices_words v ++ given_words v))
 
--- the words behind the first
+-- the words after the first
 abbrev behind_first : HeadValue → List (List ℕ)
 behind_first v = decimal v.sectors ∷ codes "entries" ∷ decimal v.entries ∷ codes "cuts" ∷ cuts_word v.cuts.kind ∷ (choices_words v ++ given_words v)
 

@@ -252,7 +252,7 @@ pub row_lacks : (part : Bool) (rs : List PartRead) → NoneIsApart rs → part �
 row_lacks part rs joined all None whole = record { joined = joined; whole = λ _all. whole }
 row_lacks part rs joined all (Some fault) short = for_ends all joined short
 
--- a place behind one more element
+-- a place after one more element
 shifted : (x : PartRead) (xs : List PartRead) (k : ℕ) (r : PartRead) → slice_get xs (k + 1) ≡ Some r → slice_get (x ∷ xs) (suc k + 1) ≡ Some r
 shifted x xs k r there_it = let e : suc k + 1 ≡ suc (k + 1) = omega arith in rw e there_it
 

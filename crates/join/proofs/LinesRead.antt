@@ -4,10 +4,10 @@ use Rattle.std.specs.Fmt.{decimal}
 use Rattle.std.specs.List.{flat_map}
 use Rattle.std.proofs.lemmas.Fmt.{decimal_injective}
 use Rattle.std.proofs.lemmas.List.{map-append}
-use Rattle.lines.specs.declared.marks.Mark.{Mark}
-use Rattle.lines.specs.Line.{FailingLine}
-use Rattle.lines.specs.Marks.{mark_of, marks_of}
-use Rattle.lines.specs.Text.{line_text}
+use Rattle.report.specs.declared.lines.marks.Mark.{Mark}
+use Rattle.report.specs.Line.{FailingLine}
+use Rattle.report.specs.Marks.{mark_of, marks_of}
+use Rattle.report.specs.LineText.{line_text}
 use Rattle.report.specs.declared.span.Span.{Span}
 use Rattle.join.specs.declared.tally.Tally.{Tally}
 use Rattle.report.specs.Report.{HeadValue}

@@ -10,10 +10,10 @@ use Rattle.std.proofs.lemmas.List.Sums.{sum_by-cons, sum_by-append}
 use Rattle.std.proofs.lemmas.List.Sorted.{All-permutation, sum_by-IsPermutation, IsNonDecreasingBy-drop}
 use Rattle.std.proofs.Math.Seq.{drop-append_seam}
 use Rattle.base.proofs.Lists.{range_with_len-append}
-use Rattle.lines.specs.Line.{FailingLine, first_lines}
-use Rattle.lines.specs.Marks.{mark_of, marks_of}
-use Rattle.lines.specs.Images.{failing_images, leading_of}
-use Rattle.lines.proofs.Order.{first_are_leading}
+use Rattle.report.specs.Line.{FailingLine, first_lines}
+use Rattle.report.specs.Marks.{mark_of, marks_of}
+use Rattle.report.specs.Images.{failing_images, leading_of}
+use Rattle.report.proofs.Order.{first_are_leading}
 use Rattle.report.specs.Report.{options_text, shown_lines, findings_text, report_bytes, options_line, program_lines}
 use Rattle.report.specs.declared.span.Span.{Span}
 use Rattle.base.specs.declared.causes.JoinCause.TheVariants as cause
@@ -194,7 +194,7 @@ run_all r (rd ∷ rs) ls from to all spans (p, more, is, told, also, e, rest) ro
     let whole : ls ≡ lines_between r rd.span.from to = e ∙ rw (lines, later) (sym (between_both r rd.span.from rd.span.to to own up)) in
     rw begins at whole
 
--- the first lines of what is shown of some and of others behind them
+-- the first lines of what is shown of some and of others after them
 first_both : (a m b : ℕ) (ls ks more : List FailingLine) → in_order a m None (marks_of ls) ≡ true → ArePrintable ls → in_order m b None (marks_of ks) ≡ true → in_order m b None (marks_of more) ≡ true
     → first_lines more ≡ first_lines ks → first_lines (first_lines ls ++ more) ≡ first_lines (ls ++ ks)
 first_both a m b [] ks more e own f g same = same
@@ -313,7 +313,7 @@ ends_are r ranges from to parts rs row first last each order some told in_row = 
             let cover = parts.cover.up in
             (omega (arith, empty, images, inner, outer, cover, begins, rising), omega (arith, empty, images, inner, outer, cover, begins, rising, end, none, up))
 
--- the text of lines of a run behind one of its heads
+-- the text of lines of a run after one of its heads
 joined_is : (r : RunValue) (run : IsRun r) (rd : PartRead) (rs : List PartRead) (ls : List FailingLine) (a b : ℕ) → rd.head ≡ options_text r.head → rd.first ≡ r.head.first
     → rd.span.images ≡ r.head.images → rd.span.inputs ≡ r.inputs → AreSpans rs → AreLinesBy (OfRun r) rs ls → AreInRow a rs b → joined_text rd a b ls ≡ run_bytes r a b
 unfolding joined_text

@@ -2,11 +2,11 @@
 use Rattle.std.proofs.Common.{ℕ, ◌≡◌, ◌+◌, ◌<◌, ◌≤◌, ◌==◌, nat_lt, nat_le, true, inl, inr, List, [], ◌∷◌, ◌++◌, filter, append-nil, Option, Some, None, refl, ◌∙◌, ap, arith}
 use Rattle.std.proofs.lemmas.Bool.Decides.{nat_tests, eqb_tells}
 use Rattle.std.proofs.lemmas.List.Elements.{filter-append}
-use Rattle.lines.specs.declared.marks.Mark.{Mark}
-use Rattle.lines.specs.Line.{FailingLine, first_lines}
-use Rattle.lines.specs.Marks.{mark_of, marks_of}
-use Rattle.lines.specs.Images.{failing_images, changes_behind}
-use Rattle.lines.proofs.Order.{changes_are_images}
+use Rattle.report.specs.declared.lines.marks.Mark.{Mark}
+use Rattle.report.specs.Line.{FailingLine, first_lines}
+use Rattle.report.specs.Marks.{mark_of, marks_of}
+use Rattle.report.specs.Images.{failing_images, changes_behind}
+use Rattle.report.proofs.Order.{changes_are_images}
 use Rattle.join.specs.Order.{follows, in_order}
 use Rattle.join.proofs.Counts.{next_is, rising, all_of_first}
 

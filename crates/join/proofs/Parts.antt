@@ -1,13 +1,13 @@
 -- The text of a part, read to the byte and in one way alone.
 use Rattle.std.proofs.Common.{ℕ, ◌≡◌, ◌≢◌, ◌-◌, Bool, true, List, [], ◌∷◌, ◌++◌, get_or, None, refl, sym, ◌∙◌, ap, subst, arith}
 use Rattle.std.specs.List.{flat_map}
-use Rattle.lines.specs.Marks.{marks_of}
-use Rattle.lines.specs.Text.{line_text}
+use Rattle.report.specs.Marks.{marks_of}
+use Rattle.report.specs.LineText.{line_text}
 use Rattle.report.specs.declared.span.Span.{Span}
 use Rattle.join.specs.declared.tally.Tally.{Tally}
 use Rattle.join.specs.Order.{in_order}
 use Rattle.report.specs.Part.{span_text}
-use Rattle.lines.specs.Line.{FailingLine}
+use Rattle.report.specs.Line.{FailingLine}
 use Rattle.report.specs.Report.{HeadValue}
 use Rattle.join.specs.Printable.{IsLineOfRun, AreLinesOfRun}
 use Rattle.join.specs.Heads.{HasLines, HaveSameOptions, IsHeadRead, NoHeadRead}
@@ -189,7 +189,7 @@ module _ (text body found front last : List ℕ) (h : HeadValue) (s : Span) (t :
         lack (rw (same_span, kind, same_tally) whole);
   }
 
--- behind the head stands no line of a program
+-- after the head stands no line of a program
 pub lines_behind_head : (body found head : List ℕ) (h : IsBehindHead body found) → ((front : List ℕ) → body ≡ front ++ found → head ≡ front) → HasLines body head
 lines_behind_head body found head h head_is = record {
   rest = found;

@@ -2,8 +2,8 @@
 use Rattle.std.proofs.Common.{ℕ, zero, suc, ◌≡◌, ◌≢◌, ◌+◌, ◌<◌, ◌≤◌, ◌^◌, Bool, true, false, List, [], ◌∷◌, ◌++◌, length, length-append, append_assoc, append-nil, codes, Option, None, Some, refl, sym, subst, ap, ◌∙◌, arith}
 use Rattle.std.specs.Fmt.{decimal}
 use Rattle.std.specs.List.{All}
-use Rattle.lines.specs.Reading.{lacks}
-use Rattle.lines.proofs.Back.{lacks_both}
+use Rattle.report.specs.MarkReading.{lacks}
+use Rattle.report.proofs.Back.{lacks_both}
 use Rattle.report.specs.declared.head.ProgramHead.{ProgramHead}
 use Rattle.report.specs.Report.{steps_word, guards_words, steps_text, program_line, program_lines}
 use Rattle.join.specs.Heads.{join_words, option_words, program_words, IsFewOption, IsWord, IsProgramHead, IsProgramLine, NoProgram, NoProgramLine, ReadsGuards, ReadsMore, ReadsProgram, ReadsPrograms, ReadsWord}
@@ -137,7 +137,7 @@ too_many before text words more l many = record { read = reads }
     reads [] rest few all other e = sym (append-nil before)
     reads (q ∷ qs) rest few all other e = absurd (omega (arith, few, many))
 
--- one program is read, and those behind it
+-- one program is read, and those after it
 pub one_more : (before found : List ProgramHead) (text words more : List ℕ) (p : ProgramHead) → IsProgramLine text words more → ReadsProgram words p → ReadsMore (before ++ p ∷ []) more found → ReadsMore before text found
 one_more before found text words more p l says next = record { read = reads }
   where
@@ -155,7 +155,7 @@ one_more before found text words more p l says next = record { read = reads }
         let is = next.read qs rest (omega (arith, few, long)) (λ k d inside. all (suc k) d (omega (arith, inside))) other e3 in
         is ∙ append_assoc before (p ∷ []) qs ∙ ap (λ (x : ProgramHead). before ++ x ∷ qs) same
 
--- what was read is what is left behind none
+-- what was read is what is left after none
 pub from_none : (text : List ℕ) (found : List ProgramHead) → ReadsMore [] text found → ReadsPrograms text found
 from_none text found r = record { read = λ qs rest few all other e. r.read qs rest (omega (arith, few)) all other e }
 

@@ -3,10 +3,10 @@ use Rattle.std.proofs.Common.{ℕ, zero, suc, ◌≡◌, ◌+◌, ◌-◌, ◌<�
 use Rattle.std.specs.Fmt.{decimal}
 use Rattle.std.specs.List.{flat_map}
 use Rattle.std.proofs.lemmas.Grind.{flat_map-append}
-use Rattle.lines.specs.Line.{FailingLine, first_lines}
-use Rattle.lines.specs.Marks.{marks_of}
-use Rattle.lines.specs.Images.{failing_images, first_image}
-use Rattle.lines.specs.Text.{line_text}
+use Rattle.report.specs.Line.{FailingLine, first_lines}
+use Rattle.report.specs.Marks.{marks_of}
+use Rattle.report.specs.Images.{failing_images, first_image}
+use Rattle.report.specs.LineText.{line_text}
 use Rattle.join.specs.declared.tally.Tally.{Tally}
 use Rattle.join.specs.Order.{in_order}
 use Rattle.join.specs.Printable.{end_text}
@@ -15,7 +15,7 @@ use Rattle.join.specs.Reading.{PartRead, Tells, IsPartText, none_read, tallied, 
 use Rattle.join.specs.Joining.{ArePartTexts, AreOfRun, AreInRow, AreLinesOf, totalled, added, earlier, shown_bytes, first_some, joined_text, opening_text, span_between}
 use Rattle.join.proofs.Counts.{counted_lines, counted_images, counted_first}
 use Rattle.std.proofs.lemmas.Bool.Decides.{nat_tests}
-use Rattle.lines.proofs.Order.{first_of_first}
+use Rattle.report.proofs.Order.{first_of_first}
 use Rattle.report.specs.Report.{findings_text}
 use Rattle.join.proofs.LinesRead.{line_begins}
 use Rattle.join.proofs.Findings.{totals_are, first_is}
@@ -102,7 +102,7 @@ some_bytes l more =
     let some : 0 < length (line_text l ++ more) = omega (arith, is, all, six) in
     grind (arith, nat_tests, some)
 
--- the lines that are shown of a part and of those behind it
+-- the lines that are shown of a part and of those after it
 shown_of : (from mid to : ℕ) (own : List FailingLine) (bytes rest_bytes : List ℕ) (more : List FailingLine) → in_order from mid None (marks_of own) ≡ true
     → in_order mid to None (marks_of more) ≡ true → failing_images own ≤ 1 → bytes ≡ flat_map line_text own → rest_bytes ≡ flat_map line_text (first_lines more)
     → (if length bytes == 0 then rest_bytes else bytes) ≡ flat_map line_text (first_lines (own ++ more))

@@ -4,12 +4,12 @@ use Rattle.std.specs.Fmt.{decimal}
 use Rattle.std.specs.List.{flat_map, range_with_len}
 use Rattle.std.proofs.lemmas.Bool.Decides.{eqb_tells}
 use Rattle.std.proofs.lemmas.Fmt.{decimal_injective}
-use Rattle.lines.specs.declared.marks.Mark.{Mark}
-use Rattle.lines.specs.Line.{FailingLine, first_lines}
-use Rattle.lines.specs.Marks.{mark_of, marks_of}
-use Rattle.lines.specs.Images.{failing_images, changes_behind, leading_of, leading}
-use Rattle.lines.specs.Text.{line_text}
-use Rattle.lines.proofs.Order.{changes_are_images, first_are_leading}
+use Rattle.report.specs.declared.lines.marks.Mark.{Mark}
+use Rattle.report.specs.Line.{FailingLine, first_lines}
+use Rattle.report.specs.Marks.{mark_of, marks_of}
+use Rattle.report.specs.Images.{failing_images, changes_behind, leading_of, leading}
+use Rattle.report.specs.LineText.{line_text}
+use Rattle.report.proofs.Order.{changes_are_images, first_are_leading}
 use Rattle.report.specs.Report.{options_text, shown_lines, findings_text}
 use Rattle.report.specs.declared.span.Span.{Span}
 use Rattle.join.specs.declared.tally.Tally.{Tally}

@@ -2,10 +2,10 @@
 use Rattle.std.proofs.Common.{ℕ, zero, suc, ◌≡◌, ◌+◌, ◌<◌, ◌≤◌, List, [], ◌∷◌, ◌++◌, length, length-append, get_or, All, codes, None, refl, ◌∙◌, ap, arith}
 use Rattle.std.specs.Fmt.{decimal}
 use Rattle.std.specs.List.{flat_map}
-use Rattle.lines.specs.Line.{FailingLine}
-use Rattle.lines.specs.Text.{line_text}
-use Rattle.lines.proofs.Order.{changes_are_images}
-use Rattle.lines.proofs.Changes.{few_changes}
+use Rattle.report.specs.Line.{FailingLine}
+use Rattle.report.specs.LineText.{line_text}
+use Rattle.report.proofs.Order.{changes_are_images}
+use Rattle.report.proofs.Changes.{few_changes}
 use Rattle.join.specs.declared.tally.Tally.{Tally}
 use Rattle.join.specs.Printable.{end_text}
 use Rattle.report.specs.Part.{span_text}

@@ -3,8 +3,8 @@ use Rattle.std.proofs.Common.{ℕ, ◌≡◌, ◌≢◌, ◌+◌, ◌%◌, ◌<�
 use Rattle.std.specs.Fmt.{decimal}
 use Rattle.std.proofs.lemmas.Bool.Decides.{nat_tests}
 use Rattle.std.proofs.lemmas.Fmt.{decimal_by_steps}
-use Rattle.lines.specs.Reading.{lacks, IsCutAt}
-use Rattle.lines.proofs.Back.{lacks_both}
+use Rattle.report.specs.MarkReading.{lacks, IsCutAt}
+use Rattle.report.proofs.Back.{lacks_both}
 use Rattle.report.specs.declared.span.Span.{Span}
 use Rattle.report.specs.Part.{span_text}
 use Rattle.join.specs.Reading.{IsSmall, ReadsSpan, IsSpanOf, NoSpan}

@@ -4,7 +4,7 @@ use Rattle.std.proofs.Math.Seq.{take-append_seam}
 use Rattle.std.proofs.lemmas.Bool.Decides.{nat_tests}
 use Rattle.std.proofs.lemmas.Str.Pattern.{IsSplitOnceResult, split_parts}
 use Rattle.std.specs.Str.Pattern.{StripsPrefix, StripsSuffix, FindsTextPrefix, FindsTextSuffix}
-use Rattle.lines.specs.Reading.{lacks}
+use Rattle.report.specs.MarkReading.{lacks}
 use Rattle.join.specs.Reading.{IsCut, NoCut}
 
 -- no byte at a place is c

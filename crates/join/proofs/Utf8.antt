@@ -4,8 +4,8 @@ use Rattle.std.specs.Fmt.{decimal}
 use Rattle.std.specs.List.{flat_map, list_all}
 use Rattle.std.specs.Str.{IsUtf8}
 use Rattle.std.proofs.lemmas.Str.{IsUtf8-append, IsUtf8-from_ascii}
-use Rattle.lines.specs.Text.{line_text}
-use Rattle.outcomes.proofs.Plain.{both, number, is_plain, digit_plain, ascii, lines_are_text}
+use Rattle.report.specs.LineText.{line_text}
+use Rattle.losses.proofs.Plain.{both, number, is_plain, digit_plain, ascii, lines_are_text}
 use Rattle.report.specs.Report.{image_text}
 use Rattle.report.specs.declared.span.Span.{Span}
 use Rattle.join.specs.declared.tally.Tally.{Tally}

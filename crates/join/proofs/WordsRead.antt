@@ -4,13 +4,13 @@ use Rattle.std.specs.Fmt.{decimal}
 use Rattle.std.proofs.lemmas.Fmt.{decimal_by_steps}
 use Rattle.epochs.specs.declared.part.By.{By}
 use Rattle.epochs.specs.declared.part.By.TheVariants as by
-use Rattle.lines.specs.Reading.{lacks}
+use Rattle.report.specs.MarkReading.{lacks}
 use Rattle.join.specs.Heads.{join_words, option_words, by_list, IsWord, AreWords, IsOtherFirst, IsSmallOption, ReadsWord, ReadsOption, ReadsBy}
 use Rattle.join.specs.Reading.{IsCut, NoCut}
 use Rattle.join.proofs.Texts.{one_cut, has_it}
 use Rattle.join.proofs.Spans.{SaysNumber, blank_lacks}
 
--- words, each behind a blank
+-- words, each after a blank
 abbrev pub spaced : List (List ℕ) → List ℕ
 spaced [] = []
 spaced (w ∷ ws) = 32 ∷ (w ++ spaced ws)

@@ -1,4 +1,4 @@
--- What a line has behind its program, piece by piece.
+-- What a line has after its program, piece by piece.
 use Rattle.std.specs.Prelude.{ℕ, ◌+◌, ◌≡◌, ◌≢◌, ◌<◌, ◌≤◌, ◌^◌, true, List, [], ◌∷◌, ◌++◌, All, length, get_or, map, codes}
 use Rattle.std.specs.Fmt.{decimal}
 use Rattle.base.specs.Causes.{fault_number}
@@ -8,10 +8,10 @@ use Rattle.epochs.specs.declared.part.By.{By}
 use Rattle.choices.specs.declared.name.Name.{Name}
 use Rattle.choices.specs.declared.choice.Departure.{Departure}
 use Rattle.choices.specs.Named.{name_of}
-use Rattle.choice_text.specs.Text.{AreNames, IsName}
-use Rattle.lines.specs.Reading.{lacks}
-use Rattle.lines.specs.Text.{codes_text, ending_text, choice_text}
-use Rattle.lines.specs.Line.{fails}
+use Rattle.report.specs.ChoiceText.{AreNames, IsName}
+use Rattle.report.specs.MarkReading.{lacks}
+use Rattle.report.specs.LineText.{codes_text, ending_text, choice_text}
+use Rattle.report.specs.Line.{fails}
 use Rattle.report.specs.Report.{HeadValue}
 use Rattle.join.specs.Printable.{IsWithin, are_names_of_run}
 
@@ -56,7 +56,7 @@ pub record IsAnswer (word : List ℕ) : Type 0 where
   pub some : 0 < number
   pub is : word ≡ decimal number
 
--- behind `answer `
+-- after `answer `
 pub record IsVerdict (text : List ℕ) : Type 0 where
   pub answer : ℕ
   pub small : answer < 2 ^ 64
@@ -65,7 +65,7 @@ pub record IsVerdict (text : List ℕ) : Type 0 where
   pub codes_are : AreCodes codes_said
   pub is : text ≡ decimal answer ++ codes " codes " ++ codes_said
 
--- behind `fault `
+-- after `fault `
 pub record IsFault (text : List ℕ) : Type 0 where
   pub fault : MachineFault
   pub slot : ℕ

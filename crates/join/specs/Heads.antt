@@ -1,4 +1,4 @@
--- The options and the programs of a part, read (docs/REPORT.md, The report).
+-- The options and the programs of a part, read (docs/OUTPUT.md, The report).
 use Rattle.std.specs.Prelude.{ℕ, ◌+◌, ◌≡◌, ◌≢◌, ◌<◌, ◌≤◌, ◌^◌, ◌&&◌, nat_le, nat_lt, Bool, true, List, [], ◌∷◌, ◌++◌, length, codes, Option, None, Some, unwrap_or}
 use Rattle.std.specs.Fmt.{decimal}
 use Rattle.std.specs.List.{All, flat_map}
@@ -10,8 +10,8 @@ use Rattle.epochs.specs.declared.part.By.TheVariants as by
 use Rattle.epochs.specs.declared.cuts.Cuts.{Cuts}
 use Rattle.epochs.specs.Cuts.{is_before_last}
 use Rattle.epochs.specs.Flushes.{places_of}
-use Rattle.choice_text.specs.Words.{next_flush}
-use Rattle.lines.specs.Reading.{lacks}
+use Rattle.report.specs.Words.{next_flush}
+use Rattle.report.specs.MarkReading.{lacks}
 use Rattle.report.specs.declared.head.ProgramHead.{ProgramHead}
 use Rattle.report.specs.Text.{yes_or_no, cuts_word}
 use Rattle.report.specs.Report.{HeadValue, options_text, program_lines, steps_word}
@@ -56,12 +56,12 @@ abbrev pub are_programs_of_run : List ProgramHead → Bool
 are_programs_of_run [] = true
 are_programs_of_run (p ∷ ps) = is_program_of_run p && are_programs_of_run ps
 
--- flushes are added before entries of a log with so many
+-- flushes are added before entries of a log with that many
 abbrev pub are_entries_of_run : ℕ → List ℕ → Bool
 are_entries_of_run entries [] = true
 are_entries_of_run entries (e ∷ es) = nat_lt e entries && are_entries_of_run entries es
 
--- the cuts of a run whose log has so many entries: flushes before some of these, a first and a last cut of the log, and the first isn't
+-- the cuts of a run whose log has that many entries: flushes before some of these, a first and a last cut of the log, and the first isn't
 -- after the last
 abbrev pub are_cuts_of_run : ℕ → Cuts → Bool
 are_cuts_of_run entries cuts =
@@ -122,7 +122,7 @@ abbrev pub given_words : HeadValue → List (List ℕ)
 given_words h =
     by_list h.by ++ (flush_list (places_of h.cuts.flushes) ++ (option_words (codes "from") h.cuts.from ++ (option_words (codes "to") h.cuts.to ++ option_words (codes "base") h.base)))
 
--- the words of a program's line behind `program`
+-- the words of a program's line after `program`
 abbrev pub program_words : ℕ → ProgramHead → List (List ℕ)
 program_words number p = decimal number ∷ codes "slots" ∷ decimal p.slots ∷ steps_word p.verified ∷ decimal p.limit ∷ option_words (codes "guards") p.guards
 
@@ -139,7 +139,7 @@ abbrev pub IsOtherFirst : List ℕ → List (List ℕ) → Type 0
 IsOtherFirst name [] = Unit {0}
 IsOtherFirst name (w ∷ ws) = w ≢ name
 
--- of words the first is read, and what stands behind it; of none, none
+-- of words the first is read, and what stands after it; of none, none
 pub record ReadsWord (line word rest : List ℕ) : Type 0 where
   pub read : (w : List ℕ) (ws : List (List ℕ)) → IsWord w → line ≡ join_words (w ∷ ws) → (word ≡ w) × (rest ≡ join_words ws)
   pub none : line ≡ [] → word ≡ []
@@ -156,7 +156,7 @@ pub record ReadsBy (line : List ℕ) (found : By) (rest : List ℕ) : Type 0 whe
 abbrev pub AreEntries : List ℕ → Type 0
 AreEntries entries = All (λ (entry : ℕ). entry < 2 ^ 32) entries
 
--- of the text of a list of entries, these are read behind others
+-- of the text of a list of entries, these are read after others
 pub record ReadsEntries (before : List ℕ) (left : ℕ) (text : List ℕ) (found : Flushes) : Type 0 where
   pub read : (entry : ℕ) (entries : List ℕ) → length entries < left → AreEntries (entry ∷ entries) → text ≡ entries_text (entry ∷ entries)
       → places_of found ≡ before ++ entry ∷ entries
@@ -209,17 +209,17 @@ pub record ReadsGuards (line : List ℕ) (found : Option ℕ) : Type 0 where
 pub record ReadsProgram (line : List ℕ) (p : ProgramHead) : Type 0 where
   pub read : (number : ℕ) (q : ProgramHead) → number < 2 ^ 64 → IsProgramHead q → line ≡ join_words (program_words number q) → p ≡ q
 
--- what stands behind the programs: no line of one more
+-- what stands after the programs: no line of one more
 abbrev pub NoProgram : List ℕ → Type 0
 NoProgram text = (rest : List ℕ) → text ≢ codes "program " ++ rest
 
--- a text goes on behind its head with a line that is no program's
+-- a text goes on after its head with a line that is no program's
 pub record HasLines (text head : List ℕ) : Type 0 where
   pub rest : List ℕ
   pub is : text ≡ head ++ rest
   pub other : NoProgram rest
 
--- a text begins with a line of a program: behind its first word it has these words
+-- a text begins with a line of a program: after its first word it has these words
 pub record IsProgramLine (text words rest : List ℕ) : Type 0 where
   pub is : text ≡ codes "program " ++ (words ++ 10 ∷ rest)
   pub one : lacks 10 words ≡ true
@@ -227,7 +227,7 @@ pub record IsProgramLine (text words rest : List ℕ) : Type 0 where
 pub record NoProgramLine (text : List ℕ) : Type 0 where
   pub none : (words rest : List ℕ) → lacks 10 words ≡ true → text ≡ codes "program " ++ (words ++ 10 ∷ rest) → ⊥
 
--- of lines of programs with which a text begins, these are read behind others
+-- of lines of programs with which a text begins, these are read after others
 pub record ReadsMore (before : List ProgramHead) (text : List ℕ) (found : List ProgramHead) : Type 0 where
   pub read : (qs : List ProgramHead) (rest : List ℕ) → length before + length qs ≤ 8 → All IsProgramHead qs → NoProgram rest
       → text ≡ program_lines (length before) qs ++ rest → found ≡ before ++ qs

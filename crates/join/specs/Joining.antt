@@ -1,8 +1,8 @@
--- What texts of parts come to together, and when they are not joined (docs/REPORT.md, Joining parts).
+-- What texts of parts come to together, and when they are not joined (docs/COMMANDS.md, Joining parts).
 use Rattle.std.specs.Prelude.{ℕ, ◌+◌, ◌-◌, ◌≡◌, ◌≢◌, ◌↔◌, IsTrue, ◌<◌, ◌≤◌, ◌⊎◌, ◌^◌, ◌==◌, ◌&&◌, Bool, true, false, if◌then◌else◌, List, [], ◌∷◌, ◌++◌, length, codes, slice_get, slice_index_or, take, Option, None, Some}
 use Rattle.std.specs.List.{All, flat_map, sum_by}
 use Rattle.std.specs.List.Sorted.{IsPermutation, IsNonDecreasingBy}
-use Rattle.lines.specs.Line.{FailingLine}
+use Rattle.report.specs.Line.{FailingLine}
 use Rattle.report.specs.Report.{findings_text}
 use Rattle.report.specs.declared.span.Span.{Span}
 use Rattle.join.specs.declared.tally.Tally.{Tally}

@@ -1,7 +1,7 @@
 -- Parts of one run that have each image once, joined, are the text of these images, and of all images the report.
 use Rattle.std.specs.Prelude.{ℕ, ◌+◌, ◌≡◌, ◌<◌, ◌≤◌, ◌⊎◌, ◌^◌, ◌==◌, ◌&&◌, nat_le, nat_lt, Bool, true, false, if◌then◌else◌, List, map, None}
 use Rattle.std.specs.List.{All, sum_by}
-use Rattle.lines.specs.Marks.{marks_of}
+use Rattle.report.specs.Marks.{marks_of}
 use Rattle.report.specs.Report.{options_text, report_bytes}
 use Rattle.base.specs.declared.causes.JoinCause.TheVariants as cause
 use Rattle.join.specs.declared.fault.JoinFault.{JoinFault}

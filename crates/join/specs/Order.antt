@@ -1,8 +1,8 @@
 -- The order of a part's lines, by what the text says of each.
 use Rattle.std.specs.Prelude.{ℕ, ◌==◌, Bool, true, ◌&&◌, ◌||◌, nat_lt, nat_le, List, [], ◌∷◌, Option, None, Some}
-use Rattle.lines.specs.declared.marks.Mark.{Mark}
+use Rattle.report.specs.declared.lines.marks.Mark.{Mark}
 
--- a line stands behind another: by image, and then by program
+-- a line stands after another: by image, and then by program
 abbrev pub is_behind : Mark → Mark → Bool
 is_behind last m = nat_lt last.image m.image || (last.image == m.image && nat_lt last.program m.program)
 
@@ -10,7 +10,7 @@ abbrev pub follows : Option Mark → Mark → Bool
 follows None m = true
 follows (Some last) m = is_behind last m
 
--- lines of images from `from` to below `to`, each behind the one before it, behind a line `last`
+-- lines of images from `from` to below `to`, each after the one before it, after a line `last`
 abbrev pub in_order : ℕ → ℕ → Option Mark → List Mark → Bool
 in_order from to last [] = true
 in_order from to last (m ∷ ms) = (nat_le from m.image && nat_lt m.image to && follows last m) && in_order from to (Some m) ms

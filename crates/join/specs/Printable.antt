@@ -9,9 +9,9 @@ use Rattle.choices.specs.declared.fate.Fate.{Fate}
 use Rattle.choices.specs.declared.fate.Fate.TheVariants as fate
 use Rattle.choices.specs.declared.name.Name.{Name}
 use Rattle.choices.specs.Named.{name_of}
-use Rattle.choice_text.specs.Text.{AreNames}
-use Rattle.lines.specs.Line.{FailingLine, fails}
-use Rattle.lines.specs.Text.{ending_text, choice_text}
+use Rattle.report.specs.ChoiceText.{AreNames}
+use Rattle.report.specs.Line.{FailingLine, fails}
+use Rattle.report.specs.LineText.{ending_text, choice_text}
 use Rattle.report.specs.Report.{HeadValue}
 
 -- what a checker ended in, of at most sixteen codes
@@ -21,7 +21,7 @@ IsWithin (Stopped cause slot) = slot < 2 ^ 64
 IsWithin OutOfSteps = Unit {0}
 IsWithin (Stray slot) = slot < 2 ^ 64
 
--- what a line has behind its program
+-- what a line has after its program
 abbrev pub end_text : Ending → By → List Departure → List ℕ
 end_text e way ds = ending_text e ++ codes " choice " ++ choice_text way ds
 
@@ -29,7 +29,7 @@ end_text e way ds = ending_text e ++ codes " choice " ++ choice_text way ds
 abbrev pub comes_before : Name → Name → Bool
 comes_before n m = nat_lt n.entry m.entry || (n.entry == m.entry && nat_lt n.place m.place)
 
--- of parts each comes before the next one, the first behind `last`
+-- of parts each comes before the next one, the first after `last`
 abbrev pub names_rise : Name → List Name → Bool
 names_rise last [] = true
 names_rise last (n ∷ ns) = comes_before last n && names_rise n ns
@@ -66,7 +66,7 @@ pub record IsLineOfRun (h : HeadValue) (l : FailingLine) : Type 0 where
   pub way : l.by ≡ h.by
   pub names : are_names_of_run h l.cut (map name_of l.departures) ≡ true
 
--- a text is what such a line of that cut has behind its program
+-- a text is what such a line of that cut has after its program
 pub record IsEnd (h : HeadValue) (cut : ℕ) (text : List ℕ) : Type 0 where
   pub ending : Ending
   pub departures : List Departure

@@ -2,11 +2,11 @@
 use Rattle.std.specs.Prelude.{ℕ, ◌+◌, ◌≡◌, ◌<◌, ◌≤◌, ◌^◌, ◌==◌, ◌&&◌, nat_lt, nat_le, not, Bool, true, false, if◌then◌else◌, List, [], ◌∷◌, ◌++◌, codes, length, Option, None, Some}
 use Rattle.std.specs.Fmt.{decimal}
 use Rattle.std.specs.List.{flat_map}
-use Rattle.lines.specs.declared.marks.Mark.{Mark}
-use Rattle.lines.specs.Line.{FailingLine}
-use Rattle.lines.specs.Marks.{mark_of, marks_of}
-use Rattle.lines.specs.Reading.{lacks}
-use Rattle.lines.specs.Text.{line_text}
+use Rattle.report.specs.declared.lines.marks.Mark.{Mark}
+use Rattle.report.specs.Line.{FailingLine}
+use Rattle.report.specs.Marks.{mark_of, marks_of}
+use Rattle.report.specs.MarkReading.{lacks}
+use Rattle.report.specs.LineText.{line_text}
 use Rattle.report.specs.Report.{HeadValue, image_text}
 use Rattle.report.specs.declared.span.Span.{Span}
 use Rattle.join.specs.declared.line.Words.{Words}
@@ -144,7 +144,7 @@ pub record BeginsImage (text : List ℕ) : Type 0 where
   pub is : text ≡ (codes "image" ++ word) ++ 10 ∷ more
   pub one : lacks 10 word ≡ true
 
--- a text has a head, and behind it a line that begins with `image`
+-- a text has a head, and after it a line that begins with `image`
 pub record IsBehindHead (text rest : List ℕ) : Type 0 where
   pub head : List ℕ
   pub is_head : IsHead head

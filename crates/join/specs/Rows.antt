@@ -64,7 +64,7 @@ pub record IsSpanOfRow (rs : List PartRead) (span : Span) : Type 0 where
 pub record IsRowWhole (rs : List PartRead) : Type 0 where
   pub ends : (first last : PartRead) → slice_get rs 0 ≡ Some first → slice_get rs (length rs - 1) ≡ Some last → (first.span.from ≡ 0) × (last.span.to ≡ first.span.images)
 
--- parts in a row, of so many files, haven't all images of their run
+-- parts in a row, of that many files, haven't all images of their run
 pub record IsRowShort (rs : List PartRead) (fault : JoinFault) : Type 0 where
   pub first : PartRead
   pub first_there : slice_get rs 0 ≡ Some first

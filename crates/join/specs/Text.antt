@@ -1,11 +1,11 @@
--- The text of a part of a run (docs/REPORT.md, The text of a part).
+-- The text of a part of a run (docs/OUTPUT.md, The text of a part).
 use Rattle.std.specs.Prelude.{ℕ, ◌-◌, ◌≡◌, ◌≢◌, ◌<◌, ◌≤◌, ◌^◌, Bool, true, List, [], ◌∷◌, ◌++◌, codes, None}
 use Rattle.std.specs.List.{flat_map, range_with_len}
 use Rattle.std.specs.Str.{IsUtf8}
-use Rattle.lines.specs.Line.{FailingLine}
-use Rattle.lines.specs.Images.{failing_images}
-use Rattle.lines.specs.Marks.{marks_of}
-use Rattle.lines.specs.Reading.{lacks}
+use Rattle.report.specs.Line.{FailingLine}
+use Rattle.report.specs.Images.{failing_images}
+use Rattle.report.specs.Marks.{marks_of}
+use Rattle.report.specs.MarkReading.{lacks}
 use Rattle.report.specs.Report.{HeadValue, findings_text}
 use Rattle.report.specs.Part.{span_text, span_report}
 use Rattle.report.specs.declared.span.Span.{Span}

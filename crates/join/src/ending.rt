@@ -1,17 +1,17 @@
-//! What a line has behind its program: what the program ended in, and the choice of the image.
+//! What a line has after its program: what the program ended in, and the choice of the image.
 
 ghost use Rattle.std.specs.Prelude.{ℕ, ◌≡◌, ◌≢◌, ◌<◌, ◌≤◌, ◌^◌, ◌↔◌, ◌++◌, List, true, IfOk, IsTrue, MatchOption};
 ghost use Rattle.std.specs.Fmt.{decimal};
 ghost use Rattle.choices.specs.CrashModel.{IsFate};
-ghost use Rattle.choice_text.specs.Text.{IsPlace, IsName};
+ghost use Rattle.report.specs.ChoiceText.{IsPlace, IsName};
 ghost use Rattle.join.specs.Printable.{IsEnd, all_rise, are_names_of_run, comes_before, each_of_run, is_drop, is_name_of_run, names_rise};
 ghost use Rattle.join.specs.Endings.{IsPlain, IsNumber, IsFaultNumber, AreNumbers, AreCodes, IsEnding, IsAtChoice, NoChoice, AreNamesAt, AreNamesOf, IsAnswer, IsChoice, IsFault, IsVerdict};
 
 use crate::words::{behind, parts};
-use choice_text::read_names;
 use choices::{Fate, Name};
 use epochs::By;
 use report::Head;
+use report::choice_text::read_names;
 use std::alloc::{AllocError, Global};
 
 /// Whether a word can be that of a number: it has a byte, no sign, and no zero in front of others.
@@ -277,7 +277,7 @@ fn without<'t>(text: &'t str, end: &str) -> Option<&'t str>
     text.strip_suffix(end)
 }
 
-/// What stands before and behind ` choice `, where no `h` stands before it.
+/// What stands before and after ` choice `, where no `h` stands before it.
 #[tactic(auto, using(crate::proofs::Choosing::no_h_no_choice, crate::proofs::Choosing::no_front_no_choice, crate::proofs::Choosing::no_back_no_choice))]
 fn at_choice(text: &str) -> Option<(&str, &str)>
     ensures { MatchOption result (NoChoice text.now) (λ x. IsAtChoice text.now x.0.now x.1.now) }
@@ -288,7 +288,7 @@ fn at_choice(text: &str) -> Option<(&str, &str)>
     Some((ending, choice))
 }
 
-/// Whether a text is what a line of a cut of a run with that head has behind its program, to the byte.
+/// Whether a text is what a line of a cut of a run with that head has after its program, to the byte.
 #[tactic(auto, using(crate::proofs::Choosing::end_found, crate::proofs::Choosing::end_has_ending, crate::proofs::Choosing::end_has_choice, crate::proofs::Choosing::no_choice_no_end))]
 pub(crate) fn is_end(alloc: Global, head: &Head, cut: u64, text: &str) -> Result<bool, AllocError>
     ensures { IfOk result (λ is. IsTrue is ↔ IsEnd head.now cut text.now) }

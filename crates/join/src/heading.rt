@@ -13,7 +13,7 @@ use epochs::Cuts;
 use report::{Head, ProgramHead, put_options};
 use std::alloc::{AllocError, Global};
 
-/// What stands behind the head of a text, from the first line on that begins with `image`.
+/// What stands after the head of a text, from the first line on that begins with `image`.
 #[tactic(auto, using(crate::proofs::Heads::none_passed, crate::proofs::Heads::one_passed, crate::proofs::Bodies::line_shorter))]
 pub(crate) fn behind_head(text: &str) -> Option<&str>
     ensures { MatchOption result (NoHead text.now) (λ rest. IsBehindHead text.now rest.now) }
@@ -77,7 +77,7 @@ fn are_programs_of_run(programs: &[ProgramHead]) -> bool
     }
 }
 
-/// Whether each number is that of an entry of a log with so many.
+/// Whether each number is that of an entry of a log with that many.
 fn are_entries_of_run(count: u32, entries: &[u32]) -> bool
     ensures { result ≡ are_entries_of_run count entries.now }
 {
@@ -87,7 +87,7 @@ fn are_entries_of_run(count: u32, entries: &[u32]) -> bool
     }
 }
 
-/// Whether the cuts are as a run over a log with so many entries may have them.
+/// Whether the cuts are as a run over a log with that many entries may have them.
 fn are_cuts_of_run(count: u32, cuts: &Cuts) -> bool
     ensures { result ≡ are_cuts_of_run count cuts.now }
 {
@@ -128,7 +128,7 @@ fn is_printed(alloc: Global, head: &Head, text: &[u8]) -> Result<bool, AllocErro
     Ok(printed.as_bytes() == text)
 }
 
-/// The options and the programs of a run that stand at the head of a text, to the byte, if they do. `text` goes on behind the head.
+/// The options and the programs of a run that stand at the head of a text, to the byte, if they do. `text` goes on after the head.
 #[tactic(auto, using(crate::proofs::HeadsRead::not_of_run, crate::proofs::HeadsRead::not_printed, crate::proofs::HeadsRead::is_head_read))]
 pub(crate) fn read_head(alloc: Global, text: &str, head: &[u8]) -> Result<Option<Head>, AllocError>
     requires { HasLines text.now head.now }

@@ -1,7 +1,7 @@
 //! The texts of parts of a run, and what they come to together.
 //!
 //! A run of billions of images is laid out in parts: each is judged by itself, on any machine, and makes a text
-//! (docs/REPORT.md, The text of a part). This crate reads such texts and joins them: all of a run to its report, to the byte what one
+//! (docs/OUTPUT.md, The text of a part). This crate reads such texts and joins them: all of a run to its report, to the byte what one
 //! run of all images would print, or where that is asked for, some in a row to the text of a greater part.
 //!
 //! ```text
@@ -22,7 +22,7 @@
 //!
 //! # Place
 //!
-//! On `report` and `lines`, whose definitions say what is printed, and on `choice_text`, which reads a choice. What a log is, or a
+//! On `report`, whose definitions say what is printed, and which reads a choice. What a log is, or a
 //! program, isn't known here, and neither is how images are judged: a run is its head, a number of its inputs, and for each image its
 //! failing lines (`RunValue` in `specs/Text.antt`).
 //!
@@ -31,7 +31,7 @@
 //! Where `join` answers `Ok`, each file is the text of a part to the byte (`IsPart`), all are of one run, in a row each begins where the
 //! one before it ends, and the bytes are those of all lines in that order, with their totals. Without `part` the first begins at image 0
 //! and the last ends at the number of all images (`IsJoin` in `specs/Joining.antt`). Where it answers `Err`, the fault is the first in the
-//! order of docs/REPORT.md (`RefusesJoin`), or there was no memory. More than 1 GiB is never joined, and is refused before a text is read
+//! order of docs/COMMANDS.md (`RefusesJoin`), or there was no memory. More than 1 GiB is never joined, and is refused before a text is read
 //! (the clauses `short` and `first`). Any bytes are taken.
 //!
 //! The laws are about whole runs (`specs/Laws.antt`). Where the texts are those of parts of one run by the definition of the report, and

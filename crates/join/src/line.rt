@@ -1,15 +1,15 @@
 //! One failing line of a text.
 
 ghost use Rattle.std.specs.Prelude.{◌≡◌, ◌<◌, ◌^◌, ◌↔◌, ◌++◌, ◌&&◌, IfOk, IfSome, IsTrue, MatchOption, OnOk, string_bytes, length};
-ghost use Rattle.lines.specs.Reading.{ReadsField};
+ghost use Rattle.report.specs.MarkReading.{ReadsField};
 ghost use Rattle.epochs.specs.Cuts.{is_before_last, is_behind_first};
 ghost use Rattle.join.specs.Printable.{IsLineOfRun, has_program_and_cut};
 ghost use Rattle.join.specs.Reading.{words_text, ReadsWords, Fit, IsBody, NoBody, IsLine, NoLine, IsCut, NoCut};
 
 use crate::ending::is_end;
 use crate::words::{behind, cut, number, parts};
-use lines::Mark;
 use report::Head;
+use report::lines::Mark;
 use std::alloc::{AllocError, Global};
 
 /// What a line says before its outcome.
@@ -20,7 +20,7 @@ pub struct Words {
     pub(crate) program: u64,
 }
 
-/// The word behind the first one, and what stands behind it.
+/// The word after the first one, and what stands after it.
 fn field(text: &str) -> (&str, &str)
     ensures { ReadsField text.now result.0.now result.1.now }
 {
@@ -118,7 +118,7 @@ fn mark_of(alloc: Global, head: &Head, line: &str) -> Result<Option<Mark>, Alloc
     }))
 }
 
-/// The mark of the line with which a text begins, and what stands behind it, if it begins with one of a run with that head, to the byte.
+/// The mark of the line with which a text begins, and what stands after it, if it begins with one of a run with that head, to the byte.
 #[tactic(auto, using(crate::proofs::Bodies::no_newline_no_line, crate::proofs::Bodies::no_body_no_line, crate::proofs::Bodies::body_is_line, crate::proofs::Bodies::line_shorter))]
 pub(crate) fn read_line<'t>(
     alloc: Global,

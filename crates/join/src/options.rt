@@ -46,7 +46,7 @@ fn is_yes(word: &str) -> bool
     word == "yes"
 }
 
-/// What a line says of the device, of the log and of the kind of cuts, and what stands behind that.
+/// What a line says of the device, of the log and of the kind of cuts, and what stands after that.
 fn device_said(line: &str) -> (u32, u32, CutKind, &str)
     ensures { ReadsDevice line.now result.0 result.1 result.2 result.3.now }
 {
@@ -64,7 +64,7 @@ fn device_said(line: &str) -> (u32, u32, CutKind, &str)
     )
 }
 
-/// The bound that a line says, whether there are tears, whether the first failing image alone is shown, and what stands behind that.
+/// The bound that a line says, whether there are tears, whether the first failing image alone is shown, and what stands after that.
 fn choices_said(line: &str) -> (u8, bool, bool, &str)
     ensures { ReadsChoices line.now result.0 result.1 result.2 result.3.now }
 {
@@ -77,7 +77,7 @@ fn choices_said(line: &str) -> (u8, bool, bool, &str)
     (byte_number(bound), is_yes(tears), is_yes(first), line)
 }
 
-/// What departs as one, by the first words of a line, and what stands behind these.
+/// What departs as one, by the first words of a line, and what stands after these.
 #[tactic(auto, using(crate::proofs::WordsRead::by_sector, crate::proofs::WordsRead::by_write))]
 fn by_said(line: &str) -> (By, &str)
     ensures { ReadsBy line.now result.0 result.1.now }
@@ -90,7 +90,7 @@ fn by_said(line: &str) -> (By, &str)
     (By::Sector, line)
 }
 
-/// Flushes, and behind them those of a list of entries, at most `left`.
+/// Flushes, and after them those of a list of entries, at most `left`.
 #[tactic(auto, using(crate::proofs::FlushesRead::none_left, crate::proofs::FlushesRead::last_entry, crate::proofs::FlushesRead::more_entries, crate::proofs::FlushesRead::entries_push))]
 fn flushes_with(found: &Flushes, left: u8, text: &str) -> Flushes
     requires { found.now.count + left ≤ 64 }
@@ -106,7 +106,7 @@ fn flushes_with(found: &Flushes, left: u8, text: &str) -> Flushes
     }
 }
 
-/// The flushes that were added, by the first words of a line, and what stands behind these.
+/// The flushes that were added, by the first words of a line, and what stands after these.
 #[tactic(auto, using(crate::proofs::FlushesRead::no_flush, crate::proofs::FlushesRead::some_flush))]
 fn flushes_said(line: &str) -> (Flushes, &str)
     ensures read { ReadsFlushes line.now result.0 result.1.now }
@@ -120,7 +120,7 @@ fn flushes_said(line: &str) -> (Flushes, &str)
     (Flushes::NONE, line)
 }
 
-/// The number behind an option, where a line begins with its name, and what stands behind that; else the line as it is.
+/// The number after an option, where a line begins with its name, and what stands after that; else the line as it is.
 #[tactic(auto, using(crate::proofs::WordsRead::option_lacking, crate::proofs::WordsRead::option_found))]
 fn option_said<'t>(name: &str, line: &'t str) -> (Option<u64>, &'t str)
     requires { IsWord name.now }

@@ -32,7 +32,7 @@ fn guards_said(line: &str) -> Option<u32>
     None
 }
 
-/// What the line of a program says behind its first word.
+/// What the line of a program says after its first word.
 fn program_said(line: &str) -> ProgramHead
     ensures read { ReadsProgram line.now result }
     ensures small { IsProgramHead result }
@@ -50,7 +50,7 @@ fn program_said(line: &str) -> ProgramHead
     }
 }
 
-/// What the line of a program has behind its first word, and what stands behind it, where a text begins with one.
+/// What the line of a program has after its first word, and what stands after it, where a text begins with one.
 #[tactic(auto, using(crate::proofs::ProgramsRead::no_word, crate::proofs::ProgramsRead::no_end))]
 fn program_line(text: &str) -> Option<(&str, &str)>
     ensures { MatchOption result (NoProgramLine text.now) (λ x. IsProgramLine text.now x.0.now x.1.now) }

@@ -9,7 +9,7 @@ use crate::tally::Tally;
 use report::{Head, Span};
 use std::alloc::{AllocError, Global};
 
-/// What is counted of the lines of a run with that head with which a text begins, and what stands behind them.
+/// What is counted of the lines of a run with that head with which a text begins, and what stands after them.
 #[tactic(auto, using(crate::proofs::LinesRead::none_are_read, crate::proofs::LinesRead::one_is_read))]
 pub(crate) fn read_lines<'t>(
     alloc: Global,

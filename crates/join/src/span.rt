@@ -8,7 +8,7 @@ use crate::words::{behind, cut, number};
 use report::{Span, put_span};
 use std::alloc::{AllocError, Global};
 
-/// The span that a text begins with, and what stands behind it; and some span where it begins with none.
+/// The span that a text begins with, and what stands after it; and some span where it begins with none.
 fn span_said(text: &str) -> (Span, &str)
     ensures { ReadsSpan text.now result.0 result.1.now }
 {
@@ -39,7 +39,7 @@ fn span_text(alloc: Global, span: Span) -> Result<String, AllocError>
     Ok(out)
 }
 
-/// The span that a text begins with, and what stands behind it, if it begins with one to the byte.
+/// The span that a text begins with, and what stands after it, if it begins with one to the byte.
 #[tactic(auto, using(crate::proofs::Spans::found_span, crate::proofs::Spans::no_span))]
 pub(crate) fn read_span<'t>(
     alloc: Global,

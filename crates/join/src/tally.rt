@@ -4,8 +4,8 @@ ghost use Rattle.std.specs.Prelude.{◌≡◌, ◌<◌, ◌+◌, ◌^◌};
 ghost use Rattle.join.specs.Order.{is_behind, follows};
 ghost use Rattle.join.specs.Reading.{is_new, first_of, none_read, one_more};
 
-use lines::Mark;
 use report::Span;
+use report::lines::Mark;
 
 /// What is counted of some lines.
 #[derive(Clone, Copy, Drop)]
@@ -18,18 +18,18 @@ pub struct Tally {
     pub(crate) lines: u64,
     /// How many lines are of another image than the one before.
     pub(crate) images: u64,
-    /// Whether each is of an image of the part, and behind the one before it.
+    /// Whether each is of an image of the part, and after the one before it.
     pub(crate) ordered: bool,
 }
 
-/// Whether a line stands behind another: by image, and then by program.
+/// Whether a line stands after another: by image, and then by program.
 fn is_behind(last: Mark, mark: Mark) -> bool
     ensures { result ≡ is_behind last mark }
 {
     last.image < mark.image || (last.image == mark.image && last.program < mark.program)
 }
 
-/// Whether a line stands behind the last one, if there is one.
+/// Whether a line stands after the last one, if there is one.
 fn follows(last: Option<Mark>, mark: Mark) -> bool
     ensures { result ≡ follows last mark }
 {

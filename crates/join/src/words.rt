@@ -2,11 +2,11 @@
 
 ghost use Rattle.std.specs.Prelude.{ℕ, ◌≡◌, ◌≢◌, ◌-◌, ◌<◌, ◌≤◌, ◌^◌, ◌++◌, List, length, take, MatchOption};
 ghost use Rattle.std.specs.Fmt.{decimal};
-ghost use Rattle.lines.specs.Reading.{IsCutAt};
+ghost use Rattle.report.specs.MarkReading.{IsCutAt};
 ghost use Rattle.join.specs.Heads.{ReadsWord};
 ghost use Rattle.join.specs.Reading.{HasFront, IsCut, NoCut};
 
-/// What stands before and behind the first such character.
+/// What stands before and after the first such character.
 pub(crate) fn cut(text: &str, at: char) -> (&str, &str)
     requires { at < 128 }
     ensures { IsCutAt at text.now result.0.now result.1.now }
@@ -17,7 +17,7 @@ pub(crate) fn cut(text: &str, at: char) -> (&str, &str)
     }
 }
 
-/// What stands before and behind the first such character, if there is one.
+/// What stands before and after the first such character, if there is one.
 pub(crate) fn parts(text: &str, at: char) -> Option<(&str, &str)>
     requires { at < 128 }
     ensures { MatchOption result (NoCut at text.now) (λ x. IsCut at text.now x.0.now x.1.now) }
@@ -25,7 +25,7 @@ pub(crate) fn parts(text: &str, at: char) -> Option<(&str, &str)>
     text.split_once(at)
 }
 
-/// The first word of a line, and what stands behind its blank.
+/// The first word of a line, and what stands after its blank.
 #[tactic(auto, using(crate::proofs::WordsRead::word_cut, crate::proofs::WordsRead::word_last))]
 pub(crate) fn next_word(line: &str) -> (&str, &str)
     ensures { ReadsWord line.now result.0.now result.1.now }
@@ -66,7 +66,7 @@ pub(crate) fn byte_number(word: &str) -> u8
     }
 }
 
-/// What stands behind these words, if a text begins with them.
+/// What stands after these words, if a text begins with them.
 pub(crate) fn behind<'t>(front: &str, text: &'t str) -> Option<&'t str>
     ensures { MatchOption result ((rest : List ℕ) → text.now ≢ front.now ++ rest) (λ rest. text.now ≡ front.now ++ rest.now) }
 {

@@ -4,13 +4,13 @@ ghost use Rattle.std.specs.Prelude.{◌≡◌, ◌<◌, ◌≤◌, length, true}
 ghost use Rattle.choices.specs.Choices.{ranked_choices};
 
 use crate::log_text::{FLUSH, FUA, Item, MARK, text_of};
+use base::limits::Limits;
 use choices::{count, nth};
 use epochs::{By, Cuts, Plan};
 use images::{
     Changes, History, Key, View, epoch_has_base, equal_keys_are_same, fates_show, keys_tell,
     last_writer_shows,
 };
-use limits::Limits;
 use logfmt::read;
 use std::alloc::Global;
 use std::collections::HashMap;
@@ -55,7 +55,7 @@ type Told = (u64, u8, usize);
 /// Two of them, and whether their keys are equal.
 type Pair = (Told, Told, bool);
 
-/// Whether a key is of that program, and has so many sectors.
+/// Whether a key is of that program, and has that many sectors.
 fn check_told(rt: &impl Abort, key: &Key<'_>, told: Told) -> Result<(), Fail> {
     let (number, program, changed) = told;
     assert_eq!(rt; key.program(), program);
@@ -146,7 +146,7 @@ fn keys_tell_images(rt: HostRuntime) -> Result<(), Fail> {
         &[(0, 1, FLUSH, 0x33)],
         &[((0, 0, 0), (2, 0, 0), false), ((1, 0, 1), (2, 0, 0), false)],
     )?;
-    // two_epochs: images 3 to 5 stand behind the flush, with 0xaa in their base
+    // two_epochs: images 3 to 5 stand after the flush, with 0xaa in their base
     check_pairs(
         &rt,
         rt.alloc(),
@@ -160,7 +160,7 @@ fn keys_tell_images(rt: HostRuntime) -> Result<(), Fail> {
     Ok(())
 }
 
-/// How many sectors the key has of an image of one write, on a device of so many sectors; none where it has no key.
+/// How many sectors the key has of an image of one write, on a device of that many sectors; none where it has no key.
 fn check_many(
     rt: &impl Abort,
     alloc: Global,
@@ -255,7 +255,7 @@ fn check_kept_key<'a>(
     }
 }
 
-/// Compares the keys of so many images, in their order and back.
+/// Compares the keys of that many images, in their order and back.
 fn compare_keys(
     rt: &impl Abort,
     alloc: Global,

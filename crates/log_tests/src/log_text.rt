@@ -28,7 +28,7 @@ pub(crate) fn put_super(out: &mut Vec<u8>, entries: u64) -> Result<(), AllocErro
     put_zeros(out, 484)
 }
 
-/// Appends so many sectors of data.
+/// Appends that many sectors of data.
 fn put_data(out: &mut Vec<u8>, count: u64, byte: u8) -> Result<(), AllocError> {
     let mut own = byte;
     for _ in 0..count {

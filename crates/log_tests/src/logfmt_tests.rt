@@ -1,7 +1,7 @@
 //! A log that is read and written. What `read` refuses is shown by the program (tests/rows/logs.py).
 
 use crate::log_text::{DISCARD, FLUSH, FUA, MARK, text_of};
-use limits::Limits;
+use base::limits::Limits;
 use logfmt::{read, write};
 use std::test::Fail;
 

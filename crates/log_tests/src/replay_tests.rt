@@ -2,10 +2,10 @@
 
 use crate::log_text::{FLUSH, text_of};
 use crate::whole_runs::{Way, work_of};
+use base::limits::Limits;
 use explore_core::{Event, Explore, Found, Job, Jobs, run};
-use limits::Limits;
-use lines::Lines;
 use logfmt::read;
+use report::lines::Lines;
 use std::alloc::{AllocError, Global};
 use std::sync::Wait;
 use std::sync::atomic::{AtomicU64, Ordering};
@@ -33,7 +33,7 @@ struct Recording {
     ended: AtomicU64,
 }
 
-/// So many zeros.
+/// That many zeros.
 fn zeros(alloc: Global, count: u64) -> Result<Vec<AtomicU64>, AllocError> {
     let mut zeros = Vec::new(alloc);
     for _place in 0..count {

@@ -15,7 +15,7 @@ fn shared<T: Sync>(_value: &T) {}
 /// Accepts what may be handed to another thread.
 fn handed_over<T: Send>(_value: &T) {}
 
-/// A board of so many blocks with its two seats.
+/// A board of that many blocks with its two seats.
 fn board_of(alloc: Global, blocks: u32) -> Result<(Board, Seat, Seat), Fail>
     ensures { IfOk result (λ made. (made.0.name.blocks ≡ blocks) × (made.1.board ≡ made.0.name) × (made.2.board ≡ made.0.name)) }
 {

@@ -4,7 +4,7 @@ ghost use Rattle.std.specs.Prelude.{◌≤◌};
 
 use crate::log_text::{FLUSH, text_of};
 use crate::whole_runs::{Way, work_of};
-use limits::Limits;
+use base::limits::Limits;
 use logfmt::read;
 use std::alloc::Global;
 use std::sync::Wait;
@@ -17,7 +17,7 @@ use workers::Gate;
 /// Answers 1: `mov64 r0, 1; exit`.
 const ANSWER_1: [u8; 16] = [0xb7, 0, 0, 0, 1, 0, 0, 0, 0x95, 0, 0, 0, 0, 0, 0, 0];
 
-/// Holds every block until all workers have one, and block 0 until so many others have ended; each for a
+/// Holds every block until all workers have one, and block 0 until that many others have ended; each for a
 /// million turns at most.
 #[derive(Drop)]
 struct Holding {

@@ -7,13 +7,13 @@ ghost use Rattle.interp.specs.Ending.{ending_of};
 ghost use Rattle.verdict_cache.specs.Endings.{IsEndingOf};
 
 use crate::log_text::text_of;
+use base::limits::Limits;
 use bpf_isa::codec::decode;
 use checker::Checker;
 use choices::{count, nth};
 use epochs::{By, Cuts, Plan};
 use images::{History, Key, View};
 use interp::Outcome;
-use limits::Limits;
 use logfmt::{Log, read};
 use std::alloc::Global;
 use std::marker::Brand;

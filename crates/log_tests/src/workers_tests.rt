@@ -7,13 +7,13 @@ ghost use Rattle.workers.specs.Pieces.{block_count};
 
 use crate::log_text::{FLUSH, text_of};
 use crate::whole_runs::{Way, work_of};
+use base::limits::Limits;
 use base::refusal::Refusal;
 use bpf_isa::codec::decode;
 use checker::Checker;
 use choices::{Starts, count};
 use epochs::{By, Cuts, Plan};
 use images::History;
-use limits::Limits;
 use logfmt::{Log, read};
 use std::alloc::{AllocError, Global};
 use std::marker::Brand;
@@ -204,7 +204,7 @@ fn explored<R: Threads + Wait + Sync>(
     Ok((!work.lines.is_empty(), work.hits))
 }
 
-/// By so many workers, who keep so many outcomes.
+/// By that many workers, who keep that many outcomes.
 fn way(workers: u8, cache: u32, first: bool) -> Way
     ensures workers { result.workers ≡ workers }
     ensures cache { result.cache ≡ cache }
@@ -268,7 +268,7 @@ fn cache_is_asked_where_a_block_is_judged(rt: HostRuntime) -> Result<(), Fail> {
     assert_eq!(rt; hits, 70);
     let (_fails, hits) = explored(&rt, alloc, &log, &ANSWER_1, way(1, 0, false))?;
     assert_eq!(rt; hits, 0);
-    // The second block lies behind image 0, and is passed over.
+    // The second block lies after image 0, and is passed over.
     let (fails, hits) = explored(&rt, alloc, &log, &ANSWER_1, way(1, 65_536, true))?;
     assert!(rt; fails);
     assert_eq!(rt; hits, 63);

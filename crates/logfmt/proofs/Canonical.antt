@@ -42,14 +42,14 @@ length-entry_sectors sectors e is =
     let content = is.content in
     omega (arith, long, head, content)
 
--- a part of a list between what stands before it and behind it
+-- a part of a list between what stands before it and after it
 slice_range-between : (front part rest : List ℕ) (i j : ℕ) → length front ≡ i → i + length part ≡ j
     → slice_range (front ++ (part ++ rest)) i j ≡ part
 slice_range-between front part rest i j before to =
     let gap : j - i ≡ length part = omega (arith, to) in
     rw (gap, drop_at front (part ++ rest) i before) (take_at part rest (length part) refl)
 
--- an entry's sectors behind 512 * p bytes stand in sector p
+-- an entry's sectors after 512 * p bytes stand in sector p
 stands_behind : (sectors : ℕ) (front rest : List ℕ) (p : ℕ) (e : Entry) → IsEntry sectors e → e.count ≤ 262144
     → length front ≡ 512 * p → StandsAt (front ++ (entry_sectors e ++ rest)) p e
 unfolding header_sector
@@ -97,7 +97,7 @@ stands_behind sectors front rest p e is few before =
       content = sym (ap (λ bytes. slice_range bytes (512 * (p + 1)) (512 * (p + 1 + data_of e))) at6 ∙ slice_range-between f6 e.content rest (512 * (p + 1)) (512 * (p + 1 + data_of e)) n6 (omega (arith, is.content)));
     }
 
--- the places behind a first entry
+-- the places after a first entry
 place-cons : (e : Entry) (es : List Entry) (i : ℕ) → place (e ∷ es) (suc i) ≡ place es i + 1 + data_of e
 place-cons e es zero = refl
 place-cons e es (suc i) = let before = place-cons e es i in omega (arith, before)

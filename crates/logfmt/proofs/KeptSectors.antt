@@ -41,7 +41,7 @@ sector_kept count kept s is inside =
     (rw n (length-take-le 512 (drop (512 * s) kept) (omega (arith, left, inside))))
     (λ i lt. rw n (get_or-take 512 (drop (512 * s) kept) i 0 lt ∙ get_or-drop (512 * s) kept i 0 ∙ sym (kept_byte count kept (512 * s + i) is)))
 
--- one behind what is kept
+-- one after what is kept
 pub sector_past : (count : ℕ) (kept : List ℕ) (s : ℕ) → AreKept count kept → length kept ≤ 512 * s
     → replicate {A = ℕ} 512 0 ≡ initial_sector (take count kept) s
 sector_past count kept s is past =

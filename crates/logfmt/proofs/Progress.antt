@@ -4,8 +4,8 @@ use Rattle.std.proofs.lemmas.List.Sums.{sum_by_push}
 use Rattle.std.proofs.lemmas.Option.{slice_get_within}
 use Rattle.base.proofs.Lists.{slice_get-append_left, slice_get-push, slice_get_of_push}
 use Rattle.base.specs.Check.{first_failing}
-use Rattle.limits.specs.Sizes.{most_sectors}
-use Rattle.limits.specs.declared.Limits.{Limits}
+use Rattle.base.specs.Sizes.{most_sectors}
+use Rattle.base.specs.declared.limits.Limits.{Limits}
 use Rattle.logfmt.specs.declared.entry.Entry.{Entry}
 use Rattle.logfmt.specs.Bounds.{IsEntry, AreEntries, AreRecorded, units_of, data_of, place}
 use Rattle.base.specs.Numbers.{number_at}
@@ -39,7 +39,7 @@ place-push es e (suc i) h =
     let same : slice_get (es ++ e ∷ []) i ≡ slice_get es i = slice_get-append_left es (e ∷ []) i lt in
     rw (here, same) refl
 
--- the place behind the entry that was pushed
+-- the place after the entry that was pushed
 pub place-last : (es : List Entry) (e : Entry) → place (es ++ e ∷ []) (suc (length es)) ≡ place es (length es) + 1 + data_of e
 place-last es e =
     let here = place-push es e (length es) (omega arith) in
@@ -112,7 +112,7 @@ whole_text bytes sectors allowed es n p u s some device count so = record {
   recorded = so.recorded;
 }
 
--- the first fault, at an entry behind those that passed
+-- the first fault, at an entry after those that passed
 pub fault_here : (bytes : List ℕ) (sectors : ℕ) (allowed : Limits) (es : List Entry) (n p u : ℕ) (c : LogCause) → first_failing (super_checks bytes allowed) ≡ None
     → n < number_at 8 16 bytes → Progress bytes sectors es n p u → first_failing (entry_checks bytes sectors p u) ≡ Some c
     → FirstFault bytes sectors allowed c n

@@ -2,11 +2,11 @@
 use Rattle.std.specs.Prelude.{ℕ, zero, suc, ◌+◌, ◌*◌, ◌^◌, ◌≡◌, ◌<◌, ◌≤◌, true, false, if◌then◌else◌, List, [], length, sum_by, slice_get, Some}
 use Rattle.std.specs.List.{slice_index}
 use Rattle.std.specs.Option.{option_map_or}
-use Rattle.limits.specs.Sizes.{most_sectors, most_log_bytes}
+use Rattle.base.specs.Sizes.{most_sectors, most_log_bytes}
 use Rattle.logfmt.specs.declared.entry.Entry.{Entry}
 
 -- a log: the number of sectors of its device, its entries in order, and what the device held before entry 0: its first bytes,
--- with zeros behind them
+-- with zeros after them
 pub record LogValue : Type 0 where
   pub sectors : ℕ
   pub entries : List Entry
@@ -20,7 +20,7 @@ data_of e = if e.flags.discard then 0 else e.count
 abbrev pub units_of : List Entry → ℕ
 units_of es = sum_by (λ (e : Entry). e.count) es
 
--- the sector in which the header of entry i stands: the first is sector 1, and each stands behind the
+-- the sector in which the header of entry i stands: the first is sector 1, and each stands after the
 -- header and the data of the one before
 abbrev pub data_at : List Entry → ℕ → ℕ
 data_at es i = option_map_or data_of (slice_get es i) 0

@@ -2,8 +2,8 @@
 -- It speaks of the bytes and of the limits alone. Sums are of whole numbers and do not wrap.
 use Rattle.std.specs.Prelude.{ℕ, zero, suc, ◌+◌, ◌*◌, ◌≡◌, ◌==◌, ◌<◌, ◌≤◌, Bool, not, ◌&&◌, ◌||◌, nat_lt, nat_le, if◌then◌else◌, List, [], ◌∷◌, length, Option, None, Some}
 use Rattle.base.specs.Check.{Check, check, first_failing}
-use Rattle.limits.specs.Sizes.{byte_limit, most_log_bytes}
-use Rattle.limits.specs.declared.Limits.{Limits}
+use Rattle.base.specs.Sizes.{byte_limit, most_log_bytes}
+use Rattle.base.specs.declared.limits.Limits.{Limits}
 use Rattle.base.specs.Numbers.{number_at}
 use Rattle.base.specs.declared.causes.LogCause.{LogCause}
 use Rattle.base.specs.declared.causes.LogCause.TheVariants as cause
@@ -50,7 +50,7 @@ unfoldable pub has_mark_form : ℕ → ℕ → ℕ → Bool
 has_mark_form word count length =
     not (has_bit word 1) && not (has_bit word 2) && not (has_bit word 4) && (count == 0) && nat_le length 480
 
--- the checks of the entry whose header stands in sector p, behind entries of that many units
+-- the checks of the entry whose header stands in sector p, after entries of that many units
 unfoldable pub entry_checks : List ℕ → ℕ → ℕ → ℕ → List (Check LogCause)
 entry_checks bytes sectors p units =
     check cause.CutShort (nat_le (512 * (p + 1)) (length bytes))

@@ -12,7 +12,7 @@ pub record IsMarkHeader (h : Header) : Type 0 where
   pub count : h.count ≡ 0
   pub text : h.text_length ≤ 480
 
--- the header stands in sector p, and its data behind it
+-- the header stands in sector p, and its data after it
 pub record HeaderStands (bytes : List ℕ) (p : ℕ) (h : Header) : Type 0 where
   pub sector : h.sector ≡ sector_at bytes p
   pub count : h.count ≡ count_at bytes p

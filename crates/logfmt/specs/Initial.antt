@@ -1,4 +1,4 @@
--- What a device held before entry 0 of a log (docs/CRASH-MODEL.md, Terms): its first bytes, and zeros behind them.
+-- What a device held before entry 0 of a log (docs/CRASH-MODEL.md, Terms): its first bytes, and zeros after them.
 use Rattle.std.specs.Prelude.{ℕ, ◌+◌, ◌*◌, ◌≡◌, ◌≤◌, List, map, length}
 use Rattle.std.specs.List.{slice_index, range_with_len}
 use Rattle.logfmt.specs.Bounds.{LogValue, AreBytes}
@@ -15,7 +15,7 @@ initial_sector initial s = map (initial_byte initial s) (range_with_len 0 512)
 abbrev pub over : List ℕ → LogValue → LogValue
 over initial log = record { sectors = log.sectors; entries = log.entries; initial = initial }
 
--- so many bytes of initial content, kept in whole sectors
+-- that many bytes of initial content, kept in whole sectors
 pub record AreKept (count : ℕ) (kept : List ℕ) : Type 0 where
   pub within : count ≤ length kept
   pub whole : (n : ℕ) × (length kept ≡ 512 * n)

@@ -1,7 +1,7 @@
 -- What holds of the texts of logs as a whole: `read` and `write` lead back and forth.
 use Rattle.std.specs.Prelude.{ℕ, ◌≡◌, ◌≤◌, List, length}
-use Rattle.limits.specs.Sizes.{byte_limit}
-use Rattle.limits.specs.declared.Limits.{Limits}
+use Rattle.base.specs.Sizes.{byte_limit}
+use Rattle.base.specs.declared.limits.Limits.{Limits}
 use Rattle.base.specs.declared.causes.LogCause.{LogCause}
 use Rattle.logfmt.specs.Bounds.{LogValue, IsLog, AreRecorded}
 use Rattle.logfmt.specs.LogText.{LogText, canonical_text}

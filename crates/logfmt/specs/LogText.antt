@@ -2,7 +2,7 @@
 -- dm-log-writes). Positions are counted in sectors of 512 bytes.
 use Rattle.std.specs.Prelude.{ℕ, ◌+◌, ◌*◌, ◌-◌, ◌≡◌, ◌≤◌, List, ◌++◌, length, slice_get, Some}
 use Rattle.std.specs.List.{slice_range, flat_map}
-use Rattle.limits.specs.Sizes.{most_log_bytes}
+use Rattle.base.specs.Sizes.{most_log_bytes}
 use Rattle.base.specs.Numbers.{number_at, number_bytes, zeros}
 use Rattle.logfmt.specs.declared.entry.Entry.{Entry}
 use Rattle.logfmt.specs.Flags.{flag_word}
@@ -16,7 +16,7 @@ pub record IsSuper (bytes : List ℕ) (count : ℕ) : Type 0 where
   pub entries : number_at 8 16 bytes ≡ count
   pub sector_size : number_at 4 24 bytes ≡ 512
 
--- the entry has its header in sector p, and its data behind it
+-- the entry has its header in sector p, and its data after it
 pub record StandsAt (bytes : List ℕ) (p : ℕ) (e : Entry) : Type 0 where
   pub whole : 512 * (p + 1 + data_of e) ≤ length bytes
   pub sector : e.sector ≡ number_at 8 (512 * p) bytes
@@ -38,7 +38,7 @@ pub record LogText (bytes : List ℕ) (log : LogValue) : Type 0 where
   pub bounds : IsLog log
   pub recorded : AreRecorded log.entries
 
--- the canonical text: zeros in all unused places, nothing behind the last entry
+-- the canonical text: zeros in all unused places, nothing after the last entry
 unfoldable pub super_sector : ℕ → List ℕ
 super_sector count =
     number_bytes 8 0x6a736677736872 ++ number_bytes 8 1 ++ number_bytes 8 count ++ number_bytes 4 512 ++ zeros 484

@@ -2,7 +2,7 @@
 
 ghost use Rattle.std.specs.Prelude.{◌≡◌, ◌==◌, ◌≤◌, ◌<◌, ◌+◌, ◌*◌, ◌||◌, ◌↔◌, nat_le, if◌then◌else◌, length, IsTrue, IfOk, MatchResult, Some, None};
 ghost use Rattle.base.specs.Check.{first_failing};
-ghost use Rattle.limits.specs.Sizes.{most_log_bytes, most_sectors};
+ghost use Rattle.base.specs.Sizes.{most_log_bytes, most_sectors};
 ghost use Rattle.logfmt.specs.Faults.{entry_checks, has_mark_form};
 ghost use Rattle.logfmt.specs.Flags.{has_bit};
 ghost use Rattle.logfmt.specs.Header.{HeaderStands, HeaderFits, IsMarkHeader};
@@ -62,7 +62,7 @@ impl Header {
     }
 }
 
-/// The header in sector `at`, behind entries of `units` units, or the first cause for which it is
+/// The header in sector `at`, after entries of `units` units, or the first cause for which it is
 /// refused.
 #[tactic(auto, unfolding(crate::specs::Faults::entry_checks, crate::specs::Faults::has_mark_form))]
 pub(crate) fn checked_header(

@@ -10,10 +10,10 @@ use base::numbers::put_zeros;
 use std::alloc::{AllocError, Global};
 use std::marker::Model;
 
-/// A sector behind the end of the initial content.
+/// A sector after the end of the initial content.
 static ZEROS: [u8; SECTOR] = [0; SECTOR];
 
-/// What a device held before entry 0 of a log: its bytes from sector 0 on; behind their end there are zeros.
+/// What a device held before entry 0 of a log: its bytes from sector 0 on; after their end there are zeros.
 ///
 /// Contracts see these bytes.
 #[derive(Drop)]

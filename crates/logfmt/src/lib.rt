@@ -6,7 +6,7 @@
 //!
 //! | Call | Answer |
 //! |---|---|
-//! | `read(alloc, bytes, sectors, limits)` | the log that the bytes are, for a device of so many sectors, or the first fault |
+//! | `read(alloc, bytes, sectors, limits)` | the log that the bytes are, for a device of that many sectors, or the first fault |
 //! | `write(alloc, log)` | the canonical text of a log |
 //!
 //! A log's bytes don't say what the device held before entry 0. That is its initial content, zeros where
@@ -14,7 +14,7 @@
 //!
 //! | Call | Answer |
 //! |---|---|
-//! | `InitialContent::of(alloc, bytes)` | these bytes from sector 0 on, and zeros behind them |
+//! | `InitialContent::of(alloc, bytes)` | these bytes from sector 0 on, and zeros after them |
 //! | `log.over(initial)` | the log over that initial content |
 //! | `log.initial().sector(n)` | what a sector held, borrowed |
 //!
@@ -26,7 +26,7 @@
 //!
 //! # Place
 //!
-//! The second layer, on `base`, whose numbers in bytes and whose `LogCause` it takes, and on `limits`. `epochs` makes
+//! On `base`, whose numbers in bytes, `LogCause` and `Limits` it takes. `epochs` makes
 //! units and cuts of a log's entries, and `images` takes their contents and the initial content. What the
 //! entries do to a device is not known here (docs/CRASH-MODEL.md).
 //!
@@ -39,7 +39,7 @@
 //! - `FirstFault bytes sectors limits code at` says which check of docs/LOG-FORMAT.md is the first to fail.
 //!   It speaks of the bytes and the limits alone. Where `read` is `Err`, that is its fault, or memory ran out. Where
 //!   it is `Ok`, no check fails.
-//! - `write` gives `canonical_text`: zeros in all unused places, nothing behind the last entry.
+//! - `write` gives `canonical_text`: zeros in all unused places, nothing after the last entry.
 //! - Five laws stand above these (`specs/Laws.antt`): a text is the log text of at most one log for a
 //!   device and its initial content (`text_of_one_log`), the canonical text of a log is a log text of it
 //!   (`canonical_is_text`), so what is written reads back (`canonical_reads_back`), no log text within the
@@ -50,13 +50,13 @@
 //!
 //! `reader` goes over the bytes once, header by header. `header` makes the checks of an entry, in
 //! their order, on the numbers of its header; only then the entry's text and data are taken, each by
-//! one copy of a slice. Bytes that no field uses, and bytes behind the last entry, are not looked at.
+//! one copy of a slice. Bytes that no field uses, and bytes after the last entry, are not looked at.
 //! `writer` appends each field to one list.
 //!
 //! # Example
 //!
 //! ```
-//! use limits::Limits;
+//! use base::limits::Limits;
 //! use logfmt::{read, write};
 //!
 //! // `bytes` holds the super block and one entry that writes device sector 0

@@ -2,7 +2,7 @@
 
 ghost use Rattle.std.specs.Prelude.{true, false, ◌≡◌, ◌≤◌, ◌<◌, ◌+◌, ◌*◌, ◌⊎◌, [], length, IfOk, IfErr, IfNone, OnOk, if◌then◌else◌};
 ghost use Rattle.base.specs.Check.{first_failing};
-ghost use Rattle.limits.specs.Sizes.{byte_limit, most_log_bytes, most_sectors};
+ghost use Rattle.base.specs.Sizes.{byte_limit, most_log_bytes, most_sectors};
 ghost use Rattle.base.specs.Numbers.{number_at};
 ghost use Rattle.base.specs.declared.causes.LogCause.TheVariants as cause;
 ghost use Rattle.logfmt.specs.Bounds.{AreBytes, IsEntry, data_of};
@@ -18,8 +18,8 @@ use crate::initial::InitialContent;
 use crate::{MAGIC, VERSION};
 use base::bytes::Bytes;
 use base::causes::LogCause;
+use base::limits::Limits;
 use base::numbers::{u32_at, u64_at};
-use limits::Limits;
 use std::alloc::{AllocError, Global};
 
 /// How many entries a log may have.

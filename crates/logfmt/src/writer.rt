@@ -47,7 +47,7 @@ fn put_entry(out: &mut Vec<u8>, entry: &Entry) -> Result<(), AllocError>
     out.extend_from_slice(entry.content.as_slice())
 }
 
-/// The canonical text of a log: zeros in all unused places, nothing behind the last entry.
+/// The canonical text of a log: zeros in all unused places, nothing after the last entry.
 pub fn write(alloc: Global, log: &Log) -> Result<Vec<u8>, AllocError>
     ensures { IfOk result (λ bytes. bytes.items ≡ canonical_text log.now.entries) }
 {

@@ -1,9 +1,9 @@
--- The least device on which a log lies (docs/REPORT.md, Notes).
+-- The least device on which a log lies (docs/REFUSALS.md, Notes).
 use Rattle.std.specs.Prelude.{ℕ, ◌+◌, ◌++◌, codes, ◌==◌, ◌≡◌, ◌≤◌, if◌then◌else◌, List, slice_get, Some}
 use Rattle.std.specs.Fmt.{decimal}
 use Rattle.logfmt.specs.declared.entry.Entry.{Entry}
 
--- the sector behind the last one that an entry covers
+-- the sector after the last one that an entry covers
 abbrev pub end_of : Entry → ℕ
 end_of e = if e.count == 0 then 0 else e.sector + e.count
 
@@ -20,7 +20,7 @@ pub record IsLeastDevice (es : List Entry) (sectors : ℕ) : Type 0 where
 abbrev pub size_note : ℕ → List ℕ
 size_note sectors = codes "note: --sectors " ++ decimal sectors ++ codes " is the least that holds this log\n"
 
--- that size is said behind what was said before
+-- that size is said after what was said before
 pub record SaysLeast (es : List Entry) (before now : List ℕ) : Type 0 where
   pub sectors : ℕ
   pub least : IsLeastDevice es sectors

@@ -1,4 +1,4 @@
--- Bytes of a foreign text, on one line (docs/REPORT.md, The text of `log`).
+-- Bytes of a foreign text, on one line (docs/OUTPUT.md, The text of `log`).
 use Rattle.std.specs.Prelude.{ℕ, ◌==◌, Bool, not, ◌&&◌, nat_le, false, if◌then◌else◌, List, [], ◌∷◌, ◌++◌, codes}
 use Rattle.std.specs.List.{flat_map}
 use Rattle.std.specs.Fmt.{digits}

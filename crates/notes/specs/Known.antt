@@ -1,4 +1,4 @@
--- What is known of the registers that an instruction reads (docs/REPORT.md, Notes; docs/VERIFIER.md,
+-- What is known of the registers that an instruction reads (docs/REFUSALS.md, Notes; docs/VERIFIER.md,
 -- Abstract values).
 use Rattle.std.specs.Prelude.{ℕ, ℤ, ◌-◌, ◌==◌, ◌||◌, ◌&&◌, Bool, if◌then◌else◌, List, [], ◌++◌, codes}
 use Rattle.std.specs.Option.{option_map_or}
@@ -50,7 +50,7 @@ kind_text (Stack at) = codes "the stack, " ++ decimal (512 - at) ++ codes " belo
 kind_text (Sector x) = codes "a sector, offset " ++ decimal x.low ++ codes " to " ++ decimal x.high
 kind_text SectorOrNull = codes "a sector or 0"
 
--- what is wanted of an access of n bytes at a distance, to a region of so many
+-- what is wanted of an access of n bytes at a distance, to a region of that many
 unfoldable pub size_text : ℕ → List ℕ
 size_text n = codes "; an access of size " ++ decimal n ++ codes " at "
 

@@ -1,4 +1,4 @@
--- The line of a note (docs/REPORT.md, Notes).
+-- The line of a note (docs/REFUSALS.md, Notes).
 use Rattle.std.specs.Prelude.{ℕ, List, [], ◌∷◌, ◌++◌, codes}
 
 abbrev pub note_line : List ℕ → List ℕ

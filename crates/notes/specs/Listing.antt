@@ -1,4 +1,4 @@
--- Instructions with the numbers of their slots (docs/REPORT.md, The other commands and Notes).
+-- Instructions with the numbers of their slots (docs/OUTPUT.md, The other texts; docs/REFUSALS.md, Notes).
 use Rattle.std.specs.Prelude.{ℕ, List, [], ◌++◌, length, codes, Option, None, Some}
 use Rattle.std.specs.List.{flat_map, range_with_len}
 use Rattle.std.specs.Fmt.{decimal}
@@ -6,7 +6,7 @@ use Rattle.bpf_isa.specs.declared.instr.Instr.{Instr}
 use Rattle.bpf_isa.specs.Slots.{at}
 use Rattle.bpf_asm.specs.Listing.{line_text}
 
--- the line of the listing, behind the number of the slot
+-- the line of the listing, after the number of the slot
 abbrev pub numbered_line : ℕ → Instr → List ℕ
 numbered_line slot i = decimal slot ++ codes ": " ++ line_text i ++ codes "\n"
 

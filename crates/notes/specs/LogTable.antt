@@ -1,4 +1,4 @@
--- A log as a table, an entry a line (docs/REPORT.md, The text of `log`).
+-- A log as a table, an entry a line (docs/OUTPUT.md, The text of `log`).
 use Rattle.std.specs.Prelude.{ℕ, ◌==◌, Bool, not, ◌&&◌, nat_lt, if◌then◌else◌, List, [], ◌++◌, length, codes, slice_get}
 use Rattle.std.specs.List.{flat_map, range_with_len}
 use Rattle.std.specs.Option.{option_map_or}

@@ -1,13 +1,13 @@
 //! The device of a log.
 
 ghost use Rattle.std.specs.Prelude.{◌≡◌, ◌++◌, ◌≤◌, ◌<◌, ◌+◌, ◌⊎◌, OnOk, string_bytes};
-ghost use Rattle.limits.specs.Sizes.{most_sectors};
+ghost use Rattle.base.specs.Sizes.{most_sectors};
 ghost use Rattle.notes.specs.Device.{end_of, IsLeastDevice, size_note, SaysLeast};
 
 use logfmt::{Entry, Log};
 use std::alloc::AllocError;
 
-/// The sector behind the last one that an entry covers; 0 where it covers none.
+/// The sector after the last one that an entry covers; 0 where it covers none.
 fn end_of(entry: &Entry) -> u64
     requires { 0 < entry.now.count → entry.now.sector + entry.now.count ≤ most_sectors }
     ensures { result ≡ end_of entry.now }

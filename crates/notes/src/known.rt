@@ -110,7 +110,7 @@ fn put_room(out: &mut String, room: u64) -> Result<(), AllocError>
     write!(out, " has to lie within its {room}")
 }
 
-/// Appends that an access has to lie within a region of so many bytes.
+/// Appends that an access has to lie within a region of that many bytes.
 fn put_within(out: &mut String, room: u64, distance: i16, bytes: u64) -> Result<(), AllocError>
     ensures { OnOk result (string_bytes out.new ≡ string_bytes out.old ++ within_text room distance bytes) }
 {

@@ -1,14 +1,24 @@
 //! What is said of programs and logs beside an answer or a refusal: a listing with its slots, a log as a table, and the
-//! parts of notes (docs/REPORT.md, Notes).
+//! parts of notes (docs/REFUSALS.md, Notes).
+//!
+//! | Module | Has |
+//! |---|---|
+//! | `command_notes` | which notes stand after a refusal of a command, and beside its answer |
+//! | `listing`, `table` | a listing with its slots; a log as a table |
+//! | `known`, `device` | what is known of registers; the least device that holds a log |
+//! | `line`, `cures`, `escaped` | a line of a note, what most likely helps against a refusal, and bytes of a foreign text |
 //!
 //! # Place
 //!
-//! On `logfmt` and `epochs`, whose logs it shows, on `bpf_isa` and `bpf_asm`, whose instructions it writes as the
-//! assembler does, and on `ranges`, whose states it puts into words. `commands` chooses which notes are said. No rule of a log or a program is known here but in words.
+//! On `logfmt` and `epochs`, whose logs it shows, on `bpf_isa` and `bpf_asm`, whose instructions it writes as the assembler does, and
+//! on `ranges`, whose states it puts into words. `command_notes` chooses which notes are said of a command: of its `Words`
+//! (`command_line`), what its files hold, and what it found on its way (`Facts` of `request`). No log that a command read is read again,
+//! and no program is decoded or verified again. `commands` hands both calls to the program, whose status and standard output they don't
+//! touch. No rule of a log or a program is known here but in words.
 //!
 //! | Call | Says |
 //! |---|---|
-//! | `numbered_listing(alloc, program)` | the listing, each line behind its slot |
+//! | `numbered_listing(alloc, program)` | the listing, each line after its slot |
 //! | `put_slot(out, slot, instr)` | a line of it |
 //! | `log_table(alloc, log)` | the entries of a log, one a line, by the numbers that the report names |
 //! | `put_note(out, text)` | one line of a note |
@@ -20,11 +30,27 @@
 //! | `put_escaped(out, bytes)` | bytes of a foreign text, so that they stay on their line |
 //! | `log_cure`, `code_cure`, `asm_cure`, `verifier_cure`, `guarded_cure` | what most likely helps against a refusal; what it means is the text of its cause |
 //!
+//! Of `command_notes`:
+//!
+//! | Call | Answers |
+//! |---|---|
+//! | `notes_behind(alloc, words, files, refusal, facts)` | what the number of a refusal means there, the instruction, entry, option or file that is meant, and what most likely helps |
+//! | `notes_beside(alloc, words, facts)` | beside an answer: what no run of a program reaches, which programs pass without looking at what the log writes, which marks promise what nothing made durable, how many writes never depart as a whole, and how many entries with FUA aren't torn |
+//!
 //! # What is proved
 //!
 //! Each call answers or appends exactly the text of its definition over the value that it is given (`specs/`), and
 //! `put_least` the least size on which each entry lies. The sentences of `cures` have no clause: tests of the program have
 //! a row for each.
+//!
+//! ## `command_notes`
+//!
+//! Which notes are said is no part of a contract; the texts of their parts are proved. The note of what no
+//! run reaches is exactly that of `specs/Unreached.antt`: how many instructions of an accepted program no run reaches, and
+//! the slot of the first, as `unreached_of` of `verifier` answers them. That of programs that look at nothing of what a log writes is
+//! that of `specs/Blind.antt`, with the numbers of those of which `runs` found it. Those of marks and of FUA are those of
+//! `specs/Promises.antt` and `specs/Forced.antt`, with what `request` found of the log. Runs of the built program have a row for each
+//! note.
 //!
 //! # Example
 //!
@@ -36,8 +62,21 @@
 //! let table = log_table(alloc, &log)?;
 //! // "entry 0 epoch 0 write sector 3 count 1\nentry 1 epoch 0 mark text \"one\"\n"
 //! ```
+//!
+//! The notes of a command:
+//!
+//! ```
+//! use notes::command_notes::{notes_behind, notes_beside};
+//!
+//! // the words asked for a bound of 4, which was refused
+//! let after = notes_behind(alloc, &words, files, &refusal, &facts)?;
+//! // note: --bound is 0 to 3
+//! let beside = notes_beside(alloc, &words, &facts)?;
+//! // of another run, beside its answer
+//! ```
 #![tactic(auto)]
 
+pub mod command_notes;
 mod cures;
 mod device;
 mod escaped;

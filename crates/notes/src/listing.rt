@@ -27,7 +27,7 @@ pub fn put_slot(out: &mut String, slot: usize, instr: Option<Instr>) -> Result<(
     put_numbered(out, slot, &instr)
 }
 
-/// The listing of a program, each line behind the number of its slot. A 64-bit immediate takes two slots.
+/// The listing of a program, each line after the number of its slot. A 64-bit immediate takes two slots.
 pub fn numbered_listing(alloc: Global, program: &Program) -> Result<String, AllocError>
     ensures { IfOk result (λ text. string_bytes text ≡ numbered_listing program.now) }
 {

@@ -9,6 +9,9 @@ pub mod Loading
 pub mod Agreeing
 pub mod Places
 pub mod Guards
-pub mod Runs
+pub mod Placed
 pub mod Footprints
+pub mod Runs
+pub mod Steps
+pub mod Noted
 pub mod GuardedRuns

@@ -6,6 +6,7 @@ pub mod Callers
 pub mod Blocks
 pub mod Steps
 pub mod Reads
-pub mod Runs
 pub mod Guarded
 pub mod Guards
+pub mod Runs
+pub mod Laws

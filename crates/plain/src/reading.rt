@@ -1,7 +1,10 @@
-//! At which sectors a step looks (docs/MACHINE.md, Footprint).
+//! At which sectors a step looks (docs/MACHINE.md, Footprint). A load and a call of a helper note it, before they are made, and
+//! no other step does.
 
-ghost use Rattle.std.specs.Prelude.{◌≡◌, ◌<◌, ◌≤◌};
-ghost use Rattle.helpers.specs.Footprint.{footprint_after, on_device, sectors_at};
+ghost use Rattle.std.specs.Prelude.{◌≡◌, ◌<◌, ◌≤◌, []};
+ghost use Rattle.std.specs.Option.{option_map_or};
+ghost use Rattle.helpers.specs.Footprint.{footprint_after, footprint_with, on_device, sectors_at};
+ghost use Rattle.helpers.specs.Helper.{helper_of};
 ghost use Rattle.machine.specs.Memory.{byte_count};
 ghost use Rattle.plain.specs.Reads.{plain_call_reads, record_reads};
 ghost use Rattle.plain.specs.Steps.{plain_address};
@@ -24,6 +27,77 @@ pub(crate) fn bytes_of(size: Size) -> u8
         Size::Half => 2,
         Size::Word => 4,
         Size::Double => 8,
+    }
+}
+
+/// Notes a sector.
+#[inline(never)]
+fn note_number<const ROOM: usize>(footprint: &mut Footprint<ROOM>, number: u32)
+    ensures { footprint.new ≡ footprint_with footprint.old number }
+{
+    footprint.note(number);
+}
+
+/// The same. Where nothing more is kept it does nothing.
+#[inline(always)]
+#[tactic(auto, using(crate::proofs::Noted::none_with))]
+pub(crate) fn note_sector<const ROOM: usize>(footprint: &mut Footprint<ROOM>, number: u32)
+    ensures { footprint.new ≡ footprint_with footprint.old number }
+{
+    if footprint.keeps() {
+        note_number(footprint, number);
+    }
+}
+
+/// No access from an address below this one has a byte in a sector: it has at most eight.
+const FIRST_NEAR: u64 = 0x2_FFFF_FFF8;
+
+/// Notes at which sectors that many bytes from an address on lie.
+#[inline(never)]
+fn note_bytes<D: Device, const ROOM: usize>(
+    footprint: &mut Footprint<ROOM>,
+    device: &D,
+    address: u64,
+    count: u8,
+)
+    requires { 0 < count }
+    ensures { footprint.new ≡ footprint_after footprint.old (on_device (D.content device.now) (sectors_at address count)) }
+{
+    footprint.look_from(device, address, count);
+}
+
+/// The same. Where nothing more is kept it does nothing.
+#[inline(always)]
+#[tactic(auto, using(helpers::proofs::CallerLemmas::nothing_noted))]
+fn note_kept<D: Device, const ROOM: usize>(
+    footprint: &mut Footprint<ROOM>,
+    device: &D,
+    address: u64,
+    count: u8,
+)
+    requires { 0 < count }
+    ensures { footprint.new ≡ footprint_after footprint.old (on_device (D.content device.now) (sectors_at address count)) }
+{
+    if footprint.keeps() {
+        note_bytes(footprint, device, address, count);
+    }
+}
+
+/// The same. An access to the context or a stack is one test.
+#[inline(always)]
+#[tactic(auto, using(crate::proofs::Noted::none_near))]
+pub(crate) fn note_from<D: Device, const ROOM: usize>(
+    footprint: &mut Footprint<ROOM>,
+    device: &D,
+    address: u64,
+    count: u8,
+)
+    requires some { 0 < count }
+    requires few { count ≤ 8 }
+    ensures { footprint.new ≡ footprint_after footprint.old (on_device (D.content device.now) (sectors_at address count)) }
+{
+    if address >= FIRST_NEAR {
+        note_kept(footprint, device, address, count);
     }
 }
 
@@ -53,7 +127,39 @@ impl<const COUNTS: usize, const CALLED: usize> Machine<COUNTS, CALLED> {
         }
     }
 
+    /// Notes at which sectors the helper of a number looks.
+    #[inline(never)]
+    fn note_helper<D: Device, const ROOM: usize>(
+        &self,
+        footprint: &mut Footprint<ROOM>,
+        device: &D,
+        number: u32,
+    )
+        ensures { footprint.new ≡ footprint_after footprint.old (option_map_or (plain_call_reads (D.content device.now) self.now) (helper_of number) []) }
+    {
+        if let Some(helper) = Helper::of(number) {
+            self.note_call(footprint, device, helper);
+        }
+    }
+
+    /// The same. Where nothing more is kept it does nothing.
+    #[inline(always)]
+    #[tactic(auto, using(helpers::proofs::CallerLemmas::nothing_noted))]
+    pub(crate) fn note_numbered<D: Device, const ROOM: usize>(
+        &self,
+        footprint: &mut Footprint<ROOM>,
+        device: &D,
+        number: u32,
+    )
+        ensures { footprint.new ≡ footprint_after footprint.old (option_map_or (plain_call_reads (D.content device.now) self.now) (helper_of number) []) }
+    {
+        if footprint.keeps() {
+            self.note_helper(footprint, device, number);
+        }
+    }
+
     /// Notes at which sectors a load looks.
+    #[inline(always)]
     fn note_load<D: Device, const ROOM: usize>(
         &self,
         footprint: &mut Footprint<ROOM>,
@@ -64,29 +170,13 @@ impl<const COUNTS: usize, const CALLED: usize> Machine<COUNTS, CALLED> {
         ensures { footprint.new ≡ footprint_after footprint.old (on_device (D.content device.now) (sectors_at (plain_address self.now ready.now.src ready.now.offset) (byte_count size))) }
     {
         let address = self.address(ready.src, ready.offset);
-        footprint.look_from(device, address, bytes_of(size));
+        note_from(footprint, device, address, bytes_of(size));
     }
 
-    /// Notes at which sectors the step of a record looks. Without room it does nothing.
-    #[inline(always)]
-    #[tactic(auto, using(helpers::proofs::CallerLemmas::nothing_noted))]
-    pub(crate) fn note<D: Device, const ROOM: usize>(
-        &self,
-        footprint: &mut Footprint<ROOM>,
-        device: &D,
-        ready: &Ready,
-    )
-        ensures { footprint.new ≡ footprint_after footprint.old (record_reads (D.content device.now) self.now ready.now) }
-    {
-        if footprint.keeps() {
-            self.note_record(footprint, device, ready);
-        }
-    }
-
-    /// The same.
+    /// Notes at which sectors the step of a record looks, which isn't made.
     #[inline(never)]
     #[tactic(auto, unfolding(crate::specs::Reads::plain_reads))]
-    fn note_record<D: Device, const ROOM: usize>(
+    pub(crate) fn note<D: Device, const ROOM: usize>(
         &self,
         footprint: &mut Footprint<ROOM>,
         device: &D,
@@ -96,9 +186,8 @@ impl<const COUNTS: usize, const CALLED: usize> Machine<COUNTS, CALLED> {
     {
         match ready.code {
             CallHelper => {
-                if let Some(helper) = Helper::of((ready.immediate % 0x1_0000_0000) as u32) {
-                    self.note_call(footprint, device, helper);
-                }
+                let number = (ready.immediate % 0x1_0000_0000) as u32;
+                self.note_helper(footprint, device, number);
             }
             LoadByte => self.note_load(footprint, device, ready, Size::Byte),
             LoadHalf => self.note_load(footprint, device, ready, Size::Half),

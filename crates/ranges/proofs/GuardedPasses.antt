@@ -1,5 +1,5 @@
 -- What is passed on with guards: states, and smaller ones where a larger state breaks no rule with guards.
-use Rattle.std.proofs.Common.{◌≡◌, ℕ, zero, suc, ◌+◌, ◌/◌, ◌<◌, ◌==◌, not, ◌&&◌, ◌||◌, Bool, true, false, if◌then◌else◌, List, [], ◌∷◌, length, get_or, replicate, is_some, Option, None, Some, ℤ, pos, refl, sym, ◌∙◌, inl, inr, arith}
+use Rattle.std.proofs.Common.{◌≡◌, ℕ, zero, suc, ◌+◌, ◌/◌, ◌<◌, ◌==◌, not, ◌&&◌, ◌||◌, Bool, true, false, if◌then◌else◌, List, [], ◌∷◌, length, get_or, replicate, is_some, Option, None, Some, ℤ, pos, refl, sym, ◌∙◌, inl, inr, arith, ◌^◌}
 use Rattle.std.specs.Prelude.{set}
 use Rattle.std.specs.Option.{option_map, option_map_or}
 use Rattle.std.specs.Int.{cast_unsigned, w32}
@@ -36,20 +36,20 @@ use Rattle.ranges.specs.Kinds.{Kind, Unset, Word, Num, Ctx, Stack, Sector, Secto
 use Rattle.ranges.specs.Groups.{GroupKind, Marked, Spilled, unset_marks, map_places}
 use Rattle.ranges.specs.States.{Abstract, unset_groups, start}
 use Rattle.ranges.specs.Pointers.{moved_place, moved_offsets, moved_pointer}
-use Rattle.ranges.specs.Reading.{value, second, with_value, with_groups, words, any_word, are_set, has_length}
+use Rattle.ranges.specs.Reading.{value, second, with_value, with_groups, words, any_word, are_set, has_length, are_words}
 use Rattle.ranges.specs.Places.{place_of, is_inside, is_group}
-use Rattle.ranges.specs.Rules.{compares, is_null_test, is_wide, is_equality, is_zero, may_be_null, call_rules, rules, length_of}
-use Rattle.ranges.specs.Passing.{edge_of, with_both, tested_kind, is_equal_edge, passed_state, passes}
-use Rattle.ranges.specs.After.{number_result, result_kind, context_word, any_of, group_value, loaded_kind, is_touched, marks_after, group_after, groups_after_write, written_at, stored_groups, answer_kind, after_answer, copied_state, call_after, load_after, store_after, after_of}
+use Rattle.ranges.specs.Rules.{compares, is_null_test, is_wide, is_equality, is_zero, may_be_null, call_rules, rules, length_of, guarded_rules, rules_with}
+use Rattle.ranges.specs.Passing.{edge_of, with_both, tested_kind, is_equal_edge, passed_state, passes, edge_with, passed_with}
+use Rattle.ranges.specs.After.{number_result, result_kind, context_word, any_of, group_value, loaded_kind, is_touched, marks_after, group_after, groups_after_write, written_at, stored_groups, answer_kind, after_answer, copied_state, call_after, load_after, store_after, after_with, call_with, loosely_loaded, group_forgotten, groups_forgotten, loosely_stored}
 use Rattle.ranges.specs.Order.{Under, IsWord, GroupUnder, EachUnder, StateUnder, IsGroup, Each, IsState, Holds, EdgeUnder, SentUnder}
-use Rattle.ranges.specs.Guards.{are_words, guarded_call_rules, guarded_rules, loosely_loaded, group_forgotten, groups_forgotten, loosely_stored, loosely_called, loose_after, loosely_passed, passed_with_guards, GuardedPassesAreMonotone, GuardedPassesFit}
+use Rattle.ranges.specs.Guards.{GuardedPassesAreMonotone, GuardedPassesFit, breaks_rule}
 use Rattle.ranges.proofs.Chains.{under_self, under_chain}
 use Rattle.ranges.proofs.Covering.{marks_unset, marks_refl}
 use Rattle.ranges.proofs.Fitting.{start_fits}
-use Rattle.ranges.proofs.Keeping.{holds_or, value_fits, second_fits, words_fit, with_value_fits, any_of_fits, any_word_fits, answer_fits, answered_fits, with_groups_fits, written_fits, stored_fits}
+use Rattle.ranges.proofs.Keeping.{holds_or, value_fits, second_fits, words_fit, with_value_fits, any_of_fits, any_word_fits, answer_fits, answered_fits, with_groups_fits, written_fits, stored_fits, edge_fits, after_fits}
 use Rattle.ranges.proofs.Smaller.{and_left, and_right, value_under, with_value_under, second_under}
 use Rattle.ranges.proofs.SmallerRules.{length_under, place_under, rules_mono}
-use Rattle.ranges.proofs.SmallerStates.{first_check, two_tell, some_bytes, answered_under, with_groups_under, sent_under, both_under, passes_mono, passes_fit}
+use Rattle.ranges.proofs.SmallerStates.{first_check, two_tell, some_bytes, answered_under, with_groups_under, sent_under, both_under, after_mono, passes_mono, passed_fit}
 use Rattle.ranges.proofs.GuardedRules.{set_under}
 
 -- groups that are forgotten
@@ -143,7 +143,7 @@ stored_below k gs hs at n a u = by_test (not (is_unknown k)) (is_group at n) ref
     by_test true false e = written_below at n 0 gs hs u
     by_test false c e = written_below at n 0 gs hs u
 
--- the groups behind a store or a copy, where the larger state breaks a rule; x is what the smaller one is left with
+-- the groups after a store or a copy, where the larger state breaks a rule; x is what the smaller one is left with
 forgotten_place : (x gs hs : List GroupKind) (p q : Place) (n : ℕ) → Each IsGroup x → length x ≡ 64 → (is_inside q ≡ true → p ≡ q)
     → ((at : ℕ) → p ≡ place.Stack at → EachUnder GroupUnder x (map_places (group_forgotten at n) 0 hs)) → EachUnder GroupUnder x (groups_forgotten hs q n)
 unfolding groups_forgotten
@@ -322,8 +322,8 @@ loose_load_fits s dst size.Byte a = with_value_fits s dst (any_of 1) (any_of_fit
 loose_load_fits s dst size.Half a = with_value_fits s dst (any_of 2) (any_of_fits size.Half) a
 loose_load_fits s dst size.Word a = with_value_fits s dst (any_of 4) (any_of_fits size.Word) a
 
-loose_call_fits : (s : Abstract) (h : Helper) → IsState s → IsState (loosely_called s h)
-unfolding loosely_called
+loose_call_fits : (s : Abstract) (h : Helper) → IsState s → IsState (call_with true s h)
+unfolding call_with
 loose_call_fits s helper.Copy a =
     answered_fits (loosely_stored s 2 (pos 0) (length_of (value s 3))) (answer_kind helper.Copy) (answer_fits helper.Copy)
     (loose_fits s (place_of (value s 2) (pos 0) (length_of (value s 3))) (length_of (value s 3)) a)
@@ -334,41 +334,34 @@ loose_call_fits s helper.Zero a = answered_fits s (answer_kind helper.Zero) (ans
 loose_call_fits s helper.Mix a = answered_fits s (answer_kind helper.Mix) (answer_fits helper.Mix) a
 loose_call_fits s helper.Same a = answered_fits s (answer_kind helper.Same) (answer_fits helper.Same) a
 
-loose_after_fits : (s : Abstract) (i : Instr) → IsState s → IsState (loose_after s i)
-unfolding loose_after
-loose_after_fits s (instr.Arithmetic w o dst from) a = with_value_fits s dst Word tt a
-loose_after_fits s (instr.Negate w dst) a = with_value_fits s dst Word tt a
-loose_after_fits s (instr.SignExtend x dst src) a = with_value_fits s dst Word tt a
-loose_after_fits s (instr.ByteOrder o n dst) a = with_value_fits s dst Word tt a
-loose_after_fits s (instr.Load n dst base distance) a = loose_load_fits s dst n a
-loose_after_fits s (instr.LoadSigned n dst base distance) a = with_value_fits s dst (Num any_word) any_word_fits a
-loose_after_fits s (instr.StoreImmediate n base distance x) a = loose_fits s (place_of (value s base) distance (byte_count n)) (byte_count n) a
-loose_after_fits s (instr.Store n base distance src) a = loose_fits s (place_of (value s base) distance (byte_count n)) (byte_count n) a
-loose_after_fits s (instr.CallHelper number) a = by_helper (helper_of (cast_unsigned w32 number))
+pub after_with_fits : (loose : Bool) (sectors : ℕ) (s : Abstract) (i : Instr) → sectors < 2 ^ 64 → IsInRange i → IsState s → Holds IsState (after_with loose sectors s i)
+unfolding after_with
+after_with_fits false sectors s i h r a = after_fits sectors s i h r a
+after_with_fits true sectors s (instr.Arithmetic w o dst from) h r a = with_value_fits s dst Word tt a
+after_with_fits true sectors s (instr.Negate w dst) h r a = with_value_fits s dst Word tt a
+after_with_fits true sectors s (instr.SignExtend x dst src) h r a = with_value_fits s dst Word tt a
+after_with_fits true sectors s (instr.ByteOrder o n dst) h r a = with_value_fits s dst Word tt a
+after_with_fits true sectors s (instr.Load n dst base distance) h r a = loose_load_fits s dst n a
+after_with_fits true sectors s (instr.StoreImmediate n base distance x) h r a = loose_fits s (place_of (value s base) distance (byte_count n)) (byte_count n) a
+after_with_fits true sectors s (instr.Store n base distance src) h r a = loose_fits s (place_of (value s base) distance (byte_count n)) (byte_count n) a
+after_with_fits true sectors s (instr.CallHelper number) h r a = by_helper (helper_of (cast_unsigned w32 number))
   where
-    by_helper : (m : Option Helper) → IsState (option_map_or (loosely_called s) m s)
-    by_helper None = a
-    by_helper (Some h) = loose_call_fits s h a
-loose_after_fits s (instr.Branch w c dst from distance) a = a
-loose_after_fits s (instr.Jump distance) a = a
-loose_after_fits s (instr.LongJump distance) a = a
-loose_after_fits s (instr.CallLocal distance) a = a
-loose_after_fits s (instr.LoadImmediate dst x) a = a
-loose_after_fits s instr.Exit a = a
+    by_helper : (m : Option Helper) → IsState (option_map_or (call_with true s) m (after_answer s (Num any_word)))
+    by_helper None = answered_fits s (Num any_word) any_word_fits a
+    by_helper (Some x) = loose_call_fits s x a
+after_with_fits true sectors s i h r a = after_fits sectors s i h r a
 
-loosely_passed_fit : (s : Abstract) (slot : ℕ) (i : Instr) → IsState s → Each (λ p. IsState p.1) (loosely_passed s slot i)
-unfolding loosely_passed
-loosely_passed_fit s slot (instr.Branch w c dst from distance) a = (a, (a, tt))
-loosely_passed_fit s slot instr.Exit a = tt
-loosely_passed_fit s slot i a = (loose_after_fits s i a, tt)
+pub edge_with_fits : (loose : Bool) (s : Abstract) (i : Instr) (taken : Bool) → IsInRange i → IsState s → Holds IsState (edge_with loose s i taken)
+unfolding edge_with
+edge_with_fits false s i taken r a = edge_fits s i taken r a
+edge_with_fits true s (instr.Branch w c dst from distance) taken r a = a
+edge_with_fits true s i taken r a = a
+
+pub passed_with_fits : (loose : Bool) (sectors slot : ℕ) (s : Abstract) (i : Instr) → sectors < 2 ^ 64 → IsInRange i → IsState s → Each (λ p. IsState p.1) (passed_with loose sectors s slot i)
+passed_with_fits loose sectors slot s i h r a = passed_fit loose sectors slot s i a (after_with_fits loose sectors s i h r a) (λ taken. edge_with_fits loose s i taken r a)
 
 pub guarded_passes_fit : GuardedPassesFit
-unfolding passed_with_guards
-guarded_passes_fit sectors slot s i h r a = by_rule (is_some (first_failing (rules s i)))
-  where
-    by_rule : (b : Bool) → Each (λ p. IsState p.1) (if b then loosely_passed s slot i else passes sectors s slot i)
-    by_rule true = loosely_passed_fit s slot i a
-    by_rule false = passes_fit sectors slot s i h r a
+guarded_passes_fit sectors slot s i h r a = passed_with_fits (breaks_rule s i) sectors slot s i h r a
 
 -- the edges of a conditional jump, where the larger state tests no numbers
 
@@ -422,7 +415,7 @@ no_null w c from k l e f =
 
 edge_below : (s t : Abstract) (w : Width) (c : Condition) (dst : ℕ) (from : Source) (distance : ℤ) (taken : Bool) → IsSourceInRange from → IsState s → StateUnder s t
     → compares s w c dst from ≡ true → compares t w c dst from ≡ false → EdgeUnder (edge_of s (instr.Branch w c dst from distance) taken) (Some t)
-unfolding edge_of compares
+unfolding edge_with compares
 edge_below s t w c dst from distance taken r a u ok broken = by_test (is_null_test w c from (value s dst)) refl ok
   where
     no_test : is_null_test w c from (value t dst) ≡ false
@@ -477,9 +470,9 @@ copied_state_below s t a u long fits =
         (with_groups_under s t (written_at s.groups (place_of (value s 2) (pos 0) n) n) (groups_forgotten t.groups (place_of (value t 2) (pos 0) n) n)
         (copied_below s t (place_of (value s 2) (pos 0) n) (place_of (value t 2) (pos 0) n) n fits u (same_place s t 2 (pos 0) n a u)) u)
 
-kept_call : (s t : Abstract) (h : Helper) → IsState s → StateUnder s t → first_failing (guarded_call_rules t h) ≡ None → IsState (copied_state s)
-    → StateUnder (call_after s h) (loosely_called t h)
-unfolding guarded_call_rules call_after loosely_called
+kept_call : (s t : Abstract) (h : Helper) → IsState s → StateUnder s t → first_failing (call_rules true t h) ≡ None → IsState (copied_state s)
+    → StateUnder (call_after s h) (call_with true t h)
+unfolding call_rules call_with
 kept_call s t helper.Copy a u g fits =
     let long : has_length (value t 3) ≡ true = (two_tell cause.UnsetRegister cause.HelperArgument (are_words t (1 ∷ 2 ∷ 3 ∷ [])) (has_length (value t 3)) g).1 in
     answered_under (copied_state s) (loosely_stored t 2 (pos 0) (length_of (value t 3))) (answer_kind helper.Copy) (copied_state_below s t a u long fits)
@@ -529,8 +522,8 @@ no_rule : (why : VerifierCause) → None ≡ Some why → ⊥
 no_rule why e = cc
 
 kept_below : (sectors slot : ℕ) (s t : Abstract) (i : Instr) (why : VerifierCause) → IsInRange i → IsState s → StateUnder s t → first_failing (guarded_rules t i) ≡ None
-    → first_failing (rules s i) ≡ None → first_failing (rules t i) ≡ Some why → SentUnder (passes sectors s slot i) (loosely_passed t slot i)
-unfolding passes loosely_passed after_of loose_after rules guarded_rules IsInRange
+    → first_failing (rules s i) ≡ None → first_failing (rules t i) ≡ Some why → SentUnder (passes sectors s slot i) (passed_with true sectors t slot i)
+unfolding passed_with after_with edge_with rules_with IsInRange
 kept_below sectors slot s t (instr.Arithmetic w o dst from) why r a u g e f =
     let told : are_words t (operands o dst from) ≡ true = (first_check cause.UnsetRegister (are_words t (operands o dst from)) [] g).0 in
     let there : IsWord (second s from) = unset_word (second s from) (set_under (second s from) (second t from) (second_under s t from u) (source_word t o dst from told)) in
@@ -556,11 +549,11 @@ kept_below sectors slot s t (instr.Branch w c dst from distance) why r a u g e f
     (sent_one (target_slot slot distance) (edge_of s (instr.Branch w c dst from distance) true) t (edge_below s t w c dst from distance true r.1 a u ok broken))
 kept_below sectors slot s t (instr.CallHelper number) why r a u g e f = by_helper (helper_of (cast_unsigned w32 number)) g f
   where
-    by_helper : (m : Option Helper) → first_failing (option_map_or (guarded_call_rules t) m []) ≡ None → first_failing (option_map_or (call_rules t) m []) ≡ Some why
-        → SentUnder (passed_state (slot + 1) (Some (option_map_or (call_after s) m (after_answer s (Num any_word))))) ((slot + 1, option_map_or (loosely_called t) m t) ∷ [])
+    by_helper : (m : Option Helper) → first_failing (option_map_or (call_rules true t) m []) ≡ None → first_failing (option_map_or (call_rules false t) m []) ≡ Some why
+        → SentUnder (passed_state (slot + 1) (Some (option_map_or (call_after s) m (after_answer s (Num any_word))))) ((slot + 1, option_map_or (call_with true t) m (after_answer t (Num any_word))) ∷ [])
     by_helper None g f = absurd (no_rule why f)
     by_helper (Some h) g f =
-        sent_one (slot + 1) (Some (call_after s h)) (loosely_called t h)
+        sent_one (slot + 1) (Some (call_after s h)) (call_with true t h)
         (kept_call s t h a u g (written_fits s (place_of (value s 2) (pos 0) (length_of (value s 3))) (length_of (value s 3)) a))
 kept_below sectors slot s t (instr.CallLocal distance) why r a u g e f = absurd (no_rule why f)
 kept_below sectors slot s t instr.Exit why r a u g e f = tt
@@ -581,8 +574,8 @@ kept_below sectors slot s t (instr.LoadImmediate dst x) why r a u g e f = absurd
 
 -- where both break a rule
 
-loose_call : (s t : Abstract) (h : Helper) → IsState s → StateUnder s t → first_failing (guarded_call_rules t h) ≡ None → StateUnder (loosely_called s h) (loosely_called t h)
-unfolding guarded_call_rules loosely_called
+loose_call : (s t : Abstract) (h : Helper) → IsState s → StateUnder s t → first_failing (call_rules true t h) ≡ None → StateUnder (call_with true s h) (call_with true t h)
+unfolding call_rules call_with
 loose_call s t helper.Copy a u g =
     let long : has_length (value t 3) ≡ true = (two_tell cause.UnsetRegister cause.HelperArgument (are_words t (1 ∷ 2 ∷ 3 ∷ [])) (has_length (value t 3)) g).1 in
     let same : length_of (value s 3) ≡ length_of (value t 3) = (length_under (value s 3) (value t 3) (value_fits s 3 a) (value_under s t 3 u) long).1 in
@@ -598,46 +591,49 @@ loose_call s t helper.Zero a u g = answered_under s t (answer_kind helper.Zero) 
 loose_call s t helper.Mix a u g = answered_under s t (answer_kind helper.Mix) u
 loose_call s t helper.Same a u g = answered_under s t (answer_kind helper.Same) u
 
-loose_after_under : (s t : Abstract) (i : Instr) → IsState s → StateUnder s t → first_failing (guarded_rules t i) ≡ None → StateUnder (loose_after s i) (loose_after t i)
-unfolding loose_after guarded_rules
-loose_after_under s t (instr.Arithmetic w o dst from) a u g = with_value_under s t dst Word Word tt u
-loose_after_under s t (instr.Negate w dst) a u g = with_value_under s t dst Word Word tt u
-loose_after_under s t (instr.SignExtend x dst src) a u g = with_value_under s t dst Word Word tt u
-loose_after_under s t (instr.ByteOrder o n dst) a u g = with_value_under s t dst Word Word tt u
-loose_after_under s t (instr.Load n dst base distance) a u g = with_value_under s t dst (loosely_loaded n) (loosely_loaded n) (loose_load n) u
-loose_after_under s t (instr.LoadSigned n dst base distance) a u g = with_value_under s t dst (Num any_word) (Num any_word) (under_self (Num any_word)) u
-loose_after_under s t (instr.StoreImmediate n base distance x) a u g =
+loose_after_under : (sectors : ℕ) (s t : Abstract) (i : Instr) → IsInRange i → IsState s → IsState t → StateUnder s t → first_failing (guarded_rules t i) ≡ None
+    → EdgeUnder (after_with true sectors s i) (after_with true sectors t i)
+unfolding after_with rules_with
+loose_after_under sectors s t (instr.Arithmetic w o dst from) r a b u g = with_value_under s t dst Word Word tt u
+loose_after_under sectors s t (instr.Negate w dst) r a b u g = with_value_under s t dst Word Word tt u
+loose_after_under sectors s t (instr.SignExtend x dst src) r a b u g = with_value_under s t dst Word Word tt u
+loose_after_under sectors s t (instr.ByteOrder o n dst) r a b u g = with_value_under s t dst Word Word tt u
+loose_after_under sectors s t (instr.Load n dst base distance) r a b u g = with_value_under s t dst (loosely_loaded n) (loosely_loaded n) (loose_load n) u
+loose_after_under sectors s t (instr.LoadSigned n dst base distance) r a b u g = with_value_under s t dst (Num any_word) (Num any_word) (under_self (Num any_word)) u
+loose_after_under sectors s t (instr.StoreImmediate n base distance x) r a b u g =
     loose_store s t base distance (byte_count n) a u (loose_fits s (place_of (value s base) distance (byte_count n)) (byte_count n) a)
-loose_after_under s t (instr.Store n base distance src) a u g =
+loose_after_under sectors s t (instr.Store n base distance src) r a b u g =
     loose_store s t base distance (byte_count n) a u (loose_fits s (place_of (value s base) distance (byte_count n)) (byte_count n) a)
-loose_after_under s t (instr.CallHelper number) a u g = by_helper (helper_of (cast_unsigned w32 number)) g
+loose_after_under sectors s t (instr.CallHelper number) r a b u g = by_helper (helper_of (cast_unsigned w32 number)) g
   where
-    by_helper : (m : Option Helper) → first_failing (option_map_or (guarded_call_rules t) m []) ≡ None → StateUnder (option_map_or (loosely_called s) m s) (option_map_or (loosely_called t) m t)
-    by_helper None g = u
+    by_helper : (m : Option Helper) → first_failing (option_map_or (call_rules true t) m []) ≡ None
+        → StateUnder (option_map_or (call_with true s) m (after_answer s (Num any_word))) (option_map_or (call_with true t) m (after_answer t (Num any_word)))
+    by_helper None g = answered_under s t (Num any_word) u
     by_helper (Some h) g = loose_call s t h a u g
-loose_after_under s t (instr.Branch w c dst from distance) a u g = u
-loose_after_under s t (instr.Jump distance) a u g = u
-loose_after_under s t (instr.LongJump distance) a u g = u
-loose_after_under s t (instr.CallLocal distance) a u g = u
-loose_after_under s t (instr.LoadImmediate dst x) a u g = u
-loose_after_under s t instr.Exit a u g = u
+loose_after_under sectors s t (instr.Branch w c dst from distance) r a b u g = u
+loose_after_under sectors s t instr.Exit r a b u g = u
+loose_after_under sectors s t i r a b u g = after_mono sectors s t i r a b u refl
 
-loose_below : (slot : ℕ) (s t : Abstract) (i : Instr) → IsState s → StateUnder s t → first_failing (guarded_rules t i) ≡ None → SentUnder (loosely_passed s slot i) (loosely_passed t slot i)
-unfolding loosely_passed
-loose_below slot s t (instr.Branch w c dst from distance) a u g = inl (refl, u, inl (refl, u, tt))
-loose_below slot s t instr.Exit a u g = tt
-loose_below slot s t i a u g = inl (refl, loose_after_under s t i a u g, tt)
+loose_below : (sectors slot : ℕ) (s t : Abstract) (i : Instr) → IsInRange i → IsState s → IsState t → StateUnder s t → first_failing (guarded_rules t i) ≡ None
+    → SentUnder (passed_with true sectors s slot i) (passed_with true sectors t slot i)
+unfolding passed_with edge_with after_with rules_with
+loose_below sectors slot s t (instr.Branch w c dst from distance) r a b u g = inl (refl, u, inl (refl, u, tt))
+loose_below sectors slot s t instr.Exit r a b u g = tt
+loose_below sectors slot s t (instr.Jump distance) r a b u g = inl (refl, u, tt)
+loose_below sectors slot s t (instr.LongJump distance) r a b u g = inl (refl, u, tt)
+loose_below sectors slot s t (instr.CallLocal distance) r a b u g = passes_mono sectors slot s t (instr.CallLocal distance) r a b u refl
+loose_below sectors slot s t (instr.LoadImmediate dst x) r a b u g = passes_mono sectors slot s t (instr.LoadImmediate dst x) r a b u refl
+loose_below sectors slot s t i r a b u g = sent_under (slot + 1) (after_with true sectors s i) (after_with true sectors t i) (loose_after_under sectors s t i r a b u g)
 
 pub guarded_passes_mono : GuardedPassesAreMonotone
-unfolding passed_with_guards
 guarded_passes_mono sectors slot s t i r a b u g = by_rule (first_failing (rules t i)) refl
   where
     by_smaller : (why : VerifierCause) (m : Option VerifierCause) → first_failing (rules t i) ≡ Some why → first_failing (rules s i) ≡ m
-        → SentUnder (if is_some m then loosely_passed s slot i else passes sectors s slot i) (loosely_passed t slot i)
+        → SentUnder (passed_with (is_some m) sectors s slot i) (passed_with true sectors t slot i)
     by_smaller why None f e = kept_below sectors slot s t i why r a u g e f
-    by_smaller why (Some other) f e = loose_below slot s t i a u g
+    by_smaller why (Some other) f e = loose_below sectors slot s t i r a b u g
 
     by_rule : (m : Option VerifierCause) → first_failing (rules t i) ≡ m
-        → SentUnder (if is_some (first_failing (rules s i)) then loosely_passed s slot i else passes sectors s slot i) (if is_some m then loosely_passed t slot i else passes sectors t slot i)
+        → SentUnder (passed_with (is_some (first_failing (rules s i))) sectors s slot i) (passed_with (is_some m) sectors t slot i)
     by_rule None e = rw (rules_mono s t i r a b u e) (passes_mono sectors slot s t i r a b u e)
     by_rule (Some why) e = by_smaller why (first_failing (rules s i)) e refl

@@ -17,10 +17,10 @@ use Rattle.ranges.specs.declared.place.Mark.TheVariants as mark
 use Rattle.ranges.specs.Kinds.{Kind, Unset, Word, is_number, is_unknown, is_unset}
 use Rattle.ranges.specs.States.{Abstract}
 use Rattle.ranges.specs.Places.{place_of, is_inside}
-use Rattle.ranges.specs.Reading.{value, second, are_set, is_stack, is_base, has_length}
-use Rattle.ranges.specs.Rules.{has_no, is_whole, load_rules, store_rules, call_rules, rules, length_of}
+use Rattle.ranges.specs.Reading.{value, second, are_set, is_stack, is_base, has_length, are_words}
+use Rattle.ranges.specs.Rules.{has_no, is_whole, load_rules, store_rules, call_rules, rules, length_of, guarded_rules, reads, rules_with}
 use Rattle.ranges.specs.Order.{Under, StateUnder, IsState}
-use Rattle.ranges.specs.Guards.{are_words, reads_words, guarded_call_rules, guarded_rules, is_own_place, is_guarded_call, is_guarded, GuardedRulesAreWeaker, GuardedRulesAreMonotone}
+use Rattle.ranges.specs.Guards.{is_own_place, is_guarded_call, is_guarded, GuardedRulesAreWeaker, GuardedRulesAreMonotone}
 use Rattle.ranges.proofs.Keeping.{value_fits}
 use Rattle.ranges.proofs.Smaller.{and_left, and_right, value_under}
 use Rattle.ranges.proofs.SmallerRules.{and_mono, two_pass, stack_under, length_under, place_under}
@@ -55,15 +55,15 @@ set_words s (r ∷ rs) e =
 one_pass : {C : Type 0} (c : C) (x a : Bool) → (a ≡ true → x ≡ true) → first_failing (check c a ∷ []) ≡ None → first_failing (check c x ∷ []) ≡ None
 one_pass c x a f e = let h : x ≡ true = f (first_check c a [] e).0 in rw h refl
 
--- m is what the checks behind the first come to
-weaker_reads : (s : Abstract) (rs : List ℕ) (m : Option VerifierCause) → (if are_set s rs then m else Some cause.UnsetRegister) ≡ None → first_failing (reads_words s rs ∷ []) ≡ None
+-- m is what the checks after the first come to
+weaker_reads : (s : Abstract) (rs : List ℕ) (m : Option VerifierCause) → (if are_set s rs then m else Some cause.UnsetRegister) ≡ None → first_failing (reads true s rs ∷ []) ≡ None
 weaker_reads s rs m e = by_test (are_set s rs) refl e
   where
-    by_test : (b : Bool) → are_set s rs ≡ b → (if b then m else Some cause.UnsetRegister) ≡ None → first_failing (reads_words s rs ∷ []) ≡ None
+    by_test : (b : Bool) → are_set s rs ≡ b → (if b then m else Some cause.UnsetRegister) ≡ None → first_failing (reads true s rs ∷ []) ≡ None
     by_test true t e = let h : are_words s rs ≡ true = set_words s rs t in rw h refl
     by_test false t e = absurd (let bad : Some cause.UnsetRegister ≡ None = e in cc)
 
-copy_parts : (s : Abstract) → first_failing (call_rules s helper.Copy) ≡ None
+copy_parts : (s : Abstract) → first_failing (call_rules false s helper.Copy) ≡ None
     → (are_set s (1 ∷ 2 ∷ 3 ∷ []) ≡ true) × (is_stack (value s 2) ≡ true) × (has_length (value s 3) ≡ true) × (is_inside (place_of (value s 2) (pos 0) (length_of (value s 3))) ≡ true)
 unfolding call_rules
 copy_parts s e =
@@ -72,8 +72,8 @@ copy_parts s e =
     let both : (is_stack (value s 2) && has_length (value s 3)) ≡ true = and_right (is_number (value s 1)) (is_stack (value s 2) && has_length (value s 3)) told.1 in
     (told.0, and_left (is_stack (value s 2)) (has_length (value s 3)) both, and_right (is_stack (value s 2)) (has_length (value s 3)) both, told.2)
 
-weaker_call : (s : Abstract) (h : Helper) → first_failing (call_rules s h) ≡ None → first_failing (guarded_call_rules s h) ≡ None
-unfolding guarded_call_rules call_rules
+weaker_call : (s : Abstract) (h : Helper) → first_failing (call_rules false s h) ≡ None → first_failing (call_rules true s h) ≡ None
+unfolding call_rules
 weaker_call s helper.Copy e =
     let parts = copy_parts s e in
     let words : are_words s (1 ∷ 2 ∷ 3 ∷ []) ≡ true = set_words s (1 ∷ 2 ∷ 3 ∷ []) parts.0 in
@@ -86,7 +86,7 @@ weaker_call s helper.Zero e = weaker_reads s (1 ∷ []) _ e
 weaker_call s helper.Mix e = weaker_reads s (1 ∷ []) _ e
 
 pub guarded_weaker : GuardedRulesAreWeaker
-unfolding rules guarded_rules load_rules store_rules
+unfolding rules_with load_rules store_rules
 guarded_weaker s (instr.Arithmetic w o dst from) e = weaker_reads s (operands o dst from) _ e
 guarded_weaker s (instr.Negate w dst) e = weaker_reads s (dst ∷ []) _ e
 guarded_weaker s (instr.SignExtend x dst src) e = weaker_reads s (src ∷ []) _ e
@@ -96,7 +96,7 @@ guarded_weaker s (instr.LongJump distance) e = refl
 guarded_weaker s (instr.Branch w c dst from distance) e = weaker_reads s (dst ∷ source_registers from) _ e
 guarded_weaker s (instr.CallHelper number) e = by_helper (helper_of (cast_unsigned w32 number)) e
   where
-    by_helper : (m : Option Helper) → first_failing (option_map_or (call_rules s) m []) ≡ None → first_failing (option_map_or (guarded_call_rules s) m []) ≡ None
+    by_helper : (m : Option Helper) → first_failing (option_map_or (call_rules false s) m []) ≡ None → first_failing (option_map_or (call_rules true s) m []) ≡ None
     by_helper None e = refl
     by_helper (Some h) e = weaker_call s h e
 guarded_weaker s (instr.CallLocal distance) e = refl
@@ -109,11 +109,11 @@ guarded_weaker s (instr.LoadImmediate dst x) e = refl
 
 -- at a smaller state
 
-reads_under : (s t : Abstract) (rs : List ℕ) → StateUnder s t → first_failing (reads_words t rs ∷ []) ≡ None → first_failing (reads_words s rs ∷ []) ≡ None
+reads_under : (s t : Abstract) (rs : List ℕ) → StateUnder s t → first_failing (reads true t rs ∷ []) ≡ None → first_failing (reads true s rs ∷ []) ≡ None
 reads_under s t rs u e = one_pass cause.UnsetRegister (are_words s rs) (are_words t rs) (are_words_under s t rs u) e
 
-guarded_call_mono : (s t : Abstract) (h : Helper) → IsState s → StateUnder s t → first_failing (guarded_call_rules t h) ≡ None → first_failing (guarded_call_rules s h) ≡ None
-unfolding guarded_call_rules
+guarded_call_mono : (s t : Abstract) (h : Helper) → IsState s → StateUnder s t → first_failing (call_rules true t h) ≡ None → first_failing (call_rules true s h) ≡ None
+unfolding call_rules
 guarded_call_mono s t helper.Copy a u e =
     two_pass cause.UnsetRegister cause.HelperArgument (are_words s (1 ∷ 2 ∷ 3 ∷ [])) (has_length (value s 3)) (are_words t (1 ∷ 2 ∷ 3 ∷ [])) (has_length (value t 3))
     (are_words_under s t (1 ∷ 2 ∷ 3 ∷ []) u) (λ _ long. (length_under (value s 3) (value t 3) (value_fits s 3 a) (value_under s t 3 u) long).0) e
@@ -125,7 +125,7 @@ guarded_call_mono s t helper.Zero a u e = reads_under s t (1 ∷ []) u e
 guarded_call_mono s t helper.Mix a u e = reads_under s t (1 ∷ []) u e
 
 pub guarded_mono : GuardedRulesAreMonotone
-unfolding guarded_rules
+unfolding rules_with load_rules store_rules
 guarded_mono s t (instr.Arithmetic w o dst from) r a b u e = reads_under s t (operands o dst from) u e
 guarded_mono s t (instr.Negate w dst) r a b u e = reads_under s t (dst ∷ []) u e
 guarded_mono s t (instr.SignExtend x dst src) r a b u e = reads_under s t (src ∷ []) u e
@@ -135,7 +135,7 @@ guarded_mono s t (instr.LongJump distance) r a b u e = refl
 guarded_mono s t (instr.Branch w c dst from distance) r a b u e = reads_under s t (dst ∷ source_registers from) u e
 guarded_mono s t (instr.CallHelper number) r a b u e = by_helper (helper_of (cast_unsigned w32 number)) e
   where
-    by_helper : (m : Option Helper) → first_failing (option_map_or (guarded_call_rules t) m []) ≡ None → first_failing (option_map_or (guarded_call_rules s) m []) ≡ None
+    by_helper : (m : Option Helper) → first_failing (option_map_or (call_rules true t) m []) ≡ None → first_failing (option_map_or (call_rules true s) m []) ≡ None
     by_helper None e = refl
     by_helper (Some h) e = guarded_call_mono s t h a u e
 guarded_mono s t (instr.CallLocal distance) r a b u e = refl
@@ -148,7 +148,7 @@ guarded_mono s t (instr.LoadImmediate dst x) r a b u e = refl
 
 -- what isn't guarded
 
-load_proved : (s : Abstract) (base : ℕ) (d : ℤ) (n : ℕ) → first_failing (load_rules s base d n) ≡ None → not (is_inside (place_of (value s base) d n)) ≡ false
+load_proved : (s : Abstract) (base : ℕ) (d : ℤ) (n : ℕ) → first_failing (load_rules false s base d n) ≡ None → not (is_inside (place_of (value s base) d n)) ≡ false
 unfolding load_rules
 load_proved s base d n e =
     let p = place_of (value s base) d n in
@@ -157,7 +157,7 @@ load_proved s base d n e =
     let inside : is_inside p ≡ true = (first_check cause.OutsideRegion (is_inside p) last rest.1).0 in
     rw inside refl
 
-store_proved : (s : Abstract) (set : Bool) (k : Kind) (base : ℕ) (d : ℤ) (n : ℕ) → first_failing (store_rules s set k base d n) ≡ None → not (is_own_place (value s base) d n) ≡ false
+store_proved : (s : Abstract) (set : Bool) (k : Kind) (base : ℕ) (d : ℤ) (n : ℕ) → first_failing (store_rules false s set k base d n) ≡ None → not (is_own_place (value s base) d n) ≡ false
 unfolding store_rules
 store_proved s set k base d n e =
     let p = place_of (value s base) d n in
@@ -170,7 +170,7 @@ store_proved s set k base d n e =
     let c4 = first_check cause.OutsideRegion (is_inside p) l4 c3.1 in
     rw (c3.0, c4.0) refl
 
-call_proved : (s : Abstract) (h : Helper) → first_failing (call_rules s h) ≡ None → is_guarded_call s h ≡ false
+call_proved : (s : Abstract) (h : Helper) → first_failing (call_rules false s h) ≡ None → is_guarded_call s h ≡ false
 call_proved s helper.Copy e = let parts = copy_parts s e in rw (parts.1, parts.3) refl
 call_proved s helper.Same e = refl
 call_proved s helper.Sector e = refl
@@ -180,14 +180,14 @@ call_proved s helper.Zero e = refl
 call_proved s helper.Mix e = refl
 
 pub kept_proved : (s : Abstract) (i : Instr) → first_failing (rules s i) ≡ None → is_guarded s i ≡ false
-unfolding rules is_guarded
+unfolding rules_with is_guarded
 kept_proved s (instr.Load size dst base distance) e = load_proved s base distance (byte_count size) e
 kept_proved s (instr.LoadSigned size dst base distance) e = load_proved s base distance (byte_count (plain_size size)) e
 kept_proved s (instr.StoreImmediate size base distance n) e = store_proved s (are_set s (base ∷ [])) (second s (source.Immediate n)) base distance (byte_count size) e
 kept_proved s (instr.Store size base distance src) e = store_proved s (are_set s (base ∷ src ∷ [])) (value s src) base distance (byte_count size) e
 kept_proved s (instr.CallHelper number) e = by_helper (helper_of (cast_unsigned w32 number)) e
   where
-    by_helper : (m : Option Helper) → first_failing (option_map_or (call_rules s) m []) ≡ None → option_map_or (is_guarded_call s) m false ≡ false
+    by_helper : (m : Option Helper) → first_failing (option_map_or (call_rules false s) m []) ≡ None → option_map_or (is_guarded_call s) m false ≡ false
     by_helper None e = refl
     by_helper (Some h) e = call_proved s h e
 kept_proved s (instr.Arithmetic w o dst from) e = refl
@@ -224,8 +224,8 @@ store_smaller s t base d n a u e =
     (λ inside. place_under (value s base) (value t base) d n (value_fits s base a) (value_under s t base u) inside) in
     rw own refl
 
-call_smaller : (s t : Abstract) (h : Helper) → IsState s → StateUnder s t → first_failing (guarded_call_rules t h) ≡ None → is_guarded_call t h ≡ false → is_guarded_call s h ≡ false
-unfolding guarded_call_rules
+call_smaller : (s t : Abstract) (h : Helper) → IsState s → StateUnder s t → first_failing (call_rules true t h) ≡ None → is_guarded_call t h ≡ false → is_guarded_call s h ≡ false
+unfolding call_rules
 call_smaller s t helper.Copy a u g e =
     let long : has_length (value t 3) ≡ true = (two_tell cause.UnsetRegister cause.HelperArgument (are_words t (1 ∷ 2 ∷ 3 ∷ [])) (has_length (value t 3)) g).1 in
     let same : length_of (value s 3) ≡ length_of (value t 3) = (length_under (value s 3) (value t 3) (value_fits s 3 a) (value_under s t 3 u) long).1 in
@@ -238,14 +238,14 @@ call_smaller s t helper.Zero a u g e = refl
 call_smaller s t helper.Mix a u g e = refl
 
 pub smaller_proved : (s t : Abstract) (i : Instr) → IsState s → IsState t → StateUnder s t → first_failing (guarded_rules t i) ≡ None → is_guarded t i ≡ false → is_guarded s i ≡ false
-unfolding guarded_rules is_guarded
+unfolding rules_with is_guarded
 smaller_proved s t (instr.Load size dst base distance) a b u g e = load_smaller s t base distance (byte_count size) a u e
 smaller_proved s t (instr.LoadSigned size dst base distance) a b u g e = load_smaller s t base distance (byte_count (plain_size size)) a u e
 smaller_proved s t (instr.StoreImmediate size base distance n) a b u g e = store_smaller s t base distance (byte_count size) a u e
 smaller_proved s t (instr.Store size base distance src) a b u g e = store_smaller s t base distance (byte_count size) a u e
 smaller_proved s t (instr.CallHelper number) a b u g e = by_helper (helper_of (cast_unsigned w32 number)) g e
   where
-    by_helper : (m : Option Helper) → first_failing (option_map_or (guarded_call_rules t) m []) ≡ None → option_map_or (is_guarded_call t) m false ≡ false → option_map_or (is_guarded_call s) m false ≡ false
+    by_helper : (m : Option Helper) → first_failing (option_map_or (call_rules true t) m []) ≡ None → option_map_or (is_guarded_call t) m false ≡ false → option_map_or (is_guarded_call s) m false ≡ false
     by_helper None g e = refl
     by_helper (Some h) g e = call_smaller s t h a u g e
 smaller_proved s t (instr.Arithmetic w o dst from) a b u g e = refl

@@ -37,8 +37,8 @@ use Rattle.ranges.specs.Pointers.{offset_in, offsets_in, moved_offset, moved_pla
 use Rattle.ranges.specs.Reading.{value, second, with_value, with_groups, words, any_word}
 use Rattle.ranges.specs.Places.{place_of, is_group}
 use Rattle.ranges.specs.Rules.{length_of, is_null_test}
-use Rattle.ranges.specs.Passing.{edge_of, with_both, tested_kind, is_equal_edge, argument_kind, entry_state}
-use Rattle.ranges.specs.After.{number_result, result_kind, context_word, any_of, group_value, loaded_kind, is_touched, marks_after, group_after, groups_after_write, written_at, stored_groups, answer_kind, after_answer, copied_state, call_after, after_of}
+use Rattle.ranges.specs.Passing.{edge_of, with_both, tested_kind, is_equal_edge, argument_kind, entry_state, edge_with}
+use Rattle.ranges.specs.After.{number_result, result_kind, context_word, any_of, group_value, loaded_kind, is_touched, marks_after, group_after, groups_after_write, written_at, stored_groups, answer_kind, after_answer, copied_state, call_after, after_of, after_with, call_with}
 use Rattle.ranges.specs.Order.{IsBounded, IsGroup, Each, IsState, Holds}
 use Rattle.ranges.proofs.Fitting.{each_set, each_get, start_fits}
 
@@ -269,7 +269,7 @@ answered_fits s k h a =
     with_value_fits s4 5 Unset tt a4
 
 call_fits : (s : Abstract) (h : Helper) → IsState s → IsState (call_after s h)
-unfolding call_after
+unfolding call_with
 call_fits s helper.Copy a =
     answered_fits (copied_state s) (answer_kind helper.Copy) (answer_fits helper.Copy)
     (written_fits s (place_of (value s 2) (pos 0) (length_of (value s 3))) (length_of (value s 3)) a)
@@ -290,7 +290,7 @@ pub register_fits : (s : Abstract) (r : ℕ) (m : Option Kind) → Holds IsBound
 register_fits s r m h a = holds_map IsBounded IsState (with_value s r) (λ k e. with_value_fits s r k e a) m h
 
 pub after_fits : (sectors : ℕ) (s : Abstract) (i : Instr) → sectors < 2 ^ 64 → IsInRange i → IsState s → Holds IsState (after_of sectors s i)
-unfolding after_of IsInRange
+unfolding after_with IsInRange
 after_fits sectors s (instr.Arithmetic w o dst from) h r a =
     register_fits s dst (result_kind (instr.Arithmetic w o dst from) (value s dst) (second s from)) (result_fits (instr.Arithmetic w o dst from) (value s dst) (second s from) (value_fits s dst a) (second_fits s from r.1 a)) a
 after_fits sectors s (instr.Negate w dst) h r a =
@@ -342,7 +342,7 @@ tested_fits true = up_to_fits 0 0 (omega arith) (omega arith)
 tested_fits false = record { ordered = omega arith; most = omega arith }
 
 pub edge_fits : (s : Abstract) (i : Instr) (taken : Bool) → IsInRange i → IsState s → Holds IsState (edge_of s i taken)
-unfolding edge_of IsInRange
+unfolding edge_with IsInRange
 edge_fits s (instr.Branch w c dst from distance) taken r a = by_test (is_null_test w c from (value s dst))
   where
     by_test : (b : Bool) → Holds IsState

@@ -9,7 +9,7 @@ none_more : (m : Mark) (groups : List GroupKind) (at n : ℕ)
 unfolding none_is
 none_more m groups at n = refl
 
--- a byte without the mark: the answer is that of the bytes behind it
+-- a byte without the mark: the answer is that of the bytes after it
 pub none_next : (m : Mark) (groups : List GroupKind) (at n k : ℕ) (whole : Bool) → k < n
     → is_mark (mark_at groups (at + k)) m ≡ false
     → none_is m groups (at + k) (n - k) ≡ whole

@@ -19,7 +19,7 @@ use Rattle.ranges.specs.Kinds.{Kind, Unset, Word, Num, Ctx, Stack, Sector, Secto
 use Rattle.ranges.specs.States.{Abstract}
 use Rattle.ranges.specs.Reading.{value, second, with_value, words}
 use Rattle.ranges.specs.Rules.{compares, is_null_test, is_wide, is_equality, is_zero, may_be_null}
-use Rattle.ranges.specs.Passing.{edge_of, with_both, tested_kind, is_equal_edge}
+use Rattle.ranges.specs.Passing.{edge_of, with_both, tested_kind, is_equal_edge, edge_with}
 use Rattle.ranges.specs.Order.{Under, EachUnder, StateUnder, IsState, EdgeUnder}
 use Rattle.ranges.proofs.Keeping.{value_fits, second_fits, words_fit}
 
@@ -129,7 +129,7 @@ tested_under false = record { from = omega arith; upto = omega arith }
 pub edge_mono : (s t : Abstract) (w : Width) (c : Condition) (dst : ℕ) (from : Source) (distance : ℤ) (taken : Bool) → IsSourceInRange from → IsState s → IsState t
     → StateUnder s t → compares t w c dst from ≡ true
     → EdgeUnder (edge_of s (instr.Branch w c dst from distance) taken) (edge_of t (instr.Branch w c dst from distance) taken)
-unfolding edge_of compares
+unfolding edge_with compares
 edge_mono s t w c dst from distance taken r a b u ok = by_test (is_null_test w c from (value t dst)) refl
   where
     by_test : (x : Bool) → is_null_test w c from (value t dst) ≡ x

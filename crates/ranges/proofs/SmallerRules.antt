@@ -29,7 +29,7 @@ use Rattle.ranges.specs.States.{Abstract}
 use Rattle.ranges.specs.Pointers.{offset_in, moved_pointer}
 use Rattle.ranges.specs.Places.{landing, place_of, is_inside, mark_in, mark_at, is_mark, none_is}
 use Rattle.ranges.specs.Reading.{value, second, are_set, is_stack, is_base, has_length}
-use Rattle.ranges.specs.Rules.{may_compute, is_null_test, compares, has_no, is_whole, load_rules, store_rules, length_of, call_rules, rules}
+use Rattle.ranges.specs.Rules.{may_compute, is_null_test, compares, has_no, is_whole, load_rules, store_rules, length_of, call_rules, rules_with}
 use Rattle.ranges.specs.Order.{Under, MarksUnder, GroupUnder, EachUnder, StateUnder, IsBounded, IsState}
 use Rattle.ranges.specs.Laws.{RulesAreMonotone}
 use Rattle.ranges.proofs.Keeping.{value_fits, second_fits}
@@ -257,7 +257,7 @@ no_pointer_under gs hs p n u e f = refl
 
 -- the rules of each form
 
-load_keeps : (s t : Abstract) (base : ℕ) (d : ℤ) (n : ℕ) → IsState s → StateUnder s t → first_failing (load_rules t base d n) ≡ None → first_failing (load_rules s base d n) ≡ None
+load_keeps : (s t : Abstract) (base : ℕ) (d : ℤ) (n : ℕ) → IsState s → StateUnder s t → first_failing (load_rules false t base d n) ≡ None → first_failing (load_rules false s base d n) ≡ None
 unfolding load_rules
 load_keeps s t base d n a u e =
     let same : is_inside (place_of (value t base) d n) ≡ true → place_of (value s base) d n ≡ place_of (value t base) d n =
@@ -277,7 +277,7 @@ load_keeps s t base d n a u e =
     e
 
 store_keeps : (s t : Abstract) (b c : Bool) (k l : Kind) (base : ℕ) (d : ℤ) (n : ℕ) → IsState s → StateUnder s t → (c ≡ true → b ≡ true) → Under k l
-    → first_failing (store_rules t c l base d n) ≡ None → first_failing (store_rules s b k base d n) ≡ None
+    → first_failing (store_rules false t c l base d n) ≡ None → first_failing (store_rules false s b k base d n) ≡ None
 unfolding store_rules
 store_keeps s t b c k l base d n a u set v e =
     let same : is_inside (place_of (value t base) d n) ≡ true → place_of (value s base) d n ≡ place_of (value t base) d n =
@@ -299,7 +299,7 @@ one_argument s t u e =
     two_pass cause.UnsetRegister cause.HelperArgument (are_set s (1 ∷ [])) (is_number (value s 1)) (are_set t (1 ∷ [])) (is_number (value t 1))
     (are_set_under s t (1 ∷ []) u) (λ _. number_under (value s 1) (value t 1) (value_under s t 1 u)) e
 
-call_keeps : (s t : Abstract) (h : Helper) → IsState s → StateUnder s t → first_failing (call_rules t h) ≡ None → first_failing (call_rules s h) ≡ None
+call_keeps : (s t : Abstract) (h : Helper) → IsState s → StateUnder s t → first_failing (call_rules false t h) ≡ None → first_failing (call_rules false s h) ≡ None
 unfolding call_rules
 call_keeps s t helper.Copy a u e =
     three_pass cause.UnsetRegister cause.HelperArgument cause.OutsideRegion
@@ -364,7 +364,7 @@ one_number s t r u e =
     (are_set_under s t (r ∷ []) u) (λ _. number_under (value s r) (value t r) (value_under s t r u)) e
 
 pub rules_mono : RulesAreMonotone
-unfolding rules IsInRange
+unfolding rules_with IsInRange
 rules_mono s t (instr.Arithmetic w o dst from) r a b u e =
     two_pass cause.UnsetRegister cause.PointerArithmetic
     (are_set s (operands o dst from)) (may_compute w o (value s dst) (second s from)) (are_set t (operands o dst from)) (may_compute w o (value t dst) (second t from))
@@ -381,7 +381,7 @@ rules_mono s t (instr.Branch w c dst from distance) r a b u e =
     (are_set_under s t (dst ∷ source_registers from) u) (λ _. compares_under s t w c dst from u) e
 rules_mono s t (instr.CallHelper number) r a b u e = by_helper (helper_of (cast_unsigned w32 number)) e
   where
-    by_helper : (m : Option Helper) → first_failing (option_map_or (call_rules t) m []) ≡ None → first_failing (option_map_or (call_rules s) m []) ≡ None
+    by_helper : (m : Option Helper) → first_failing (option_map_or (call_rules false t) m []) ≡ None → first_failing (option_map_or (call_rules false s) m []) ≡ None
     by_helper None e = refl
     by_helper (Some h) e = call_keeps s t h a u e
 rules_mono s t (instr.CallLocal distance) r a b u e = refl

@@ -1,4 +1,4 @@
--- A smaller state is left with smaller states behind an instruction, and passes smaller ones on.
+-- A smaller state is left with smaller states after an instruction, and passes smaller ones on.
 use Rattle.std.proofs.Common.{◌≡◌, ℕ, zero, suc, ◌+◌, ◌-◌, ◌/◌, ◌%◌, ◌^◌, ◌<◌, not, ◌&&◌, ◌||◌, Bool, true, false, if◌then◌else◌, List, [], ◌∷◌, ◌++◌, get_or, is_some, Option, None, Some, ℤ, pos, refl, inl, inr, arith}
 use Rattle.std.specs.Prelude.{set}
 use Rattle.std.specs.Option.{option_map, option_map_or, option_or}
@@ -36,9 +36,9 @@ use Rattle.ranges.specs.States.{Abstract}
 use Rattle.ranges.specs.Pointers.{moved_pointer}
 use Rattle.ranges.specs.Places.{place_of, is_inside, mark_in, mark_at, is_mark, none_is, is_group}
 use Rattle.ranges.specs.Reading.{value, second, with_value, with_groups, words, any_word, are_set, is_stack, is_base, has_length}
-use Rattle.ranges.specs.Rules.{may_compute, compares, has_no, is_whole, load_rules, store_rules, length_of, call_rules, rules}
-use Rattle.ranges.specs.Passing.{edge_of, argument_kind, entry_state, passed_state, passes}
-use Rattle.ranges.specs.After.{number_result, result_kind, any_of, group_value, loaded_kind, is_among, mark_after, is_touched, marks_after, group_after, groups_after_write, written_at, stored_groups, answer_kind, after_answer, copied_state, call_after, load_after, store_after, after_of}
+use Rattle.ranges.specs.Rules.{may_compute, compares, has_no, is_whole, load_rules, store_rules, length_of, call_rules, rules_with}
+use Rattle.ranges.specs.Passing.{edge_of, argument_kind, entry_state, passed_state, passes, passed_with, edge_with}
+use Rattle.ranges.specs.After.{number_result, result_kind, any_of, group_value, loaded_kind, is_among, mark_after, is_touched, marks_after, group_after, groups_after_write, written_at, stored_groups, answer_kind, after_answer, copied_state, call_after, load_after, store_after, after_of, after_with, call_with}
 use Rattle.ranges.specs.Order.{Under, GroupUnder, EachUnder, StateUnder, IsBounded, IsGroup, Each, IsState, Holds, EdgeUnder, SentUnder}
 use Rattle.ranges.specs.Laws.{AfterIsMonotone, PassesAreMonotone}
 use Rattle.ranges.proofs.Chains.{under_self, group_self, each_self}
@@ -182,7 +182,7 @@ loaded_under sectors gs hs (place.Context at) n a u e = under_self (loaded_kind 
 loaded_under sectors gs hs place.Outside n a u e = under_self (any_of n)
 loaded_under sectors gs hs place.Sector n a u e = under_self (any_of n)
 
-load_under : (sectors : ℕ) (s t : Abstract) (dst : ℕ) (size : Size) (base : ℕ) (d : ℤ) → IsState s → StateUnder s t → first_failing (load_rules t base d (byte_count size)) ≡ None
+load_under : (sectors : ℕ) (s t : Abstract) (dst : ℕ) (size : Size) (base : ℕ) (d : ℤ) → IsState s → StateUnder s t → first_failing (load_rules false t base d (byte_count size)) ≡ None
     → StateUnder (load_after sectors s dst size base d) (load_after sectors t dst size base d)
 unfolding load_rules
 load_under sectors s t dst size base d a u e =
@@ -245,7 +245,7 @@ pub with_groups_under : (s t : Abstract) (gs hs : List GroupKind) → EachUnder 
 with_groups_under s t gs hs h u = record { values = u.values; groups = h }
 
 store_under : (s t : Abstract) (set : Bool) (k l : Kind) (size : Size) (base : ℕ) (d : ℤ) → IsState s → StateUnder s t → Under k l → (set ≡ true → not (is_unknown l) ≡ true)
-    → first_failing (store_rules t set l base d (byte_count size)) ≡ None → StateUnder (store_after s k size base d) (store_after t l size base d)
+    → first_failing (store_rules false t set l base d (byte_count size)) ≡ None → StateUnder (store_after s k size base d) (store_after t l size base d)
 unfolding store_rules
 store_under s t set k l size base d a u v known e =
     let n = byte_count size in
@@ -270,7 +270,7 @@ answered_under s t k u =
     let s4 = with_value s3 4 Unset in let t4 = with_value t3 4 Unset in let u4 = with_value_under s3 t3 4 Unset Unset tt u3 in
     with_value_under s4 t4 5 Unset Unset tt u4
 
-copied_under : (s t : Abstract) → IsState s → StateUnder s t → first_failing (call_rules t helper.Copy) ≡ None → StateUnder (copied_state s) (copied_state t)
+copied_under : (s t : Abstract) → IsState s → StateUnder s t → first_failing (call_rules false t helper.Copy) ≡ None → StateUnder (copied_state s) (copied_state t)
 unfolding call_rules
 copied_under s t a u e =
     let n = length_of (value t 3) in
@@ -283,8 +283,8 @@ copied_under s t a u e =
     rw (size, same) (written_under p n s.groups t.groups u.groups) in
     with_groups_under s t (written_at s.groups (place_of (value s 2) (pos 0) (length_of (value s 3))) (length_of (value s 3))) (written_at t.groups p n) bytes u
 
-call_under : (s t : Abstract) (h : Helper) → IsState s → StateUnder s t → first_failing (call_rules t h) ≡ None → StateUnder (call_after s h) (call_after t h)
-unfolding call_after
+call_under : (s t : Abstract) (h : Helper) → IsState s → StateUnder s t → first_failing (call_rules false t h) ≡ None → StateUnder (call_after s h) (call_after t h)
+unfolding call_with
 call_under s t helper.Copy a u e = answered_under (copied_state s) (copied_state t) (answer_kind helper.Copy) (copied_under s t a u e)
 call_under s t helper.Sector a u e = answered_under s t (answer_kind helper.Sector) u
 call_under s t helper.Again a u e = answered_under s t (answer_kind helper.Again) u
@@ -293,7 +293,7 @@ call_under s t helper.Zero a u e = answered_under s t (answer_kind helper.Zero) 
 call_under s t helper.Mix a u e = answered_under s t (answer_kind helper.Mix) u
 call_under s t helper.Same a u e = answered_under s t (answer_kind helper.Same) u
 
--- the state behind an instruction
+-- the state after an instruction
 
 last_known : (s : Abstract) (base src : ℕ) → are_set s (base ∷ src ∷ []) ≡ true → not (is_unknown (value s src)) ≡ true
 last_known s base src e =
@@ -301,7 +301,7 @@ last_known s base src e =
     and_left (not (is_unknown (value s src))) (are_set s []) rest
 
 pub after_mono : AfterIsMonotone
-unfolding after_of rules IsInRange
+unfolding after_with rules_with IsInRange
 after_mono sectors s t (instr.Arithmetic w o dst from) r a b u e =
     let told = two_tell cause.UnsetRegister cause.PointerArithmetic (are_set t (operands o dst from)) (may_compute w o (value t dst) (second t from)) e in
     register_under s t dst (result_kind (instr.Arithmetic w o dst from) (value s dst) (second s from)) (result_kind (instr.Arithmetic w o dst from) (value t dst) (second t from))
@@ -321,7 +321,7 @@ after_mono sectors s t (instr.LongJump distance) r a b u e = u
 after_mono sectors s t (instr.Branch w c dst from distance) r a b u e = u
 after_mono sectors s t (instr.CallHelper number) r a b u e = by_helper (helper_of (cast_unsigned w32 number)) e
   where
-    by_helper : (m : Option Helper) → first_failing (option_map_or (call_rules t) m []) ≡ None
+    by_helper : (m : Option Helper) → first_failing (option_map_or (call_rules false t) m []) ≡ None
         → StateUnder (option_map_or (call_after s) m (after_answer s (Num any_word))) (option_map_or (call_after t) m (after_answer t (Num any_word)))
     by_helper None e = answered_under s t (Num any_word) u
     by_helper (Some h) e = call_under s t h a u e
@@ -370,7 +370,7 @@ both_under (p ∷ ps) (q ∷ qs) xs ys (inl h) k = inl (h.0, h.1, both_under ps 
 both_under (p ∷ ps) (q ∷ qs) xs ys (inr h) k = inr (both_under (p ∷ ps) qs xs ys h k)
 
 pub passes_mono : PassesAreMonotone
-unfolding passes rules IsInRange
+unfolding passed_with rules_with IsInRange
 passes_mono sectors slot s t (instr.Jump distance) r a b u e = inl (refl, u, tt)
 passes_mono sectors slot s t (instr.LongJump distance) r a b u e = inl (refl, u, tt)
 passes_mono sectors slot s t (instr.Branch w c dst from distance) r a b u e =
@@ -399,18 +399,21 @@ each_both : {X : Type 0} (P : X → Type 0) (xs ys : List X) → Each P xs → E
 each_both P [] ys a b = b
 each_both P (x ∷ xs) ys a b = (a.0, each_both P xs ys a.1 b)
 
+pub passed_fit : (loose : Bool) (sectors slot : ℕ) (s : Abstract) (i : Instr) → IsState s → Holds IsState (after_with loose sectors s i)
+    → ((taken : Bool) → Holds IsState (edge_with loose s i taken)) → Each (λ p. IsState p.1) (passed_with loose sectors s slot i)
+unfolding passed_with
+passed_fit loose sectors slot s (instr.Jump distance) a after edge = (a, tt)
+passed_fit loose sectors slot s (instr.LongJump distance) a after edge = (a, tt)
+passed_fit loose sectors slot s (instr.Branch w c dst from distance) a after edge =
+    each_both (λ p. IsState p.1) (passed_state (slot + 1) (edge_with loose s (instr.Branch w c dst from distance) false)) (passed_state (target_slot slot distance) (edge_with loose s (instr.Branch w c dst from distance) true))
+    (sent_fits (slot + 1) (edge_with loose s (instr.Branch w c dst from distance) false) (edge false))
+    (sent_fits (target_slot slot distance) (edge_with loose s (instr.Branch w c dst from distance) true) (edge true))
+passed_fit loose sectors slot s instr.Exit a after edge = tt
+passed_fit loose sectors slot s (instr.CallLocal distance) a after edge =
+    each_both (λ p. IsState p.1) (passed_state (slot + 1) (after_with loose sectors s (instr.CallLocal distance))) ((target_slot slot distance, entry_state s) ∷ [])
+    (sent_fits (slot + 1) (after_with loose sectors s (instr.CallLocal distance)) after) (entry_fits s a, tt)
+passed_fit loose sectors slot s (instr.LoadImmediate dst x) a after edge = sent_fits (slot + 2) (after_with loose sectors s (instr.LoadImmediate dst x)) after
+passed_fit loose sectors slot s i a after edge = sent_fits (slot + 1) (after_with loose sectors s i) after
+
 pub passes_fit : (sectors slot : ℕ) (s : Abstract) (i : Instr) → sectors < 2 ^ 64 → IsInRange i → IsState s → Each (λ p. IsState p.1) (passes sectors s slot i)
-unfolding passes
-passes_fit sectors slot s (instr.Jump distance) h r a = (a, tt)
-passes_fit sectors slot s (instr.LongJump distance) h r a = (a, tt)
-passes_fit sectors slot s (instr.Branch w c dst from distance) h r a =
-    each_both (λ p. IsState p.1) (passed_state (slot + 1) (edge_of s (instr.Branch w c dst from distance) false)) (passed_state (target_slot slot distance) (edge_of s (instr.Branch w c dst from distance) true))
-    (sent_fits (slot + 1) (edge_of s (instr.Branch w c dst from distance) false) (edge_fits s (instr.Branch w c dst from distance) false r a))
-    (sent_fits (target_slot slot distance) (edge_of s (instr.Branch w c dst from distance) true) (edge_fits s (instr.Branch w c dst from distance) true r a))
-passes_fit sectors slot s instr.Exit h r a = tt
-passes_fit sectors slot s (instr.CallLocal distance) h r a =
-    each_both (λ p. IsState p.1) (passed_state (slot + 1) (after_of sectors s (instr.CallLocal distance))) ((target_slot slot distance, entry_state s) ∷ [])
-    (sent_fits (slot + 1) (after_of sectors s (instr.CallLocal distance)) (after_fits sectors s (instr.CallLocal distance) h r a)) (entry_fits s a, tt)
-passes_fit sectors slot s (instr.LoadImmediate dst x) h r a =
-    sent_fits (slot + 2) (after_of sectors s (instr.LoadImmediate dst x)) (after_fits sectors s (instr.LoadImmediate dst x) h r a)
-passes_fit sectors slot s i h r a = sent_fits (slot + 1) (after_of sectors s i) (after_fits sectors s i h r a)
+passes_fit sectors slot s i h r a = passed_fit false sectors slot s i a (after_fits sectors s i h r a) (λ taken. edge_fits s i taken r a)

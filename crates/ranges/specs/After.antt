@@ -1,5 +1,5 @@
 -- What is known after an instruction (docs/VERIFIER.md, Results of arithmetic on numbers to Helper
--- calls). It is asked where no rule is broken.
+-- calls, and Guards). It is asked where no rule is broken that guards don't lift.
 use Rattle.std.specs.Prelude.{ℕ, ◌+◌, ◌*◌, ◌-◌, ◌/◌, ◌^◌, ◌==◌, nat_lt, nat_le, ◌&&◌, ◌||◌, not, Bool, true, false, if◌then◌else◌, ℤ, pos, List, [], ◌∷◌, slice_index_or, slice_set, Option, Some}
 use Rattle.std.specs.Option.{option_map, option_map_or, option_or}
 use Rattle.std.specs.Int.{cast_unsigned, w32}
@@ -9,6 +9,7 @@ use Rattle.bpf_isa.specs.declared.instr.Source.TheVariants as source
 use Rattle.bpf_isa.specs.declared.instr.Width.TheVariants as width
 use Rattle.bpf_isa.specs.declared.instr.Operator.TheVariants as op
 use Rattle.bpf_isa.specs.declared.instr.Size.{Size}
+use Rattle.bpf_isa.specs.declared.instr.Size.TheVariants as size
 use Rattle.helpers.specs.declared.helper.Helper.{Helper}
 use Rattle.helpers.specs.declared.helper.Helper.TheVariants as helper
 use Rattle.helpers.specs.Helper.{helper_of}
@@ -19,9 +20,9 @@ use Rattle.intervals.specs.SignedResults.{limits_result_of}
 use Rattle.ranges.specs.declared.place.Place.{Place}
 use Rattle.ranges.specs.declared.place.Place.TheVariants as place
 use Rattle.ranges.specs.declared.place.Mark.TheVariants as mark
-use Rattle.ranges.specs.Kinds.{Kind, Unset, Num, SectorOrNull, is_unknown}
-use Rattle.ranges.specs.Groups.{GroupKind, Marked, Spilled, map_places}
-use Rattle.ranges.specs.States.{Abstract}
+use Rattle.ranges.specs.Kinds.{Kind, Unset, Word, Num, SectorOrNull, is_unknown}
+use Rattle.ranges.specs.Groups.{GroupKind, Marked, Spilled, unset_marks, map_places}
+use Rattle.ranges.specs.States.{Abstract, unset_groups}
 use Rattle.ranges.specs.Pointers.{moved_pointer}
 use Rattle.ranges.specs.Places.{place_of, mark_in, is_mark, is_group}
 use Rattle.ranges.specs.Reading.{value, second, with_value, with_groups, words, any_word}
@@ -115,10 +116,6 @@ after_answer s k =
 abbrev pub copied_state : Abstract → Abstract
 copied_state s = with_groups s (written_at s.groups (place_of (value s 2) (pos 0) (length_of (value s 3))) (length_of (value s 3)))
 
-unfoldable pub call_after : Abstract → Helper → Abstract
-call_after s helper.Copy = after_answer (copied_state s) (answer_kind helper.Copy)
-call_after s h = after_answer s (answer_kind h)
-
 abbrev pub load_after : ℕ → Abstract → ℕ → Size → ℕ → ℤ → Abstract
 load_after sectors s dst size base distance =
     with_value s dst (loaded_kind sectors s.groups (place_of (value s base) distance (byte_count size)) (byte_count size))
@@ -127,21 +124,55 @@ abbrev pub store_after : Abstract → Kind → Size → ℕ → ℤ → Abstract
 store_after s k size base distance =
     with_groups s (stored_groups k s.groups (place_of (value s base) distance (byte_count size)) (byte_count size))
 
--- the state behind an instruction that is no jump, on a device of so many sectors; None where
+-- Where a rule is broken that guards lift less is known: of arithmetic any word.
+abbrev pub computed : Bool → Option Kind → Option Kind
+computed true m = Some Word
+computed false m = m
+
+-- a load of eight bytes may give an address
+abbrev pub loosely_loaded : Size → Kind
+loosely_loaded size.Double = Word
+loosely_loaded n = any_of (byte_count n)
+
+-- the groups where nothing is known of those that have one of n bytes from a place on, or of any
+abbrev pub group_forgotten : ℕ → ℕ → ℕ → GroupKind → GroupKind
+group_forgotten at n g group = if is_touched at n g then Marked unset_marks else group
+
+unfoldable pub groups_forgotten : List GroupKind → Place → ℕ → List GroupKind
+groups_forgotten groups (place.Stack at) n = map_places (group_forgotten at n) 0 groups
+groups_forgotten groups p n = unset_groups
+
+abbrev pub loosely_stored : Abstract → ℕ → ℤ → ℕ → Abstract
+loosely_stored s base distance n = with_groups s (groups_forgotten s.groups (place_of (value s base) distance n) n)
+
+-- `loose` says whether such a rule is broken
+unfoldable pub call_with : Bool → Abstract → Helper → Abstract
+call_with loose s helper.Copy = after_answer (if loose then loosely_stored s 2 (pos 0) (length_of (value s 3)) else copied_state s) (answer_kind helper.Copy)
+call_with loose s h = after_answer s (answer_kind h)
+
+-- the state after an instruction that is no conditional jump, on a device of that many sectors; None where
 -- arithmetic leaves no word, so that no machine gets there
-unfoldable pub after_of : ℕ → Abstract → Instr → Option Abstract
-after_of sectors s (instr.Arithmetic w o dst from) = option_map (with_value s dst) (result_kind (instr.Arithmetic w o dst from) (value s dst) (second s from))
-after_of sectors s (instr.Negate w dst) = option_map (with_value s dst) (number_result (instr.Negate w dst) (value s dst) Unset)
-after_of sectors s (instr.SignExtend e dst src) = option_map (with_value s dst) (number_result (instr.SignExtend e dst src) Unset (value s src))
-after_of sectors s (instr.ByteOrder o size dst) = option_map (with_value s dst) (number_result (instr.ByteOrder o size dst) (value s dst) Unset)
-after_of sectors s (instr.Load size dst base distance) = Some (load_after sectors s dst size base distance)
-after_of sectors s (instr.LoadSigned size dst base distance) = Some (with_value s dst (Num any_word))
-after_of sectors s (instr.StoreImmediate size base distance n) = Some (store_after s (second s (source.Immediate n)) size base distance)
-after_of sectors s (instr.Store size base distance src) = Some (store_after s (value s src) size base distance)
-after_of sectors s (instr.LoadImmediate dst x) = Some (with_value s dst (Num (any_sign (only x))))
-after_of sectors s (instr.CallHelper number) = Some (option_map_or (call_after s) (helper_of (cast_unsigned w32 number)) (after_answer s (Num any_word)))
-after_of sectors s (instr.CallLocal distance) = Some (after_answer s (Num any_word))
-after_of sectors s (instr.Jump distance) = Some s
-after_of sectors s (instr.LongJump distance) = Some s
-after_of sectors s (instr.Branch w c dst from distance) = Some s
-after_of sectors s instr.Exit = Some s
+unfoldable pub after_with : Bool → ℕ → Abstract → Instr → Option Abstract
+after_with loose sectors s (instr.Arithmetic w o dst from) =
+    option_map (with_value s dst) (computed loose (result_kind (instr.Arithmetic w o dst from) (value s dst) (second s from)))
+after_with loose sectors s (instr.Negate w dst) = option_map (with_value s dst) (computed loose (number_result (instr.Negate w dst) (value s dst) Unset))
+after_with loose sectors s (instr.SignExtend e dst src) = option_map (with_value s dst) (computed loose (number_result (instr.SignExtend e dst src) Unset (value s src)))
+after_with loose sectors s (instr.ByteOrder o size dst) = option_map (with_value s dst) (computed loose (number_result (instr.ByteOrder o size dst) (value s dst) Unset))
+after_with loose sectors s (instr.Load size dst base distance) =
+    Some (if loose then with_value s dst (loosely_loaded size) else load_after sectors s dst size base distance)
+after_with loose sectors s (instr.LoadSigned size dst base distance) = Some (with_value s dst (Num any_word))
+after_with loose sectors s (instr.StoreImmediate size base distance n) =
+    Some (if loose then loosely_stored s base distance (byte_count size) else store_after s (second s (source.Immediate n)) size base distance)
+after_with loose sectors s (instr.Store size base distance src) =
+    Some (if loose then loosely_stored s base distance (byte_count size) else store_after s (value s src) size base distance)
+after_with loose sectors s (instr.LoadImmediate dst x) = Some (with_value s dst (Num (any_sign (only x))))
+after_with loose sectors s (instr.CallHelper number) = Some (option_map_or (call_with loose s) (helper_of (cast_unsigned w32 number)) (after_answer s (Num any_word)))
+after_with loose sectors s (instr.CallLocal distance) = Some (after_answer s (Num any_word))
+after_with loose sectors s i = Some s
+
+-- where no rule is broken
+abbrev pub call_after : Abstract → Helper → Abstract
+call_after s = call_with false s
+
+abbrev pub after_of : ℕ → Abstract → Instr → Option Abstract
+after_of sectors s i = after_with false sectors s i

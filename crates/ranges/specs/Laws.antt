@@ -70,7 +70,7 @@ abbrev pub RulesAreMonotone : Type 0
 RulesAreMonotone = (s t : Abstract) (i : Instr) → IsInRange i → IsState s → IsState t → StateUnder s t
     → first_failing (rules t i) ≡ None → first_failing (rules s i) ≡ None
 
--- there a smaller state is left with a smaller one behind an instruction, or with none
+-- there a smaller state is left with a smaller one after an instruction, or with none
 abbrev pub AfterIsMonotone : Type 0
 AfterIsMonotone = (sectors : ℕ) (s t : Abstract) (i : Instr) → IsInRange i → IsState s → IsState t → StateUnder s t
     → first_failing (rules t i) ≡ None → EdgeUnder (after_of sectors s i) (after_of sectors t i)

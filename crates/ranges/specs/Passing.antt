@@ -15,14 +15,14 @@ use Rattle.ranges.specs.Kinds.{Kind, Unset, Word, Num, Stack, Sector}
 use Rattle.ranges.specs.States.{Abstract, unset_groups}
 use Rattle.ranges.specs.Reading.{value, second, with_value, words}
 use Rattle.ranges.specs.Rules.{is_null_test}
-use Rattle.ranges.specs.After.{after_of}
+use Rattle.ranges.specs.After.{after_with}
 
 -- whether an edge of a null test says that the register is 0
 abbrev pub is_equal_edge : Condition → Bool → Bool
 is_equal_edge cond.Eq taken = taken
 is_equal_edge _ taken = not taken
 
--- the answer of helper 1 behind a null test
+-- the answer of helper 1 after a null test
 abbrev pub tested_kind : Bool → Kind
 tested_kind true = Num (any_sign (only 0))
 tested_kind false = Sector (only 0)
@@ -36,25 +36,17 @@ abbrev pub with_both : Abstract → ℕ → Source → Limits × Limits → Abst
 with_both s dst from p = with_second (with_value s dst (Num p.0)) from p.1
 
 -- The state on an edge of a conditional jump, the one that is taken or the other; None where no
--- machine goes that way. It is asked where no rule is broken.
-unfoldable pub edge_of : Abstract → Instr → Bool → Option Abstract
-edge_of s (instr.Branch w c dst from distance) taken =
-    if is_null_test w c from (value s dst) then Some (with_value s dst (tested_kind (is_equal_edge c taken)))
+-- machine goes that way. Where a rule is broken that guards lift, it tells nothing.
+unfoldable pub edge_with : Bool → Abstract → Instr → Bool → Option Abstract
+edge_with loose s (instr.Branch w c dst from distance) taken =
+    if loose then Some s
+    else if is_null_test w c from (value s dst) then Some (with_value s dst (tested_kind (is_equal_edge c taken)))
     else option_map (with_both s dst from) (limits_refined (instr.Branch w c dst from distance) taken (words (value s dst)) (words (second s from)))
-edge_of s (instr.Arithmetic w o dst from) taken = Some s
-edge_of s (instr.Negate w dst) taken = Some s
-edge_of s (instr.SignExtend e dst src) taken = Some s
-edge_of s (instr.ByteOrder o size dst) taken = Some s
-edge_of s (instr.Jump distance) taken = Some s
-edge_of s (instr.LongJump distance) taken = Some s
-edge_of s (instr.CallHelper number) taken = Some s
-edge_of s (instr.CallLocal distance) taken = Some s
-edge_of s instr.Exit taken = Some s
-edge_of s (instr.Load size dst base distance) taken = Some s
-edge_of s (instr.LoadSigned size dst base distance) taken = Some s
-edge_of s (instr.StoreImmediate size base distance n) taken = Some s
-edge_of s (instr.Store size base distance src) taken = Some s
-edge_of s (instr.LoadImmediate dst x) taken = Some s
+edge_with loose s i taken = Some s
+
+-- where no rule is broken
+abbrev pub edge_of : Abstract → Instr → Bool → Option Abstract
+edge_of s i taken = edge_with false s i taken
 
 -- what a local function is given of a register: a number, or a word, and no pointer
 abbrev pub argument_kind : Kind → Kind
@@ -77,28 +69,20 @@ abbrev pub passed_state : ℕ → Option Abstract → List (ℕ × Abstract)
 passed_state slot None = []
 passed_state slot (Some s) = (slot, s) ∷ []
 
--- the state behind an instruction, passed to the next slot, if there is one
-abbrev pub behind : ℕ → Abstract → ℕ → Instr → List (ℕ × Abstract)
-behind sectors s slot i = passed_state (slot + 1) (after_of sectors s i)
-
 -- to which slots what state is passed, the next slot first; rounding where it arrives is not a part
 -- of it
-unfoldable pub passes : ℕ → Abstract → ℕ → Instr → List (ℕ × Abstract)
-passes sectors s slot (instr.Jump distance) = (target_slot slot distance, s) ∷ []
-passes sectors s slot (instr.LongJump distance) = (target_slot slot distance, s) ∷ []
-passes sectors s slot (instr.Branch w c dst from distance) =
-    passed_state (slot + 1) (edge_of s (instr.Branch w c dst from distance) false)
-    ++ passed_state (target_slot slot distance) (edge_of s (instr.Branch w c dst from distance) true)
-passes sectors s slot instr.Exit = []
-passes sectors s slot (instr.CallLocal distance) =
-    passed_state (slot + 1) (after_of sectors s (instr.CallLocal distance)) ++ (target_slot slot distance, entry_state s) ∷ []
-passes sectors s slot (instr.LoadImmediate dst x) = passed_state (slot + 2) (after_of sectors s (instr.LoadImmediate dst x))
-passes sectors s slot (instr.Arithmetic w o dst from) = behind sectors s slot (instr.Arithmetic w o dst from)
-passes sectors s slot (instr.Negate w dst) = behind sectors s slot (instr.Negate w dst)
-passes sectors s slot (instr.SignExtend e dst src) = behind sectors s slot (instr.SignExtend e dst src)
-passes sectors s slot (instr.ByteOrder o size dst) = behind sectors s slot (instr.ByteOrder o size dst)
-passes sectors s slot (instr.CallHelper number) = behind sectors s slot (instr.CallHelper number)
-passes sectors s slot (instr.Load size dst base distance) = behind sectors s slot (instr.Load size dst base distance)
-passes sectors s slot (instr.LoadSigned size dst base distance) = behind sectors s slot (instr.LoadSigned size dst base distance)
-passes sectors s slot (instr.StoreImmediate size base distance n) = behind sectors s slot (instr.StoreImmediate size base distance n)
-passes sectors s slot (instr.Store size base distance src) = behind sectors s slot (instr.Store size base distance src)
+unfoldable pub passed_with : Bool → ℕ → Abstract → ℕ → Instr → List (ℕ × Abstract)
+passed_with loose sectors s slot (instr.Jump distance) = (target_slot slot distance, s) ∷ []
+passed_with loose sectors s slot (instr.LongJump distance) = (target_slot slot distance, s) ∷ []
+passed_with loose sectors s slot (instr.Branch w c dst from distance) =
+    passed_state (slot + 1) (edge_with loose s (instr.Branch w c dst from distance) false)
+    ++ passed_state (target_slot slot distance) (edge_with loose s (instr.Branch w c dst from distance) true)
+passed_with loose sectors s slot instr.Exit = []
+passed_with loose sectors s slot (instr.CallLocal distance) =
+    passed_state (slot + 1) (after_with loose sectors s (instr.CallLocal distance)) ++ (target_slot slot distance, entry_state s) ∷ []
+passed_with loose sectors s slot (instr.LoadImmediate dst x) = passed_state (slot + 2) (after_with loose sectors s (instr.LoadImmediate dst x))
+passed_with loose sectors s slot i = passed_state (slot + 1) (after_with loose sectors s i)
+
+-- where no rule is broken
+abbrev pub passes : ℕ → Abstract → ℕ → Instr → List (ℕ × Abstract)
+passes sectors s slot i = passed_with false sectors s slot i

@@ -19,7 +19,7 @@ offsets_in limit a b = option_and_then (λ low. option_map (λ high. span low hi
 abbrev pub constant_of : Span → ℤ
 constant_of y = cast_signed w64 y.low
 
--- an offset at the distance of a constant, behind it or before it
+-- an offset at the distance of a constant, after it or before it
 abbrev pub moved_offset : Bool → ℕ → Span → ℤ
 moved_offset down o y = if down then pos o -ℤ constant_of y else pos o +ℤ constant_of y
 

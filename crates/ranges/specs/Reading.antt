@@ -7,7 +7,7 @@ use Rattle.machine.specs.Step.{is_length}
 use Rattle.intervals.specs.Spans.{span, is_constant}
 use Rattle.intervals.specs.Reducing.{Limits, any_sign}
 use Rattle.intervals.specs.Seen.{immediate_span}
-use Rattle.ranges.specs.Kinds.{Kind, Unset, Num, Ctx, Stack, Sector, is_unknown}
+use Rattle.ranges.specs.Kinds.{Kind, Unset, Num, Ctx, Stack, Sector, is_unset, is_unknown}
 use Rattle.ranges.specs.Groups.{GroupKind}
 use Rattle.ranges.specs.States.{Abstract}
 
@@ -30,6 +30,10 @@ second s (source.Register r) = value s r
 -- whether of each of these registers it is known that it is set, and whether it is a pointer
 abbrev pub are_set : Abstract → List ℕ → Bool
 are_set s registers = list_all (λ r. not (is_unknown (value s r))) registers
+
+-- whether none of them may be unset
+abbrev pub are_words : Abstract → List ℕ → Bool
+are_words s registers = list_all (λ r. not (is_unset (value s r))) registers
 
 -- all words
 abbrev pub any_word : Limits

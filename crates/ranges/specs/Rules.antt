@@ -1,5 +1,6 @@
--- The rules of an instruction at a state, in their order (docs/VERIFIER.md, Rules at a slot).
-use Rattle.std.specs.Prelude.{ℕ, ◌&&◌, ◌||◌, Bool, true, false, ℤ, pos, List, [], ◌∷◌, is_some}
+-- The rules of an instruction at a state, in their order (docs/VERIFIER.md, Rules at a slot and Guards). Guards lift some of
+-- them, and ask of a register only that it isn't unset.
+use Rattle.std.specs.Prelude.{ℕ, not, ◌&&◌, ◌||◌, Bool, true, false, ℤ, pos, List, [], ◌∷◌, is_some}
 use Rattle.std.specs.Option.{option_map_or}
 use Rattle.std.specs.Ordering.{int_eq}
 use Rattle.std.specs.Int.{cast_unsigned, w32}
@@ -25,16 +26,24 @@ use Rattle.ranges.specs.declared.place.Place.{Place}
 use Rattle.ranges.specs.declared.place.Place.TheVariants as place
 use Rattle.ranges.specs.declared.place.Mark.{Mark}
 use Rattle.ranges.specs.declared.place.Mark.TheVariants as mark
-use Rattle.ranges.specs.Kinds.{Kind, SectorOrNull, is_number}
+use Rattle.ranges.specs.Kinds.{Kind, SectorOrNull, is_number, is_unset, is_unknown}
 use Rattle.ranges.specs.Groups.{GroupKind}
 use Rattle.ranges.specs.States.{Abstract}
 use Rattle.ranges.specs.Pointers.{moved_pointer}
 use Rattle.ranges.specs.Places.{place_of, is_inside, none_is, is_group}
-use Rattle.ranges.specs.Reading.{value, second, are_set, words, is_stack, is_base, has_length}
+use Rattle.std.specs.List.{list_all}
+use Rattle.ranges.specs.Reading.{value, second, words, is_stack, is_base, has_length}
 
--- the rule that each of these registers is set
-abbrev pub reads : Abstract → List ℕ → Check VerifierCause
-reads s registers = check cause.UnsetRegister (are_set s registers)
+-- the rule that each of these registers is set; with guards none may be unset
+abbrev pub is_read : Bool → Kind → Bool
+is_read true k = not (is_unset k)
+is_read false k = not (is_unknown k)
+
+abbrev pub are_read : Bool → Abstract → List ℕ → Bool
+are_read guards s registers = list_all (λ r. is_read guards (value s r)) registers
+
+abbrev pub reads : Bool → Abstract → List ℕ → Check VerifierCause
+reads guards s registers = check cause.UnsetRegister (are_read guards s registers)
 
 -- Whether arithmetic may take these operands: a move in 64 bits takes any, an addition or
 -- subtraction in 64 bits may move a pointer, and all else takes numbers. A move does not read dst.
@@ -73,10 +82,6 @@ is_null_test w c from k = is_wide w && (is_equality c && (is_zero from && may_be
 unfoldable pub compares : Abstract → Width → Condition → ℕ → Source → Bool
 compares s w c dst from = is_null_test w c from (value s dst) || (is_number (value s dst) && is_number (second s from))
 
--- the rules of an access to n bytes
-abbrev pub lies : Place → Check VerifierCause
-lies p = check cause.OutsideRegion (is_inside p)
-
 -- whether none of the bytes of an access is of this kind
 abbrev pub has_no : Mark → List GroupKind → Place → ℕ → Bool
 has_no m groups (place.Stack at) n = none_is m groups at n
@@ -87,54 +92,62 @@ abbrev pub is_whole : Place → ℕ → Bool
 is_whole (place.Stack at) n = is_group at n
 is_whole p n = false
 
-unfoldable pub load_rules : Abstract → ℕ → ℤ → ℕ → List (Check VerifierCause)
-load_rules s base distance n =
-    reads s (base ∷ [])
-    ∷ lies (place_of (value s base) distance n)
-    ∷ check cause.UnsetByte (has_no mark.Unset s.groups (place_of (value s base) distance n) n)
-    ∷ check cause.PointerAsNumber (is_whole (place_of (value s base) distance n) n || has_no mark.Pointer s.groups (place_of (value s base) distance n) n)
+unfoldable pub load_rules : Bool → Abstract → ℕ → ℤ → ℕ → List (Check VerifierCause)
+load_rules guards s base distance n =
+    reads guards s (base ∷ [])
+    ∷ check cause.OutsideRegion (guards || is_inside (place_of (value s base) distance n))
+    ∷ check cause.UnsetByte (guards || has_no mark.Unset s.groups (place_of (value s base) distance n) n)
+    ∷ check cause.PointerAsNumber (guards || (is_whole (place_of (value s base) distance n) n || has_no mark.Pointer s.groups (place_of (value s base) distance n) n))
     ∷ []
 
 -- `set` says whether the registers are set that the store reads
-unfoldable pub store_rules : Abstract → Bool → Kind → ℕ → ℤ → ℕ → List (Check VerifierCause)
-store_rules s set stored base distance n =
+unfoldable pub store_rules : Bool → Abstract → Bool → Kind → ℕ → ℤ → ℕ → List (Check VerifierCause)
+store_rules guards s set stored base distance n =
     check cause.UnsetRegister set
-    ∷ check cause.OutsideRegion (is_base (value s base))
-    ∷ check cause.ReadOnly (is_stack (value s base))
-    ∷ lies (place_of (value s base) distance n)
-    ∷ check cause.PointerAsNumber (is_number stored || is_whole (place_of (value s base) distance n) n)
+    ∷ check cause.OutsideRegion (guards || is_base (value s base))
+    ∷ check cause.ReadOnly (guards || is_stack (value s base))
+    ∷ check cause.OutsideRegion (guards || is_inside (place_of (value s base) distance n))
+    ∷ check cause.PointerAsNumber (guards || (is_number stored || is_whole (place_of (value s base) distance n) n))
     ∷ []
 
 -- the length of helper 2
 abbrev pub length_of : Kind → ℕ
 length_of k = (words k).unsigned.low
 
-unfoldable pub call_rules : Abstract → Helper → List (Check VerifierCause)
-call_rules s helper.Copy =
-    reads s (1 ∷ 2 ∷ 3 ∷ [])
-    ∷ check cause.HelperArgument (is_number (value s 1) && (is_stack (value s 2) && has_length (value s 3)))
-    ∷ lies (place_of (value s 2) (pos 0) (length_of (value s 3)))
+-- of helper 2 guards don't lift the rule of its length
+unfoldable pub call_rules : Bool → Abstract → Helper → List (Check VerifierCause)
+call_rules guards s helper.Copy =
+    reads guards s (1 ∷ 2 ∷ 3 ∷ [])
+    ∷ check cause.HelperArgument ((guards || is_number (value s 1)) && ((guards || is_stack (value s 2)) && has_length (value s 3)))
+    ∷ check cause.OutsideRegion (guards || is_inside (place_of (value s 2) (pos 0) (length_of (value s 3))))
     ∷ []
-call_rules s helper.Same = reads s (1 ∷ 2 ∷ []) ∷ check cause.HelperArgument (is_number (value s 1) && is_number (value s 2)) ∷ []
-call_rules s h = reads s (1 ∷ []) ∷ check cause.HelperArgument (is_number (value s 1)) ∷ []
+call_rules guards s helper.Same = reads guards s (1 ∷ 2 ∷ []) ∷ check cause.HelperArgument (guards || (is_number (value s 1) && is_number (value s 2))) ∷ []
+call_rules guards s h = reads guards s (1 ∷ []) ∷ check cause.HelperArgument (guards || is_number (value s 1)) ∷ []
 
--- the rules of an instruction; that helpers are known is a rule of shape
-unfoldable pub rules : Abstract → Instr → List (Check VerifierCause)
-rules s (instr.Arithmetic w o dst from) = reads s (operands o dst from) ∷ computes (may_compute w o (value s dst) (second s from)) ∷ []
-rules s (instr.Negate w dst) = reads s (dst ∷ []) ∷ computes (is_number (value s dst)) ∷ []
-rules s (instr.SignExtend e dst src) = reads s (src ∷ []) ∷ computes (is_number (value s src)) ∷ []
-rules s (instr.ByteOrder o size dst) = reads s (dst ∷ []) ∷ computes (is_number (value s dst)) ∷ []
-rules s (instr.Jump distance) = []
-rules s (instr.LongJump distance) = []
-rules s (instr.Branch w c dst from distance) =
-    reads s (dst ∷ source_registers from)
-    ∷ check cause.PointerAsNumber (compares s w c dst from)
-    ∷ []
-rules s (instr.CallHelper number) = option_map_or (call_rules s) (helper_of (cast_unsigned w32 number)) []
-rules s (instr.CallLocal distance) = []
-rules s instr.Exit = reads s (0 ∷ []) ∷ check cause.PointerAsNumber (is_number (value s 0)) ∷ []
-rules s (instr.Load size dst base distance) = load_rules s base distance (byte_count size)
-rules s (instr.LoadSigned size dst base distance) = load_rules s base distance (byte_count (plain_size size))
-rules s (instr.StoreImmediate size base distance n) = store_rules s (are_set s (base ∷ [])) (second s (source.Immediate n)) base distance (byte_count size)
-rules s (instr.Store size base distance src) = store_rules s (are_set s (base ∷ src ∷ [])) (value s src) base distance (byte_count size)
-rules s (instr.LoadImmediate dst x) = []
+-- the rules of an instruction, with guards or without; that helpers are known is a rule of shape
+unfoldable pub rules_with : Bool → Abstract → Instr → List (Check VerifierCause)
+rules_with guards s (instr.Arithmetic w o dst from) =
+    reads guards s (operands o dst from) ∷ computes (guards || may_compute w o (value s dst) (second s from)) ∷ []
+rules_with guards s (instr.Negate w dst) = reads guards s (dst ∷ []) ∷ computes (guards || is_number (value s dst)) ∷ []
+rules_with guards s (instr.SignExtend e dst src) = reads guards s (src ∷ []) ∷ computes (guards || is_number (value s src)) ∷ []
+rules_with guards s (instr.ByteOrder o size dst) = reads guards s (dst ∷ []) ∷ computes (guards || is_number (value s dst)) ∷ []
+rules_with guards s (instr.Jump distance) = []
+rules_with guards s (instr.LongJump distance) = []
+rules_with guards s (instr.Branch w c dst from distance) =
+    reads guards s (dst ∷ source_registers from) ∷ check cause.PointerAsNumber (guards || compares s w c dst from) ∷ []
+rules_with guards s (instr.CallHelper number) = option_map_or (call_rules guards s) (helper_of (cast_unsigned w32 number)) []
+rules_with guards s (instr.CallLocal distance) = []
+rules_with guards s instr.Exit = reads guards s (0 ∷ []) ∷ check cause.PointerAsNumber (guards || is_number (value s 0)) ∷ []
+rules_with guards s (instr.Load size dst base distance) = load_rules guards s base distance (byte_count size)
+rules_with guards s (instr.LoadSigned size dst base distance) = load_rules guards s base distance (byte_count (plain_size size))
+rules_with guards s (instr.StoreImmediate size base distance n) =
+    store_rules guards s (are_read guards s (base ∷ [])) (second s (source.Immediate n)) base distance (byte_count size)
+rules_with guards s (instr.Store size base distance src) = store_rules guards s (are_read guards s (base ∷ src ∷ [])) (value s src) base distance (byte_count size)
+rules_with guards s (instr.LoadImmediate dst x) = []
+
+-- without guards, and with them
+abbrev pub rules : Abstract → Instr → List (Check VerifierCause)
+rules s i = rules_with false s i
+
+abbrev pub guarded_rules : Abstract → Instr → List (Check VerifierCause)
+guarded_rules s i = rules_with true s i

@@ -6,8 +6,9 @@ ghost use Rattle.ranges.specs.Passing.{is_equal_edge, tested_kind, edge_of, argu
 ghost use Rattle.ranges.specs.Seen.{kind_of};
 ghost use Rattle.ranges.specs.SeenStates.{state_of};
 
+use crate::change::effect_along;
 use crate::group::UNSET;
-use crate::moving::follow;
+use crate::moving::lead;
 use crate::state::State;
 use crate::value::{SectorOffsets, StackOffset, Value};
 use bpf_isa::instr::{Condition, Instr};
@@ -23,7 +24,7 @@ pub(crate) fn is_equal_edge(condition: Condition, taken: bool) -> bool
     }
 }
 
-/// The answer of helper 1 behind a null test.
+/// The answer of helper 1 after a null test.
 pub(crate) fn tested_value(is_zero: bool) -> Value
     ensures { kind_of result ≡ tested_kind is_zero }
 {
@@ -41,7 +42,7 @@ pub fn branch(instr: &Instr, taken: bool, state: &State) -> Option<State>
     ensures { option_map state_of result ≡ edge_of (state_of state.now) instr.now taken }
 {
     let mut next = *state;
-    if follow(instr, taken, &mut next) {
+    if lead(&effect_along(false, instr, taken, state), &mut next) {
         Some(next)
     } else {
         None

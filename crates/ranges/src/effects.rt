@@ -14,8 +14,9 @@ ghost use Rattle.ranges.specs.Seen.{kind_of};
 ghost use Rattle.ranges.specs.SeenStates.{group_of, state_of};
 
 use crate::bytes::is_group;
+use crate::change::effect_behind;
 use crate::group::Group;
-use crate::moving::advance;
+use crate::moving::lead;
 use crate::place::Place;
 use crate::pointers::move_pointer;
 use crate::state::State;
@@ -152,14 +153,14 @@ pub(crate) fn answer_value(helper: Helper) -> Value
     }
 }
 
-/// The state behind an instruction at whose state no rule is broken, on a device of so many sectors.
-/// None where arithmetic leaves no word, so that no machine gets there. Behind a local call r0 is any
+/// The state after an instruction at whose state no rule is broken, on a device of that many sectors.
+/// None where arithmetic leaves no word, so that no machine gets there. After a local call r0 is any
 /// word. A jump leaves the state as it is, and so does the end of a function.
 pub fn after(instr: &Instr, state: &State, sectors: u32) -> Option<State>
     ensures { option_map state_of result ≡ after_of sectors (state_of state.now) instr.now }
 {
     let mut next = *state;
-    if advance(instr, &mut next, sectors) {
+    if lead(&effect_behind(false, instr, state, sectors), &mut next) {
         Some(next)
     } else {
         None

@@ -49,7 +49,7 @@ pub fn rules_are_monotone()
     ensures { RulesAreMonotone }
 {}
 
-/// Where a larger state breaks no rule, a smaller one is left with a smaller state behind an instruction, or with none.
+/// Where a larger state breaks no rule, a smaller one is left with a smaller state after an instruction, or with none.
 pub fn after_is_monotone()
     ensures { AfterIsMonotone }
 {}

@@ -13,13 +13,12 @@
 //! | `s.contains(&t)` | whether the join of both is the first: it covers all that the other does |
 //! | `s.round()` | the state with its ranges between powers of two, as it is at the head of a loop |
 //! | `check(&instr, &state)` | that each rule of the instruction holds, or the first that is broken |
-//! | `after(&instr, &state, sectors)` | the state behind an instruction that is no conditional jump, None where no machine gets there |
+//! | `after(&instr, &state, sectors)` | the state after an instruction that is no conditional jump, None where no machine gets there |
 //! | `branch(&instr, taken, &state)` | the state on an edge of a conditional jump, None where no machine goes that way |
 //! | `entry(&state)` | the state at the entry of a local function that is called there |
-//! | `s.take_in(&t)`, `s.widen()`, `advance(..)`, `follow(..)`, `enter(..)` | `join`, `round`, `after`, `branch` and `entry`, in place |
-//! | `check_with_guards(&instr, &state)` | that each rule with guards holds, or the first that is broken |
-//! | `breaks_rule(&instr, &state)` | whether a rule without guards is broken |
-//! | `advance_loosely(&instr, &mut state)` | what is passed on there, along each edge |
+//! | `effect_behind(loose, &instr, &state, sectors)`, `effect_along(loose, &instr, taken, &state)` | what comes of the state there, where a rule that guards lift is broken (`loose`), or else as `after` and `branch` say |
+//! | `lead(&effect, &mut state)`, `s.take_in(&t)`, `s.widen()` | makes it of the state, joins, rounds, in place |
+//! | `broken_rule(guards, &instr, &state)` | the first rule with guards or without that is broken, if one is |
 //! | `is_guarded(&instr, &state)` | whether the slot is guarded: the place of its access isn't proved |
 //!
 //! No call takes memory, and none refuses but by its answer. `after` and `branch` are meant for an
@@ -46,7 +45,7 @@
 //!   rules of each form of instruction in their order.
 //! - `after` is exactly `after_of` (`specs/After.antt`), `branch` exactly `edge_of` and `entry` exactly
 //!   `entry_state` (`specs/Passing.antt`). `passes` there says to which slots what state is passed, for
-//!   the crate above. A local call passes two: what is kept behind it to the next slot, and what its
+//!   the crate above. A local call passes two: what is kept after it to the next slot, and what its
 //!   function gets to the entry.
 //! - `join_is_least`, `states_join`: a join holds all that either does, and is the least that does;
 //!   one state contains another just where it holds all that the other does, register by register and
@@ -58,10 +57,10 @@
 //!   that are under each other are the same.
 //! - `rules_are_monotone`: a smaller state breaks no rule where a larger one breaks none.
 //! - `after_is_monotone`, `edges_are_monotone`, `passes_are_monotone`: there it is left with a smaller
-//!   state behind an instruction and on the edges of a conditional jump, or with none, and passes smaller
+//!   state after an instruction and on the edges of a conditional jump, or with none, and passes smaller
 //!   states to the same slots.
-//! - `check_with_guards` answers the first failing one of the list `guarded_rules`, `advance_loosely` is exactly `loose_after`,
-//!   and `is_guarded` that of `specs/Guards.antt`.
+//! - `broken_rule` answers the first failing one of the list `rules_with`, what `effect_behind` and `effect_along` leave is
+//!   exactly `after_with` and `edge_with`, and `is_guarded` that of `specs/Guards.antt`.
 //! - `guarded_rules_are_weaker`: where no rule without guards is broken, none with guards is.
 //! - `guarded_rules_are_monotone`, `guarded_passes_are_monotone`, `guarded_passes_fit`: as those of acceptance without guards.
 //! - `guards_are_proved`: nothing is guarded where no rule without guards is broken, nor at a smaller state where it isn't at a
@@ -75,10 +74,10 @@
 //! - `pointers`: what an addition makes of a pointer. `place`: where an access falls. `bytes`: what is
 //!   known of the bytes there. `writes`: stores.
 //! - `reads`, `rules`: the rules, one function a form. Their causes are those of `base`.
-//! - `change`: what an instruction changes, where that needs no copy; `stretch`: bytes that are written.
-//! - `guards`: the rules with guards, what follows where one without guards is broken, and which slots are guarded.
-//! - `moving`: what an instruction, an edge and a local call make of a state, in place; `effects` and
-//!   `edges` have the values for it. `after` and `branch` copy a state and then do that.
+//! - `change`: what comes of a state after an instruction and along an edge, with guards and without; `effects` and `edges`
+//!   have the values for it, and `stretch` the places in the stack.
+//! - `moving`: makes that of a state, in place. `after` and `branch` copy a state and then do so.
+//! - `guards`: the rules with guards, and which slots are guarded.
 //! - `knowing`: what is known of a state, and joining and rounding it.
 //! - `laws`: the laws, contracts of functions that do nothing.
 //!
@@ -128,10 +127,10 @@ pub use change::{Change, Effect, effect_along, effect_behind};
 pub use edges::{branch, entry};
 pub use effects::after;
 pub use group::Group;
-pub use guards::{advance_loosely, breaks_rule, check_with_guards, effect_loosely, is_guarded};
-pub use moving::{advance, enter, follow};
-pub use rules::check;
+pub use guards::is_guarded;
+pub use moving::lead;
+pub use rules::{broken_rule, check};
 pub use spill::Spill;
 pub use state::State;
-pub use stretch::Stretch;
+pub use stretch::{GroupPlace, Stretch};
 pub use value::{ContextOffset, SectorOffsets, StackOffset, Value};

@@ -1,13 +1,14 @@
-//! The rules of an instruction at a state.
+//! The rules of an instruction at a state, with guards or without. With guards some are lifted, and a register may be read
+//! where it isn't unset.
 
-ghost use Rattle.std.specs.Prelude.{◌≡◌, not, [], ◌∷◌, pos, Some, None, OnOk, IfErr};
+ghost use Rattle.std.specs.Prelude.{◌≡◌, ◌||◌, [], ◌∷◌, pos, Some, None, OnOk, IfErr};
 ghost use Rattle.base.specs.Check.{first_failing, check};
 ghost use Rattle.machine.specs.Memory.{byte_count, plain_size};
 ghost use Rattle.machine.specs.Step.{source_registers, operands};
 ghost use Rattle.ranges.specs.Kinds.{is_number};
-ghost use Rattle.ranges.specs.Reading.{value, second, are_set};
+ghost use Rattle.ranges.specs.Reading.{value, second};
 ghost use Rattle.ranges.specs.Places.{place_of, is_inside, none_is, is_group, Fits};
-ghost use Rattle.ranges.specs.Rules.{may_compute, compares, is_null_test, is_zero, is_equality, may_be_null, has_no, is_whole, load_rules, store_rules, call_rules, rules, reads, computes, lies};
+ghost use Rattle.ranges.specs.Rules.{may_compute, compares, is_null_test, is_zero, is_equality, may_be_null, has_no, is_whole, load_rules, store_rules, call_rules, rules, rules_with, are_read, reads, computes};
 ghost use Rattle.ranges.specs.Seen.{kind_of};
 ghost use Rattle.ranges.specs.SeenStates.{state_of};
 ghost use Rattle.std.specs.Int.{cast_unsigned, w32};
@@ -18,7 +19,7 @@ ghost use Rattle.bpf_isa.specs.declared.instr.Source.TheVariants as operand;
 use crate::bytes::{has_no, is_whole};
 use crate::place::{Mark, Place, place_of};
 use crate::pointers::move_pointer;
-use crate::reads::{are_both_set, are_operands_set, are_two_set, is_set};
+use crate::reads::{are_both_read, are_operands_read, are_two_read, is_read, is_register_read};
 use crate::state::State;
 use crate::value::Value;
 use arithmetic::{byte_count, plain_size};
@@ -43,13 +44,13 @@ fn may_compute(width: Width, operator: Operator, first: Value, other: Value) -> 
     }
 }
 
-/// The rules of arithmetic with a register that it reads, and its value.
-fn breach_of_one(is_set: bool, is_number: bool) -> Option<VerifierCause>
-    ensures { result ≡ first_failing (check VerifierCause.UnsetRegister is_set ∷ computes is_number ∷ []) }
+/// The rules of arithmetic: whether the registers may be read, and whether it may take what they hold.
+fn breach_of_one(is_read: bool, may: bool) -> Option<VerifierCause>
+    ensures { result ≡ first_failing (check VerifierCause.UnsetRegister is_read ∷ computes may ∷ []) }
 {
-    if !is_set {
+    if !is_read {
         Some(VerifierCause::UnsetRegister)
-    } else if !is_number {
+    } else if !may {
         Some(VerifierCause::PointerArithmetic)
     } else {
         None
@@ -84,13 +85,23 @@ fn is_zero(source: &Source) -> bool
 
 /// The first rule that a load breaks.
 #[tactic(auto, unfolding(crate::specs::Rules::load_rules))]
-fn load_breach(state: &State, base: Register, offset: i16, n: u64) -> Option<VerifierCause>
-    ensures { result ≡ first_failing (load_rules (state_of state.now) base offset n) }
+fn load_breach(
+    guards: bool,
+    state: &State,
+    base: Register,
+    offset: i16,
+    n: u64,
+) -> Option<VerifierCause>
+    ensures { result ≡ first_failing (load_rules guards (state_of state.now) base offset n) }
 {
+    if !is_register_read(guards, state, base) {
+        return Some(VerifierCause::UnsetRegister);
+    }
+    if guards {
+        return None;
+    }
     let place = place_of(state.value(base), offset, n);
-    if !is_set(state, base) {
-        Some(VerifierCause::UnsetRegister)
-    } else if matches!(place, Place::Outside) {
+    if matches!(place, Place::Outside) {
         Some(VerifierCause::OutsideRegion)
     } else if !has_no(state, Mark::Unset, place, n) {
         Some(VerifierCause::UnsetByte)
@@ -101,9 +112,10 @@ fn load_breach(state: &State, base: Register, offset: i16, n: u64) -> Option<Ver
     }
 }
 
-/// The first rule that a store breaks. `set` says whether the registers are set that it reads.
+/// The first rule that a store breaks. `set` says whether the registers may be read that it reads.
 #[tactic(auto, unfolding(crate::specs::Rules::store_rules))]
 fn store_breach(
+    guards: bool,
     state: &State,
     set: bool,
     stored: Value,
@@ -111,13 +123,17 @@ fn store_breach(
     offset: i16,
     n: u64,
 ) -> Option<VerifierCause>
-    ensures { result ≡ first_failing (store_rules (state_of state.now) set (kind_of stored) base offset n) }
+    ensures { result ≡ first_failing (store_rules guards (state_of state.now) set (kind_of stored) base offset n) }
 {
+    if !set {
+        return Some(VerifierCause::UnsetRegister);
+    }
+    if guards {
+        return None;
+    }
     let value = state.value(base);
     let place = place_of(value, offset, n);
-    if !set {
-        Some(VerifierCause::UnsetRegister)
-    } else if !value.is_base() {
+    if !value.is_base() {
         Some(VerifierCause::OutsideRegion)
     } else if !value.is_stack() {
         Some(VerifierCause::ReadOnly)
@@ -132,42 +148,45 @@ fn store_breach(
 
 /// The first rule that arithmetic with two operands breaks.
 fn arithmetic_breach(
+    guards: bool,
     state: &State,
     width: Width,
     operator: Operator,
     dst: Register,
     source: &Source,
 ) -> Option<VerifierCause>
-    ensures { result ≡ first_failing (reads (state_of state.now) (operands operator dst source.now) ∷ computes (may_compute width operator (value (state_of state.now) dst) (second (state_of state.now) source.now)) ∷ []) }
+    ensures { result ≡ first_failing (reads guards (state_of state.now) (operands operator dst source.now) ∷ computes (guards || may_compute width operator (value (state_of state.now) dst) (second (state_of state.now) source.now)) ∷ []) }
 {
     breach_of_one(
-        are_operands_set(state, operator, dst, source),
-        may_compute(width, operator, state.value(dst), state.second(source)),
+        are_operands_read(guards, state, operator, dst, source),
+        guards || may_compute(width, operator, state.value(dst), state.second(source)),
     )
 }
 
 /// The first rule that arithmetic on one register breaks.
-fn register_breach(state: &State, register: Register) -> Option<VerifierCause>
-    ensures { result ≡ first_failing (reads (state_of state.now) (register ∷ []) ∷ computes (is_number (value (state_of state.now) register)) ∷ []) }
+fn register_breach(guards: bool, state: &State, register: Register) -> Option<VerifierCause>
+    ensures { result ≡ first_failing (reads guards (state_of state.now) (register ∷ []) ∷ computes (guards || is_number (value (state_of state.now) register)) ∷ []) }
 {
-    breach_of_one(is_set(state, register), state.value(register).is_number())
+    let value = state.value(register);
+    breach_of_one(is_read(guards, value), guards || value.is_number())
 }
 
 /// The first rule that a conditional jump breaks.
 #[tactic(auto, unfolding(crate::specs::Rules::compares))]
 fn branch_breach(
+    guards: bool,
     state: &State,
     width: Width,
     condition: Condition,
     dst: Register,
     source: &Source,
 ) -> Option<VerifierCause>
-    ensures { result ≡ first_failing (reads (state_of state.now) (dst ∷ source_registers source.now) ∷ check VerifierCause.PointerAsNumber (compares (state_of state.now) width condition dst source.now) ∷ []) }
+    ensures { result ≡ first_failing (reads guards (state_of state.now) (dst ∷ source_registers source.now) ∷ check VerifierCause.PointerAsNumber (guards || compares (state_of state.now) width condition dst source.now) ∷ []) }
 {
     let first = state.value(dst);
-    if !are_both_set(state, dst, source) {
+    if !are_both_read(guards, state, dst, source) {
         Some(VerifierCause::UnsetRegister)
-    } else if is_null_test(width, condition, source, first) {
+    } else if guards || is_null_test(width, condition, source, first) {
         None
     } else if !first.is_number() || !state.second(source).is_number() {
         Some(VerifierCause::PointerAsNumber)
@@ -177,13 +196,13 @@ fn branch_breach(
 }
 
 /// The first rule that the end of a program breaks.
-fn exit_breach(state: &State) -> Option<VerifierCause>
-    ensures { result ≡ first_failing (reads (state_of state.now) (0 ∷ []) ∷ check VerifierCause.PointerAsNumber (is_number (value (state_of state.now) 0)) ∷ []) }
+fn exit_breach(guards: bool, state: &State) -> Option<VerifierCause>
+    ensures { result ≡ first_failing (reads guards (state_of state.now) (0 ∷ []) ∷ check VerifierCause.PointerAsNumber (guards || is_number (value (state_of state.now) 0)) ∷ []) }
 {
     let answer = state.at(0);
-    if !answer.is_set() {
+    if !is_read(guards, answer) {
         Some(VerifierCause::UnsetRegister)
-    } else if !answer.is_number() {
+    } else if !guards && !answer.is_number() {
         Some(VerifierCause::PointerAsNumber)
     } else {
         None
@@ -192,28 +211,30 @@ fn exit_breach(state: &State) -> Option<VerifierCause>
 
 /// The first rule that a call of helper 2 breaks.
 #[tactic(auto, unfolding(crate::specs::Rules::call_rules))]
-fn copy_breach(state: &State) -> Option<VerifierCause>
-    ensures { result ≡ first_failing (call_rules (state_of state.now) Helper.Copy) }
+fn copy_breach(guards: bool, state: &State) -> Option<VerifierCause>
+    ensures { result ≡ first_failing (call_rules guards (state_of state.now) Helper.Copy) }
 {
     let (from, to, length) = (state.at(1), state.at(2), state.at(3));
-    if !from.is_set() || !to.is_set() || !length.is_set() {
-        Some(VerifierCause::UnsetRegister)
-    } else if !from.is_number() || !to.is_stack() || !length.has_length() {
+    if !is_read(guards, from) || !is_read(guards, to) || !is_read(guards, length) {
+        return Some(VerifierCause::UnsetRegister);
+    }
+    let may = guards || (from.is_number() && to.is_stack());
+    if !may || !length.has_length() {
         Some(VerifierCause::HelperArgument)
-    } else if matches!(place_of(to, 0, length.words().unsigned.low), Place::Outside) {
+    } else if !guards && matches!(place_of(to, 0, length.words().unsigned.low), Place::Outside) {
         Some(VerifierCause::OutsideRegion)
     } else {
         None
     }
 }
 
-/// The first rule that a call with numbers in these registers breaks.
-fn argument_breach(are_set: bool, are_numbers: bool) -> Option<VerifierCause>
-    ensures { result ≡ first_failing (check VerifierCause.UnsetRegister are_set ∷ check VerifierCause.HelperArgument are_numbers ∷ []) }
+/// The first rule that a call breaks: whether its arguments may be read, and whether it may take them.
+fn argument_breach(are_read: bool, may: bool) -> Option<VerifierCause>
+    ensures { result ≡ first_failing (check VerifierCause.UnsetRegister are_read ∷ check VerifierCause.HelperArgument may ∷ []) }
 {
-    if !are_set {
+    if !are_read {
         Some(VerifierCause::UnsetRegister)
-    } else if !are_numbers {
+    } else if !may {
         Some(VerifierCause::HelperArgument)
     } else {
         None
@@ -222,64 +243,74 @@ fn argument_breach(are_set: bool, are_numbers: bool) -> Option<VerifierCause>
 
 /// The first rule that a call of a helper breaks.
 #[tactic(auto, unfolding(crate::specs::Rules::call_rules))]
-fn call_breach(state: &State, helper: Helper) -> Option<VerifierCause>
-    ensures { result ≡ first_failing (call_rules (state_of state.now) helper) }
+fn call_breach(guards: bool, state: &State, helper: Helper) -> Option<VerifierCause>
+    ensures { result ≡ first_failing (call_rules guards (state_of state.now) helper) }
 {
     let (first, other) = (state.at(1), state.at(2));
     match helper {
-        Helper::Copy => copy_breach(state),
+        Helper::Copy => copy_breach(guards, state),
         Helper::Same => argument_breach(
-            first.is_set() && other.is_set(),
-            first.is_number() && other.is_number(),
+            is_read(guards, first) && is_read(guards, other),
+            guards || (first.is_number() && other.is_number()),
         ),
-        _ => argument_breach(first.is_set(), first.is_number()),
+        _ => argument_breach(is_read(guards, first), guards || first.is_number()),
     }
 }
 
 /// The first rule that a call of the helper of this number breaks; none where there is no such helper.
-fn number_breach(state: &State, number: i32) -> Option<VerifierCause>
-    ensures { result ≡ first_failing (option_map_or (call_rules (state_of state.now)) (helper_of (cast_unsigned w32 number)) []) }
+fn number_breach(guards: bool, state: &State, number: i32) -> Option<VerifierCause>
+    ensures { result ≡ first_failing (option_map_or (call_rules guards (state_of state.now)) (helper_of (cast_unsigned w32 number)) []) }
 {
     match Helper::of(number.cast_unsigned()) {
-        Some(helper) => call_breach(state, helper),
+        Some(helper) => call_breach(guards, state, helper),
         None => None,
     }
 }
 
 /// The first rule that a store of a constant breaks.
 fn constant_store_breach(
+    guards: bool,
     state: &State,
     size: Size,
     base: Register,
     offset: i16,
     immediate: i32,
 ) -> Option<VerifierCause>
-    ensures { result ≡ first_failing (store_rules (state_of state.now) (are_set (state_of state.now) (base ∷ [])) (second (state_of state.now) (operand.Immediate immediate)) base offset (byte_count size)) }
+    ensures { result ≡ first_failing (store_rules guards (state_of state.now) (are_read guards (state_of state.now) (base ∷ [])) (second (state_of state.now) (operand.Immediate immediate)) base offset (byte_count size)) }
 {
     let stored = Value::Num(Bounds::immediate(immediate));
-    let set = is_set(state, base);
-    store_breach(state, set, stored, base, offset, byte_count(size))
+    let set = is_register_read(guards, state, base);
+    store_breach(guards, state, set, stored, base, offset, byte_count(size))
 }
 
 /// The first rule that a store of a register breaks.
 fn register_store_breach(
+    guards: bool,
     state: &State,
     size: Size,
     base: Register,
     offset: i16,
     src: Register,
 ) -> Option<VerifierCause>
-    ensures { result ≡ first_failing (store_rules (state_of state.now) (are_set (state_of state.now) (base ∷ src ∷ [])) (value (state_of state.now) src) base offset (byte_count size)) }
+    ensures { result ≡ first_failing (store_rules guards (state_of state.now) (are_read guards (state_of state.now) (base ∷ src ∷ [])) (value (state_of state.now) src) base offset (byte_count size)) }
 {
-    let set = are_two_set(state, base, src);
-    store_breach(state, set, state.value(src), base, offset, byte_count(size))
+    let set = are_two_read(guards, state, base, src);
+    store_breach(
+        guards,
+        state,
+        set,
+        state.value(src),
+        base,
+        offset,
+        byte_count(size),
+    )
 }
 
 /// The first rule that an instruction breaks at a state, in the order of docs/VERIFIER.md, Rules at a
-/// slot.
-#[tactic(auto, unfolding(crate::specs::Rules::rules))]
-pub fn broken_rule(instr: &Instr, state: &State) -> Option<VerifierCause>
-    ensures { result ≡ first_failing (rules (state_of state.now) instr.now) }
+/// slot, with guards or without.
+#[tactic(auto, unfolding(crate::specs::Rules::rules_with))]
+pub fn broken_rule(guards: bool, instr: &Instr, state: &State) -> Option<VerifierCause>
+    ensures { result ≡ first_failing (rules_with guards (state_of state.now) instr.now) }
 {
     match instr {
         Instr::Arithmetic {
@@ -287,10 +318,10 @@ pub fn broken_rule(instr: &Instr, state: &State) -> Option<VerifierCause>
             operator,
             dst,
             source,
-        } => arithmetic_breach(state, *width, *operator, *dst, source),
-        Instr::Negate { dst, .. } => register_breach(state, *dst),
-        Instr::SignExtend { src, .. } => register_breach(state, *src),
-        Instr::ByteOrder { dst, .. } => register_breach(state, *dst),
+        } => arithmetic_breach(guards, state, *width, *operator, *dst, source),
+        Instr::Negate { dst, .. } => register_breach(guards, state, *dst),
+        Instr::SignExtend { src, .. } => register_breach(guards, state, *src),
+        Instr::ByteOrder { dst, .. } => register_breach(guards, state, *dst),
         Instr::Jump { .. } | Instr::LongJump { .. } | Instr::CallLocal { .. } => None,
         Instr::Branch {
             width,
@@ -298,43 +329,43 @@ pub fn broken_rule(instr: &Instr, state: &State) -> Option<VerifierCause>
             dst,
             source,
             ..
-        } => branch_breach(state, *width, *condition, *dst, source),
-        Instr::CallHelper { number } => number_breach(state, *number),
-        Instr::Exit => exit_breach(state),
+        } => branch_breach(guards, state, *width, *condition, *dst, source),
+        Instr::CallHelper { number } => number_breach(guards, state, *number),
+        Instr::Exit => exit_breach(guards, state),
         Instr::Load {
             size,
             base,
             offset,
             ..
-        } => load_breach(state, *base, *offset, byte_count(*size)),
+        } => load_breach(guards, state, *base, *offset, byte_count(*size)),
         Instr::LoadSigned {
             size,
             base,
             offset,
             ..
-        } => load_breach(state, *base, *offset, byte_count(plain_size(*size))),
+        } => load_breach(guards, state, *base, *offset, byte_count(plain_size(*size))),
         Instr::StoreImmediate {
             size,
             base,
             offset,
             immediate,
-        } => constant_store_breach(state, *size, *base, *offset, *immediate),
+        } => constant_store_breach(guards, state, *size, *base, *offset, *immediate),
         Instr::Store {
             size,
             base,
             offset,
             src,
-        } => register_store_breach(state, *size, *base, *offset, *src),
+        } => register_store_breach(guards, state, *size, *base, *offset, *src),
         Instr::LoadImmediate { .. } => None,
     }
 }
 
-/// Whether the rules of an instruction hold at a state, or the first that is broken.
+/// Whether the rules without guards of an instruction hold at a state, or the first that is broken.
 pub fn check(instr: &Instr, state: &State) -> Result<(), VerifierCause>
     ensures kept { OnOk result (first_failing (rules (state_of state.now) instr.now) ≡ None) }
     ensures broken { IfErr result (λ cause. first_failing (rules (state_of state.now) instr.now) ≡ Some cause) }
 {
-    match broken_rule(instr, state) {
+    match broken_rule(false, instr, state) {
         Some(cause) => Err(cause),
         None => Ok(()),
     }

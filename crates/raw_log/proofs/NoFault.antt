@@ -6,8 +6,8 @@ use Rattle.std.proofs.lemmas.List.{length-map}
 use Rattle.std.proofs.lemmas.List.Sums.{sum_by-cons, sum_by_more, sum_by_more_le}
 use Rattle.std.proofs.lemmas.Option.{slice_get_cases, slice_get-map}
 use Rattle.std.specs.List.{sum_by}
-use Rattle.limits.specs.Sizes.{byte_limit}
-use Rattle.limits.specs.declared.Limits.{Limits}
+use Rattle.base.specs.Sizes.{byte_limit}
+use Rattle.base.specs.declared.limits.Limits.{Limits}
 use Rattle.base.specs.Check.{first_failing}
 use Rattle.base.specs.Numbers.{number_at}
 use Rattle.logfmt.specs.declared.entry.Entry.{Entry}

@@ -2,7 +2,7 @@
 use Rattle.std.proofs.Common.{ℕ, ◌≡◌, List, Option, Some, None, refl, sym, ◌∙◌, ap, inl, inr, arith}
 use Rattle.std.proofs.lemmas.Bool.{cases_lt}
 use Rattle.std.proofs.lemmas.Option.{same_Some}
-use Rattle.limits.specs.declared.Limits.{Limits}
+use Rattle.base.specs.declared.limits.Limits.{Limits}
 use Rattle.base.specs.Check.{first_failing}
 use Rattle.base.specs.declared.causes.LogCause.{LogCause}
 use Rattle.raw_log.specs.Faults.{in_super, in_entry, raw_super_checks, raw_entry_fault, times_at, EntriesPass}

@@ -1,7 +1,7 @@
 -- A log is a raw log with sectors of 512 bytes, and what is imported is a log.
 use Rattle.std.proofs.Common.{ℕ, ◌≡◌, ◌+◌, ◌*◌, ◌≤◌, List, [], ◌∷◌, length, map, refl, sym, subst, ◌∙◌, ap, inl, arith}
 use Rattle.std.specs.List.{slice_range}
-use Rattle.limits.specs.Sizes.{byte_limit}
+use Rattle.base.specs.Sizes.{byte_limit}
 use Rattle.base.specs.Numbers.{number_at}
 use Rattle.logfmt.specs.declared.entry.Entry.{Entry}
 use Rattle.logfmt.specs.Bounds.{LogValue, IsLog, AreBytes, AreRecorded, data_of, place}

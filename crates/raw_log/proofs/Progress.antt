@@ -4,9 +4,9 @@ use Rattle.std.specs.List.{flat_map, slice_range}
 use Rattle.std.proofs.lemmas.List.{map-append, flat_map_more}
 use Rattle.std.proofs.lemmas.List.Sums.{sum_by_push}
 use Rattle.std.proofs.lemmas.Option.{slice_get_within}
-use Rattle.limits.specs.Sizes.{byte_limit, most_log_bytes, most_sectors}
-use Rattle.limits.specs.declared.Limits.{Limits}
-use Rattle.limits.specs.declared.Limits.TheVariants as limits
+use Rattle.base.specs.Sizes.{byte_limit, most_log_bytes, most_sectors}
+use Rattle.base.specs.declared.limits.Limits.{Limits}
+use Rattle.base.specs.declared.limits.Limits.TheVariants as limits
 use Rattle.base.proofs.Lists.{slice_get_of_push}
 use Rattle.base.specs.Check.{first_failing}
 use Rattle.base.specs.Numbers.{number_at}
@@ -187,7 +187,7 @@ whole bytes text k sectors limits n s u super some device count so =
       same = text_is ∙ ap canonical_text so.divided;
     }
 
--- the first fault, at an entry behind those that passed
+-- the first fault, at an entry after those that passed
 pub fault_here : (bytes text : List ℕ) (k sectors : ℕ) (limits : Limits) (n s u : ℕ) (c : LogCause) → times_at bytes ≡ k → first_failing (raw_super_checks bytes) ≡ None
     → n < number_at 8 16 bytes → Progress bytes k sectors limits text n s u → (w : ℕ) → w ≡ byte_limit limits - length text → first_failing (raw_entry_checks k bytes sectors s u w) ≡ Some c
     → FirstRawFault bytes sectors limits c n

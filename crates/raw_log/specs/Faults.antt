@@ -1,8 +1,8 @@
 -- The first fault of bytes of which no log can be imported, by the order of the checks (docs/LOG-FORMAT.md, Importing a raw log).
 -- It speaks of the bytes alone. Sums and products are of whole numbers and do not wrap.
 use Rattle.std.specs.Prelude.{ℕ, zero, suc, ◌+◌, ◌-◌, ◌*◌, ◌/◌, ◌^◌, ◌≡◌, ◌==◌, ◌<◌, Bool, not, ◌&&◌, ◌||◌, nat_lt, nat_le, if◌then◌else◌, List, [], ◌∷◌, length, Option, None, Some}
-use Rattle.limits.specs.Sizes.{byte_limit}
-use Rattle.limits.specs.declared.Limits.{Limits}
+use Rattle.base.specs.Sizes.{byte_limit}
+use Rattle.base.specs.declared.limits.Limits.{Limits}
 use Rattle.base.specs.Check.{Check, check, first_failing}
 use Rattle.base.specs.Numbers.{number_at}
 use Rattle.base.specs.declared.causes.LogCause.{LogCause}
@@ -63,8 +63,8 @@ raw_super_checks bytes =
 abbrev pub is_on_device : ℕ → ℕ → ℕ → ℕ → Bool
 is_on_device k sectors sector count = nat_lt (k * sector) (2 ^ 64) && ((count == 0) || nat_le (k * sector + k * count) sectors)
 
--- the checks of the entry whose header begins at byte s, behind entries of that many units, where the log that comes out has room for
--- so many bytes more
+-- the checks of the entry whose header begins at byte s, after entries of that many units, where the log that comes out has room for
+-- that many bytes more
 unfoldable pub raw_entry_checks : ℕ → List ℕ → ℕ → ℕ → ℕ → ℕ → List (Check LogCause)
 raw_entry_checks k bytes sectors s units room =
     check cause.Limit (nat_le (s + bytes_in k 1) 201326592)

@@ -31,7 +31,7 @@ pub record IsMarkHeader (h : Header) : Type 0 where
 abbrev pub divided_header : ℕ → Header → Header
 divided_header k h = record h { sector = k * h.sector; count = k * h.count }
 
--- the header, in sectors of 512 bytes, stands in the raw log's sector that begins at byte s, and its data behind it
+-- the header, in sectors of 512 bytes, stands in the raw log's sector that begins at byte s, and its data after it
 pub record HeaderStands (k : ℕ) (bytes : List ℕ) (s : ℕ) (h : Header) : Type 0 where
   pub sector : h.sector ≡ k * sector_at bytes s
   pub count : h.count ≡ k * count_at bytes s
@@ -50,7 +50,7 @@ pub record HeaderFits (sectors : ℕ) (h : Header) : Type 0 where
 abbrev pub data_bytes : Header → ℕ
 data_bytes h = 512 * (if h.flags.discard then 0 else h.count)
 
--- the entry, in sectors of 512 bytes, has its header in the raw log's sector that begins at byte s, and its data behind it
+-- the entry, in sectors of 512 bytes, has its header in the raw log's sector that begins at byte s, and its data after it
 pub record StandsDivided (k : ℕ) (bytes : List ℕ) (s : ℕ) (e : Entry) : Type 0 where
   pub whole : s + bytes_in k 1 + 512 * data_of e ≤ length bytes
   pub sector : e.sector ≡ k * number_at 8 s bytes

@@ -1,7 +1,7 @@
 -- What is imported of a raw log: its entries, in sectors of 512 bytes.
 use Rattle.std.specs.Prelude.{ℕ, ◌*◌, ◌≡◌, ◌≤◌, List, [], length, map}
-use Rattle.limits.specs.Sizes.{byte_limit}
-use Rattle.limits.specs.declared.Limits.{Limits}
+use Rattle.base.specs.Sizes.{byte_limit}
+use Rattle.base.specs.declared.limits.Limits.{Limits}
 use Rattle.logfmt.specs.declared.entry.Entry.{Entry}
 use Rattle.logfmt.specs.Bounds.{LogValue, IsLog, AreRecorded, place}
 use Rattle.logfmt.specs.LogText.{canonical_text}

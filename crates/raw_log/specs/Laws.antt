@@ -1,7 +1,7 @@
 -- What holds of raw logs as a whole, and of what is imported of them.
 use Rattle.std.specs.Prelude.{ℕ, ◌*◌, ◌≡◌, ◌≤◌, List, length}
-use Rattle.limits.specs.Sizes.{byte_limit, most_log_bytes}
-use Rattle.limits.specs.declared.Limits.{Limits}
+use Rattle.base.specs.Sizes.{byte_limit, most_log_bytes}
+use Rattle.base.specs.declared.limits.Limits.{Limits}
 use Rattle.base.specs.declared.causes.LogCause.{LogCause}
 use Rattle.logfmt.specs.declared.entry.Entry.{Entry}
 use Rattle.logfmt.specs.Bounds.{LogValue, AreBytes, place}

@@ -23,7 +23,7 @@ pub record IsRawSuper (k : ℕ) (bytes : List ℕ) (count : ℕ) : Type 0 where
   pub entries : number_at 8 16 bytes ≡ count
   pub sector_size : number_at 4 24 bytes ≡ bytes_in k 1
 
--- the entry has its header in the sector that begins at byte s, and its data in the sectors behind it
+-- the entry has its header in the sector that begins at byte s, and its data in the sectors after it
 pub record StandsRaw (k : ℕ) (bytes : List ℕ) (s : ℕ) (e : Entry) : Type 0 where
   pub whole : s + bytes_in k (1 + data_of e) ≤ length bytes
   pub sector : e.sector ≡ number_at 8 s bytes

@@ -1,7 +1,7 @@
 //! The super block and the header of an entry, checked in the order of the checks of a raw log.
 
 ghost use Rattle.std.specs.Prelude.{◌≡◌, ◌==◌, ◌≤◌, ◌<◌, ◌+◌, ◌*◌, ◌||◌, ◌&&◌, ◌^◌, ◌↔◌, nat_le, nat_lt, if◌then◌else◌, length, IsTrue, IsSome, IfOk, IfSome, MatchResult, Some, None};
-ghost use Rattle.limits.specs.Sizes.{most_log_bytes, most_sectors};
+ghost use Rattle.base.specs.Sizes.{most_log_bytes, most_sectors};
 ghost use Rattle.base.specs.Check.{first_failing};
 ghost use Rattle.logfmt.specs.Faults.{has_mark_form};
 ghost use Rattle.logfmt.specs.Flags.{has_bit};
@@ -122,7 +122,7 @@ impl Header {
     }
 }
 
-/// The header at byte `start`, in sectors of 512 bytes, behind entries of `units` units, where the log that comes out has room for
+/// The header at byte `start`, in sectors of 512 bytes, after entries of `units` units, where the log that comes out has room for
 /// `room` bytes more; or the first cause for which it is refused.
 #[tactic(auto, unfolding(crate::specs::Faults::raw_entry_checks, logfmt::specs::Faults::has_mark_form))]
 pub(crate) fn checked_header(

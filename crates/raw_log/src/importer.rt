@@ -3,7 +3,7 @@
 
 ghost use Rattle.std.specs.Prelude.{true, false, ◌≡◌, ◌≤◌, ◌+◌, ◌-◌, ◌*◌, ◌⊎◌, length, IfOk, IfErr, OnOk};
 ghost use Rattle.std.specs.List.{slice_range};
-ghost use Rattle.limits.specs.Sizes.{byte_limit, most_log_bytes, most_sectors};
+ghost use Rattle.base.specs.Sizes.{byte_limit, most_log_bytes, most_sectors};
 ghost use Rattle.base.specs.declared.causes.LogCause.TheVariants as cause;
 ghost use Rattle.logfmt.specs.Bounds.{AreBytes, IsEntry};
 ghost use Rattle.raw_log.specs.Raw.{IsTimes, bytes_in};
@@ -14,8 +14,8 @@ ghost use Rattle.raw_log.specs.Imported.{IsImported};
 use crate::header::{Header, checked_header, checked_super};
 use crate::writer::{put_entry, put_super};
 use base::bytes::Bytes;
+use base::limits::Limits;
 use base::numbers::u64_at;
-use limits::Limits;
 use logfmt::{Entry, LogFault, SECTOR};
 use std::alloc::{AllocError, Global};
 

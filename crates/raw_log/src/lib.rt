@@ -5,14 +5,14 @@
 //!
 //! | Call | Answer |
 //! |---|---|
-//! | `import(alloc, raw, sectors, limits)` | the canonical text of the log of the raw log's entries, for a device of so many sectors of 512 bytes, or the first fault |
+//! | `import(alloc, raw, sectors, limits)` | the canonical text of the log of the raw log's entries, for a device of that many sectors of 512 bytes, or the first fault |
 //!
 //! Each sector of 4,096 bytes becomes eight of 512. So the fields sector and nr_sectors are multiplied, and all else stays: the data,
 //! the flags, the texts of marks, the order. The data stand at the same places of the device.
 //!
 //! # Place
 //!
-//! Beside `epochs`, on `base`, `limits` and `logfmt`: the entries are those of `logfmt`, and what comes out is its canonical text. Which files
+//! Beside `epochs`, on `base` and `logfmt`: the entries are those of `logfmt`, and what comes out is its canonical text. Which files
 //! hold a raw log, and how much of them is read, is not known here.
 //!
 //! # What is proved
@@ -21,9 +21,9 @@
 //!   512 * k bytes. `imported_log k sectors es` is the log of these entries in sectors of 512 bytes. Where `import` is `Ok`, the bytes are
 //!   a raw log of some entries, these can be imported, and the result is the canonical text of their log (`IsImported`).
 //! - `IsImportable k sectors limits es` has the bounds: what comes out is a log within all its limits, and the entries need at most
-//!   192 MiB of the raw log. What stands behind them is not looked at.
-//! - `FirstRawFault bytes sectors limits code at` says which check of docs/LOG-FORMAT.md is the first to fail. It speaks of the bytes alone.
-//!   Where `import` is `Err`, that is its fault, or memory ran out. Where it is `Ok`, no check fails.
+//!   192 MiB of the raw log. What stands after them is not looked at.
+//! - `FirstRawFault bytes sectors limits code at` says which check of docs/LOG-FORMAT.md is the first to fail. It speaks of the
+//!   bytes alone. Where `import` is `Err`, that is its fault, or memory ran out. Where it is `Ok`, no check fails.
 //! - Laws (`specs/Laws.antt`) stand above these. Bytes are a raw log of at most one list of entries (`raw_of_one_log`). What is
 //!   imported is a log text of the log of these entries over no initial content (`imported_is_text`), so `logfmt::read` gives
 //!   that log, and one text is imported of bytes (`one_import`). The logs of `logfmt` within the limits are the raw logs with sectors
@@ -39,7 +39,7 @@
 //! # Example
 //!
 //! ```
-//! use limits::Limits;
+//! use base::limits::Limits;
 //! use logfmt::read;
 //! use raw_log::import;
 //!
@@ -48,7 +48,7 @@
 //! let log = read(alloc, text.as_slice(), 16, Limits::Usual)?;
 //! // log.entries()[0].sector is 8, its count is 8, and its content has 4,096 bytes
 //! let fault = import(alloc, raw, 8, Limits::Usual).err();
-//! // the entry lies behind a device of 8 sectors: Some(LogFault { code: LogCause::Device, at: 0 })
+//! // the entry lies after a device of 8 sectors: Some(LogFault { code: LogCause::Device, at: 0 })
 //! ```
 #![tactic(auto)]
 

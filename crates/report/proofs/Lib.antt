@@ -1,1 +1,13 @@
 pub mod ReportLines
+pub mod Cutting
+pub mod Words
+pub mod Names
+pub mod Changes
+pub mod Leads
+pub mod Order
+pub mod Keeping
+pub mod Crossing
+pub mod Back
+pub mod Parted
+pub mod Lined
+pub mod Texts

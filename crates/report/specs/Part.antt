@@ -1,7 +1,7 @@
--- The text of a part of a run (docs/REPORT.md, The text of a part).
+-- The text of a part of a run (docs/OUTPUT.md, The text of a part).
 use Rattle.std.specs.Prelude.{ℕ, ◌-◌, List, ◌++◌, codes}
 use Rattle.std.specs.Fmt.{decimal}
-use Rattle.lines.specs.Line.{FailingLine}
+use Rattle.report.specs.Line.{FailingLine}
 use Rattle.report.specs.declared.span.Span.{Span}
 use Rattle.report.specs.Report.{HeadValue, options_text, findings_text}
 

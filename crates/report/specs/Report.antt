@@ -1,14 +1,14 @@
--- The bytes of the report (docs/REPORT.md). Each line ends with one newline; numbers are decimal.
+-- The bytes of the report (docs/OUTPUT.md). Each line ends with one newline; numbers are decimal.
 use Rattle.std.specs.Prelude.{ℕ, ◌+◌, Bool, true, false, List, [], ◌∷◌, ◌++◌, length, Option, None, Some, codes}
 use Rattle.std.specs.Fmt.{decimal}
 use Rattle.std.specs.List.{flat_map}
 use Rattle.epochs.specs.declared.cuts.Cuts.{Cuts}
 use Rattle.epochs.specs.declared.part.By.{By}
 use Rattle.report.specs.declared.head.ProgramHead.{ProgramHead}
-use Rattle.lines.specs.Line.{FailingLine, first_lines}
-use Rattle.lines.specs.Images.{failing_images, first_image}
-pub use Rattle.lines.specs.Text.{line_text}
-use Rattle.choice_text.specs.Words.{cuts_words}
+use Rattle.report.specs.Line.{FailingLine, first_lines}
+use Rattle.report.specs.Images.{failing_images, first_image}
+pub use Rattle.report.specs.LineText.{line_text}
+use Rattle.report.specs.Words.{cuts_words}
 use Rattle.report.specs.Text.{yes_or_no, cuts_word, by_words}
 
 -- what the report says at its head, and how many images there are

@@ -1,4 +1,4 @@
--- Words as they stand at the head of the report (docs/REPORT.md).
+-- Words as they stand at the head of the report (docs/OUTPUT.md).
 use Rattle.std.specs.Prelude.{ℕ, Bool, true, false, List, [], codes}
 use Rattle.epochs.specs.declared.part.By.{By}
 use Rattle.epochs.specs.declared.part.By.TheVariants as by

@@ -10,7 +10,7 @@ use std::alloc::AllocError;
 pub struct Span {
     /// The number of the first image.
     pub from: u64,
-    /// The number of the image behind the last.
+    /// The number of the image after the last.
     pub to: u64,
     /// How many images the run has.
     pub images: u64,

@@ -1,19 +1,19 @@
-//! The report of a run, line by line (docs/REPORT.md).
+//! The report of a run, line by line (docs/OUTPUT.md).
 
 ghost use Rattle.std.specs.Prelude.{◌≡◌, ◌≤◌, ◌+◌, ◌-◌, ◌^◌, ◌++◌, Bool, length, map, min, OnOk, IfOk, string_bytes};
 ghost use Rattle.std.specs.List.{flat_map};
 ghost use Rattle.std.specs.List.Sorted.{IsNonDecreasing};
-ghost use Rattle.lines.specs.Line.{first_lines};
-ghost use Rattle.lines.specs.Text.{line_text};
+ghost use Rattle.report.specs.Line.{first_lines};
+ghost use Rattle.report.specs.LineText.{line_text};
 ghost use Rattle.report.specs.Text.{yes_or_no, cuts_word, by_words};
 ghost use Rattle.report.specs.Report.{device_text, choices_text, given_text, base_words, steps_word, guards_words, steps_text, program_line, program_lines, totals_line, image_text, first_line, last_line, shown_lines, options_text, head_text, findings_text, report_bytes};
 ghost use Rattle.report.specs.Part.{span_text, span_report};
 
+use crate::choice_text::put_cuts_words;
 use crate::head::{Head, ProgramHead};
+use crate::lines::Lines;
 use crate::span::{Span, put_span};
-use choice_text::put_cuts_words;
 use epochs::{By, CutKind};
-use lines::Lines;
 use std::alloc::{AllocError, Global};
 
 fn yes_or_no_word(b: bool) -> &'static str
@@ -168,7 +168,7 @@ fn put_first_line(out: &mut String, images: u64, lines: &Lines) -> Result<(), Al
     write!(out, "\n")
 }
 
-/// Appends the last line of a text of so many images.
+/// Appends the last line of a text of that many images.
 fn put_last_line(
     out: &mut String,
     first: bool,
@@ -185,7 +185,7 @@ fn put_last_line(
     }
 }
 
-/// The last line of a text of so many images.
+/// The last line of a text of that many images.
 fn last_line(alloc: Global, first: bool, images: u64, lines: &Lines) -> Result<String, AllocError>
     requires { IsNonDecreasing (map (λ l. l.image) lines.now) }
     ensures { IfOk result (λ out. string_bytes out ≡ last_line first images lines.now) }
@@ -248,7 +248,7 @@ fn head_text(alloc: Global, head: &Head) -> Result<String, AllocError>
     Ok(out)
 }
 
-/// Appends the failing lines of so many images, and the last line.
+/// Appends the failing lines of that many images, and the last line.
 fn with_findings(
     alloc: Global,
     begun: String,
@@ -267,7 +267,7 @@ fn with_findings(
     Ok(out)
 }
 
-/// The bytes of the report (docs/REPORT.md). The lines are in the order of their images. Where the first
+/// The bytes of the report (docs/OUTPUT.md). The lines are in the order of their images. Where the first
 /// failing image alone was asked for, lines of other images are left out.
 ///
 /// It takes room for the report once, beside the lines.
@@ -290,7 +290,7 @@ fn part_head_text(alloc: Global, head: &Head, span: Span) -> Result<String, Allo
     Ok(out)
 }
 
-/// The bytes of a part of a run (docs/REPORT.md, The text of a part): of the images of the span. The lines are theirs, in their
+/// The bytes of a part of a run (docs/OUTPUT.md, The text of a part): of the images of the span. The lines are theirs, in their
 /// order. The totals are those of the part; of the head's number of images nothing is printed.
 pub fn write_part(
     alloc: Global,

@@ -3,3 +3,8 @@ pub mod Lacking
 pub mod Logs
 pub mod Plans
 pub mod Results
+pub mod Between
+pub mod Bounds
+pub mod Marks
+pub mod Recorded
+pub mod Stamps

@@ -1,6 +1,6 @@
 -- What was read of a log, by the settings.
 use Rattle.std.proofs.Common.{ℕ, ◌≡◌, ◌≤◌, ◌*◌, ◌⊎◌, inl, inr, ◌<◌, List, [], length, slice_get, Option, None, Some, true, refl, sym, ap, ◌∙◌, subst, arith}
-use Rattle.limits.specs.Sizes.{byte_limit}
+use Rattle.base.specs.Sizes.{byte_limit}
 use Rattle.base.specs.declared.causes.LogCause.TheVariants as log
 use Rattle.logfmt.specs.declared.fault.LogFault.{LogFault}
 use Rattle.logfmt.specs.Bounds.{LogValue, IsLog, AreBytes}

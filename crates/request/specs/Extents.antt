@@ -1,4 +1,4 @@
--- How many crash images a run may have, and which of them are meant (docs/REPORT.md, The text of a part).
+-- How many crash images a run may have, and which of them are meant (docs/OUTPUT.md, The text of a part).
 use Rattle.std.specs.Prelude.{ℕ, ◌-◌, ◌==◌, Bool, true, false, ◌&&◌, ◌||◌, nat_le, nat_lt}
 use Rattle.choices.specs.Choices.{limit, wide_limit}
 use Rattle.request.specs.declared.extent.Extent.{Extent}
@@ -10,7 +10,7 @@ most_images extent.Whole = limit
 most_images extent.Wide = wide_limit
 most_images (extent.Part from to) = wide_limit
 
--- the first image that is meant, and the one after the last, of a run with so many: all, or those of the part
+-- the first image that is meant, and the one after the last, of a run with that many: all, or those of the part
 abbrev pub first_meant : Extent → ℕ
 first_meant extent.Whole = 0
 first_meant extent.Wide = 0
@@ -26,6 +26,12 @@ abbrev pub is_at_once : Extent → Bool
 is_at_once extent.Whole = true
 is_at_once extent.Wide = false
 is_at_once (extent.Part from to) = true
+
+-- all images are meant, of a run that has no more than usual
+abbrev pub is_whole : Extent → Bool
+is_whole extent.Whole = true
+is_whole extent.Wide = false
+is_whole (extent.Part from to) = false
 
 -- it can be asked for: a part has an image, or is 0..0, and has no more images than a run
 abbrev pub is_extent : Extent → Bool

@@ -1,4 +1,4 @@
--- The line that a refusal prints (docs/REPORT.md, All refusals).
+-- The line that a refusal prints (docs/REFUSALS.md, The line of a refusal).
 use Rattle.std.specs.Prelude.{ℕ, List, [], ◌++◌, codes, Option, None, Some}
 use Rattle.std.specs.Fmt.{decimal}
 use Rattle.base.specs.declared.refusal.Refusal.{Refusal}

@@ -3,7 +3,15 @@ pub mod Places
 pub mod Extents
 pub mod Settings
 pub mod OptionWords
+pub mod AnyLosses
 pub mod Trials
 pub mod Source
 pub mod Refusals
 pub mod FaultLine
+-- What a command finds for its notes.
+pub mod Large
+pub mod Forced
+pub mod Promises
+pub mod Search
+pub mod Fewer
+pub mod Found

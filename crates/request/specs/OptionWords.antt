@@ -1,4 +1,4 @@
--- The options that words ask for, and when the words are refused (docs/REPORT.md, Options).
+-- The options that words ask for, and when the words are refused (docs/COMMANDS.md, Options).
 use Rattle.std.specs.Prelude.{◌≡◌, Option, None, Some, option_map}
 use Rattle.std.specs.Option.{option_map_or, option_and_then}
 use Rattle.epochs.specs.declared.cuts.CutKind.{CutKind}
@@ -28,8 +28,8 @@ settings_with w kind way added extent = record {
   extent = extent;
 }
 
--- what the words ask for, none where the word for the cuts names no kind of cut, that behind --by no kind of part, that
--- behind --flush no entries, or that behind --images no images
+-- what the words ask for, none where the word for the cuts names no kind of cut, that after --by no kind of part, that
+-- after --flush no entries, or that after --images no images
 abbrev pub settings_of : OptionWords → Option Settings
 settings_of w = option_and_then (λ kind. option_and_then (λ way. option_and_then (λ added. option_map (settings_with w kind way added) w.images) w.flushes) w.by) w.cuts
 

@@ -1,4 +1,4 @@
--- The place of each option, as a refusal prints it (docs/REPORT.md, Options).
+-- The place of each option, as a refusal prints it (docs/REFUSALS.md, Places).
 use Rattle.std.specs.Prelude.{ℕ}
 use Rattle.request.specs.declared.settings.OptionPlace.{OptionPlace}
 use Rattle.request.specs.declared.settings.OptionPlace.TheVariants as place
@@ -22,3 +22,6 @@ place_number place.Marks = 16
 place_number place.Images = 17
 place_number place.Parts = 18
 place_number place.Guards = 19
+place_number place.Torn = 20
+place_number place.AtMost = 21
+place_number place.First = 22

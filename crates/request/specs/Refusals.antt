@@ -1,4 +1,4 @@
--- The refusals of a program's bytes, by the slot, and of a file, by its place (docs/REPORT.md, All refusals).
+-- The refusals of a program's bytes, by the slot, and of a file, by its place (docs/REFUSALS.md, All refusals).
 use Rattle.std.specs.Prelude.{ℕ, None}
 use Rattle.base.specs.declared.causes.CodeCause.{CodeCause}
 use Rattle.base.specs.declared.causes.RequestCause.TheVariants as request

@@ -1,8 +1,8 @@
--- The options of a run, and which are refused (docs/REPORT.md, Options).
+-- The options of a run, and which are refused (docs/COMMANDS.md, Options).
 use Rattle.std.specs.Prelude.{ℕ, ◌≡◌, ◌≤◌, Bool, true, ◌&&◌, not, nat_le, List, [], ◌∷◌, Option, None, is_some}
 use Rattle.std.specs.Option.{option_map, option_map_or}
 use Rattle.base.specs.Check.{Check, check, first_failing}
-use Rattle.limits.specs.Sizes.{most_sectors, sector_limit}
+use Rattle.base.specs.Sizes.{most_sectors, sector_limit}
 use Rattle.base.specs.declared.causes.RequestCause.TheVariants as request
 use Rattle.base.specs.declared.refusal.Refusal.{Refusal}
 use Rattle.base.specs.declared.refusal.Cause.TheVariants.{Request}
@@ -18,7 +18,7 @@ use Rattle.request.specs.Extents.{is_extent}
 abbrev pub option_refusal : OptionPlace → Refusal
 option_refusal at = record { code = Request request.Option; at = place_number at; program = None }
 
--- where the first and the last cut are both given, the first isn't behind the last
+-- where the first and the last cut are both given, the first isn't after the last
 abbrev pub is_ordered : Cuts → Bool
 is_ordered cuts = option_map_or (λ first. is_before_last cuts.to first) cuts.from true
 

@@ -1,6 +1,6 @@
 -- What a command reads of a log: the log itself, and the crash images that are asked for of it.
 use Rattle.std.specs.Prelude.{ℕ, ◌≡◌, ◌<◌, ◌≤◌, ◌*◌, ◌++◌, nat_le, nat_lt, true, false, if◌then◌else◌, List, [], ◌∷◌, length, filter, slice_get, Option, None, Some}
-use Rattle.limits.specs.Sizes.{byte_limit}
+use Rattle.base.specs.Sizes.{byte_limit}
 use Rattle.base.specs.declared.causes.LogCause.{LogCause}
 use Rattle.base.specs.declared.causes.LogCause.TheVariants as log
 use Rattle.base.specs.declared.causes.RequestCause.TheVariants as request

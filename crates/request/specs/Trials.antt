@@ -1,4 +1,4 @@
--- What is asked of a run of a program on one image, and which words are refused (docs/REPORT.md, Options).
+-- What is asked of a run of a program on one image, and which words are refused (docs/COMMANDS.md, Options).
 use Rattle.std.specs.Prelude.{◌≡◌, nat_le, true, List, [], ◌∷◌, Option, None}
 use Rattle.std.specs.Option.{option_map, option_map_or}
 use Rattle.base.specs.Check.{Check, check, first_failing}

@@ -4,48 +4,49 @@ ghost use Rattle.std.specs.Prelude.{◌≡◌, None, Some, IfOk, MatchResult};
 ghost use Rattle.request.specs.Settings.{settings_refusal};
 ghost use Rattle.request.specs.OptionWords.{AskFor, settings_with, words_refusal};
 
+use crate::any_losses::LossWords;
 use crate::extent::Extent;
 use crate::options::Options;
 use crate::refusals::option_refusal_of;
 use crate::settings::{OptionPlace, Settings};
 use crate::trials::TrialWords;
 use arrayvec::ArrayString;
+use base::limits::Limits;
 use base::refusal::Refusal;
 use epochs::{By, CutKind, Cuts, Flushes};
-use limits::Limits;
 
-/// The options as they were written; no check was made of them (docs/REPORT.md, Options).
+/// The options as they were written; no check was made of them (docs/COMMANDS.md, Options).
 #[derive(Clone, Copy)]
 pub struct OptionWords {
-    /// The number behind `--sectors`.
+    /// The number after `--sectors`.
     pub sectors: u64,
     /// How large the log and its device may be: more where `--large` stands there.
     pub limits: Limits,
-    /// The entries behind `--flush`, none of them where that doesn't stand there; none where the word is no list of entries.
+    /// The entries after `--flush`, none of them where that doesn't stand there; none where the word is no list of entries.
     pub flushes: Option<Flushes>,
-    /// The kind of cut behind `--cuts`; none where the word is no kind of cut.
+    /// The kind of cut after `--cuts`; none where the word is no kind of cut.
     pub cuts: Option<CutKind>,
-    /// The number behind `--from`, where that stands there.
+    /// The number after `--from`, where that stands there.
     pub from: Option<u64>,
-    /// The number behind `--to`, where that stands there.
+    /// The number after `--to`, where that stands there.
     pub to: Option<u64>,
-    /// The number behind `--bound`.
+    /// The number after `--bound`.
     pub bound: u64,
     /// Whether `--tears` stands there.
     pub tears: bool,
-    /// The kind of part behind `--by`; none where the word is no kind of part.
+    /// The kind of part after `--by`; none where the word is no kind of part.
     pub by: Option<By>,
-    /// The number behind `--workers`.
+    /// The number after `--workers`.
     pub workers: u64,
-    /// The number behind `--cache`.
+    /// The number after `--cache`.
     pub cache: u64,
-    /// The number behind `--checked`, where that stands there.
+    /// The number after `--checked`, where that stands there.
     pub checked: Option<u64>,
     /// Whether `--guards` stands there.
     pub guards: bool,
     /// Whether `--first` stands there.
     pub first: bool,
-    /// How many images the run may have, and which of them are meant, by `--images`; none where the word behind it names no images.
+    /// How many images the run may have, and which of them are meant, by `--images`; none where the word after it names no images.
     pub images: Option<Extent>,
 }
 
@@ -69,13 +70,15 @@ pub enum Request {
     StoredRun,
     /// `explore LOG PROGRAM..`
     Explore(OptionWords),
+    /// `explore LOG PROGRAM..` with any number of losses: `--bound any`, `--torn` or `--at-most` stands there.
+    Cases(OptionWords, LossWords),
     /// `why LOG PROGRAM..`
     Why(OptionWords),
     /// `cure LOG PROGRAM..`, which takes no `--first`.
     Cure(OptionWords),
     /// `page LOG PROGRAM..`
     Page(OptionWords),
-    /// `images LOG`, with the number behind `--parts`, where that stands there.
+    /// `images LOG`, with the number after `--parts`, where that stands there.
     Images(OptionWords, Option<u64>),
     /// `export LOG`.
     Export(OptionWords),
@@ -136,8 +139,8 @@ fn options_with(
 ///
 /// # Errors
 ///
-/// 13 at 7 where the word behind `--cuts` is no kind of cut, 13 at 10 where that behind `--by` is no kind of part, 13 at 12
-/// where that behind `--flush` is no list of entries, 13 at 17 where that behind `--images` names no images, then those of
+/// 13 at 7 where the word after `--cuts` is no kind of cut, 13 at 10 where that after `--by` is no kind of part, 13 at 12
+/// where that after `--flush` is no list of entries, 13 at 17 where that after `--images` names no images, then those of
 /// `Options::new`.
 pub fn options_of(words: OptionWords) -> Result<Options, Refusal>
     ensures { MatchResult result (λ o. AskFor words o) (λ r. words_refusal words ≡ Some r) }

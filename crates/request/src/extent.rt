@@ -1,7 +1,7 @@
 //! How many crash images a run may have, and which of them are meant.
 
 ghost use Rattle.std.specs.Prelude.{◌≡◌};
-ghost use Rattle.request.specs.Extents.{most_images, first_meant, end_meant, is_at_once, is_extent, has_extent};
+ghost use Rattle.request.specs.Extents.{most_images, first_meant, end_meant, is_at_once, is_extent, is_whole, has_extent};
 
 /// The most crash images of a run, and of a part of one (docs/CRASH-MODEL.md, Limits).
 const MOST_IMAGES: u64 = 16_777_216;
@@ -45,7 +45,7 @@ impl Extent {
         }
     }
 
-    /// The image after the last that is meant, of a run of so many.
+    /// The image after the last that is meant, of a run of that many.
     pub fn end(self, images: u64) -> u64
         ensures { result ≡ end_meant self images }
     {
@@ -69,6 +69,20 @@ impl Extent {
         }
     }
 
+    /// Whether all images are meant, of a run that has at most 16,777,216.
+    pub fn is_whole(self) -> bool
+        ensures { result ≡ is_whole self }
+    {
+        match self {
+            Extent::Whole => true,
+            Extent::Wide => false,
+            Extent::Part {
+                from: _from,
+                to: _to,
+            } => false,
+        }
+    }
+
     /// Whether it can be asked for: a part has 1 to 16,777,216 images, or is 0..0.
     pub fn is_extent(self) -> bool
         ensures { result ≡ is_extent self }
@@ -81,7 +95,7 @@ impl Extent {
         }
     }
 
-    /// Whether a run of so many images has those that are meant. 0..0 is the part of a run without images.
+    /// Whether a run of that many images has those that are meant. 0..0 is the part of a run without images.
     pub fn is_within(self, images: u64) -> bool
         ensures { result ≡ has_extent self images }
     {

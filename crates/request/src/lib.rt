@@ -1,15 +1,26 @@
-//! What is asked: the options of a run, what a command line asks for, and what every command reads of its log.
+//! What is asked: the options of a run, what a command line asks for, what every command reads of its log, and what it finds on its way
+//! that notes say.
+//!
+//! | Module | Has |
+//! |---|---|
+//! | `settings`, `options`, `extent`, `any_losses`, `trials` | what is asked, with its ranges |
+//! | `command` | what a command line asks for |
+//! | `source` | a log read, and its plan |
+//! | `facts` | what a command is given of a log, and what it finds on its way that the notes beside its answer or after its refusal say |
+//! | `refusals` | the line of a refusal |
 //!
 //! # Place
 //!
-//! Above `logfmt`, `epochs` and `choices`, by which a log is read, its cuts are found and its crash images counted. Below the
-//! crates that answer: `runs` and `looks` take `Options`, `command_line` makes a `Request`, `command_notes` asks again for
-//! what a note needs, and `commands` puts all of them together. No program is decoded or judged here.
+//! Above `logfmt`, `epochs` and `choices`, by which a log is read, its cuts are found and its crash images counted, and above `verifier`,
+//! which accepts programs. Below those that answer: `runs` and `inspect` take `Options`, read their log here, ask here for its plan, and
+//! hand over what the verifier says. `command_line` makes a `Request`. `command_notes` of `notes` takes what was found, and asks again
+//! for what a note needs: it reads no file again. `commands` puts all of them together. No program is decoded or judged here.
 //!
 //! | Call | Does |
 //! |---|---|
 //! | `Options::new(settings)` | tests what a run is asked, option by option, and keeps it |
 //! | `options_of(words)` | the same, of options as the words of a command line have them |
+//! | `losses_of(words, options)` | tests what is asked of any number of losses, beside good options |
 //! | `trial_of(words)` | tests what a run of a program on one image is asked |
 //! | `read_log(alloc, bytes, initial, options)` | the log that bytes are, for a device of that size, over what it held before, with the flushes that are added |
 //! | `plan_of(alloc, log, options)` | the plan of a log by the options, with how many crash images it has |
@@ -19,12 +30,28 @@
 //! `Extent` says how many images a run may have and which of them are meant. `Request` has a variant for each command, with the options that the command takes, and `Which` says which crash image is
 //! meant. `MOST_PROGRAMS` is a limit that more crates than this one need.
 //!
+//! Of `facts`:
+//!
+//! | Call | Does |
+//! |---|---|
+//! | `Recording::of(log, initial)` | the bytes of a log, with those that the device held before entry 0 |
+//! | `recording.log()` | the bytes of the log |
+//! | `recording.read(alloc, options, facts)` | the log, as `read_log` reads it; finds how many entries are too large to be lost as a whole, how many have FUA, and which marks promise what nothing made durable |
+//! | `facts.plan(alloc, log, options)` | its plan, as `plan_of` makes it; where there are too many images, finds with what there are fewer |
+//! | `facts.accept(verified)` | finds what no run reaches of an accepted program |
+//! | `facts.refuse(program, unaccepted)` | finds the instruction at which the verifier refuses a program, and what is known there |
+//!
+//! Which programs pass without looking at what a log writes is found by `runs`, which puts it into `facts.blind`.
+//!
 //! # What is proved
 //!
 //! `Options::new` answers what it was asked, and refuses exactly the first option that is out of its range, by its place
-//! (`specs/Settings.antt`, docs/REPORT.md, Options). So whoever has `Options` has numbers in their ranges: 1 to 16,384 sectors,
+//! (`specs/Settings.antt`, docs/COMMANDS.md, Options). So whoever has `Options` has numbers in their ranges: 1 to 16,384 sectors,
 //! at most 3 parts that depart, 1 to 64 workers, a cache of at most 65,536 outcomes, a limit of at most 10^9 steps, and no limit
 //! where programs are accepted with guards.
+//! `losses_of` answers how many parts may be torn, at most 3 and none without tears, and how many may be lost or torn, 1 to 64 where that
+//! is bounded. It refuses exactly the first number that is out of its range, or option that doesn't go with any number of losses
+//! (`specs/AnyLosses.antt`).
 //! `options_of` refuses first a word that names no kind of cut, then one that names no kind of part, then one that is no list of
 //! entries (`specs/OptionWords.antt`). `trial_of` refuses exactly the first number that is out of its range (`specs/Trials.antt`).
 //!
@@ -37,11 +64,20 @@
 //! (`specs/Source.antt`, `specs/Extents.antt`). Memory may run out in both. `fault_line` is `refused`, the number of the cause, its place and, if one
 //! is at fault, the program (`specs/FaultLine.antt`).
 //!
+//! ## `facts`
+//!
+//! What `Facts` holds is exactly what the definitions of `specs/Found.antt`, `specs/Fewer.antt`, `specs/Forced.antt` and
+//! `specs/Promises.antt` say of this log, with these options, and of these programs. What else it held stays. `read` and `plan`
+//! answer what `read_log` and `plan_of` do. Where there is no memory to count, `fewer` stays empty, and so does `promises`.
+//!
+//! Which marks promise too much is found in the time of one walk over the log: each entry is looked at for one mark alone
+//! (`promises.rt`).
+//!
 //! # Example
 //!
 //! ```
+//! use base::limits::Limits;
 //! use epochs::{By, Cuts};
-//! use limits::Limits;
 //! use request::{Extent, Options, Settings, fault_line, plan_of, read_log};
 //!
 //! let mut settings = Settings {
@@ -67,16 +103,30 @@
 //!     let line = fault_line(alloc, &refusal)?;    // "refused 13 at 1"
 //! }
 //! ```
+//!
+//! What a command finds:
+//!
+//! ```
+//! use request::facts::{Facts, Recording};
+//!
+//! let mut facts = Facts::new();
+//! let log = Recording::of(bytes, &[]).read(alloc, &options, &mut facts)?;
+//! let (plan, images) = facts.plan(alloc, &log, &options)?;
+//! let large = facts.large;    // how many entries no image loses as a whole
+//! ```
 #![tactic(auto)]
 
+mod any_losses;
 mod command;
 mod extent;
+pub mod facts;
 mod options;
 mod refusals;
 mod settings;
 mod source;
 mod trials;
 
+pub use any_losses::{AnyLosses, LossWords, losses_of};
 pub use command::{OptionWords, Request, Which, options_of};
 pub use extent::Extent;
 pub use options::{MOST_PROGRAMS, Options};

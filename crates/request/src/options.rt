@@ -8,9 +8,9 @@ ghost use Rattle.request.specs.Settings.{settings_refusal, is_one_kind, is_order
 use crate::extent::Extent;
 use crate::refusals::option_refusal_of;
 use crate::settings::{OptionPlace, Settings};
+use base::limits::Limits;
 use base::refusal::Refusal;
 use epochs::{By, Cuts};
-use limits::Limits;
 use std::marker::Model;
 
 /// The most programs of a run.
@@ -28,7 +28,7 @@ const MOST_KEPT: u64 = 65_536;
 /// The greatest limit of steps.
 const MOST_CHECKED_STEPS: u64 = 1_000_000_000;
 
-/// The options of a run that were found good (docs/REPORT.md, Options).
+/// The options of a run that were found good (docs/COMMANDS.md, Options).
 #[derive(Drop)]
 pub struct Options {
     sectors: u32,
@@ -66,7 +66,7 @@ pub(crate) fn is_too_long(checked: Option<u64>) -> bool
     }
 }
 
-/// Whether the first cut is behind the last, where both are given.
+/// Whether the first cut is after the last, where both are given.
 fn is_reversed(cuts: &Cuts) -> bool
     ensures { result ≡ not (is_ordered cuts.now) }
 {
@@ -181,7 +181,8 @@ impl Options {
 
     /// How many entries the cache has at most, up to 65,536.
     pub fn cache(&self) -> u32
-        ensures { result ≤ 65536 }
+        ensures value { result ≡ self.now.cache }
+        ensures few { result ≤ 65536 }
     {
         self.cache
     }

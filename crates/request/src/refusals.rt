@@ -54,7 +54,7 @@ fn put_program_part(out: &mut String, program: Option<u8>) -> Result<(), AllocEr
     }
 }
 
-/// The line that a refusal prints on standard error (docs/REPORT.md, All refusals): its number, its
+/// The line that a refusal prints on standard error (docs/REFUSALS.md, All refusals): its number, its
 /// place and, where one is at fault, the program.
 #[tactic(auto, unfolding(crate::specs::FaultLine::fault_text))]
 pub fn fault_line(alloc: Global, refusal: &Refusal) -> Result<Vec<u8>, AllocError>

@@ -4,10 +4,10 @@ ghost use Rattle.std.specs.Prelude.{◌≡◌};
 ghost use Rattle.request.specs.Places.{place_number};
 
 use crate::extent::Extent;
+use base::limits::Limits;
 use epochs::{By, Cuts};
-use limits::Limits;
 
-/// What a run is asked (docs/REPORT.md, Options).
+/// What a run is asked (docs/COMMANDS.md, Options).
 #[derive(Clone, Copy)]
 pub struct Settings {
     /// The number of sectors of the device.
@@ -47,7 +47,7 @@ pub enum Telling {
     Page,
 }
 
-/// What a refusal of the command line names, each by the number of its place (docs/REPORT.md, Options).
+/// What a refusal of the command line names, each by the number of its place (docs/COMMANDS.md, Options).
 #[derive(Clone, Copy)]
 pub enum OptionPlace {
     Sectors = 1,
@@ -80,6 +80,12 @@ pub enum OptionPlace {
     Parts = 18,
     /// Guards beside a limit of steps.
     Guards = 19,
+    /// How many parts may be torn, of any number of losses.
+    Torn = 20,
+    /// How many parts may be lost or torn, of any number of losses.
+    AtMost = 21,
+    /// The first failing image alone, beside any number of losses.
+    First = 22,
 }
 
 impl OptionPlace {

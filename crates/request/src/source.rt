@@ -121,7 +121,7 @@ fn log_over_base(
     }
 }
 
-/// The log of these bytes by the options: for a device of their size, over what it held before entry 0, zeros behind the bytes
+/// The log of these bytes by the options: for a device of their size, over what it held before entry 0, zeros after the bytes
 /// of `initial`, with the flushes that are added.
 ///
 /// # Errors

@@ -6,24 +6,24 @@ ghost use Rattle.request.specs.Trials.{AskForTrial, trial_refusal};
 use crate::options::is_too_long;
 use crate::refusals::option_refusal_of;
 use crate::settings::OptionPlace;
+use base::limits::Limits;
 use base::refusal::Refusal;
-use limits::Limits;
 
 /// The most flush entries, and the most marks, that a program is told: a log has no more entries.
 const MOST_PASSED: u64 = 65_536;
 
-/// What is asked of a run on one image, as it was written; no check was made of it (docs/REPORT.md, Options).
+/// What is asked of a run on one image, as it was written; no check was made of it (docs/COMMANDS.md, Options).
 #[derive(Clone, Copy)]
 pub struct TrialWords {
     /// How large the image may be: more where `--large` stands there.
     pub limits: Limits,
-    /// The number behind `--epoch`.
+    /// The number after `--epoch`.
     pub epoch: u64,
-    /// The number behind `--marks`.
+    /// The number after `--marks`.
     pub marks: u64,
-    /// The number behind `--checked`, where that stands there.
+    /// The number after `--checked`, where that stands there.
     pub checked: Option<u64>,
-    /// The number behind `--trace`.
+    /// The number after `--trace`.
     pub trace: u64,
 }
 

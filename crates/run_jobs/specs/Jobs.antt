@@ -1,4 +1,4 @@
--- The jobs of a run: each image with each checker (docs/PROVED.md, The exploration as a list of events).
+-- The jobs of a run: each image with each checker (docs/PROVED.md, Threads and the cache).
 use Rattle.std.specs.Prelude.{ℕ, ◌≡◌, ◌⊎◌, ◌+◌, ◌-◌, ◌*◌, min, List, length, map, Option, option_map, Some, slice_get}
 use Rattle.std.specs.Option.{option_and_then}
 use Rattle.std.specs.List.{filter_map, flat_map, range_with_len}
@@ -6,7 +6,7 @@ use Rattle.choices.specs.Choices.{ChoiceValue}
 use Rattle.machine.specs.Outcome.{Ending}
 use Rattle.images.specs.Views.{view_of}
 use Rattle.images.specs.Keys.{KeyValue, key_of}
-use Rattle.lines.specs.Line.{FailingLine, fails}
+use Rattle.report.specs.Line.{FailingLine, fails}
 use Rattle.workers.specs.Failing.{Subject, choices_of, judged_count, ending_at}
 use Rattle.workers.specs.Pieces.{block_count}
 use Rattle.explore_core.specs.declared.job.Job.{Job}

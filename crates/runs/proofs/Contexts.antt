@@ -28,7 +28,7 @@ use Rattle.machine.proofs.Guarded as guarded
 use Rattle.checker.specs.Checker.{CheckerValue, judgement}
 use Rattle.checker.specs.Footprints.{AgreeAt, kept_footprint, footprint_of}
 use Rattle.checker.proofs.Alike.{judged_alike}
-use Rattle.lines.specs.Line.{fails}
+use Rattle.report.specs.Line.{fails}
 use Rattle.runs.specs.Blind.{covers, is_bare, whole_at, ending_on, looks_on, is_blind_at, same_context, IsLastContext}
 use Rattle.runs.proofs.Unseeing.{and_first, and_second, all_at, passes_bare}
 

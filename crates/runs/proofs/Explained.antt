@@ -10,16 +10,16 @@ use Rattle.epochs.specs.Plan.{PlanValue}
 use Rattle.choices.specs.Choices.{ranked_choices}
 use Rattle.choices.specs.Sums.{StartsValue}
 use Rattle.checker.specs.Checker.{CheckerValue}
-use Rattle.flushes.specs.declared.counted.MissingFlush.{MissingFlush}
-use Rattle.lines.specs.declared.marks.Mark.{Mark}
-use Rattle.lines.specs.Line.{FailingLine}
-use Rattle.lines.specs.Marks.{marks_of}
-use Rattle.outcomes.specs.Outcomes.{outcomes_failing, is_marked, AreOutcomes}
+use Rattle.losses.specs.declared.flushes.counted.MissingFlush.{MissingFlush}
+use Rattle.report.specs.declared.lines.marks.Mark.{Mark}
+use Rattle.report.specs.Line.{FailingLine}
+use Rattle.report.specs.Marks.{marks_of}
+use Rattle.losses.specs.ProgramOutcomes.{outcomes_failing, is_marked, AreOutcomes}
 use Rattle.report.specs.Report.{HeadValue, options_text, totals_line}
-use Rattle.cure.specs.declared.failure.Failure.{Failure}
-use Rattle.why.specs.declared.cut.CutFailures.{CutFailures}
-use Rattle.why.specs.Failures.{AreInOrder, AreImages, AreCuts}
-use Rattle.why.specs.Text.{cuts_text}
+use Rattle.losses.specs.declared.cure.failure.Failure.{Failure}
+use Rattle.losses.specs.declared.why.cut.CutFailures.{CutFailures}
+use Rattle.losses.specs.Failures.{AreInOrder, AreImages, AreCuts}
+use Rattle.losses.specs.WhyText.{cuts_text}
 use Rattle.workers.specs.Failing.{Subject, failing_lines}
 use Rattle.workers.specs.Laws.{Precedes, LinesAreSet, ListsFailing}
 use Rattle.request.specs.declared.settings.Settings.{Settings}
@@ -161,7 +161,7 @@ as_many program (m ∷ ms) = by_test (m.program == program) (as_many program ms)
 
 -- what was appended of the cuts of a program, by what it ends in on its images
 pub tells_program : (s : StartsValue) (ls : List FailingLine) (ms : List Mark) (way : By) (program : ℕ) (text : List ℕ) (images : List ℕ) (given outcomes now : List (List ℕ))
-    (cuts told : List CutFailures) (old new : List ℕ) → way ≡ s.plan.by → text ≡ flat_map Rattle.lines.specs.Text.line_text ls → ms ≡ marks_of ls
+    (cuts told : List CutFailures) (old new : List ℕ) → way ≡ s.plan.by → text ≡ flat_map Rattle.report.specs.LineText.line_text ls → ms ≡ marks_of ls
     → images ≡ images_marked ms program → AreOutcomes text ms program outcomes → given ≡ outcomes → now ≡ outcomes → told ≡ cuts → AreCuts s images given cuts
     → new ≡ old ++ cuts_text way s now program told → TellsProgram s ls program old new
 tells_program s ls ms way program text images given outcomes now cuts told old new kind texts marks own read first second same are is =

@@ -1,17 +1,20 @@
 -- What a run finds of its programs.
-use Rattle.std.proofs.Common.{ℕ, zero, suc, ◌≡◌, ◌+◌, ◌≤◌, List, [], ◌∷◌, ◌++◌, length, take, add-one, Option, None, Some, IfSome, slice_get, sym, ◌∙◌, subst, arith, length-append}
+use Rattle.std.proofs.Common.{ℕ, zero, suc, ◌≡◌, ◌+◌, ◌≤◌, List, [], ◌∷◌, ◌++◌, length, take, add-one, Option, None, Some, IfSome, slice_get, count_by, refl, sym, ◌∙◌, subst, arith, length-append}
 use Rattle.base.specs.declared.refusal.Refusal.{Refusal}
 use Rattle.bpf_isa.specs.declared.instr.Instr.{Instr}
 use Rattle.logfmt.specs.Bounds.{LogValue}
 use Rattle.verifier.specs.declared.unreached.Unreached.{Unreached}
-use Rattle.facts.specs.declared.fewer.Fewer.{Fewer}
-use Rattle.facts.specs.declared.found.Breach.{Breach}
-use Rattle.facts.specs.Fewer.{AreFewer, FindsFewer}
-use Rattle.facts.specs.Found.{IsUnreached, AreUnreached}
+use Rattle.request.specs.declared.facts.fewer.Fewer.{Fewer}
+use Rattle.request.specs.declared.facts.found.Breach.{Breach}
+use Rattle.request.specs.declared.facts.found.Facts.{Facts}
+use Rattle.request.specs.Fewer.{AreFewer, FindsFewer}
+use Rattle.request.specs.Large.{is_large}
+use Rattle.request.specs.Forced.{is_forced_entry}
+use Rattle.request.specs.Found.{IsUnreached, AreUnreached}
 use Rattle.request.specs.declared.settings.Settings.{Settings}
 use Rattle.request.specs.Source.{Recording, IsLogOf}
 use Rattle.runs.specs.Programs.{AreDecoded}
-use Rattle.runs.specs.Finds.{FindsNext, FindsUnreached, IsBreachOf, IsBreachIn, FindsBreach}
+use Rattle.runs.specs.Finds.{FindsNext, FindsUnreached, IsBreachOf, IsBreachIn, FindsBreach, FindsAll}
 use Rattle.runs.proofs.RefusalLemmas.{spelled_there, first_decoded}
 
 -- of one more program
@@ -74,3 +77,17 @@ fewer_of_log text s log now o reads same h = rw same (by o h)
     by : (o : Option Fewer) → IfSome o (AreFewer s log) → IfSome o (FindsFewer text s)
     by None h = tt
     by (Some f) h = record { value = log; reads = reads; fewer = h }
+
+-- what is found of a log and of its programs, all of which were decoded
+pub finds_all : (text : Recording) (files : List (List ℕ)) (s : Settings) (log : LogValue) (facts : Facts) (programs now : List (List (Option Instr))) (refusal : Option Refusal)
+    → IsLogOf text s log → facts.large ≡ count_by (is_large s.bound) log.entries → facts.forced ≡ count_by is_forced_entry log.entries → now ≡ programs
+    → AreDecoded files programs refusal → ((r : Refusal) → refusal ≡ Some r → ⊥) → FindsUnreached s.checked s.sectors now facts.unreached.items → FindsAll text files s facts
+finds_all text files s log facts programs now (Some r) reads large forced same decoded none unreached = absurd (none r refl)
+finds_all text files s log facts programs now None reads large forced same decoded none unreached = record {
+  large = record { value = log; reads = reads; counts = large };
+  forced = record { value = log; reads = reads; counts = forced };
+  programs = programs;
+  decoded = decoded.0;
+  all = decoded.1;
+  unreached = subst (λ (ps : List (List (Option Instr))). FindsUnreached s.checked s.sectors ps facts.unreached.items) same unreached;
+}

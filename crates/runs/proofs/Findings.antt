@@ -1,11 +1,11 @@
--- A report, where failing lines behind those of the first failing image may be missing.
+-- A report, where failing lines after those of the first failing image may be missing.
 use Rattle.std.proofs.Common.{ℕ, ◌-◌, ◌≡◌, ◌≢◌, ◌↔◌, ◌==◌, length, Bool, true, false, not, IsTrue, List, [], ◌∷◌, ◌++◌, codes, refl, sym, ap, subst, ◌∙◌}
 use Rattle.std.specs.List.{flat_map, filter}
 use Rattle.std.proofs.lemmas.Bool.{eq-eqb, false≢true}
 use Rattle.epochs.specs.Plan.{PlanValue}
 use Rattle.logfmt.specs.Bounds.{LogValue}
 use Rattle.checker.specs.Checker.{CheckerValue}
-use Rattle.lines.specs.Line.{FailingLine, first_lines}
+use Rattle.report.specs.Line.{FailingLine, first_lines}
 use Rattle.report.specs.Report.{HeadValue, options_line, options_text, program_lines, line_text, first_line, findings_text, report_bytes}
 use Rattle.report.specs.Part.{span_text, span_report}
 use Rattle.report.specs.declared.span.Span.{Span}

@@ -7,14 +7,14 @@ use Rattle.logfmt.specs.Bounds.{LogValue, IsLog}
 use Rattle.logfmt.specs.Flushed.{with_flushes}
 use Rattle.choices.specs.Choices.{IsFirstPast}
 use Rattle.checker.specs.Checker.{CheckerValue}
-use Rattle.flushes.specs.declared.window.Window.{Window}
-use Rattle.flushes.specs.declared.counted.MissingFlush.{MissingFlush}
-use Rattle.flushes.specs.Counted.{AreMissing}
-use Rattle.lines.specs.Line.{FailingLine}
+use Rattle.losses.specs.declared.flushes.window.Window.{Window}
+use Rattle.losses.specs.declared.flushes.counted.MissingFlush.{MissingFlush}
+use Rattle.losses.specs.Counted.{AreMissing}
+use Rattle.report.specs.Line.{FailingLine}
 use Rattle.report.specs.Report.{HeadValue, totals_line}
-use Rattle.cure.specs.declared.failure.Failure.{Failure}
-use Rattle.cure.specs.Failures.{windows_in, places_in, calm_entries}
-use Rattle.cure.specs.Text.{flush_line, refused_line, rounds_text}
+use Rattle.losses.specs.declared.cure.failure.Failure.{Failure}
+use Rattle.losses.specs.FailureWindows.{windows_in, places_in, calm_entries}
+use Rattle.losses.specs.CureText.{flush_line, refused_line, rounds_text}
 use Rattle.request.specs.declared.settings.Settings.{Settings}
 use Rattle.request.specs.Source.{plan_of, images_of}
 use Rattle.runs.specs.Explore.{head_of}
@@ -67,7 +67,7 @@ ends_made s checkers value h ls fs found none =
     (subst (λ (xs : List FailingLine). Ends s checkers value (totals_line (length (images_of s value)) xs)) (sym found.lines)
     (with_totals fs found.few found.failures.fail none))
 
--- so many entries at most are no flush entries
+-- that many entries at most are no flush entries
 few_calm : (es : List Entry) → calm_entries es ≤ length es
 few_calm [] = omega arith
 few_calm (e ∷ es) = by_test e.flags.flush (few_calm es)

@@ -6,6 +6,8 @@ pub mod RefusalLemmas
 pub mod Faultless
 pub mod Fitting
 pub mod Runs
+pub mod Casing
+pub mod Losing
 pub mod Explained
 pub mod Missed
 pub mod Pages

@@ -8,14 +8,14 @@ use Rattle.choices.specs.declared.choice.Departure.{Departure}
 use Rattle.choices.specs.Choices.{ChoiceValue, ranked_choices}
 use Rattle.choices.specs.Sums.{StartsValue}
 use Rattle.checker.specs.Checker.{CheckerValue}
-use Rattle.flushes.specs.Places.{AreWindows}
-use Rattle.lines.specs.Line.{FailingLine}
-use Rattle.lines.specs.declared.marks.Mark.{Mark}
-use Rattle.lines.specs.Marks.{mark_of, marks_of}
+use Rattle.losses.specs.Places.{AreWindows}
+use Rattle.report.specs.Line.{FailingLine}
+use Rattle.report.specs.declared.lines.marks.Mark.{Mark}
+use Rattle.report.specs.Marks.{mark_of, marks_of}
 use Rattle.workers.specs.Failing.{failing_lines}
 use Rattle.workers.specs.Laws.{LinesAreSet, ListsFailing}
-use Rattle.cure.specs.declared.failure.Failure.{Failure}
-use Rattle.cure.specs.Failures.{IsWindowIf, IsFailure, AreFailures, AreFailuresAt, windows_in}
+use Rattle.losses.specs.declared.cure.failure.Failure.{Failure}
+use Rattle.losses.specs.FailureWindows.{IsWindowIf, IsFailure, AreFailures, AreFailuresAt, windows_in}
 use Rattle.request.specs.declared.settings.Settings.{Settings}
 use Rattle.request.specs.Source.{images_of}
 use Rattle.runs.specs.Explore.{subject_of}

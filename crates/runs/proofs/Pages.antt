@@ -7,17 +7,17 @@ use Rattle.base.proofs.Lists.{slice_get_of_push}
 use Rattle.logfmt.specs.Bounds.{LogValue}
 use Rattle.choices.specs.Sums.{StartsValue}
 use Rattle.checker.specs.Checker.{CheckerValue}
-use Rattle.flushes.specs.declared.window.Window.{Window}
-use Rattle.flushes.specs.declared.counted.MissingFlush.{MissingFlush}
-use Rattle.flushes.specs.Places.{AreWindows}
-use Rattle.flushes.specs.Counted.{AreMissing}
-use Rattle.cure.specs.declared.failure.Failure.{Failure}
-use Rattle.cure.specs.Failures.{AreFailures, if_window, windows_in}
-use Rattle.cure.specs.Text.{is_of, is_uncured}
-use Rattle.lines.specs.declared.marks.Mark.{Mark}
-use Rattle.lines.specs.Line.{FailingLine}
-use Rattle.lines.specs.Marks.{marks_of}
-use Rattle.outcomes.specs.Outcomes.{outcomes_failing}
+use Rattle.losses.specs.declared.flushes.window.Window.{Window}
+use Rattle.losses.specs.declared.flushes.counted.MissingFlush.{MissingFlush}
+use Rattle.losses.specs.Places.{AreWindows}
+use Rattle.losses.specs.Counted.{AreMissing}
+use Rattle.losses.specs.declared.cure.failure.Failure.{Failure}
+use Rattle.losses.specs.FailureWindows.{AreFailures, if_window, windows_in}
+use Rattle.losses.specs.CureText.{is_of, is_uncured}
+use Rattle.report.specs.declared.lines.marks.Mark.{Mark}
+use Rattle.report.specs.Line.{FailingLine}
+use Rattle.report.specs.Marks.{marks_of}
+use Rattle.losses.specs.ProgramOutcomes.{outcomes_failing}
 use Rattle.report.specs.declared.head.ProgramHead.{ProgramHead}
 use Rattle.report.specs.Report.{HeadValue, options_text, totals_line}
 use Rattle.crash_page.specs.declared.program.ProgramFailures.{ProgramFailures}

@@ -8,12 +8,12 @@ use Rattle.epochs.specs.Plan.{PlanValue}
 use Rattle.choices.specs.Choices.{IsFirstPast, IsFirstPastOf}
 use Rattle.choices.specs.Sums.{StartsValue}
 use Rattle.checker.specs.Checker.{CheckerValue}
-use Rattle.lines.specs.Line.{FailingLine}
-use Rattle.lines.specs.declared.marks.Mark.{Mark}
-use Rattle.lines.specs.Marks.{marks_of}
+use Rattle.report.specs.Line.{FailingLine}
+use Rattle.report.specs.declared.lines.marks.Mark.{Mark}
+use Rattle.report.specs.Marks.{marks_of}
 use Rattle.workers.specs.Laws.{LinesAreSet}
-use Rattle.cure.specs.declared.failure.Failure.{Failure}
-use Rattle.cure.specs.Failures.{AreFailuresAt}
+use Rattle.losses.specs.declared.cure.failure.Failure.{Failure}
+use Rattle.losses.specs.FailureWindows.{AreFailuresAt}
 use Rattle.request.specs.declared.settings.Settings.{Settings}
 use Rattle.request.specs.declared.extent.Extent.{Extent}
 use Rattle.request.specs.declared.extent.Extent.TheVariants as extent

@@ -28,7 +28,7 @@ use Rattle.epochs.specs.Touching.{covers as part_covers}
 use Rattle.machine.specs.Outcome.{Ending}
 use Rattle.checker.specs.Checker.{CheckerValue, judgement}
 use Rattle.checker.specs.Footprints.{AgreeingAreJudgedAlike, AgreeAt, kept_footprint}
-use Rattle.lines.specs.Line.{FailingLine, fails}
+use Rattle.report.specs.Line.{FailingLine, fails}
 use Rattle.workers.specs.Failing.{Subject, choices_of, ending_at, failing_lines}
 use Rattle.workers.specs.Laws.{IsFailing, LinesAreSet}
 use Rattle.request.specs.declared.settings.Settings.{Settings}

@@ -12,7 +12,7 @@ use Rattle.images.specs.Views.{ViewValue, sectors_of, context_at}
 use Rattle.machine.specs.Outcome.{Ending}
 use Rattle.checker.specs.Checker.{CheckerValue, judgement}
 use Rattle.checker.specs.Footprints.{kept_footprint}
-use Rattle.lines.specs.Line.{FailingLine, fails}
+use Rattle.report.specs.Line.{FailingLine, fails}
 use Rattle.workers.specs.Failing.{Subject, choices_of, ending_at, failing_lines}
 use Rattle.request.specs.declared.settings.Settings.{Settings}
 use Rattle.request.specs.Source.{Recording, HasImages, plan_of}
@@ -65,6 +65,7 @@ pub record IsLastContext (plan : PlanValue) (place last cut : ℕ) : Type 0 wher
 abbrev pub blind_found : Wanted → PlanValue → List CheckerValue → List Bool
 blind_found (wanted.Told t) plan checkers = map (is_blind plan) checkers
 blind_found wanted.Cured plan checkers = []
+blind_found (wanted.Cases l) plan checkers = []
 
 -- that is found of a run
 pub record FindsBlind (w : Wanted) (text : Recording) (files : List (List ℕ)) (s : Settings) (found : List Bool) : Type 0 where

@@ -1,24 +1,24 @@
--- The cure of a log, tried (docs/REPORT.md, The text of `cure`): runs of the log with more and more flushes.
+-- The cure of a log, tried (docs/COMMANDS.md, cure): runs of the log with more and more flushes.
 use Rattle.std.specs.Prelude.{ℕ, ◌≡◌, ◌≢◌, ◌≤◌, Bool, false, List, [], ◌∷◌, ◌++◌, length}
 use Rattle.logfmt.specs.Bounds.{LogValue}
 use Rattle.logfmt.specs.Flushed.{with_flushes}
 use Rattle.choices.specs.Choices.{limit, IsFirstPast}
 use Rattle.checker.specs.Checker.{CheckerValue}
-use Rattle.flushes.specs.declared.counted.MissingFlush.{MissingFlush}
-use Rattle.flushes.specs.Counted.{AreMissing}
-use Rattle.lines.specs.Line.{FailingLine}
+use Rattle.losses.specs.declared.flushes.counted.MissingFlush.{MissingFlush}
+use Rattle.losses.specs.Counted.{AreMissing}
+use Rattle.report.specs.Line.{FailingLine}
 use Rattle.report.specs.Report.{totals_line}
-use Rattle.cure.specs.declared.failure.Failure.{Failure}
-use Rattle.cure.specs.Failures.{AreFailures, windows_in, places_in}
-use Rattle.cure.specs.Text.{begin_text, uncured_text, rounds_text, refused_line}
+use Rattle.losses.specs.declared.cure.failure.Failure.{Failure}
+use Rattle.losses.specs.FailureWindows.{AreFailures, windows_in, places_in}
+use Rattle.losses.specs.CureText.{begin_text, uncured_text, rounds_text, refused_line}
 use Rattle.workers.specs.Failing.{failing_lines}
 use Rattle.request.specs.declared.settings.Settings.{Settings}
 use Rattle.request.specs.Source.{Recording, plan_of, images_of}
 use Rattle.runs.specs.declared.explore_command.Wanted.{Wanted}
 use Rattle.runs.specs.declared.explore_command.Wanted.TheVariants as wanted
 use Rattle.runs.specs.Explore.{IsRun, subject_of, head_of}
-use Rattle.runs.specs.Inputs.{inputs_number}
-use Rattle.runs.specs.Why.{Tells, with_first}
+use Rattle.runs.specs.Why.{IsTold, with_first}
+use Rattle.runs.specs.Cases.{IsCases}
 
 -- the failing lines of a run of a log
 abbrev pub run_lines : Settings → List CheckerValue → LogValue → List FailingLine
@@ -72,11 +72,8 @@ pub record TellsCure (s : Settings) (value : LogValue) (checkers : List CheckerV
 abbrev pub IsCured : Recording → List (List ℕ) → Settings → List ℕ → Bool → Type 0
 IsCured text files s bytes failing = IsRun TellsCure text files s bytes failing
 
--- what the bytes of a run tell that is asked for this: what is told of it, or where flushes are missing, run by run
-abbrev pub TellsWanted : Wanted → ℕ → Settings → LogValue → List CheckerValue → List ℕ → Type 0
-TellsWanted (wanted.Told t) inputs s value checkers bytes = Tells t inputs s value checkers bytes
-TellsWanted wanted.Cured inputs s value checkers bytes = TellsCure s value checkers bytes
-
--- what a run answers that is asked for this
+-- what a run answers that is asked for this: what is told of it, where flushes are missing, run by run, or which cases fail
 abbrev pub IsAnswered : Wanted → Recording → List (List ℕ) → Settings → List ℕ → Bool → Type 0
-IsAnswered w text files s bytes failing = IsRun (λ s value checkers bytes. TellsWanted w (inputs_number text.text files) s value checkers bytes) text files s bytes failing
+IsAnswered (wanted.Told t) text files s bytes failing = IsTold t text files s bytes failing
+IsAnswered wanted.Cured text files s bytes failing = IsCured text files s bytes failing
+IsAnswered (wanted.Cases l) text files s bytes failing = IsCases l text files s bytes failing

@@ -1,4 +1,4 @@
--- What a run answers, and when it refuses (docs/REPORT.md).
+-- What a run answers, and when it refuses (docs/OUTPUT.md).
 use Rattle.std.specs.Prelude.{ℕ, ◌≡◌, ◌≢◌, ◌≤◌, Bool, true, false, IsTrue, ◌↔◌, List, [], ◌∷◌, length, map, take, Option, None, Some, is_some, slice_get}
 use Rattle.base.specs.declared.causes.CodeCause.TheVariants as code
 use Rattle.base.specs.declared.causes.VerifierCause.TheVariants as verifier
@@ -12,7 +12,7 @@ use Rattle.checker.specs.Checker.{CheckerValue}
 use Rattle.report.specs.declared.head.ProgramHead.{ProgramHead}
 use Rattle.report.specs.Report.{HeadValue, report_bytes}
 use Rattle.report.specs.Part.{span_report}
-use Rattle.lines.specs.Line.{FailingLine}
+use Rattle.report.specs.Line.{FailingLine}
 use Rattle.workers.specs.Failing.{Subject, failing_lines}
 use Rattle.workers.specs.Safe.{IsVerdict, RunsSafely, IsAcceptedFor, IsAcceptedBy, RunsSafelyWithGuards, IsOverWithGuards}
 use Rattle.request.specs.declared.extent.Extent.{Extent}
@@ -21,8 +21,11 @@ use Rattle.request.specs.declared.settings.OptionPlace.TheVariants as place
 use Rattle.request.specs.declared.settings.Settings.{Settings}
 use Rattle.request.specs.Settings.{option_refusal}
 use Rattle.runs.specs.Programs.{IsRunWithin, code_refusal, IsCodeFault, verifier_refusal, IsVerifierFault}
-use Rattle.request.specs.Source.{Recording, plan_of, images_of, HasImages, RefusesSource}
+use Rattle.request.specs.declared.any_losses.AnyLosses.{AnyLosses}
+use Rattle.request.specs.Source.{Recording, plan_of, images_of, images_refusal, HasImages, RefusesSource}
 use Rattle.runs.specs.declared.explore_command.Wanted.{Wanted}
+use Rattle.runs.specs.declared.explore_command.Wanted.TheVariants as wanted
+use Rattle.runs.specs.CaseCuts.{HasTooMany}
 use Rattle.runs.specs.Inputs.{inputs_number}
 use Rattle.request.specs.Extents.{first_meant, end_meant}
 use Rattle.runs.specs.Judged.{takes}
@@ -151,7 +154,11 @@ pub data Refuses (text : Recording) (files : List (List ℕ)) (s : Settings) : R
   for_source : (r : Refusal) → IsProgramCount (length files) → RefusesSource text s r → Refuses text files s r
   for_program : (r : Refusal) (value : LogValue) → IsProgramCount (length files) → HasImages text s value → RefusesProgram s files r → Refuses text files s r
 
--- a run is refused that doesn't judge the images that are meant; every other one by these rules
+-- a run is refused that doesn't judge the images that are meant; every other one by these rules; and one that is asked for cases where
+-- there are too many, by the cut with which there are
 pub data RefusesWanted (w : Wanted) (text : Recording) (files : List (List ℕ)) (s : Settings) : Refusal → Type 0 where
   for_extent : takes w s.extent ≡ false → RefusesWanted w text files s (option_refusal place.Images)
   for_rest : (r : Refusal) → takes w s.extent ≡ true → Refuses text files s r → RefusesWanted w text files s r
+  for_cases : (l : AnyLosses) (value : LogValue) (checkers : List CheckerValue) (cut : ℕ) → w ≡ wanted.Cases l → takes w s.extent ≡ true
+      → IsProgramCount (length files) → HasImages text s value → AreCheckersOf s files checkers → HasTooMany l s value checkers cut
+      → RefusesWanted w text files s (images_refusal cut)

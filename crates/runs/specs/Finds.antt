@@ -5,11 +5,11 @@ use Rattle.bpf_isa.specs.declared.instr.Instr.{Instr}
 use Rattle.bpf_isa.specs.Program.{IsSpelledBy}
 use Rattle.bpf_shape.specs.declared.fault.Fault.{Fault}
 use Rattle.verifier.specs.declared.unreached.Unreached.{Unreached}
-use Rattle.facts.specs.declared.found.Breach.{Breach}
-use Rattle.facts.specs.declared.found.Facts.{Facts}
-use Rattle.facts.specs.Fewer.{FindsLarge}
-use Rattle.facts.specs.Forced.{FindsForced}
-use Rattle.facts.specs.Found.{AddsUnreached, AreUnreached, IsBreach}
+use Rattle.request.specs.declared.facts.found.Breach.{Breach}
+use Rattle.request.specs.declared.facts.found.Facts.{Facts}
+use Rattle.request.specs.Fewer.{FindsLarge}
+use Rattle.request.specs.Forced.{FindsForced}
+use Rattle.request.specs.Found.{AddsUnreached, AreUnreached, IsBreach}
 use Rattle.request.specs.declared.settings.Settings.{Settings}
 use Rattle.request.specs.Source.{Recording}
 use Rattle.runs.specs.Programs.{verifier_refusal, AreFirstOf}

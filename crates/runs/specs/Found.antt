@@ -1,7 +1,7 @@
 -- What a run finds of all failing lines: all of them; or, where the first failing image alone is asked for, its lines and
--- perhaps some behind them.
+-- perhaps some after them.
 use Rattle.std.specs.Prelude.{◌≡◌, Bool, false, List}
-use Rattle.lines.specs.Line.{FailingLine, first_lines}
+use Rattle.report.specs.Line.{FailingLine, first_lines}
 
 pub record AreFound (first : Bool) (all lines : List FailingLine) : Type 0 where
   pub whole : first ≡ false → lines ≡ all

@@ -1,4 +1,4 @@
--- The number of the inputs of a run (docs/REPORT.md, The text of a part).
+-- The number of the inputs of a run (docs/OUTPUT.md, The text of a part).
 use Rattle.std.specs.Prelude.{ℕ, ◌+◌, ◌*◌, ◌%◌, ◌^◌, List, ◌∷◌, ◌++◌, length}
 use Rattle.std.specs.Int.{to_le_bytes, w64}
 use Rattle.std.specs.List.{fold, flat_map}
@@ -9,7 +9,7 @@ use Rattle.request.specs.declared.extent.Extent.TheVariants as extent
 abbrev pub with_byte : ℕ → ℕ → ℕ
 with_byte number byte = (number * 1099511628211 + byte + 1) % 2 ^ 64
 
--- the bytes of a file, and behind them the eight bytes of its length
+-- the bytes of a file, and after them the eight bytes of its length
 abbrev pub file_bytes : List ℕ → List ℕ
 file_bytes file = file ++ to_le_bytes w64 (length file)
 

@@ -1,4 +1,4 @@
--- Which images a run judges (docs/REPORT.md, The text of a part).
+-- Which images a run judges (docs/OUTPUT.md, The text of a part).
 use Rattle.std.specs.Prelude.{ℕ, ◌-◌, ◌≡◌, ◌<◌, ◌≤◌, ◌^◌, Bool, true, false}
 use Rattle.choices.specs.Choices.{limit}
 use Rattle.report.specs.declared.span.Span.{Span}
@@ -15,6 +15,7 @@ takes_part (wanted.Told telling.Report) = true
 takes_part (wanted.Told telling.Causes) = false
 takes_part (wanted.Told telling.Page) = false
 takes_part wanted.Cured = false
+takes_part (wanted.Cases l) = false
 
 -- whether a run that is asked for this judges the images that are meant: no run judges all of a run that may have more than 16,777,216
 abbrev pub takes : Wanted → Extent → Bool
@@ -22,7 +23,7 @@ takes w extent.Whole = true
 takes w extent.Wide = false
 takes w (extent.Part from to) = takes_part w
 
--- the span of the images that are judged, of a run with so many
+-- the span of the images that are judged, of a run with that many
 pub record IsJudged (e : Extent) (images : ℕ) (span : Span) : Type 0 where
   pub all : span.images ≡ images
   pub counted : images < 2 ^ 63

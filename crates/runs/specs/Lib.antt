@@ -2,6 +2,7 @@
 pub mod Programs
 pub mod Judged
 pub mod Inputs
+pub mod CaseCuts
 pub mod Explore
 pub mod Blind
 pub mod Paged
@@ -10,5 +11,8 @@ pub mod Marked
 pub mod Found
 pub mod Finds
 pub mod Tasks
+pub mod CaseRefusals
+pub mod Cases
+pub mod AnyLoss
 pub mod Cured
 pub mod Trials

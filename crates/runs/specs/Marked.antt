@@ -2,11 +2,11 @@
 use Rattle.std.specs.Prelude.{ℕ, ◌≡◌, ◌==◌, if◌then◌else◌, List, [], ◌∷◌, ◌++◌, length}
 use Rattle.std.specs.List.{flat_map}
 use Rattle.choices.specs.Sums.{StartsValue}
-use Rattle.lines.specs.declared.marks.Mark.{Mark}
-use Rattle.lines.specs.Line.{FailingLine}
-use Rattle.outcomes.specs.Outcomes.{outcomes_failing}
-use Rattle.why.specs.declared.cut.CutFailures.{CutFailures}
-use Rattle.why.specs.Text.{cuts_text}
+use Rattle.report.specs.declared.lines.marks.Mark.{Mark}
+use Rattle.report.specs.Line.{FailingLine}
+use Rattle.losses.specs.ProgramOutcomes.{outcomes_failing}
+use Rattle.losses.specs.declared.why.cut.CutFailures.{CutFailures}
+use Rattle.losses.specs.WhyText.{cuts_text}
 use Rattle.runs.specs.Why.{IsCause, AreCauses, causes_from}
 
 -- the image of a mark, if it is of that program
@@ -22,7 +22,7 @@ pub record TellsProgram (s : StartsValue) (ls : List FailingLine) (program : ℕ
   pub is : IsCause s ls program cuts
   pub text : new ≡ old ++ cuts_text s.plan.by s (outcomes_failing program ls) program cuts
 
--- and of so many programs
+-- and of that many programs
 pub record TellsPrograms (s : StartsValue) (ls : List FailingLine) (count : ℕ) (old new : List ℕ) : Type 0 where
   pub causes : List (List CutFailures)
   pub all : length causes ≡ count

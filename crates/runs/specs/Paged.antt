@@ -1,15 +1,15 @@
--- The page of a run (docs/REPORT.md, The page of `page`).
+-- The page of a run (docs/OUTPUT.md, The page of `page`).
 use Rattle.std.specs.Prelude.{ℕ, ◌≡◌, List, ◌++◌, length, filter, slice_get, Some}
 use Rattle.choices.specs.Sums.{StartsValue}
-use Rattle.flushes.specs.Counted.{AreMissing}
-use Rattle.lines.specs.Line.{FailingLine}
-use Rattle.cure.specs.declared.failure.Failure.{Failure}
-use Rattle.cure.specs.Failures.{AreFailures, windows_in}
-use Rattle.cure.specs.Text.{is_of, is_uncured}
-use Rattle.outcomes.specs.Outcomes.{outcomes_failing}
+use Rattle.losses.specs.Counted.{AreMissing}
+use Rattle.report.specs.Line.{FailingLine}
+use Rattle.losses.specs.declared.cure.failure.Failure.{Failure}
+use Rattle.losses.specs.FailureWindows.{AreFailures, windows_in}
+use Rattle.losses.specs.CureText.{is_of, is_uncured}
+use Rattle.losses.specs.ProgramOutcomes.{outcomes_failing}
 use Rattle.report.specs.declared.head.ProgramHead.{ProgramHead}
 use Rattle.report.specs.Report.{HeadValue, options_text, totals_line}
-use Rattle.why.specs.Failures.{AreCuts}
+use Rattle.losses.specs.Failures.{AreCuts}
 use Rattle.crash_page.specs.declared.program.ProgramFailures.{ProgramFailures}
 use Rattle.crash_page.specs.Page.{page_text, outcomes_of}
 
@@ -26,7 +26,7 @@ pub record IsFailing (s : StartsValue) (images : List ℕ) (outcomes : List (Lis
   pub missing : AreMissing (windows_in (own_failures program fs)) f.missing.items
   pub uncured : f.uncured ≡ length (filter (is_uncured program) fs)
 
--- the same of so many programs, by the failing lines
+-- the same of that many programs, by the failing lines
 pub record AreFailing (s : StartsValue) (failing : ℕ → List ℕ) (ls : List FailingLine) (heads : List ProgramHead) (fs : List Failure) (count : ℕ) (programs : List ProgramFailures) : Type 0 where
   pub all : length programs ≡ count
   pub named : (program : ℕ) (f : ProgramFailures) → slice_get programs program ≡ Some f → slice_get heads program ≡ Some f.head

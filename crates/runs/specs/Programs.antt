@@ -1,4 +1,4 @@
--- The programs of a run: how long each may run, and what the verifier says of it (docs/REPORT.md,
+-- The programs of a run: how long each may run, and what the verifier says of it (docs/REFUSALS.md,
 -- Refusals in their order).
 use Rattle.std.specs.Prelude.{ℕ, ◌≡◌, ◌⊎◌, Bool, List, [], ◌∷◌, length, Option, None, Some, slice_get}
 use Rattle.base.specs.declared.causes.CodeCause.{CodeCause}

@@ -1,6 +1,6 @@
 -- What the work on a task is to find, and what is told of it.
 use Rattle.std.specs.Prelude.{ℕ, List}
-use Rattle.lines.specs.Line.{FailingLine}
+use Rattle.report.specs.Line.{FailingLine}
 use Rattle.workers.specs.Failing.{failing_lines}
 use Rattle.request.specs.declared.settings.Telling.{Telling}
 use Rattle.request.specs.declared.settings.Telling.TheVariants as telling

@@ -4,11 +4,11 @@ use Rattle.std.specs.List.Sorted.{IsNonDecreasing}
 use Rattle.logfmt.specs.Bounds.{LogValue}
 use Rattle.choices.specs.Choices.{limit}
 use Rattle.checker.specs.Checker.{CheckerValue}
-use Rattle.flushes.specs.Places.{AreWindows}
-use Rattle.lines.specs.Line.{FailingLine}
+use Rattle.losses.specs.Places.{AreWindows}
+use Rattle.report.specs.Line.{FailingLine}
 use Rattle.report.specs.Report.{HeadValue}
-use Rattle.cure.specs.declared.failure.Failure.{Failure}
-use Rattle.cure.specs.Failures.{windows_in, HoldNoFlush}
+use Rattle.losses.specs.declared.cure.failure.Failure.{Failure}
+use Rattle.losses.specs.FailureWindows.{windows_in, HoldNoFlush}
 use Rattle.request.specs.declared.settings.Settings.{Settings}
 use Rattle.request.specs.Source.{images_of}
 use Rattle.runs.specs.Explore.{head_of}

@@ -1,20 +1,20 @@
--- Why programs fail on the crash images of a log, and what a run is to tell (docs/REPORT.md, The text of `why`).
+-- Why programs fail on the crash images of a log, and what a run is to tell (docs/OUTPUT.md, The text of `why`).
 use Rattle.std.specs.Prelude.{ℕ, ◌≡◌, ◌+◌, ◌==◌, Bool, false, List, [], ◌∷◌, ◌++◌, codes, length, map, filter, slice_get, Some}
 use Rattle.std.specs.List.{flat_map}
 use Rattle.logfmt.specs.Bounds.{LogValue}
 use Rattle.choices.specs.Sums.{StartsValue}
 use Rattle.checker.specs.Checker.{CheckerValue}
-use Rattle.lines.specs.Line.{FailingLine}
-use Rattle.flushes.specs.declared.counted.MissingFlush.{MissingFlush}
-use Rattle.flushes.specs.Counted.{AreMissing}
+use Rattle.report.specs.Line.{FailingLine}
+use Rattle.losses.specs.declared.flushes.counted.MissingFlush.{MissingFlush}
+use Rattle.losses.specs.Counted.{AreMissing}
 use Rattle.report.specs.Report.{HeadValue, options_text, totals_line}
-use Rattle.why.specs.declared.cut.CutFailures.{CutFailures}
-use Rattle.why.specs.Failures.{AreCuts}
-use Rattle.why.specs.Text.{cuts_text}
-use Rattle.cure.specs.declared.failure.Failure.{Failure}
-use Rattle.cure.specs.Failures.{AreFailures, windows_in}
-use Rattle.cure.specs.Text.{programs_text, missing_line}
-use Rattle.outcomes.specs.Outcomes.{outcomes_failing}
+use Rattle.losses.specs.declared.why.cut.CutFailures.{CutFailures}
+use Rattle.losses.specs.Failures.{AreCuts}
+use Rattle.losses.specs.WhyText.{cuts_text}
+use Rattle.losses.specs.declared.cure.failure.Failure.{Failure}
+use Rattle.losses.specs.FailureWindows.{AreFailures, windows_in}
+use Rattle.losses.specs.CureText.{programs_text, missing_line}
+use Rattle.losses.specs.ProgramOutcomes.{outcomes_failing}
 use Rattle.workers.specs.Failing.{failing_lines}
 use Rattle.runs.specs.Inputs.{inputs_number}
 use Rattle.runs.specs.Paged.{IsPageOf}

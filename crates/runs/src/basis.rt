@@ -27,7 +27,7 @@ pub(crate) struct Basis<'x> {
     pub ghost history_is: { history.now ≡ task.now.plan.now },
 }
 
-/// Judges the crash images that are meant of a task: all of them, or perhaps none behind the first failing one where that alone is
+/// Judges the crash images that are meant of a task: all of them, or perhaps none after the first failing one where that alone is
 /// asked for.
 pub(crate) fn judge_images<'x, G: Gate + Sync, R: Threads + Wait + Sync>(
     rt: &R,

@@ -10,7 +10,7 @@ ghost use Rattle.images.specs.Views.{IsMember, view_of};
 ghost use Rattle.helpers.specs.Footprint.{lists};
 ghost use Rattle.interp.specs.Ending.{ending_of};
 ghost use Rattle.checker.specs.Checker.{IsFor, AreFor};
-ghost use Rattle.lines.specs.Line.{fails};
+ghost use Rattle.report.specs.Line.{fails};
 ghost use Rattle.runs.specs.Blind.{covers, is_bare, ending_on, looks_on, whole_at, is_blind_at, is_blind, same_context, IsLastContext};
 
 use crate::basis::Basis;
@@ -178,7 +178,7 @@ fn has_last_context(plan: &Plan<'_>, place: usize) -> bool
     is_same_context(plan, last, cut)
 }
 
-/// The same, behind wanted cuts at which it was so. At a cut with the epoch and the marks of the one before it no run is made: what
+/// The same, after wanted cuts at which it was so. At a cut with the epoch and the marks of the one before it no run is made: what
 /// the checker looked at there, no entry changed.
 fn is_blind_next(
     alloc: Global,

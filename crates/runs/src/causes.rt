@@ -1,20 +1,20 @@
-//! Why programs fail, as a text (docs/REPORT.md, The text of `why`).
+//! Why programs fail, as a text (docs/OUTPUT.md, The text of `why`).
 
 ghost use Rattle.std.specs.Prelude.{◌≡◌, ◌++◌, ℕ, map, length, IfOk, OnOk, string_bytes};
 ghost use Rattle.std.specs.List.Sorted.{IsNonDecreasing};
-ghost use Rattle.why.specs.Failures.{AreImages};
+ghost use Rattle.losses.specs.Failures.{AreImages};
 ghost use Rattle.runs.specs.Why.{IsMissing, why_head, missing_text, TellsCauses};
 ghost use Rattle.runs.specs.Marked.{own_image, images_marked, TellsProgram, TellsPrograms};
 ghost use Rattle.runs.specs.Tasks.{lines_of};
 
 use crate::missing::{Missing, missing_of};
 use crate::reading::Reading;
-use cure::{put_missing, put_programs};
-use lines::{Lines, Mark};
-use outcomes::outcomes_of;
+use losses::cure::{put_missing, put_programs};
+use losses::outcomes::outcomes_of;
+use losses::why::{failures, put_cuts};
+use report::lines::{Lines, Mark};
 use report::{Head, put_options, put_totals};
 use std::alloc::{AllocError, Global};
-use why::{failures, put_cuts};
 
 /// Appends the image of a mark, if it is of that program.
 fn push_image(images: &mut Vec<u64>, program: usize, mark: Mark) -> Result<(), AllocError>

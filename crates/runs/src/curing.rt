@@ -1,4 +1,4 @@
-//! Where flushes are missing, tried run by run (docs/REPORT.md, The text of `cure`).
+//! Where flushes are missing, tried run by run (docs/COMMANDS.md, cure).
 
 ghost use Rattle.std.specs.Prelude.{◌≡◌, ◌≢◌, ◌≤◌, ◌<◌, ◌↔◌, ◌⊎◌, ◌++◌, ℕ, List, [], map, length, true, IsTrue, IfOk, IfErr, IfSome, OnOk, string_bytes};
 ghost use Rattle.std.specs.List.{flat_map};
@@ -7,10 +7,10 @@ ghost use Rattle.logfmt.specs.Bounds.{IsLog};
 ghost use Rattle.logfmt.specs.Flushed.{with_flushes};
 ghost use Rattle.checker.specs.Checker.{AreFor};
 ghost use Rattle.base.specs.Refusals.{memory_refusal};
-ghost use Rattle.flushes.specs.Places.{AreWindows};
-ghost use Rattle.flushes.specs.Counted.{AreMissing};
-ghost use Rattle.cure.specs.Failures.{windows_in, places_in, calm_entries, HoldNoFlush};
-ghost use Rattle.cure.specs.Text.{begin_text, uncured_text, flush_line, refused_line};
+ghost use Rattle.losses.specs.Places.{AreWindows};
+ghost use Rattle.losses.specs.Counted.{AreMissing};
+ghost use Rattle.losses.specs.FailureWindows.{windows_in, places_in, calm_entries, HoldNoFlush};
+ghost use Rattle.losses.specs.CureText.{begin_text, uncured_text, flush_line, refused_line};
 ghost use Rattle.request.specs.declared.extent.Extent.TheVariants as extent;
 ghost use Rattle.request.specs.Source.{RefusesPlan, images_refusal};
 ghost use Rattle.report.specs.Report.{totals_line};
@@ -19,8 +19,8 @@ ghost use Rattle.runs.specs.Explore.{RefusesWanted};
 ghost use Rattle.runs.specs.Tasks.{lines_of};
 ghost use Rattle.runs.specs.Why.{starts_of};
 ghost use Rattle.runs.specs.Cured.{IsCured, TellsCure, run_lines};
-ghost use Rattle.facts.specs.Fewer.{FindsFewer};
-ghost use Rattle.facts.specs.Promises.{FindsPromises};
+ghost use Rattle.request.specs.Fewer.{FindsFewer};
+ghost use Rattle.request.specs.Promises.{FindsPromises};
 ghost use Rattle.runs.specs.Finds.{FindsBreach, FindsAll};
 ghost use Rattle.runs.specs.Trials.{HasFailures, IsFound, TellsOn};
 
@@ -31,16 +31,16 @@ use base::causes::RequestCause;
 use base::refusal::{Cause, Refusal};
 use checker::Checker;
 use choices::Starts;
-use cure::{
+use images::History;
+use logfmt::Log;
+use losses::cure::{
     Added, Failure, add_missing, failures_of, put_begin, put_refused, put_round, uncured_line,
     windows_of,
 };
-use facts::Facts;
-use flushes::Window;
-use images::History;
-use lines::Lines;
-use logfmt::Log;
+use losses::flushes::Window;
+use report::lines::Lines;
 use report::{Head, Span, put_totals};
+use request::facts::Facts;
 use request::{Options, plan_of};
 use std::alloc::{AllocError, Global};
 use std::sync::Wait;
@@ -292,7 +292,7 @@ fn begin_bytes(alloc: Global, found: &Found) -> Result<Vec<u8>, AllocError>
     Ok(bytes)
 }
 
-/// Both, one behind the other.
+/// Both, one after the other.
 fn join_texts(begin: Vec<u8>, rounds: &str) -> Result<Vec<u8>, Refusal>
     ensures bytes { IfOk result (λ bytes. bytes.items ≡ begin.items ++ rounds.now) }
     ensures refused { IfErr result (λ r. r ≡ memory_refusal) }
@@ -337,7 +337,7 @@ pub(crate) fn cured_log<G: Gate + Sync, R: Threads + Wait + Sync>(
     })
 }
 
-/// Tries where flushes would take failing images of a log away (docs/REPORT.md, The text of `cure`): judges its crash images as
+/// Tries where flushes would take failing images of a log away (docs/COMMANDS.md, cure): judges its crash images as
 /// `explore_with` does, adds the flushes that are missing for the failing ones, judges those of the log with them, and so on,
 /// until no failing image that is left has a window. `gate` is told of each run. What is to be told by the
 /// question, and whether the first failing image alone is asked for, changes nothing. What is found on the

@@ -8,7 +8,7 @@ ghost use Rattle.checker.specs.Checker.{AreFor};
 ghost use Rattle.base.specs.Refusals.{memory_refusal};
 ghost use Rattle.request.specs.Extents.{is_extent, most_images, has_extent};
 ghost use Rattle.request.specs.Source.{RefusesPlan};
-ghost use Rattle.runs.specs.Explore.{HasReport, IsReport, IsProgramCount, Refuses, RefusesWanted, program_head, head_of};
+ghost use Rattle.runs.specs.Explore.{HasReport, IsReport, IsProgramCount, RefusesWanted, program_head, head_of};
 ghost use Rattle.runs.specs.Inputs.{inputs_number, number_told};
 ghost use Rattle.runs.specs.Judged.{takes, IsJudged};
 ghost use Rattle.runs.specs.declared.explore_command.Wanted.TheVariants as wants;
@@ -18,14 +18,15 @@ ghost use Rattle.runs.specs.Blind.{is_blind, FindsBlind};
 ghost use Rattle.runs.specs.Cured.{IsAnswered};
 ghost use Rattle.runs.specs.Tasks.{lines_of, telling_in, TellsTask};
 ghost use Rattle.runs.specs.Found.{AreFound};
-ghost use Rattle.facts.specs.Fewer.{FindsFewer};
-ghost use Rattle.facts.specs.Promises.{FindsPromises};
+ghost use Rattle.request.specs.Fewer.{FindsFewer};
+ghost use Rattle.request.specs.Promises.{FindsPromises};
 ghost use Rattle.runs.specs.Finds.{FindsNext, FindsUnreached, IsBreachOf, IsBreachIn, FindsBreach, FindsAll};
-ghost use Rattle.facts.specs.Found.{AddsUnreached, KeepsLog};
+ghost use Rattle.request.specs.Found.{AddsUnreached, KeepsLog};
 ghost use Rattle.runs.specs.Programs.{IsRunWithin, IsCodeFault, IsUnaccepted, code_refusal, verifier_refusal, AreDecoded, AreFirstMade, RefusesOneOf};
 
 use crate::basis::{Basis, judge_images};
 use crate::blind::find_blind;
+use crate::case_command::told_cases;
 use crate::causes::causes_text;
 use crate::curing::{Judges, cured_log};
 use crate::inputs::number_told;
@@ -39,11 +40,11 @@ use bpf_isa::program::{CodeFault, Program};
 use bpf_shape::Fault;
 use checker::Checker;
 use choices::Starts;
-use facts::{Facts, Recording};
 use images::{History, initial_number};
-use outcomes::printed_text;
+use losses::outcomes::printed_text;
 use report::{Head, ProgramHead, Span, write_part, write_report};
-use request::{Extent, MOST_PROGRAMS, OptionPlace, Options, Telling, option_refusal_of};
+use request::facts::{Facts, Recording};
+use request::{AnyLosses, Extent, MOST_PROGRAMS, OptionPlace, Options, Telling, option_refusal_of};
 use std::alloc::{AllocError, Global};
 use std::sync::Wait;
 use std::thread::Threads;
@@ -61,7 +62,7 @@ pub struct Explored {
     pub failing: bool,
 }
 
-/// Whether a run may have so many programs.
+/// Whether a run may have that many programs.
 pub(crate) fn is_program_count(count: usize) -> bool
     ensures { IsTrue result ↔ IsProgramCount count }
 {
@@ -327,7 +328,7 @@ fn why_of(alloc: Global, form: Form, findings: &Findings<'_>) -> Result<Vec<u8>,
     }
 }
 
-/// The images that are judged, of so many: all, or those of the part that is meant.
+/// The images that are judged, of that many: all, or those of the part that is meant.
 fn span_with(wanted: Wanted, extent: Extent, images: u64, inputs: u64) -> Span
     requires taken { takes wanted extent ≡ true }
     requires good { is_extent extent ≡ true }
@@ -357,7 +358,7 @@ fn tell(alloc: Global, telling: Telling, findings: &Findings<'_>) -> Result<Vec<
     }
 }
 
-/// The images that are judged of a run that is asked this, of so many, with the number of its inputs.
+/// The images that are judged of a run that is asked this, of that many, with the number of its inputs.
 fn span_of(question: &Question<'_>, images: u64) -> Span
     requires taken { takes question.now.wanted question.now.options.now.extent ≡ true }
     requires few { images ≤ most_images question.now.options.now.extent }
@@ -370,7 +371,7 @@ fn span_of(question: &Question<'_>, images: u64) -> Span
     span_with(question.wanted, extent, images, inputs)
 }
 
-/// Whether blocks behind the first failing image may be passed over.
+/// Whether blocks after the first failing image may be passed over.
 fn is_first_asked(telling: Telling, options: &Options) -> bool
     ensures { result ≡ first_asked telling options.now.first }
 {
@@ -439,6 +440,8 @@ pub enum Wanted {
     Told(Telling),
     /// To be told where flushes are missing, run by run.
     Cured,
+    /// To be told of any number of losses, by its failing cases.
+    Cases(AnyLosses),
 }
 
 /// Whether a run that is asked for this judges the images that are meant: all of a run, or those of a part where the report is asked
@@ -479,7 +482,7 @@ fn make_run<G: Gate + Sync, R: Threads + Wait + Sync>(
 ) -> Result<Explored, Refusal>
     requires { takes question.now.wanted question.now.options.now.extent ≡ true }
     ensures told { IfOk result (λ e. IsAnswered question.now.wanted question.now.recording.now (map (λ f. f.items) question.now.programs.now) question.now.options.now e.bytes.items e.failing) }
-    ensures refused { IfErr result (Refuses question.now.recording.now (map (λ f. f.items) question.now.programs.now) question.now.options.now) }
+    ensures refused { IfErr result (RefusesWanted question.now.wanted question.now.recording.now (map (λ f. f.items) question.now.programs.now) question.now.options.now) }
     ensures found { IfOk result (λ _. FindsAll question.now.recording.now (map (λ f. f.items) question.now.programs.now) question.now.options.now facts.new) }
     ensures promises { IfOk result (λ _. IfSome facts.new.promises (FindsPromises question.now.recording.now question.now.options.now)) }
     ensures blind { IfOk result (λ _. FindsBlind question.now.wanted question.now.recording.now (map (λ f. f.items) question.now.programs.now) question.now.options.now facts.new.blind.items) }
@@ -521,15 +524,26 @@ fn make_run<G: Gate + Sync, R: Threads + Wait + Sync>(
             };
             cured_log(rt, alloc, gate, &judges, log)
         }
+        Wanted::Cases(losses) => {
+            let task = Task {
+                log: &log,
+                plan: &plan,
+                checkers: made,
+                options,
+                span: span_of(question, images),
+            };
+            told_cases(alloc, &task, losses)
+        }
     }
 }
 
 /// Judges the crash images of a log by one to eight programs, and tells of those that fail what is asked for: what
-/// `explore_with`, `why`, `page` or `cure_run` answers. What is found on the way takes the place of what `facts` held.
+/// `explore_with`, `why`, `page` or `cure_run` answers, or the failing cases of any number of losses. What is found on the way takes the place of what `facts` held.
 ///
 /// # Errors
 ///
-/// Those of `explore_with`, and 13 at 17 where the options mean a part of a run and not its report is wanted.
+/// Those of `explore_with`, and 13 at 17 where the options mean a part of a run and not its report is wanted. Where cases are wanted, 12 at
+/// the cut with which there are more than 16,777,216.
 pub fn run_with<G: Gate + Sync, R: Threads + Wait + Sync>(
     rt: &R,
     alloc: Global,
@@ -554,7 +568,7 @@ pub fn run_with<G: Gate + Sync, R: Threads + Wait + Sync>(
 }
 
 /// Explores the crash images of a log: judges each by the one to eight programs, and reports those that
-/// fail, or the first of them alone (docs/REPORT.md). Without a limit of steps each program has to be
+/// fail, or the first of them alone (docs/OUTPUT.md). Without a limit of steps each program has to be
 /// accepted by the verifier. `gate` is told the number of images, then of each block before and after it
 /// is judged. The number of workers and the size of the cache change nothing but `hits`. It waits until
 /// all workers are back.
@@ -563,7 +577,7 @@ pub fn run_with<G: Gate + Sync, R: Threads + Wait + Sync>(
 ///
 /// # Errors
 ///
-/// The first refusal in the order of docs/REPORT.md: the number of programs, the log, the number of its
+/// The first refusal in the order of docs/REFUSALS.md: the number of programs, the log, the number of its
 /// images, then each program; or want of memory. Before them 13 at 17 for options that allow a run more than 16,777,216 images and
 /// mean no part of it.
 pub fn explore_with<G: Gate + Sync, R: Threads + Wait + Sync>(
@@ -587,7 +601,7 @@ pub fn explore_with<G: Gate + Sync, R: Threads + Wait + Sync>(
 }
 
 /// Says why programs fail on the crash images of a log: how many images fail and where flushes are missing, and of each program how
-/// many images of each cut fail and in which groups they stand (docs/REPORT.md, The text of `why`). It judges each image once, as
+/// many images of each cut fail and in which groups they stand (docs/OUTPUT.md, The text of `why`). It judges each image once, as
 /// `explore_with` does, whether or not the first failing image alone is asked for.
 ///
 /// # Errors
@@ -613,7 +627,7 @@ pub fn why<G: Gate + Sync, R: Threads + Wait + Sync>(
     run_with(rt, alloc, gate, &question, &mut Facts::new())
 }
 
-/// Shows where programs fail on the crash images of a log, as a page for a browser (docs/REPORT.md, The page of `page`). It
+/// Shows where programs fail on the crash images of a log, as a page for a browser (docs/OUTPUT.md, The page of `page`). It
 /// judges each image once, as `explore_with` does, whether or not the first failing image alone is asked for.
 ///
 /// # Errors

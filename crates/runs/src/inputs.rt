@@ -1,4 +1,4 @@
-//! The number of a run's inputs (docs/REPORT.md, The text of a part).
+//! The number of a run's inputs (docs/OUTPUT.md, The text of a part).
 
 ghost use Rattle.std.specs.Prelude.{◌≡◌, map};
 ghost use Rattle.std.specs.List.{fold};

@@ -1,7 +1,9 @@
-//! What is noticed of programs: a law, by a function that does nothing.
+//! What is noticed of programs, and what cases tell: laws, by functions that do nothing.
 
+ghost use Rattle.runs.specs.AnyLoss.{AnyLossIsTold};
 ghost use Rattle.runs.specs.Blind.{BlindProgramsPass};
 
+use case_runs::losses_are_judged;
 use checker::agreeing_devices_are_judged_alike;
 use images::{covering_tells, images_are_devices};
 use workers::lines_are_set;
@@ -15,4 +17,13 @@ pub fn blind_programs_pass()
     covering_tells();
     images_are_devices();
     lines_are_set();
+}
+
+/// Each image of each cut on which a program fails, however many parts were lost there and with as few torn ones as is asked, is one of a
+/// failing case that the text of cases tells of, where all cuts are wanted and `--at-most` bounds nothing. So where the text has no line
+/// of a program, that program fails on no such image.
+pub fn any_loss_is_told()
+    ensures { AnyLossIsTold }
+{
+    losses_are_judged();
 }

@@ -3,10 +3,11 @@
 //!
 //! # Place
 //!
-//! Below `commands`, which performs `explore`, `why`, `page` and `cure` by `run_with`. `facts` reads the log, counts its
-//! images and takes what the notes say, `bpf_isa` decodes the programs, `verifier` accepts them, `workers` judges the images
-//! by `checker`, `report` writes the lines and what stands at the head of each text, `why` tells what fails of a program at
-//! each cut, `cure` which flushes are missing, and `crash_page` writes the page.
+//! Below `commands`, which performs `explore`, `why`, `page` and `cure` by `run_with`. `request` reads the log, counts its images
+//! and takes what the notes say (`facts`), `bpf_isa` decodes the programs, `verifier` accepts them, `workers` judges the images
+//! by `checker`, `report` writes the lines and what stands at the head of each text, `losses` tells what fails of a program at
+//! each cut (`why`) and which flushes are missing (`cure`), and `crash_page` writes the page. Of any number of losses `case_runs` finds
+//! the failing cases, and `case_text` writes them.
 //!
 //! | Call | Answers |
 //! |---|---|
@@ -14,9 +15,10 @@
 //! | `explore(rt, alloc, recording, programs, options)` | the bytes of the report |
 //! | `why(rt, alloc, gate, recording, programs, options)` | the same run told by its causes (`causes.rt`) |
 //! | `page(rt, alloc, gate, recording, programs, options)` | the same run as a page for a browser (`paging.rt`) |
-//! | `run_with(rt, alloc, gate, question, facts)` | one of the four, by what is wanted |
+//! | `run_with(rt, alloc, gate, question, facts)` | one of the four, or the failing cases of any number of losses (`case_command.rt`), by what is wanted |
 //! | `cure_run(rt, alloc, gate, question, facts)` | where flushes are missing, and what is left with them, run by run (`curing.rt`) |
 //! | `blind_programs_pass()` | a law, by a function that does nothing: what it means that a program is blind (`blind.rt`) |
+//! | `any_loss_is_told()` | a law: on which images of any cut a program fails, by the text of cases |
 //!
 //! # What is proved
 //!
@@ -34,13 +36,19 @@
 //! are judged says `specs/Judged.antt`. `why`, `page` and `cure_run` judge whole runs alone.
 //!
 //! `why` answers, of the same failing lines, which flushes are missing and what fails of each program at each cut (`IsExplained` in
-//! `specs/Why.antt`), and `page` the page of it (`IsPaged`). Where one of them answers `Err`, the refusal is the first in the order of docs/REPORT.md
-//! (`Refuses` in `specs/Explore.antt`): the number of programs, the log, the number of its images, then each program; or memory
-//! ran out.
+//! `specs/Why.antt`), and `page` the page of it (`IsPaged`). Where one of them answers `Err`, the refusal is the first in the
+//! order of docs/REFUSALS.md (`Refuses` in `specs/Explore.antt`): the number of programs, the log, the number of its images, then
+//! each program; or memory ran out.
+//!
+//! Where cases are wanted, one thread looks for them at the cuts of `specs/CaseCuts.antt`: at the last ones of the range and its end, or at
+//! each that is wanted where not all cuts are or `--at-most` is given. The answer has each failing case of each program, and no other
+//! (`IsCases` in `specs/Cases.antt`). The run is refused at the cut with which there are more than 16,777,216 cases. The law
+//! `any_loss_is_told` says what this means where all cuts are wanted, and nothing bounds the losses: each image of any cut on which a
+//! program fails, with as few torn parts as is asked, is one of a failing case that is told.
 //!
 //! What `run_with` and `cure_run` find for the notes is that of `specs/Finds.antt`: of the log how many entries no image loses as a
 //! whole and how many have FUA, of each program that is verified what no run reaches, and of a refused one the instruction and what is
-//! known there. Which marks of the log promise what nothing made durable is that of `specs/Promises.antt` of `facts`, where there was
+//! known there. Which marks of the log promise what nothing made durable is that of `specs/Promises.antt` of `request`, where there was
 //! memory to find them.
 //!
 //! Where failing images are told, `run_with` also finds which programs are blind (`specs/Blind.antt`): at each wanted cut, run on the
@@ -67,6 +75,7 @@
 
 mod basis;
 mod blind;
+mod case_command;
 mod causes;
 mod curing;
 mod explore_command;
@@ -79,4 +88,4 @@ mod task;
 
 pub use curing::cure_run;
 pub use explore_command::{Explored, Question, Wanted, explore, explore_with, page, run_with, why};
-pub use laws::blind_programs_pass;
+pub use laws::{any_loss_is_told, blind_programs_pass};

@@ -2,16 +2,16 @@
 //! flush helps).
 
 ghost use Rattle.std.specs.Prelude.{◌≡◌, length, IfOk};
-ghost use Rattle.flushes.specs.Places.{AreWindows};
-ghost use Rattle.cure.specs.Failures.{AreFailures, windows_in};
-ghost use Rattle.lines.specs.Marks.{marks_of};
+ghost use Rattle.losses.specs.Places.{AreWindows};
+ghost use Rattle.losses.specs.FailureWindows.{AreFailures, windows_in};
+ghost use Rattle.report.specs.Marks.{marks_of};
 ghost use Rattle.runs.specs.Why.{IsMissing};
 ghost use Rattle.runs.specs.Tasks.{lines_of};
 
 use crate::task::Findings;
-use cure::{Failure, failures_of, windows_of};
-use flushes::{MissingFlush, missing_flushes};
-use lines::Mark;
+use losses::cure::{Failure, failures_of, windows_of};
+use losses::flushes::{MissingFlush, missing_flushes};
+use report::lines::Mark;
 use std::alloc::{AllocError, Global};
 use workers::lines_are_set;
 

@@ -1,14 +1,14 @@
-//! Where programs fail, as a page for a browser (docs/REPORT.md, The page of `page`).
+//! Where programs fail, as a page for a browser (docs/OUTPUT.md, The page of `page`).
 
 ghost use Rattle.std.specs.Prelude.{◌≡◌, ◌≤◌, ◌++◌, ◌∷◌, [], ℕ, All, map, length, filter, IfOk, OnOk, string_bytes};
 ghost use Rattle.std.specs.List.Sorted.{IsNonDecreasing};
-ghost use Rattle.flushes.specs.Places.{AreWindows};
-ghost use Rattle.flushes.specs.Counted.{AreMissing};
-ghost use Rattle.cure.specs.Failures.{AreFailures, windows_in};
-ghost use Rattle.cure.specs.Text.{is_uncured};
-ghost use Rattle.outcomes.specs.Outcomes.{outcomes_failing};
+ghost use Rattle.losses.specs.Places.{AreWindows};
+ghost use Rattle.losses.specs.Counted.{AreMissing};
+ghost use Rattle.losses.specs.FailureWindows.{AreFailures, windows_in};
+ghost use Rattle.losses.specs.CureText.{is_uncured};
+ghost use Rattle.losses.specs.ProgramOutcomes.{outcomes_failing};
 ghost use Rattle.crash_page.specs.Page.{AreOfRun};
-ghost use Rattle.why.specs.Failures.{AreImages};
+ghost use Rattle.losses.specs.Failures.{AreImages};
 ghost use Rattle.runs.specs.Marked.{images_marked};
 ghost use Rattle.runs.specs.Paged.{own_failures, IsFailing, AreFailing, IsPageOf, about_run};
 ghost use Rattle.runs.specs.Tasks.{lines_of};
@@ -19,13 +19,13 @@ use crate::reading::Reading;
 use crate::task::Task;
 use crash_page::{ProgramFailures, Run, failures_are_of_run, put_page};
 use crash_text::Numbering;
-use cure::{Failure, windows_of};
-use flushes::{MissingFlush, missing_flushes};
-use lines::Lines;
-use outcomes::outcomes_of;
+use losses::cure::{Failure, windows_of};
+use losses::flushes::{MissingFlush, missing_flushes};
+use losses::outcomes::outcomes_of;
+use losses::why::failures;
+use report::lines::Lines;
 use report::{Head, ProgramHead, put_options, put_totals};
 use std::alloc::{AllocError, Global};
-use why::failures;
 
 /// Appends a failure, if it is of that program.
 fn push_own(own: &mut Vec<Failure>, program: usize, failure: Failure) -> Result<(), AllocError>
@@ -74,7 +74,7 @@ fn uncured_of(failures: &[Failure], program: usize) -> usize
     count
 }
 
-/// The flushes that are missing for the failures of a program, of those of a run of a log with so many entries.
+/// The flushes that are missing for the failures of a program, of those of a run of a log with that many entries.
 fn missing_for(
     alloc: Global,
     failures: &[Failure],

@@ -2,11 +2,11 @@
 
 ghost use Rattle.std.specs.Prelude.{◌≡◌};
 ghost use Rattle.std.specs.List.{flat_map};
-ghost use Rattle.lines.specs.Marks.{marks_of};
-ghost use Rattle.lines.specs.Text.{line_text};
+ghost use Rattle.report.specs.Marks.{marks_of};
+ghost use Rattle.report.specs.LineText.{line_text};
 
 use crate::task::Findings;
-use lines::Mark;
+use report::lines::Mark;
 
 /// The failing lines of what was found: their text, and of which image and program each is.
 #[derive(Clone, Copy)]

@@ -40,7 +40,7 @@ mapped_next f [] k x lt at = absurd (omega (arith, lt))
 mapped_next f (y ∷ ys) zero x lt at = ap (λ z. f z ∷ ys) at
 mapped_next f (y ∷ ys) (suc k) x lt at = ap (λ zs. f y ∷ zs) (mapped_next f ys k x (omega (arith, lt)) at)
 
--- and what else is made of it is behind what was made so far
+-- and what else is made of it is after what was made so far
 pub made_next : {A B : Type 0} (f : A → A) (g : A → B) (xs : List A) (k : ℕ) (x : A) → k < length xs → x ≡ slice_index_or (map f (take k xs) ++ drop k xs) k x
     → map g (take k xs) ++ g x ∷ [] ≡ map g (take (suc k) xs)
 made_next f g [] k x lt at = absurd (omega (arith, lt))
@@ -59,7 +59,7 @@ keyed_more f key xs x h own = rw (map-append key xs (x ∷ []), map-append f (ma
 
 -- deques that give parts away
 
--- as the stealers of the last hands are made: so many hands wait
+-- as the stealers of the last hands are made: that many hands wait
 pub record IsDealing (names : List DequeName) (made : ℕ) (deques : List DequeValue) (others : List (List OtherValue)) : Type 0 where
   pub waiting : List DequeName
   pub served : List DequeName

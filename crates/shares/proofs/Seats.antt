@@ -61,7 +61,7 @@ late_draws_from blocks steps = total_parts (drew_late blocks) (drew_late (blocks
     one (Drew found) = grind (arith, nat_tests)
     one _ = refl
 
--- where so many numbers past the blocks were drawn, so many draws found none left
+-- where that many numbers past the blocks were drawn, that many draws found none left
 late_numbers : (more blocks : ℕ) (steps : List SeatStep) → ((b : ℕ) → b < blocks + more → draws b steps ≡ 1) → more ≤ late_draws blocks steps
 late_numbers zero blocks steps once = omega arith
 late_numbers (suc more) blocks steps once =

@@ -1,4 +1,4 @@
--- The board rule: what holds of the board's words and of all that its seats know, at every moment (docs/PROVED.md, The board).
+-- The board rule: what holds of the board's words and of all that its seats know, at every moment (docs/PROVED.md, Threads and the cache).
 use Rattle.std.specs.Prelude.{◌≡◌, ℕ, ◌+◌, ◌<◌, ◌≤◌, List, [], ◌∷◌, ◌++◌}
 use mathlib.Core.Option.{some}
 use lib.ListN.{get_elem?}

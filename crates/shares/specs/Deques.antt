@@ -1,4 +1,4 @@
--- The rule of a deque: what holds of the blocks in it and of all that its ports know, at every moment (docs/PROVED.md, The hands).
+-- The rule of a deque: what holds of the blocks in it and of all that its ports know, at every moment (docs/PROVED.md, Threads and the cache).
 use Rattle.std.specs.Prelude.{◌≡◌, ℕ, ◌+◌, ◌<◌, ◌≤◌, List, [], ◌∷◌, ◌++◌, length, map, replicate, All}
 use mathlib.Core.Option.{some}
 use lib.ListN.{get_elem?}
@@ -20,7 +20,7 @@ port parts pushed got marks_pushed marks_got = record { parts = parts; pushed = 
 abbrev pub IsAllGot : List ℕ → List ℕ → Type 0
 IsAllGot pushed got = (x : ℕ) → times x pushed ≡ times x got
 
--- blocks, and so many closing marks behind them
+-- blocks, and that many closing marks after them
 abbrev pub blocks_and_marks : List ℕ → ℕ → List Held
 blocks_and_marks blocks marks = map Block blocks ++ replicate marks Mark
 
@@ -31,7 +31,7 @@ pub record DequeRule (blocks workers : ℕ) (items : List Held) (ports : List Po
   -- the blocks that it holds, in order, and how many closing marks
   pub waiting : List ℕ
   pub marks : ℕ
-  -- no block stands behind a mark
+  -- no block stands after a mark
   pub holding : items ≡ blocks_and_marks waiting marks
   pub some_port : 0 < length ports
   -- what it gave out and still holds is what its owner pushed, in that order

@@ -66,7 +66,7 @@ FitsMarks workers marks_pushed marks_got Closing = (workers ≤ marks_pushed) ×
 FitsMarks workers marks_pushed marks_got Closed = 0 < marks_got
 FitsMarks workers marks_pushed marks_got Refused = Unit {0}
 
--- the deques from which the hand of that number steals: those behind its own first
+-- the deques from which the hand of that number steals: those after its own first
 abbrev pub others_at : List DequeName → ℕ → List DequeName
 others_at names i = drop (i + 1) names ++ take i names
 
@@ -107,7 +107,7 @@ KeepsBlock before block after =
     (after.got ≡ before.got)
     × (((after.pushed ≡ before.pushed ++ block ∷ []) × (after.list ≡ before.list)) ⊎ ((after.pushed ≡ before.pushed) × (after.list ≡ before.list ++ block ∷ [])))
 
--- a hand keeps the blocks that its seat drew, at most so many
+-- a hand keeps the blocks that its seat drew, at most that many
 pub record IsStocked (most : ℕ) (before : HandValue) (seat : SeatValue) (after : HandValue) (seat_after : SeatValue) : Type 0 where
   pub drawn : List ℕ
   pub pushed : List ℕ

@@ -8,7 +8,7 @@ use Rattle.shares.specs.Owned.{DequeValue, OtherValue, deque_value, other_value}
 use Rattle.shares.specs.declared.deque.Phase.TheVariants.{Open}
 use Rattle.shares.specs.Hands.{HandValue, IsShut, hand_place, hand_value, others_at}
 
--- an empty deque of which the owner has so many parts
+-- an empty deque of which the owner has that many parts
 abbrev pub empty_deque : ℕ → DequeName → DequeValue
 empty_deque parts name = deque_value name (port parts [] [] 0 0)
 
@@ -20,7 +20,7 @@ new_other name = other_value name [] 0
 abbrev pub with_less : DequeValue → DequeValue
 with_less d = deque_value d.name (port (d.parts - 1) d.pushed d.got d.marks_pushed d.marks_got)
 
--- the stealers of the last so many hands, those of the last one first
+-- the stealers of the last that many hands, those of the last one first
 abbrev pub stealer_lists : List DequeName → ℕ → List (List OtherValue)
 stealer_lists names count = map (λ i. map new_other (others_at names (length names - 1 - i))) (range_with_len 0 count)
 
@@ -71,7 +71,7 @@ pub record AreWhole (workers : ℕ) (before : List DequeValue) (others : List (L
       ≡ total (λ (d : DequeValue). times x d.got) before + total (λ (os : List OtherValue). times x (all_got os)) others
   pub closed : unmarked_count after ≤ unmarked_count before
 
--- what deques pushed and did not get is behind the list now
+-- what deques pushed and did not get is after the list now
 pub record AddsAllLeft (blocks : ℕ) (deques : List DequeValue) (before after : List ℕ) : Type 0 where
   pub left : List ℕ
   pub behind : after ≡ before ++ left

@@ -20,7 +20,7 @@ deque_value name port = record { name = name; parts = port.parts; pushed = port.
 abbrev pub with_got : DequeValue → List ℕ → DequeValue
 with_got d more = deque_value d.name (port d.parts d.pushed (d.got ++ more) d.marks_pushed d.marks_got)
 
--- a deque that has pushed so many marks, and got so many
+-- a deque that has pushed that many marks, and got that many
 abbrev pub with_marks : DequeValue → ℕ → ℕ → DequeValue
 with_marks d pushed got = deque_value d.name (port d.parts d.pushed d.got pushed got)
 
@@ -33,7 +33,7 @@ pub record OtherValue : Type 0 where
 abbrev pub other_value : DequeName → List ℕ → ℕ → OtherValue
 other_value name got marks_got = record { name = name; got = got; marks_got = marks_got }
 
--- what was pushed and not got is behind the list now, each as often
+-- what was pushed and not got is after the list now, each as often
 pub record AddsLeft (blocks : ℕ) (deque : DequeValue) (before after : List ℕ) : Type 0 where
   pub left : List ℕ
   pub behind : after ≡ before ++ left

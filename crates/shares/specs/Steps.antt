@@ -1,4 +1,4 @@
--- The steps of a seat, each with the number that it found, and what they say together (docs/PROVED.md, The board).
+-- The steps of a seat, each with the number that it found, and what they say together (docs/PROVED.md, Threads and the cache).
 use Rattle.std.specs.Prelude.{ℕ, ◌+◌, min, max, nat_eq, nat_le, Bool, if◌then◌else◌, List, [], ◌∷◌, Option, None, Some}
 use Rattle.shares.specs.declared.view.SeatStep.{SeatStep}
 use Rattle.shares.specs.declared.view.SeatStep.TheVariants.{Drew, Posted, SawLeast, SawNext}

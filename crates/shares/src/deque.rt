@@ -2,7 +2,7 @@
 //!
 //! The owner of a deque has one port, and each stealer has one. Contracts know of a port which blocks it
 //! pushed and which it got, and how many closing marks. An owner that pushes no more blocks pushes marks, and
-//! no block stands behind a mark.
+//! no block stands after a mark.
 
 ghost use Rattle.std.specs.Prelude.{◌≡◌, ◌<◌, ◌≤◌, ◌+◌, ◌-◌, ◌++◌, [], length, All};
 ghost use Rattle.shares.specs.Deques.{DequeRule, IsAllGot, port, pushes_one, Pops, Steals, Drains};

@@ -64,7 +64,7 @@
 //! what it gave out and still holds is what its owner pushed, in that order; what it gave out is what its
 //! owner popped and the others stole, each as often; and each is below the number of blocks. The right to
 //! know the whole lies in as many parts as there are workers. The owner has one, and each stealer one; a
-//! port without a part has got nothing. No block stands behind a closing mark, and all blocks are given out
+//! port without a part has got nothing. No block stands after a closing mark, and all blocks are given out
 //! before one. A stealer's port has got no more marks than it has parts. Contracts see a hand as its place
 //! among the hands, its list, the blocks that it pushed, those that it popped or stole, and its phase: open,
 //! closing, closed or refused (`specs/Hands.antt`).

@@ -138,7 +138,7 @@ impl<H: Deal> Deque<H> {
         self.owner.push_as::<Push>(Held::Mark).is_ok()
     }
 
-    /// Pushes so many closing marks. It tells whether the deque had a place for all of them.
+    /// Pushes that many closing marks. It tells whether the deque had a place for all of them.
     pub(crate) fn push_marks(&mut self, marks: u8) -> bool
         ensures same { self.new ≡ with_marks self.old self.new.marks_pushed self.old.marks_got }
         ensures all { result ≡ true → self.new.marks_pushed ≡ self.old.marks_pushed + marks }

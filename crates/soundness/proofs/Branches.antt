@@ -33,8 +33,8 @@ use Rattle.intervals.proofs.CallerLemmas.{words_are_limits}
 use Rattle.ranges.specs.Kinds.{Kind, Unset, Num, SectorOrNull, is_unknown}
 use Rattle.ranges.specs.States.{Abstract}
 use Rattle.ranges.specs.Reading.{value, second, are_set, with_value, words}
-use Rattle.ranges.specs.Rules.{rules, compares, is_null_test, is_wide, is_equality, is_zero, may_be_null}
-use Rattle.ranges.specs.Passing.{passes, edge_of, with_both, with_second, tested_kind, is_equal_edge, passed_state}
+use Rattle.ranges.specs.Rules.{rules, compares, is_null_test, is_wide, is_equality, is_zero, may_be_null, rules_with}
+use Rattle.ranges.specs.Passing.{passes, edge_of, with_both, with_second, tested_kind, is_equal_edge, passed_state, edge_with, passed_with}
 use Rattle.soundness.specs.Meaning.{Describes, Means}
 use Rattle.soundness.specs.Laws.{Arrives}
 use Rattle.soundness.proofs.Checks.{pass_one, pass_two, two_tell, tested_passes, and_parts}
@@ -164,7 +164,7 @@ both_stand sectors known m dst from (Some p) site is leaves = record {
 edge_stands : (sectors : ℕ) (known : Abstract) (m : Parts) (w : Width) (c : Condition) (dst : ℕ) (from : Source) (distance : ℤ) (taken : Bool) → Site sectors known m → IsSourceInRange from
     → are_set known (dst ∷ source_registers from) ≡ true → holds w c (word (machine m) dst) (step.second (machine m) from) ≡ taken
     → Edge sectors m (edge_of known (instr.Branch w c dst from distance) taken)
-unfolding edge_of
+unfolding edge_with
 edge_stands sectors known m w c dst from distance taken site range is h = by (is_null_test w c from (value known dst)) refl
   where
     null : (w ≡ width.W64) × ((c ≡ cond.Eq) ⊎ (c ≡ cond.Ne)) × (is_zero from ≡ true) × (value known dst ≡ SectorOrNull)
@@ -213,7 +213,7 @@ pub branch_goes : (program : List (Option Instr)) (context : List ℕ) (device :
     → Site sectors known m → IsSourceInRange from → is_some (at program (m.slot + 1)) ≡ true → is_some (at program (target_slot m.slot distance)) ≡ true
     → first_failing (rules known (instr.Branch w c dst from distance)) ≡ None
     → Goes sectors m (passes sectors known m.slot (instr.Branch w c dst from distance)) (step_of program context device (machine m) (instr.Branch w c dst from distance))
-unfolding rules passes step_of checks effect
+unfolding rules_with passed_with step_of checks effect
 branch_goes program context device sectors known m w c dst from distance site range next there keeps =
     by (holds w c (word (machine m) dst) (step.second (machine m) from)) refl
   where

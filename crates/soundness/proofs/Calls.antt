@@ -1,5 +1,5 @@
--- Helper calls: what is known behind them.
-use Rattle.std.proofs.Common.{◌≡◌, ◌<◌, ◌≤◌, ℕ, zero, suc, ◌+◌, ◌-◌, ◌*◌, ◌/◌, ◌%◌, ◌^◌, ◌&&◌, nat_lt, nat_le, nat_eq, Bool, true, false, if◌then◌else◌, pos, List, [], ◌∷◌, length, map, get_or, slice_get, slice_index, Option, None, Some, is_some, refl, sym, ap, ◌∙◌, inl, inr, subst, arith}
+-- Helper calls: what is known after them.
+use Rattle.std.proofs.Common.{◌≡◌, ◌<◌, ◌≤◌, ℕ, zero, suc, ◌+◌, ◌-◌, ◌*◌, ◌/◌, ◌%◌, ◌^◌, ◌&&◌, ◌||◌, nat_lt, nat_le, nat_eq, Bool, true, false, if◌then◌else◌, pos, List, [], ◌∷◌, length, map, get_or, slice_get, slice_index, Option, None, Some, is_some, refl, sym, ap, ◌∙◌, inl, inr, subst, arith}
 use Rattle.std.specs.Prelude.{set}
 use Rattle.std.specs.Option.{option_map_or}
 use Rattle.std.specs.Int.{cast_unsigned, w64}
@@ -32,14 +32,14 @@ use Rattle.ranges.specs.States.{Abstract}
 use Rattle.ranges.specs.Order.{IsBounded}
 use Rattle.ranges.specs.Reading.{value, are_set, with_groups, any_word, is_stack, has_length}
 use Rattle.ranges.specs.Places.{place_of, is_inside}
-use Rattle.ranges.specs.Rules.{call_rules, length_of}
+use Rattle.ranges.specs.Rules.{are_read, call_rules, length_of}
 use Rattle.ranges.specs.After as after
-use Rattle.ranges.specs.After.{answer_kind, copied_state, call_after, after_of, written_at}
+use Rattle.ranges.specs.After.{answer_kind, copied_state, call_after, after_of, written_at, call_with}
 use Rattle.ranges.specs.Passing.{passes}
 use Rattle.ranges.proofs.Keeping.{value_fits}
 use Rattle.soundness.specs.Meaning.{Describes, Means}
 use Rattle.soundness.specs.Machines.{IsSetting}
-use Rattle.soundness.proofs.Checks.{pass_two, pass_three, pass_five, two_tell, three_tell, tested_passes, and_parts}
+use Rattle.soundness.proofs.Checks.{first_check, pass_two, pass_three, pass_five, three_tell, tested_passes, and_parts}
 use Rattle.soundness.proofs.Meanings.{word_in}
 use Rattle.soundness.proofs.Standing.{Parts, machine, number, frames_of, all_frames, Stands, Goes, goes_first, answered_stands, reads_set, described_word}
 use Rattle.soundness.proofs.Places.{Lands, place_lands}
@@ -47,8 +47,9 @@ use Rattle.soundness.proofs.Loads.{AreSmall}
 use Rattle.soundness.proofs.Stacks.{filled, stored_is, filled_is_stack, written_means}
 use Rattle.soundness.proofs.Stores.{stack_mapped, stack_in_stacks, stack_place}
 use Rattle.soundness.proofs.Computing.{Site, first_describes, rest_set}
+use Rattle.soundness.proofs.Loose.{words_set}
 
--- a machine whose counts or codes changed, behind an answer
+-- a machine whose counts or codes changed, after an answer
 pub answers : (sectors : ℕ) (known : Abstract) (m : Parts) (list : List (Check MachineFault)) (k : Kind) (x : ℕ) (turns codes : List ℕ) → Site sectors known m
     → length turns ≡ 4096 → first_failing list ≡ None → x < 2 ^ 64 → Means sectors (number m) k (Some x)
     → Goes sectors m ((m.slot + 1, after.after_answer known k) ∷ [])
@@ -60,12 +61,17 @@ answers sectors known m list k x turns codes site long passes small means =
     subst (Goes sectors m ((m.slot + 1, after.after_answer known k) ∷ [])) (sym (tested_passes (machine m) list (step.answer_step from x) passes))
     (goes_first sectors (after.after_answer known k) to [] stands long)
 
+-- registers that may be read are set, with guards and without
+read_set : (guards : Bool) (sectors : ℕ) (known : Abstract) (m : Parts) (list : List ℕ) → Site sectors known m → are_read guards known list ≡ true
+    → list_all (λ r. is_some (get_or m.registers r None)) list ≡ true
+read_set true sectors known m list site e = words_set sectors (number m) known m.registers list site.stands.values e
+read_set false sectors known m list site e = reads_set sectors (number m) known m.registers list site.stands.values e
+
 -- the checks of a call that reads these registers
-reads_pass : (program : List (Option Instr)) (sectors : ℕ) (known : Abstract) (m : Parts) (list : List ℕ) → Site sectors known m → are_set known list ≡ true → is_some (at program (m.slot + 1)) ≡ true
-    → first_failing (step.reads (machine m) list ∷ step.goes_on program (m.slot + 1) ∷ []) ≡ None
-reads_pass program sectors known m list site is next =
-    pass_two fault.UnsetRegister fault.NoInstruction (list_all (λ r. is_some (get_or m.registers r None)) list) (is_some (at program (m.slot + 1)))
-    (reads_set sectors (number m) known m.registers list site.stands.values is) next
+reads_pass : (guards : Bool) (program : List (Option Instr)) (sectors : ℕ) (known : Abstract) (m : Parts) (list : List ℕ) → Site sectors known m → are_read guards known list ≡ true
+    → is_some (at program (m.slot + 1)) ≡ true → first_failing (step.reads (machine m) list ∷ step.goes_on program (m.slot + 1) ∷ []) ≡ None
+reads_pass guards program sectors known m list site is next =
+    pass_two fault.UnsetRegister fault.NoInstruction (list_all (λ r. is_some (get_or m.registers r None)) list) (is_some (at program (m.slot + 1))) (read_set guards sectors known m list site is) next
 
 pub number_means : (sectors frame most x : ℕ) → most < 2 ^ 64 → x ≤ most → Means sectors frame (Num (any_sign (span 0 most))) (Some x)
 number_means sectors frame most x few le = (x, refl, word_in 0 most x few (omega arith) le)
@@ -221,10 +227,10 @@ length_known sectors frame (Num x) w e d =
     (omega (arith, same, d.word.from, d.word.upto), h.1)
 
 copy_goes : (program : List (Option Instr)) (sectors : ℕ) (device : List (List ℕ)) (context : Context) (known : Abstract) (m : Parts)
-    → IsSetting program sectors device context → Site sectors known m → is_some (at program (m.slot + 1)) ≡ true → first_failing (call_rules known helper.Copy) ≡ None
+    → IsSetting program sectors device context → Site sectors known m → is_some (at program (m.slot + 1)) ≡ true → first_failing (call_rules false known helper.Copy) ≡ None
     → Goes sectors m ((m.slot + 1, call_after known helper.Copy) ∷ [])
     (after_checks (machine m) (call_checks program (byte_at (context_bytes context) device (all_frames m)) (machine m) helper.Copy) (call_effect device (machine m) helper.Copy))
-unfolding call_rules call_after
+unfolding call_rules call_with
 copy_goes program sectors device context known m set site next keeps =
     let n : ℕ = length_of (value known 3) in
     let tell = three_tell cause.UnsetRegister cause.HelperArgument cause.OutsideRegion (are_set known (1 ∷ 2 ∷ 3 ∷ []))
@@ -248,51 +254,65 @@ copy_goes program sectors device context known m set site next keeps =
     stack_word (Stack o) e b d = omega (arith, b, d, site.few.frames)
     stack_word _ e b d = absurd (let bad : false ≡ true = e in cc)
 
--- the helpers one by one; `again` takes a limit
-pub helper_goes : (program : List (Option Instr)) (sectors : ℕ) (device : List (List ℕ)) (context : Context) (known : Abstract) (m : Parts) (h : Helper)
+-- whether a helper is another one than copy
+abbrev pub is_other : Helper → Bool
+is_other helper.Copy = false
+is_other h = true
+
+-- the other helpers one by one, with guards and without; `again` takes a limit
+pub other_goes : (guards : Bool) (program : List (Option Instr)) (sectors : ℕ) (device : List (List ℕ)) (context : Context) (known : Abstract) (m : Parts) (h : Helper) → is_other h ≡ true
     → IsSetting program sectors device context → Site sectors known m → is_some (at program (m.slot + 1)) ≡ true
-    → (h ≡ helper.Again → is_limit (word (machine m) 1) ≡ true) → first_failing (call_rules known h) ≡ None
-    → Goes sectors m ((m.slot + 1, call_after known h) ∷ [])
+    → (h ≡ helper.Again → is_limit (word (machine m) 1) ≡ true) → first_failing (call_rules guards known h) ≡ None
+    → Goes sectors m ((m.slot + 1, after.after_answer known (answer_kind h)) ∷ [])
     (after_checks (machine m) (call_checks program (byte_at (context_bytes context) device (all_frames m)) (machine m) h) (call_effect device (machine m) h))
-unfolding call_rules call_after call_checks call_effect
-helper_goes program sectors device context known m helper.Copy set site next limit keeps = copy_goes program sectors device context known m set site next keeps
-helper_goes program sectors device context known m helper.Sector set site next limit keeps =
-    let is = (two_tell cause.UnsetRegister cause.HelperArgument (are_set known (1 ∷ [])) (is_number (value known 1)) keeps).0 in
+unfolding call_rules call_checks call_effect
+other_goes guards program sectors device context known m helper.Copy e set site next limit keeps = absurd (let bad : false ≡ true = e in cc)
+other_goes guards program sectors device context known m helper.Sector e set site next limit keeps =
+    let is = (first_check cause.UnsetRegister (are_read guards known (1 ∷ [])) (check cause.HelperArgument (guards || is_number (value known 1)) ∷ []) keeps).0 in
     let x : ℕ = sector_answer device (word (machine m) 1) in
     let d : Describes sectors (number m) SectorOrNull x = sector_means sectors (number m) device (word (machine m) 1) set.count in
     answers sectors known m (step.reads (machine m) (1 ∷ []) ∷ step.goes_on program (m.slot + 1) ∷ []) SectorOrNull x m.turns m.codes site site.turns
-    (reads_pass program sectors known m (1 ∷ []) site is next) (described_word sectors (number m) SectorOrNull x site.few refl tt d) (x, refl, d)
-helper_goes program sectors device context known m helper.Again set site next limit keeps =
-    let is = (two_tell cause.UnsetRegister cause.HelperArgument (are_set known (1 ∷ [])) (is_number (value known 1)) keeps).0 in
+    (reads_pass guards program sectors known m (1 ∷ []) site is next) (described_word sectors (number m) SectorOrNull x site.few refl tt d) (x, refl, d)
+other_goes guards program sectors device context known m helper.Again e set site next limit keeps =
+    let is = (first_check cause.UnsetRegister (are_read guards known (1 ∷ [])) (check cause.HelperArgument (guards || is_number (value known 1)) ∷ []) keeps).0 in
     let n : ℕ = word (machine m) 1 in
     let x : ℕ = again_answer (turns_here (machine m)) n in
     let most = again_most (turns_here (machine m)) n in
     answers sectors known m (step.reads (machine m) (1 ∷ []) ∷ check fault.HelperArgument (is_limit n) ∷ step.goes_on program (m.slot + 1) ∷ []) (Num (any_sign (span 0 1))) x
     (count_turn (machine m) n) m.codes site (counted_long m n site.turns)
     (pass_three fault.UnsetRegister fault.HelperArgument fault.NoInstruction (list_all (λ r. is_some (get_or m.registers r None)) (1 ∷ [])) (is_limit n) (is_some (at program (m.slot + 1)))
-    (reads_set sectors (number m) known m.registers (1 ∷ []) site.stands.values is) (limit refl) next)
+    (read_set guards sectors known m (1 ∷ []) site is) (limit refl) next)
     (omega (arith, most)) (number_means sectors (number m) 1 x (omega arith) most)
-helper_goes program sectors device context known m helper.Report set site next limit keeps =
-    let is = (two_tell cause.UnsetRegister cause.HelperArgument (are_set known (1 ∷ [])) (is_number (value known 1)) keeps).0 in
+other_goes guards program sectors device context known m helper.Report e set site next limit keeps =
+    let is = (first_check cause.UnsetRegister (are_read guards known (1 ∷ [])) (check cause.HelperArgument (guards || is_number (value known 1)) ∷ []) keeps).0 in
     let x : ℕ = report_answer m.codes in
     let most = report_most m.codes in
     answers sectors known m (step.reads (machine m) (1 ∷ []) ∷ step.goes_on program (m.slot + 1) ∷ []) (Num (any_sign (span 0 1))) x m.turns (codes_after m.codes (word (machine m) 1)) site site.turns
-    (reads_pass program sectors known m (1 ∷ []) site is next) (omega (arith, most)) (number_means sectors (number m) 1 x (omega arith) most)
-helper_goes program sectors device context known m helper.Zero set site next limit keeps =
-    let is = (two_tell cause.UnsetRegister cause.HelperArgument (are_set known (1 ∷ [])) (is_number (value known 1)) keeps).0 in
+    (reads_pass guards program sectors known m (1 ∷ []) site is next) (omega (arith, most)) (number_means sectors (number m) 1 x (omega arith) most)
+other_goes guards program sectors device context known m helper.Zero e set site next limit keeps =
+    let is = (first_check cause.UnsetRegister (are_read guards known (1 ∷ [])) (check cause.HelperArgument (guards || is_number (value known 1)) ∷ []) keeps).0 in
     let x : ℕ = zero_answer device (word (machine m) 1) in
     let most = zero_most device (word (machine m) 1) in
     answers sectors known m (step.reads (machine m) (1 ∷ []) ∷ step.goes_on program (m.slot + 1) ∷ []) (Num (any_sign (span 0 2))) x m.turns m.codes site site.turns
-    (reads_pass program sectors known m (1 ∷ []) site is next) (omega (arith, most)) (number_means sectors (number m) 2 x (omega arith) most)
-helper_goes program sectors device context known m helper.Mix set site next limit keeps =
-    let is = (two_tell cause.UnsetRegister cause.HelperArgument (are_set known (1 ∷ [])) (is_number (value known 1)) keeps).0 in
+    (reads_pass guards program sectors known m (1 ∷ []) site is next) (omega (arith, most)) (number_means sectors (number m) 2 x (omega arith) most)
+other_goes guards program sectors device context known m helper.Mix e set site next limit keeps =
+    let is = (first_check cause.UnsetRegister (are_read guards known (1 ∷ [])) (check cause.HelperArgument (guards || is_number (value known 1)) ∷ []) keeps).0 in
     let x : ℕ = mix_answer device (word (machine m) 1) in
     let small = mix_word device (word (machine m) 1) in
     answers sectors known m (step.reads (machine m) (1 ∷ []) ∷ step.goes_on program (m.slot + 1) ∷ []) (Num any_word) x m.turns m.codes site site.turns
-    (reads_pass program sectors known m (1 ∷ []) site is next) small (number_means sectors (number m) (2 ^ 64 - 1) x (omega arith) (omega (arith, small)))
-helper_goes program sectors device context known m helper.Same set site next limit keeps =
-    let is = (two_tell cause.UnsetRegister cause.HelperArgument (are_set known (1 ∷ 2 ∷ [])) (is_number (value known 1) && is_number (value known 2)) keeps).0 in
+    (reads_pass guards program sectors known m (1 ∷ []) site is next) small (number_means sectors (number m) (2 ^ 64 - 1) x (omega arith) (omega (arith, small)))
+other_goes guards program sectors device context known m helper.Same e set site next limit keeps =
+    let is = (first_check cause.UnsetRegister (are_read guards known (1 ∷ 2 ∷ [])) (check cause.HelperArgument (guards || (is_number (value known 1) && is_number (value known 2))) ∷ []) keeps).0 in
     let x : ℕ = same_answer device (word (machine m) 1) (word (machine m) 2) in
     let most = same_most device (word (machine m) 1) (word (machine m) 2) in
     answers sectors known m (step.reads (machine m) (1 ∷ 2 ∷ []) ∷ step.goes_on program (m.slot + 1) ∷ []) (Num (any_sign (span 0 2))) x m.turns m.codes site site.turns
-    (reads_pass program sectors known m (1 ∷ 2 ∷ []) site is next) (omega (arith, most)) (number_means sectors (number m) 2 x (omega arith) most)
+    (reads_pass guards program sectors known m (1 ∷ 2 ∷ []) site is next) (omega (arith, most)) (number_means sectors (number m) 2 x (omega arith) most)
+
+pub helper_goes : (program : List (Option Instr)) (sectors : ℕ) (device : List (List ℕ)) (context : Context) (known : Abstract) (m : Parts) (h : Helper)
+    → IsSetting program sectors device context → Site sectors known m → is_some (at program (m.slot + 1)) ≡ true
+    → (h ≡ helper.Again → is_limit (word (machine m) 1) ≡ true) → first_failing (call_rules false known h) ≡ None
+    → Goes sectors m ((m.slot + 1, call_after known h) ∷ [])
+    (after_checks (machine m) (call_checks program (byte_at (context_bytes context) device (all_frames m)) (machine m) h) (call_effect device (machine m) h))
+unfolding call_with
+helper_goes program sectors device context known m helper.Copy set site next limit keeps = copy_goes program sectors device context known m set site next keeps
+helper_goes program sectors device context known m h set site next limit keeps = other_goes false program sectors device context known m h refl set site next limit keeps

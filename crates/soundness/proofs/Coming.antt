@@ -1,4 +1,4 @@
--- How a run comes to a call of `again` and to the test behind it: from the slot before.
+-- How a run comes to a call of `again` and to the test after it: from the slot before.
 use Rattle.std.proofs.Common.{ℕ, suc, ◌≡◌, ◌≢◌, ◌+◌, ◌-◌, ◌<◌, ◌==◌, ◌||◌, ℤ, Bool, true, false, if◌then◌else◌, List, length, Option, Some, None, refl, sym, ◌∙◌, ap, inl, inr, arith}
 use Rattle.std.specs.Option.{option_map_or, option_and_then}
 use Rattle.std.proofs.lemmas.Bool.{cases_lt}
@@ -110,7 +110,7 @@ call_comes program s t i k p there leads free is =
     let same : i ≡ before.instr = cc in
     ap limit_of same ∙ before.sets
 
--- the test behind a call
+-- the test after a call
 
 pub record Test (program : List (Option Instr)) (t : ℕ) (c : Condition) : Type 0 where
   pub instr : Instr

@@ -1,4 +1,4 @@
--- Arithmetic: what a register means behind it.
+-- Arithmetic: what a register means after it.
 use Rattle.std.proofs.Common.{◌≡◌, ◌<◌, ℕ, ◌+◌, ◌^◌, ◌==◌, ℤ, Bool, true, false, not, List, [], ◌∷◌, length, get_or, Option, None, Some, is_some, refl, arith}
 use Rattle.std.specs.Option.{option_map, option_or, IsSomeAnd}
 use Rattle.std.specs.Int.{cast_unsigned, w64}
@@ -35,9 +35,9 @@ use Rattle.ranges.specs.States.{Abstract}
 use Rattle.ranges.specs.Order.{IsBounded, IsState}
 use Rattle.ranges.specs.Pointers.{moved_pointer}
 use Rattle.ranges.specs.Reading.{value, second, are_set, words, with_value}
-use Rattle.ranges.specs.Rules.{rules, may_compute, computes}
-use Rattle.ranges.specs.After.{number_result as computed_kind, result_kind, after_of}
-use Rattle.ranges.specs.Passing.{passes, passed_state}
+use Rattle.ranges.specs.Rules.{rules, may_compute, computes, rules_with}
+use Rattle.ranges.specs.After.{number_result as computed_kind, result_kind, after_with}
+use Rattle.ranges.specs.Passing.{passes, passed_state, passed_with}
 use Rattle.ranges.proofs.Keeping.{words_fit, value_fits, second_fits}
 use Rattle.soundness.specs.Meaning.{Describes, Means}
 use Rattle.soundness.proofs.Checks.{first_check, pass_two, pass_three, and_parts}
@@ -189,7 +189,7 @@ pub arithmetic_goes : (program : List (Option Instr)) (context : List ℕ) (devi
     (w : Width) (o : Operator) (dst : ℕ) (from : Source) → Site sectors known m → IsSourceInRange from → not (dst == 10) ≡ true → is_some (at program (m.slot + 1)) ≡ true
     → first_failing (rules known (instr.Arithmetic w o dst from)) ≡ None
     → Goes sectors m (passes sectors known m.slot (instr.Arithmetic w o dst from)) (step_of program context device (machine m) (instr.Arithmetic w o dst from))
-unfolding rules passes after_of step_of checks effect
+unfolding rules_with passed_with after_with step_of checks effect
 arithmetic_goes program context device sectors known m w o dst from s range free next keeps =
     let set = (first_check cause.UnsetRegister (are_set known (operands o dst from)) (computes (may_compute w o (value known dst) (second known from)) ∷ []) keeps).0 in
     let x : ℕ = arithmetic w o (word (machine m) dst) (step.second (machine m) from) in
@@ -212,7 +212,7 @@ pub negate_goes : (program : List (Option Instr)) (context : List ℕ) (device :
     (w : Width) (dst : ℕ) → Site sectors known m → not (dst == 10) ≡ true → is_some (at program (m.slot + 1)) ≡ true
     → first_failing (rules known (instr.Negate w dst)) ≡ None
     → Goes sectors m (passes sectors known m.slot (instr.Negate w dst)) (step_of program context device (machine m) (instr.Negate w dst))
-unfolding rules passes after_of step_of checks effect
+unfolding rules_with passed_with after_with step_of checks effect
 negate_goes program context device sectors known m w dst s free next keeps =
     let set = (first_check cause.UnsetRegister (are_set known (dst ∷ [])) (computes (is_number (value known dst)) ∷ []) keeps).0 in
     let fits = value_fits known dst s.fits in
@@ -224,7 +224,7 @@ pub extend_goes : (program : List (Option Instr)) (context : List ℕ) (device :
     (e : SignExtension) (dst src : ℕ) → Site sectors known m → not (dst == 10) ≡ true → is_some (at program (m.slot + 1)) ≡ true
     → first_failing (rules known (instr.SignExtend e dst src)) ≡ None
     → Goes sectors m (passes sectors known m.slot (instr.SignExtend e dst src)) (step_of program context device (machine m) (instr.SignExtend e dst src))
-unfolding rules passes after_of step_of checks effect
+unfolding rules_with passed_with after_with step_of checks effect
 extend_goes program context device sectors known m e dst src s free next keeps =
     let set = (first_check cause.UnsetRegister (are_set known (src ∷ [])) (computes (is_number (value known src)) ∷ []) keeps).0 in
     let fits = value_fits known src s.fits in
@@ -236,7 +236,7 @@ pub order_goes : (program : List (Option Instr)) (context : List ℕ) (device : 
     (o : Order) (size : OrderSize) (dst : ℕ) → Site sectors known m → not (dst == 10) ≡ true → is_some (at program (m.slot + 1)) ≡ true
     → first_failing (rules known (instr.ByteOrder o size dst)) ≡ None
     → Goes sectors m (passes sectors known m.slot (instr.ByteOrder o size dst)) (step_of program context device (machine m) (instr.ByteOrder o size dst))
-unfolding rules passes after_of step_of checks effect
+unfolding rules_with passed_with after_with step_of checks effect
 order_goes program context device sectors known m o size dst s free next keeps =
     let set = (first_check cause.UnsetRegister (are_set known (dst ∷ [])) (computes (is_number (value known dst)) ∷ []) keeps).0 in
     let fits = value_fits known dst s.fits in
@@ -247,7 +247,7 @@ order_goes program context device sectors known m o size dst s free next keeps =
 pub immediate_goes : (program : List (Option Instr)) (context : List ℕ) (device : List (List ℕ)) (sectors : ℕ) (known : Abstract) (m : Parts)
     (dst x : ℕ) → Site sectors known m → x < 2 ^ 64 → not (dst == 10) ≡ true → is_some (at program (m.slot + 2)) ≡ true
     → Goes sectors m (passes sectors known m.slot (instr.LoadImmediate dst x)) (step_of program context device (machine m) (instr.LoadImmediate dst x))
-unfolding passes after_of step_of checks effect
+unfolding passed_with after_with step_of checks effect
 immediate_goes program context device sectors known m dst x s small free next =
     set_goes sectors known m (step.may_write dst ∷ step.goes_on program (m.slot + 2) ∷ []) 2 dst x (Num (any_sign (only x)))
     (pass_two fault.FramePointer fault.NoInstruction (not (dst == 10)) (is_some (at program (m.slot + 2))) free next) s.fits s.stands s.turns small

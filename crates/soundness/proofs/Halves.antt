@@ -1,4 +1,4 @@
--- Behind a 64-bit immediate stands its second half, in which no instruction begins.
+-- After a 64-bit immediate stands its second half, in which no instruction begins.
 use Rattle.std.proofs.Common.{ℕ, zero, suc, ◌≡◌, List, [], ◌∷◌, ◌++◌, map, Option, Some, None, refl, sym, subst}
 use Rattle.bpf_isa.specs.declared.instr.Instr.{Instr}
 use Rattle.bpf_isa.specs.declared.instr.Instr.TheVariants as instr
@@ -6,7 +6,7 @@ use Rattle.bpf_isa.specs.Spelling.{second_of}
 use Rattle.bpf_isa.specs.Program.{slots_of, IsProgram}
 use Rattle.bpf_isa.specs.Slots.{at}
 
--- behind each 64-bit immediate no instruction begins
+-- after each 64-bit immediate no instruction begins
 abbrev HasHalves : List (Option Instr) → Type 0
 HasHalves slots = (s dst x : ℕ) → at slots s ≡ Some (instr.LoadImmediate dst x) → at slots (suc s) ≡ None
 

@@ -10,6 +10,7 @@ pub mod Loads
 pub mod Stacks
 pub mod Stores
 pub mod Branches
+pub mod Loose
 pub mod Calls
 pub mod Programs
 pub mod Frames
@@ -26,7 +27,6 @@ pub mod Saved
 pub mod Progress
 pub mod Within
 pub mod Safe
-pub mod Loose
 pub mod LooseStores
 pub mod LooseSteps
 pub mod Filling

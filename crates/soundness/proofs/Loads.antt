@@ -1,4 +1,4 @@
--- Loads: what a register means behind them.
+-- Loads: what a register means after them.
 use Rattle.std.proofs.Common.{◌≡◌, ◌<◌, ◌≤◌, ℕ, zero, suc, ◌+◌, ◌-◌, ◌*◌, ◌/◌, ◌%◌, ◌^◌, ◌==◌, ◌||◌, Bool, true, false, not, if◌then◌else◌, ℤ, List, [], ◌∷◌, ◌++◌, length, map, get_or, slice_get, slice_index, Option, None, Some, is_some, refl, sym, ap, ◌∙◌, subst, arith, append_assoc, append-nil, length-append}
 use Rattle.std.specs.Prelude.{FitsSigned}
 use Rattle.std.specs.Int.{w16}
@@ -7,7 +7,7 @@ use Rattle.std.specs.List.{list_all}
 use Rattle.std.proofs.Math.Nat.{mod-lt}
 use Rattle.std.proofs.lemmas.Bool.Decides.{nat_tests}
 use Rattle.std.proofs.lemmas.Option.{slice_get-get_or}
-use Rattle.limits.specs.Sizes.{most_sectors}
+use Rattle.base.specs.Sizes.{most_sectors}
 use Rattle.base.specs.Check.{first_failing}
 use Rattle.base.specs.Numbers.{number_at, number_bytes}
 use Rattle.base.proofs.Lists.{number_at-number_bytes, length-number_bytes}
@@ -38,9 +38,9 @@ use Rattle.ranges.specs.Groups.{GroupKind, Marked, Spilled}
 use Rattle.ranges.specs.States.{Abstract}
 use Rattle.ranges.specs.Reading.{value, are_set, any_word}
 use Rattle.ranges.specs.Places.{place_of, is_inside, mark_in, mark_at, is_mark, none_is, is_group}
-use Rattle.ranges.specs.Rules.{rules, load_rules, has_no, is_whole}
-use Rattle.ranges.specs.After.{context_word, any_of, group_value, loaded_kind, after_of}
-use Rattle.ranges.specs.Passing.{passes}
+use Rattle.ranges.specs.Rules.{rules, load_rules, has_no, is_whole, rules_with}
+use Rattle.ranges.specs.After.{context_word, any_of, group_value, loaded_kind, after_with}
+use Rattle.ranges.specs.Passing.{passes, passed_with}
 use Rattle.ranges.proofs.Keeping.{value_fits}
 use Rattle.soundness.specs.Meaning.{Describes, Means, GroupMeans, IsSetAt, bare}
 use Rattle.soundness.specs.Machines.{IsSetting, IsStack}
@@ -322,7 +322,7 @@ pub load_goes : (program : List (Option Instr)) (sectors : ℕ) (device : List (
     → IsSetting program sectors device context → Site sectors known m → FitsSigned w16 distance → not (dst == 10) ≡ true → is_some (at program (m.slot + 1)) ≡ true
     → first_failing (rules known (instr.Load s dst base distance)) ≡ None
     → Goes sectors m (passes sectors known m.slot (instr.Load s dst base distance)) (step_of program (context_bytes context) device (machine m) (instr.Load s dst base distance))
-unfolding rules load_rules passes after_of step_of checks effect
+unfolding rules_with load_rules passed_with after_with step_of checks effect
 load_goes program sectors device context known m s dst base distance set site fits free next keeps =
     let n : ℕ = byte_count s in
     let p : Place = place_of (value known base) distance n in
@@ -350,7 +350,7 @@ pub signed_load_goes : (program : List (Option Instr)) (sectors : ℕ) (device :
     → IsSetting program sectors device context → Site sectors known m → FitsSigned w16 distance → not (dst == 10) ≡ true → is_some (at program (m.slot + 1)) ≡ true
     → first_failing (rules known (instr.LoadSigned s dst base distance)) ≡ None
     → Goes sectors m (passes sectors known m.slot (instr.LoadSigned s dst base distance)) (step_of program (context_bytes context) device (machine m) (instr.LoadSigned s dst base distance))
-unfolding rules load_rules passes after_of step_of checks effect
+unfolding rules_with load_rules passed_with after_with step_of checks effect
 signed_load_goes program sectors device context known m s dst base distance set site fits free next keeps =
     let n : ℕ = byte_count (plain_size s) in
     let p : Place = place_of (value known base) distance n in

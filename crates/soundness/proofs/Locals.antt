@@ -25,9 +25,9 @@ use Rattle.ranges.specs.Groups.{Marked, unset_marks}
 use Rattle.ranges.specs.States.{Abstract, unset_groups}
 use Rattle.ranges.specs.Order.{Each}
 use Rattle.ranges.specs.Reading.{value, are_set, any_word}
-use Rattle.ranges.specs.Rules.{rules}
-use Rattle.ranges.specs.After.{after_answer, after_of}
-use Rattle.ranges.specs.Passing.{passes, argument_kind, entry_state}
+use Rattle.ranges.specs.Rules.{rules, rules_with}
+use Rattle.ranges.specs.After.{after_answer, after_with}
+use Rattle.ranges.specs.Passing.{passes, argument_kind, entry_state, passed_with}
 use Rattle.soundness.specs.Meaning.{Means, GroupMeans, CoversFrame}
 use Rattle.soundness.specs.Machines.{AreRegisters, IsStack, first_caller, IsMachine}
 use Rattle.soundness.specs.Callers.{registers_behind, AreWaiting}
@@ -113,7 +113,7 @@ given_words m h few (suc (suc (suc (suc (suc (suc (suc (suc (suc zero))))))))) w
 given_words m h few (suc (suc (suc (suc (suc (suc (suc (suc (suc (suc zero)))))))))) w e = end_word (length (all_frames m)) w few e
 given_words m h few (suc (suc (suc (suc (suc (suc (suc (suc (suc (suc (suc r))))))))))) w e = absurd (let bad : None ≡ Some w = e in cc)
 
--- what is restored: registers 6 to 10 as they were, and behind the call the state after an answer
+-- what is restored: registers 6 to 10 as they were, and after the call the state after an answer
 
 eleven : (rs : List (Option ℕ)) (x : ℕ) → length rs ≡ 11
     → with_answer rs x ≡ Some x ∷ None ∷ None ∷ None ∷ None ∷ None ∷ map (λ r. get_or rs r None) (6 ∷ 7 ∷ 8 ∷ 9 ∷ 10 ∷ [])
@@ -131,7 +131,7 @@ eleven (a ∷ b ∷ c ∷ d ∷ f ∷ g ∷ h ∷ i ∷ j ∷ k ∷ []) x e = ab
 eleven (a ∷ b ∷ c ∷ d ∷ f ∷ g ∷ h ∷ i ∷ j ∷ k ∷ l ∷ []) x e = refl
 eleven (a ∷ b ∷ c ∷ d ∷ f ∷ g ∷ h ∷ i ∷ j ∷ k ∷ l ∷ q ∷ rest) x e = absurd (omega (arith, e))
 
--- the frame that waits, behind its call
+-- the frame that waits, after its call
 restored_stands : (sectors : ℕ) (known : Abstract) (m : Parts) (x : ℕ) → Site sectors known m → x < 2 ^ 64
     → Stands sectors (number m) (after_answer known (Num any_word)) (registers_behind (saved_caller (machine m)) x) m.stack
 restored_stands sectors known m x site lt =
@@ -150,7 +150,7 @@ pub record Entered (program : List (Option Instr)) (context : List ℕ) (device 
 pub local_call : (program : List (Option Instr)) (context : List ℕ) (device : List (List ℕ)) (sectors : ℕ) (table : List (Option Abstract)) (known : Abstract) (m : Parts) (distance : ℤ)
     → IsShaped program → Site sectors known m → at program m.slot ≡ Some (instr.CallLocal distance) → IsMachine (machine m)
     → AreWaiting program sectors table 0 0 (all_frames m) m.slot → Entered program context device sectors known m distance
-unfolding passes after_of entry_state step_of checks effect
+unfolding passed_with after_with entry_state step_of checks effect
 local_call program context device sectors table known m distance shaped site e whole waiting =
     let target : ℕ = target_slot m.slot distance in
     let calls : callee program m.slot ≡ Some target = callee_is program m.slot distance e in
@@ -203,7 +203,7 @@ has_below : (below : List Frame) (caller : Option Caller) (stack : List (Option 
 has_below [] caller stack c none e = absurd (let bad : None ≡ Some c = sym none ∙ e in cc)
 has_below (f ∷ rest) caller stack c none e = omega arith
 
--- the machine behind the call, where the frames below the one that ends are these
+-- the machine after the call, where the frames below the one that ends are these
 returned : (program : List (Option Instr)) (sectors : ℕ) (table : List (Option Abstract)) (m : Parts) (below : List Frame) (f : Frame) (c : Caller) (x : ℕ)
     → IsShaped program → IsMachine (machine m) → AreWaiting program sectors table 0 0 (all_frames m) m.slot → m.below ≡ below ++ f ∷ [] → m.caller ≡ Some c → x < 2 ^ 64
     → IsKnown program sectors table (record { slot = c.slot; registers = registers_behind c x; frames = below ++ f ∷ []; turns = m.turns; codes = m.codes })
@@ -292,7 +292,7 @@ exit_set program context device sectors table m arrivals shaped words whole wait
 pub exit_covered : (program : List (Option Instr)) (context : List ℕ) (device : List (List ℕ)) (sectors : ℕ) (table : List (Option Abstract)) (known : Abstract) (m : Parts) (arrivals : List (ℕ × Abstract))
     → IsShaped program → Site sectors known m → IsMachine (machine m) → AreWaiting program sectors table 0 0 (all_frames m) m.slot
     → first_failing (rules known instr.Exit) ≡ None → IsCovered program sectors table arrivals (machine m) (step_of program context device (machine m) instr.Exit)
-unfolding rules
+unfolding rules_with
 exit_covered program context device sectors table known m arrivals shaped site whole waiting keeps =
     let are = (two_tell cause.UnsetRegister cause.PointerAsNumber (are_set known (0 ∷ [])) (is_number (value known 0)) keeps).0 in
     exit_set program context device sectors table m arrivals shaped site.stands.words whole waiting (reads_set sectors (number m) known m.registers (0 ∷ []) site.stands.values are)

@@ -35,14 +35,16 @@ use Rattle.machine.specs.Step.{Stepped, Next, Done, Fault, checks, effect, step_
 use Rattle.machine.specs.Guards.{filled_frame, guarded}
 use Rattle.machine.proofs.Filled.{filled_set}
 use Rattle.intervals.proofs.CallerLemmas.{limits_cover, words_are_limits}
+use Rattle.ranges.specs.Passing.{passed_with, edge_with}
+use Rattle.ranges.specs.After.{after_with, loosely_loaded}
+use Rattle.ranges.specs.Rules.{guarded_rules, rules_with, load_rules}
 use Rattle.ranges.specs.declared.place.Place.{Place}
 use Rattle.ranges.specs.declared.place.Place.TheVariants as place
 use Rattle.ranges.specs.Kinds.{Kind, Unset, Word, Num, is_unset}
 use Rattle.ranges.specs.States.{Abstract}
 use Rattle.ranges.specs.Order.{Each}
-use Rattle.ranges.specs.Reading.{value, second, with_value, words, any_word}
+use Rattle.ranges.specs.Reading.{value, second, with_value, words, any_word, are_words}
 use Rattle.ranges.specs.Places.{place_of, is_inside}
-use Rattle.ranges.specs.Guards.{are_words, guarded_rules, loosely_loaded, loose_after, loosely_passed}
 use Rattle.ranges.proofs.Keeping.{words_fit, value_fits, second_fits}
 use Rattle.soundness.specs.Meaning.{Describes, Means}
 use Rattle.soundness.specs.Machines.{IsSetting, IsStack}
@@ -91,8 +93,8 @@ word_goes program sectors known m dst x list s free are next small =
 pub arithmetic_loose : (program : List (Option Instr)) (context : List ℕ) (device : List (List ℕ)) (sectors : ℕ) (known : Abstract) (m : Parts)
     (w : Width) (o : Operator) (dst : ℕ) (from : Source) → Site sectors known m → IsSourceInRange from → not (dst == 10) ≡ true → is_some (at program (m.slot + 1)) ≡ true
     → first_failing (guarded_rules known (instr.Arithmetic w o dst from)) ≡ None
-    → Goes sectors m (loosely_passed known m.slot (instr.Arithmetic w o dst from)) (step_of program context device (machine m) (instr.Arithmetic w o dst from))
-unfolding guarded_rules loosely_passed loose_after step_of checks effect
+    → Goes sectors m (passed_with true sectors known m.slot (instr.Arithmetic w o dst from)) (step_of program context device (machine m) (instr.Arithmetic w o dst from))
+unfolding rules_with passed_with after_with step_of checks effect
 arithmetic_loose program context device sectors known m w o dst from s range free next keeps =
     let are = (first_check cause.UnsetRegister (are_words known (operands o dst from)) [] keeps).0 in
     let x : ℕ = arithmetic w o (word (machine m) dst) (step.second (machine m) from) in
@@ -104,8 +106,8 @@ arithmetic_loose program context device sectors known m w o dst from s range fre
 pub negate_loose : (program : List (Option Instr)) (context : List ℕ) (device : List (List ℕ)) (sectors : ℕ) (known : Abstract) (m : Parts)
     (w : Width) (dst : ℕ) → Site sectors known m → not (dst == 10) ≡ true → is_some (at program (m.slot + 1)) ≡ true
     → first_failing (guarded_rules known (instr.Negate w dst)) ≡ None
-    → Goes sectors m (loosely_passed known m.slot (instr.Negate w dst)) (step_of program context device (machine m) (instr.Negate w dst))
-unfolding guarded_rules loosely_passed loose_after step_of checks effect
+    → Goes sectors m (passed_with true sectors known m.slot (instr.Negate w dst)) (step_of program context device (machine m) (instr.Negate w dst))
+unfolding rules_with passed_with after_with step_of checks effect
 negate_loose program context device sectors known m w dst s free next keeps =
     let are = (first_check cause.UnsetRegister (are_words known (dst ∷ [])) [] keeps).0 in
     let x : ℕ = arithmetic w op.Sub 0 (word (machine m) dst) in
@@ -117,8 +119,8 @@ negate_loose program context device sectors known m w dst s free next keeps =
 pub extend_loose : (program : List (Option Instr)) (context : List ℕ) (device : List (List ℕ)) (sectors : ℕ) (known : Abstract) (m : Parts)
     (e : SignExtension) (dst src : ℕ) → Site sectors known m → not (dst == 10) ≡ true → is_some (at program (m.slot + 1)) ≡ true
     → first_failing (guarded_rules known (instr.SignExtend e dst src)) ≡ None
-    → Goes sectors m (loosely_passed known m.slot (instr.SignExtend e dst src)) (step_of program context device (machine m) (instr.SignExtend e dst src))
-unfolding guarded_rules loosely_passed loose_after step_of checks effect
+    → Goes sectors m (passed_with true sectors known m.slot (instr.SignExtend e dst src)) (step_of program context device (machine m) (instr.SignExtend e dst src))
+unfolding rules_with passed_with after_with step_of checks effect
 extend_loose program context device sectors known m e dst src s free next keeps =
     let are = (first_check cause.UnsetRegister (are_words known (src ∷ [])) [] keeps).0 in
     let x : ℕ = sign_extension e (word (machine m) src) in
@@ -130,8 +132,8 @@ extend_loose program context device sectors known m e dst src s free next keeps 
 pub order_loose : (program : List (Option Instr)) (context : List ℕ) (device : List (List ℕ)) (sectors : ℕ) (known : Abstract) (m : Parts)
     (o : Order) (size : OrderSize) (dst : ℕ) → Site sectors known m → not (dst == 10) ≡ true → is_some (at program (m.slot + 1)) ≡ true
     → first_failing (guarded_rules known (instr.ByteOrder o size dst)) ≡ None
-    → Goes sectors m (loosely_passed known m.slot (instr.ByteOrder o size dst)) (step_of program context device (machine m) (instr.ByteOrder o size dst))
-unfolding guarded_rules loosely_passed loose_after step_of checks effect
+    → Goes sectors m (passed_with true sectors known m.slot (instr.ByteOrder o size dst)) (step_of program context device (machine m) (instr.ByteOrder o size dst))
+unfolding rules_with passed_with after_with step_of checks effect
 order_loose program context device sectors known m o size dst s free next keeps =
     let are = (first_check cause.UnsetRegister (are_words known (dst ∷ [])) [] keeps).0 in
     let x : ℕ = in_order o size (word (machine m) dst) in
@@ -145,8 +147,8 @@ order_loose program context device sectors known m o size dst s free next keeps 
 pub branch_loose : (program : List (Option Instr)) (context : List ℕ) (device : List (List ℕ)) (sectors : ℕ) (known : Abstract) (m : Parts) (w : Width) (c : Condition) (dst : ℕ) (from : Source) (distance : ℤ)
     → Site sectors known m → is_some (at program (m.slot + 1)) ≡ true → is_some (at program (target_slot m.slot distance)) ≡ true
     → first_failing (guarded_rules known (instr.Branch w c dst from distance)) ≡ None
-    → Goes sectors m (loosely_passed known m.slot (instr.Branch w c dst from distance)) (step_of program context device (machine m) (instr.Branch w c dst from distance))
-unfolding guarded_rules loosely_passed step_of checks effect
+    → Goes sectors m (passed_with true sectors known m.slot (instr.Branch w c dst from distance)) (step_of program context device (machine m) (instr.Branch w c dst from distance))
+unfolding rules_with passed_with edge_with step_of checks effect
 branch_loose program context device sectors known m w c dst from distance site next there keeps =
     by (holds w c (word (machine m) dst) (step.second (machine m) from))
   where
@@ -301,9 +303,9 @@ loads program sectors device context known m dst base n x distance k set site fu
 pub load_loose : (program : List (Option Instr)) (sectors : ℕ) (device : List (List ℕ)) (context : Context) (known : Abstract) (m : Parts) (s : Size) (dst base : ℕ) (distance : ℤ)
     → IsSetting program sectors device context → Site sectors known m → IsFull m → Each (λ f. IsStack f.stack) (all_frames m) → FitsSigned w16 distance
     → not (dst == 10) ≡ true → is_some (at program (m.slot + 1)) ≡ true → first_failing (guarded_rules known (instr.Load s dst base distance)) ≡ None
-    → LooselyGoes sectors m (not (is_inside (place_of (value known base) distance (byte_count s)))) (loosely_passed known m.slot (instr.Load s dst base distance)) true
+    → LooselyGoes sectors m (not (is_inside (place_of (value known base) distance (byte_count s)))) (passed_with true sectors known m.slot (instr.Load s dst base distance)) true
     (step_of program (context_bytes context) device (machine m) (instr.Load s dst base distance))
-unfolding guarded_rules loosely_passed loose_after step_of checks effect
+unfolding rules_with load_rules passed_with after_with step_of checks effect
 load_loose program sectors device context known m s dst base distance set site full cells fits free next keeps =
     let are = (first_check cause.UnsetRegister (are_words known (base ∷ [])) [] keeps).0 in
     let n : ℕ = byte_count s in
@@ -322,9 +324,9 @@ load_loose program sectors device context known m s dst base distance set site f
 pub signed_load_loose : (program : List (Option Instr)) (sectors : ℕ) (device : List (List ℕ)) (context : Context) (known : Abstract) (m : Parts) (s : SignedSize) (dst base : ℕ) (distance : ℤ)
     → IsSetting program sectors device context → Site sectors known m → IsFull m → Each (λ f. IsStack f.stack) (all_frames m) → FitsSigned w16 distance
     → not (dst == 10) ≡ true → is_some (at program (m.slot + 1)) ≡ true → first_failing (guarded_rules known (instr.LoadSigned s dst base distance)) ≡ None
-    → LooselyGoes sectors m (not (is_inside (place_of (value known base) distance (byte_count (plain_size s))))) (loosely_passed known m.slot (instr.LoadSigned s dst base distance)) true
+    → LooselyGoes sectors m (not (is_inside (place_of (value known base) distance (byte_count (plain_size s))))) (passed_with true sectors known m.slot (instr.LoadSigned s dst base distance)) true
     (step_of program (context_bytes context) device (machine m) (instr.LoadSigned s dst base distance))
-unfolding guarded_rules loosely_passed loose_after step_of checks effect
+unfolding rules_with load_rules passed_with after_with step_of checks effect
 signed_load_loose program sectors device context known m s dst base distance set site full cells fits free next keeps =
     let are = (first_check cause.UnsetRegister (are_words known (base ∷ [])) [] keeps).0 in
     let n : ℕ = byte_count (plain_size s) in

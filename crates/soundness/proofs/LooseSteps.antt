@@ -1,5 +1,5 @@
 -- A step with guards over a table.
-use Rattle.std.proofs.Common.{◌≡◌, ℕ, ◌+◌, not, Bool, true, false, if◌then◌else◌, ℤ, pos, List, [], ◌∷◌, length, map, Option, None, Some, is_some, refl, sym, ap, ◌∙◌, inl, inr, subst, arith}
+use Rattle.std.proofs.Common.{◌≡◌, ℕ, ◌+◌, not, Bool, true, false, ℤ, pos, List, [], ◌∷◌, length, map, Option, None, Some, is_some, refl, sym, ap, ◌∙◌, inl, inr, subst, arith}
 use Rattle.std.specs.Option.{option_map_or}
 use Rattle.std.specs.Int.{cast_unsigned, w32}
 use Rattle.base.specs.Check.{check, first_failing}
@@ -20,31 +20,29 @@ use Rattle.machine.specs.Step.{Stepped, Next, Done, Fault, checks, effect, step_
 use Rattle.machine.specs.Guards.{filled_frame, filled, call_writes_own, writes_own, writes_own_here, guarded, guarded_step}
 use Rattle.bpf_shape.specs.Edges.{edges_of}
 use Rattle.bpf_shape.specs.Again.{heads}
-use Rattle.bpf_shape.specs.Paths.{Leads}
+use Rattle.ranges.specs.Kinds.{Num}
+use Rattle.ranges.specs.After.{after_with, call_with, after_answer}
 use Rattle.ranges.specs.States.{Abstract}
-use Rattle.ranges.specs.Order.{Each, IsState}
-use Rattle.ranges.specs.Reading.{value}
-use Rattle.ranges.specs.Rules.{rules, length_of}
-use Rattle.ranges.specs.Passing.{passes}
-use Rattle.ranges.specs.Guards.{are_words, guarded_call_rules, guarded_rules, loosely_called, loose_after, loosely_passed, breaks_rule, passed_with_guards, is_own_place, is_guarded_call, is_guarded}
+use Rattle.ranges.specs.Reading.{value, are_words, any_word}
+use Rattle.ranges.specs.Rules.{rules, length_of, call_rules, guarded_rules, rules_with}
+use Rattle.ranges.specs.Passing.{passes, passed_with}
+use Rattle.ranges.specs.Guards.{breaks_rule, passed_with_guards, is_own_place, is_guarded_call, is_guarded}
 use Rattle.ranges.proofs.GuardedRules.{kept_proved}
-use Rattle.ranges.proofs.GuardedPasses.{guarded_passes_fit}
 use Rattle.verifier.specs.Tables.{state_at, arrival, broken_with, passed_on_with, rule_with, sent_with}
 use Rattle.verifier.specs.Guards.{is_guarded_with, is_guarded_at}
 use Rattle.soundness.specs.Meaning.{CoversFrame, Covers, frame_number, last_stack}
 use Rattle.soundness.specs.Machines.{IsSetting, IsStack, IsMachine, HasLimit}
 use Rattle.soundness.specs.Callers.{AreWaiting}
-use Rattle.soundness.specs.Laws.{Arrives, GoesOn, IsCovered}
+use Rattle.soundness.specs.Laws.{IsCovered}
 use Rattle.soundness.specs.GuardedTables.{IsCoveredWithGuards, GuardedStepIsCovered}
 use Rattle.soundness.proofs.Checks.{first_check}
-use Rattle.soundness.proofs.Meanings.{covers_under}
-use Rattle.soundness.proofs.Standing.{Parts, machine, number, all_frames, number_is, last_is, Stays, Goes}
+use Rattle.soundness.proofs.Standing.{Parts, machine, number, all_frames, number_is, last_is}
 use Rattle.soundness.proofs.Computing.{Site}
-use Rattle.soundness.proofs.Programs.{free_at, range_at, leads_at, begins_at, helper_known}
-use Rattle.soundness.proofs.Frames.{split_last, length_of as frames_count, each_last, whole_kept}
+use Rattle.soundness.proofs.Programs.{free_at, range_at, begins_at, helper_known}
+use Rattle.soundness.proofs.Frames.{split_last, length_of as frames_count, each_last}
 use Rattle.soundness.proofs.Locals.{exit_set}
-use Rattle.soundness.proofs.Steps.{stays, limit_here, one_slot, next_leads, target_leads, sent_rounded}
-use Rattle.soundness.proofs.Tables.{limit_next, at_instr, found_instr, listed_fits}
+use Rattle.soundness.proofs.Steps.{stays, limit_here}
+use Rattle.soundness.proofs.Tables.{at_instr, found_instr, listed_fits, goes_covered}
 use Rattle.soundness.proofs.Loose.{LooselyGoes, IsFull, words_set, arithmetic_loose, negate_loose, extend_loose, order_loose, branch_loose, load_loose, signed_load_loose}
 use Rattle.soundness.proofs.LooseStores.{store_immediate_loose, store_loose, helper_loose, own_store, own_copy}
 
@@ -62,78 +60,30 @@ covered_comes program sectors table may_stray own arrivals s x is c = subst (λ 
     by (Done answer codes) c = c
     by (Fault cause slot) c = absurd c
 
--- where it leads
-
-loose_edge : (sectors : ℕ) (known : Abstract) (slot : ℕ) (i : Instr) (t : State) → breaks_rule known i ≡ true → Arrives sectors (loosely_passed known slot i) t → Leads (edges_of slot i) t.slot
-unfolding rules loosely_passed edges_of
-loose_edge sectors known slot instr.Exit t breaks a = absurd a
-loose_edge sectors known slot (instr.CallLocal distance) t breaks a = absurd (let bad : false ≡ true = breaks in cc)
-loose_edge sectors known slot (instr.Jump distance) t breaks a = absurd (let bad : false ≡ true = breaks in cc)
-loose_edge sectors known slot (instr.LongJump distance) t breaks a = absurd (let bad : false ≡ true = breaks in cc)
-loose_edge sectors known slot (instr.LoadImmediate dst x) t breaks a = absurd (let bad : false ≡ true = breaks in cc)
-loose_edge sectors known slot (instr.Branch w c dst from distance) t breaks (inl h) = next_leads (Some (target_slot slot distance)) (slot + 1) t.slot (sym h.0)
-loose_edge sectors known slot (instr.Branch w c dst from distance) t breaks (inr (inl h)) = target_leads (Some (slot + 1)) (target_slot slot distance) t.slot (sym h.0)
-loose_edge sectors known slot (instr.Branch w c dst from distance) t breaks (inr (inr h)) = absurd h
-loose_edge sectors known slot i t breaks a = next_leads None (slot + 1) t.slot (one_slot sectors (slot + 1) (loose_after known i) t a)
-
-passed_is : (sectors slot : ℕ) (known : Abstract) (i : Instr) → breaks_rule known i ≡ true → passed_with_guards sectors known slot i ≡ loosely_passed known slot i
-unfolding passed_with_guards
-passed_is sectors slot known i e = rw e refl
-
-loosely_on : (program : List (Option Instr)) (sectors : ℕ) (device : List (List ℕ)) (context : Context) (known : Abstract) (m : Parts) (i : Instr) (t : State)
-    → IsSetting program sectors device context → Site sectors known m → IsMachine (machine m) → at program m.slot ≡ Some i → breaks_rule known i ≡ true
-    → step_of program (context_bytes context) device (machine m) i ≡ Next t → Stays sectors m.below m.caller (loosely_passed known m.slot i) t
-    → GoesOn program sectors (map (arrival (heads program)) (loosely_passed known m.slot i)) (machine m) t
-loosely_on program sectors device context known m i t set site whole e breaks stepped g =
-    let leads = loose_edge sectors known m.slot i t breaks g.arrives in
-    let fit : Each (λ (p : ℕ × Abstract). IsState p.1) (loosely_passed known m.slot i) =
-    subst (Each (λ (p : ℕ × Abstract). IsState p.1)) (passed_is sectors m.slot known i breaks)
-    (guarded_passes_fit sectors m.slot known i (let few = set.few in omega arith) (range_at program m.slot i set.made e) site.fits) in
-    record {
-      whole = whole_kept m t g.stack whole g.words g.frames g.cells g.turns;
-      limit = limit_next program sectors device context m i t set site.stands.words.long e leads stepped;
-      edge = leads_at program m.slot t.slot i e leads;
-      frames = record {
-        below = m.below;
-        old = record { stack = m.stack; caller = m.caller };
-        new = record { stack = g.stack; caller = m.caller };
-        had = refl;
-        has = g.frames;
-        caller = refl;
-      };
-      arrives = sent_rounded (λ k. Covers sectors k t) (heads program) (loosely_passed known m.slot i) t.slot (λ k l under. covers_under sectors k l t under) fit g.arrives;
-    }
-
 loosely_comes : (program : List (Option Instr)) (sectors : ℕ) (device : List (List ℕ)) (context : Context) (table : List (Option Abstract)) (known : Abstract) (m : Parts) (i : Instr) (may_stray own : Bool)
-    → IsSetting program sectors device context → Site sectors known m → IsMachine (machine m) → at program m.slot ≡ Some i → breaks_rule known i ≡ true
-    → LooselyGoes sectors m may_stray (loosely_passed known m.slot i) own (step_of program (context_bytes context) device (machine m) i)
-    → IsCoveredWithGuards program sectors table may_stray (map (arrival (heads program)) (loosely_passed known m.slot i)) (machine m) (guarded own (step_of program (context_bytes context) device (machine m) i))
-loosely_comes program sectors device context table known m i may_stray own set site whole e breaks (inr q) =
-    subst (IsCoveredWithGuards program sectors table may_stray (map (arrival (heads program)) (loosely_passed known m.slot i)) (machine m)) (sym q.0) q.1
-loosely_comes program sectors device context table known m i may_stray own set site whole e breaks (inl p) =
-    covered_comes program sectors table may_stray own (map (arrival (heads program)) (loosely_passed known m.slot i)) (machine m) (step_of program (context_bytes context) device (machine m) i) p.0
-    (by (step_of program (context_bytes context) device (machine m) i) refl p.1)
-  where
-    by : (x : Stepped) → step_of program (context_bytes context) device (machine m) i ≡ x → Goes sectors m (loosely_passed known m.slot i) x
-        → IsCovered program sectors table (map (arrival (heads program)) (loosely_passed known m.slot i)) (machine m) x
-    by (Done answer codes) f g = absurd g
-    by (Fault cause slot) f g = g
-    by (Next t) f g = inl (loosely_on program sectors device context known m i t set site whole e breaks f g)
+    → IsSetting program sectors device context → Site sectors known m → IsMachine (machine m) → at program m.slot ≡ Some i → stays i ≡ true
+    → LooselyGoes sectors m may_stray (passed_with true sectors known m.slot i) own (step_of program (context_bytes context) device (machine m) i)
+    → IsCoveredWithGuards program sectors table may_stray (map (arrival (heads program)) (passed_with true sectors known m.slot i)) (machine m) (guarded own (step_of program (context_bytes context) device (machine m) i))
+loosely_comes program sectors device context table known m i may_stray own set site whole e inside (inr q) =
+    subst (IsCoveredWithGuards program sectors table may_stray (map (arrival (heads program)) (passed_with true sectors known m.slot i)) (machine m)) (sym q.0) q.1
+loosely_comes program sectors device context table known m i may_stray own set site whole e inside (inl p) =
+    covered_comes program sectors table may_stray own (map (arrival (heads program)) (passed_with true sectors known m.slot i)) (machine m) (step_of program (context_bytes context) device (machine m) i) p.0
+    (goes_covered true program sectors device context table known m i set site whole e inside p.1)
 
 -- a call of a helper
 call_loose : (program : List (Option Instr)) (sectors : ℕ) (device : List (List ℕ)) (context : Context) (known : Abstract) (m : Parts) (number : ℤ)
     → IsSetting program sectors device context → Site sectors known m → at program m.slot ≡ Some (instr.CallHelper number) → HasLimit program (machine m)
     → first_failing (guarded_rules known (instr.CallHelper number)) ≡ None
-    → LooselyGoes sectors m (is_guarded known (instr.CallHelper number)) (loosely_passed known m.slot (instr.CallHelper number)) (writes_own (machine m) (instr.CallHelper number))
+    → LooselyGoes sectors m (is_guarded known (instr.CallHelper number)) (passed_with true sectors known m.slot (instr.CallHelper number)) (writes_own (machine m) (instr.CallHelper number))
     (step_of program (context_bytes context) device (machine m) (instr.CallHelper number))
-unfolding guarded_rules loosely_passed loose_after is_guarded step_of checks effect edges_of
+unfolding rules_with passed_with after_with is_guarded step_of checks effect edges_of
 call_loose program sectors device context known m number set site e limit keeps = by (helper_of (cast_unsigned w32 number)) refl keeps
   where
     bytes : ℕ → ByteAt
     bytes = byte_at (context_bytes context) device (all_frames m)
 
-    by : (h : Option Helper) → helper_of (cast_unsigned w32 number) ≡ h → first_failing (option_map_or (guarded_call_rules known) h []) ≡ None
-        → LooselyGoes sectors m (option_map_or (is_guarded_call known) h false) ((m.slot + 1, option_map_or (loosely_called known) h known) ∷ []) (option_map_or (call_writes_own (machine m)) h true)
+    by : (h : Option Helper) → helper_of (cast_unsigned w32 number) ≡ h → first_failing (option_map_or (call_rules true known) h []) ≡ None
+        → LooselyGoes sectors m (option_map_or (is_guarded_call known) h false) ((m.slot + 1, option_map_or (call_with true known) h (after_answer known (Num any_word))) ∷ []) (option_map_or (call_writes_own (machine m)) h true)
         (after_checks (machine m) (option_map_or (call_checks program bytes (machine m)) h (check fault.UnknownHelper false ∷ []))
         (option_map_or (call_effect device (machine m)) h (Next (machine m))))
     by None f k = absurd (let there = helper_known program m.slot number set.shaped e in let bad : false ≡ true = rw f at there in cc)
@@ -145,8 +95,8 @@ call_loose program sectors device context known m number set site e limit keeps 
 form_loose : (program : List (Option Instr)) (sectors : ℕ) (device : List (List ℕ)) (context : Context) (known : Abstract) (m : Parts) (i : Instr)
     → IsSetting program sectors device context → Site sectors known m → IsMachine (machine m) → IsFull m → at program m.slot ≡ Some i → IsInRange i → HasLimit program (machine m)
     → breaks_rule known i ≡ true → first_failing (guarded_rules known i) ≡ None → stays i ≡ true
-    → LooselyGoes sectors m (is_guarded known i) (loosely_passed known m.slot i) (writes_own (machine m) i) (step_of program (context_bytes context) device (machine m) i)
-unfolding rules IsInRange edges_of is_guarded
+    → LooselyGoes sectors m (is_guarded known i) (passed_with true sectors known m.slot i) (writes_own (machine m) i) (step_of program (context_bytes context) device (machine m) i)
+unfolding rules_with IsInRange edges_of is_guarded
 form_loose program sectors device context known m (instr.Arithmetic w o dst from) set site whole full e range limit breaks keeps inside =
     inl (
       refl,
@@ -205,14 +155,14 @@ not_false true e = refl
 not_false false e = absurd (let bad : true ≡ false = e in cc)
 
 own_kept : (sectors : ℕ) (known : Abstract) (m : Parts) (i : Instr) → Site sectors known m → IsInRange i → first_failing (guarded_rules known i) ≡ None → is_guarded known i ≡ false → writes_own (machine m) i ≡ true
-unfolding IsInRange guarded_rules is_guarded
+unfolding IsInRange rules_with is_guarded
 own_kept sectors known m (instr.StoreImmediate size base distance z) site range keeps free =
     own_store sectors known m base (byte_count size) distance site range.1 (not_false (is_own_place (value known base) distance (byte_count size)) free)
 own_kept sectors known m (instr.Store size base distance src) site range keeps free =
     own_store sectors known m base (byte_count size) distance site range.1 (not_false (is_own_place (value known base) distance (byte_count size)) free)
 own_kept sectors known m (instr.CallHelper number) site range keeps free = by (helper_of (cast_unsigned w32 number)) keeps free
   where
-    by : (h : Option Helper) → first_failing (option_map_or (guarded_call_rules known) h []) ≡ None → option_map_or (is_guarded_call known) h false ≡ false → option_map_or (call_writes_own (machine m)) h true ≡ true
+    by : (h : Option Helper) → first_failing (option_map_or (call_rules true known) h []) ≡ None → option_map_or (is_guarded_call known) h false ≡ false → option_map_or (call_writes_own (machine m)) h true ≡ true
     by None k f = refl
     by (Some helper.Copy) k f = own_copy sectors known m site k (not_false (is_own_place (value known 2) (pos 0) (length_of (value known 3))) f)
     by (Some _) k f = refl
@@ -223,7 +173,7 @@ exit_comes : (program : List (Option Instr)) (sectors : ℕ) (device : List (Lis
     → IsSetting program sectors device context → Site sectors known m → IsMachine (machine m) → AreWaiting program sectors table 0 0 (all_frames m) m.slot
     → first_failing (guarded_rules known instr.Exit) ≡ None
     → IsCoveredWithGuards program sectors table may_stray arrivals (machine m) (guarded true (step_of program (context_bytes context) device (machine m) instr.Exit))
-unfolding guarded_rules
+unfolding rules_with
 exit_comes program sectors device context table known m may_stray arrivals set site whole waiting keeps =
     let are = (first_check cause.UnsetRegister (are_words known (0 ∷ [])) [] keeps).0 in
     covered_comes program sectors table may_stray true arrivals (machine m) (step_of program (context_bytes context) device (machine m) instr.Exit) refl
@@ -231,31 +181,31 @@ exit_comes program sectors device context table known m may_stray arrivals set s
     (words_set sectors (number m) known m.registers (0 ∷ []) site.stands.values are))
 
 local_keeps : (known : Abstract) (distance : ℤ) → breaks_rule known (instr.CallLocal distance) ≡ true → ⊥
-unfolding rules
+unfolding rules_with
 local_keeps known distance e = let bad : false ≡ true = e in cc
 
 -- an instruction of which a rule without guards is broken
 broken_comes : (program : List (Option Instr)) (sectors : ℕ) (device : List (List ℕ)) (context : Context) (table : List (Option Abstract)) (known : Abstract) (m : Parts) (i : Instr)
     → IsSetting program sectors device context → Site sectors known m → IsMachine (machine m) → IsFull m → AreWaiting program sectors table 0 0 (all_frames m) m.slot
     → at program m.slot ≡ Some i → HasLimit program (machine m) → breaks_rule known i ≡ true → first_failing (guarded_rules known i) ≡ None
-    → IsCoveredWithGuards program sectors table (is_guarded known i) (map (arrival (heads program)) (loosely_passed known m.slot i)) (machine m)
+    → IsCoveredWithGuards program sectors table (is_guarded known i) (map (arrival (heads program)) (passed_with true sectors known m.slot i)) (machine m)
     (guarded (writes_own (machine m) i) (step_of program (context_bytes context) device (machine m) i))
 broken_comes program sectors device context table known m i set site whole full waiting e limit breaks keeps = by i refl
   where
     inside : stays i ≡ true
-        → IsCoveredWithGuards program sectors table (is_guarded known i) (map (arrival (heads program)) (loosely_passed known m.slot i)) (machine m)
+        → IsCoveredWithGuards program sectors table (is_guarded known i) (map (arrival (heads program)) (passed_with true sectors known m.slot i)) (machine m)
         (guarded (writes_own (machine m) i) (step_of program (context_bytes context) device (machine m) i))
     inside s =
-        loosely_comes program sectors device context table known m i (is_guarded known i) (writes_own (machine m) i) set site whole e breaks
+        loosely_comes program sectors device context table known m i (is_guarded known i) (writes_own (machine m) i) set site whole e s
         (form_loose program sectors device context known m i set site whole full e (range_at program m.slot i set.made e) limit breaks keeps s)
 
     by : (j : Instr) → i ≡ j
-        → IsCoveredWithGuards program sectors table (is_guarded known i) (map (arrival (heads program)) (loosely_passed known m.slot i)) (machine m)
+        → IsCoveredWithGuards program sectors table (is_guarded known i) (map (arrival (heads program)) (passed_with true sectors known m.slot i)) (machine m)
         (guarded (writes_own (machine m) i) (step_of program (context_bytes context) device (machine m) i))
     by instr.Exit f =
-        subst (λ (q : Instr). IsCoveredWithGuards program sectors table (is_guarded known q) (map (arrival (heads program)) (loosely_passed known m.slot q)) (machine m)
+        subst (λ (q : Instr). IsCoveredWithGuards program sectors table (is_guarded known q) (map (arrival (heads program)) (passed_with true sectors known m.slot q)) (machine m)
         (guarded (writes_own (machine m) q) (step_of program (context_bytes context) device (machine m) q))) (sym f)
-        (exit_comes program sectors device context table known m (is_guarded known instr.Exit) (map (arrival (heads program)) (loosely_passed known m.slot instr.Exit)) set site whole waiting
+        (exit_comes program sectors device context table known m (is_guarded known instr.Exit) (map (arrival (heads program)) (passed_with true sectors known m.slot instr.Exit)) set site whole waiting
         (subst (λ (q : Instr). first_failing (guarded_rules known q) ≡ None) f keeps))
     by (instr.CallLocal distance) f = absurd (local_keeps known distance (subst (λ (q : Instr). breaks_rule known q ≡ true) f breaks))
     by j f = inside (ap stays f ∙ refl)
@@ -265,11 +215,10 @@ guarded_at : (program : List (Option Instr)) (sectors : ℕ) (device : List (Lis
     → at program m.slot ≡ Some i → HasLimit program (machine m) → first_failing (guarded_rules known i) ≡ None
     → IsCoveredWithGuards program sectors table (is_guarded known i) (map (arrival (heads program)) (passed_with_guards sectors known m.slot i)) (machine m)
     (guarded (writes_own (machine m) i) (step_of program (context_bytes context) device (machine m) i))
-unfolding passed_with_guards
 guarded_at program sectors device context table known m i set site whole full waiting e limit keeps = by (breaks_rule known i) refl
   where
     by : (b : Bool) → breaks_rule known i ≡ b
-        → IsCoveredWithGuards program sectors table (is_guarded known i) (map (arrival (heads program)) (if b then loosely_passed known m.slot i else passes sectors known m.slot i)) (machine m)
+        → IsCoveredWithGuards program sectors table (is_guarded known i) (map (arrival (heads program)) (passed_with b sectors known m.slot i)) (machine m)
         (guarded (writes_own (machine m) i) (step_of program (context_bytes context) device (machine m) i))
     by true f = broken_comes program sectors device context table known m i set site whole full waiting e limit f keeps
     by false f =

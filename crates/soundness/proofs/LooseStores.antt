@@ -18,37 +18,36 @@ use Rattle.bpf_isa.specs.Slots.{at}
 use Rattle.helpers.specs.declared.device.Context.{Context}
 use Rattle.helpers.specs.declared.helper.Helper.{Helper}
 use Rattle.helpers.specs.declared.helper.Helper.TheVariants as helper
-use Rattle.helpers.specs.Answers.{sector_answer, device_bytes, copy_answer, again_answer, report_answer, codes_after, zero_answer, mix_answer, same_answer}
+use Rattle.helpers.specs.Answers.{device_bytes, copy_answer}
 use Rattle.machine.specs.State.{State, word, stack_start}
 use Rattle.machine.specs.Memory.{context_bytes, byte_count, byte_at, all_mapped, all_in_stacks, frames_with}
 use Rattle.machine.specs.declared.ByteAt.{ByteAt}
 use Rattle.machine.specs.Step as step
 use Rattle.machine.specs.Step.{Stepped, Next, Done, Fault, checks, effect, step_of, after_checks, call_checks, call_effect, is_length, is_limit, turns_here, count_turn}
 use Rattle.machine.specs.Guards.{own_start, is_own, call_writes_own, writes_own, guarded}
-use Rattle.intervals.specs.Spans.{span}
-use Rattle.intervals.specs.Reducing.{any_sign}
+use Rattle.ranges.specs.Passing.{passed_with}
 use Rattle.ranges.specs.declared.place.Place.{Place}
 use Rattle.ranges.specs.declared.place.Place.TheVariants as place
 use Rattle.ranges.specs.Kinds.{Kind, Unset, Word, Num, Ctx, Stack, Sector, SectorOrNull}
 use Rattle.ranges.specs.Groups.{GroupKind, Marked, unset_marks, map_places}
 use Rattle.ranges.specs.States.{Abstract}
 use Rattle.ranges.specs.Order.{IsBounded}
-use Rattle.ranges.specs.Reading.{value, any_word, is_stack, has_length}
+use Rattle.ranges.specs.Reading.{value, is_stack, has_length, are_words}
 use Rattle.ranges.specs.Places.{place_of, is_inside}
-use Rattle.ranges.specs.Rules.{length_of}
+use Rattle.ranges.specs.Rules.{length_of, call_rules, guarded_rules, rules_with, store_rules}
 use Rattle.ranges.specs.After as after
-use Rattle.ranges.specs.After.{is_touched, marks_after, group_after, answer_kind}
-use Rattle.ranges.specs.Guards.{are_words, guarded_call_rules, guarded_rules, group_forgotten, groups_forgotten, loosely_stored, loosely_called, loose_after, loosely_passed, is_own_place, is_guarded_call}
+use Rattle.ranges.specs.After.{is_touched, marks_after, group_after, answer_kind, after_with, call_with, group_forgotten, groups_forgotten, loosely_stored}
+use Rattle.ranges.specs.Guards.{is_own_place, is_guarded_call}
 use Rattle.ranges.proofs.Keeping.{value_fits}
 use Rattle.soundness.specs.Meaning.{Describes, Means, GroupMeans}
 use Rattle.soundness.specs.Machines.{IsSetting}
-use Rattle.soundness.proofs.Checks.{first_check, two_tell, pass_two, pass_three, pass_four, pass_five, tested_passes, and_parts}
+use Rattle.soundness.proofs.Checks.{first_check, two_tell, pass_four, pass_five, tested_passes, and_parts}
 use Rattle.soundness.proofs.Standing.{Parts, machine, number, AreFew, number_is, frames_of, all_frames, Stands, Goes, goes_first, answered_stands, described, described_word}
 use Rattle.soundness.proofs.Places.{Lands, place_lands}
 use Rattle.soundness.proofs.Loads.{AreSmall, small_number}
 use Rattle.soundness.proofs.Stacks.{filled, stored_is, filled_is_stack, group_written, places_at, places_long, past_means}
 use Rattle.soundness.proofs.Stores.{stack_mapped, stack_in_stacks, stack_place}
-use Rattle.soundness.proofs.Calls.{answers, number_means, sector_means, zero_most, same_most, mix_word, report_most, again_most, copy_most, counted_long, long_copied, small_copied, length_known}
+use Rattle.soundness.proofs.Calls.{other_goes, number_means, copy_most, long_copied, small_copied, length_known}
 use Rattle.soundness.proofs.Locals.{no_mark, unset_means}
 use Rattle.soundness.proofs.Computing.{Site}
 use Rattle.soundness.proofs.Loose.{LooselyGoes, words_set, first_word}
@@ -201,17 +200,17 @@ stores program context device sectors known m base rest n x distance site fits n
 
 pub store_immediate_loose : (program : List (Option Instr)) (context : List ℕ) (device : List (List ℕ)) (sectors : ℕ) (known : Abstract) (m : Parts) (s : Size) (base : ℕ) (distance : ℤ) (z : ℤ)
     → Site sectors known m → FitsSigned w16 distance → is_some (at program (m.slot + 1)) ≡ true → first_failing (guarded_rules known (instr.StoreImmediate s base distance z)) ≡ None
-    → LooselyGoes sectors m (not (is_own_place (value known base) distance (byte_count s))) (loosely_passed known m.slot (instr.StoreImmediate s base distance z))
+    → LooselyGoes sectors m (not (is_own_place (value known base) distance (byte_count s))) (passed_with true sectors known m.slot (instr.StoreImmediate s base distance z))
     (writes_own (machine m) (instr.StoreImmediate s base distance z)) (step_of program context device (machine m) (instr.StoreImmediate s base distance z))
-unfolding guarded_rules loosely_passed loose_after step_of checks effect
+unfolding rules_with store_rules passed_with after_with step_of checks effect
 store_immediate_loose program context device sectors known m s base distance z site fits next keeps =
     stores program context device sectors known m base [] (byte_count s) (cast_unsigned w64 z) distance site fits next (first_check cause.UnsetRegister (are_words known (base ∷ [])) [] keeps).0
 
 pub store_loose : (program : List (Option Instr)) (context : List ℕ) (device : List (List ℕ)) (sectors : ℕ) (known : Abstract) (m : Parts) (s : Size) (base : ℕ) (distance : ℤ) (src : ℕ)
     → Site sectors known m → FitsSigned w16 distance → is_some (at program (m.slot + 1)) ≡ true → first_failing (guarded_rules known (instr.Store s base distance src)) ≡ None
-    → LooselyGoes sectors m (not (is_own_place (value known base) distance (byte_count s))) (loosely_passed known m.slot (instr.Store s base distance src))
+    → LooselyGoes sectors m (not (is_own_place (value known base) distance (byte_count s))) (passed_with true sectors known m.slot (instr.Store s base distance src))
     (writes_own (machine m) (instr.Store s base distance src)) (step_of program context device (machine m) (instr.Store s base distance src))
-unfolding guarded_rules loosely_passed loose_after step_of checks effect
+unfolding rules_with store_rules passed_with after_with step_of checks effect
 store_loose program context device sectors known m s base distance src site fits next keeps =
     stores program context device sectors known m base (src ∷ []) (byte_count s) (word (machine m) src) distance site fits next (first_check cause.UnsetRegister (are_words known (base ∷ src ∷ [])) [] keeps).0
 
@@ -239,8 +238,8 @@ pub record CopyArguments (sectors : ℕ) (known : Abstract) (m : Parts) : Type 0
   pub length : is_length (length_of (value known 3)) ≡ true
   pub falls : Falls sectors m (value known 2) (pos 0) (length_of (value known 3)) (word (machine m) 2)
 
-copy_arguments : (sectors : ℕ) (known : Abstract) (m : Parts) → Site sectors known m → first_failing (guarded_call_rules known helper.Copy) ≡ None → CopyArguments sectors known m
-unfolding guarded_call_rules
+copy_arguments : (sectors : ℕ) (known : Abstract) (m : Parts) → Site sectors known m → first_failing (call_rules true known helper.Copy) ≡ None → CopyArguments sectors known m
+unfolding call_rules
 copy_arguments sectors known m site keeps =
     let tell = two_tell cause.UnsetRegister cause.HelperArgument (are_words known (1 ∷ 2 ∷ 3 ∷ [])) (has_length (value known 3)) keeps in
     let parts = copy_words known tell.0 in
@@ -258,10 +257,10 @@ copy_arguments sectors known m site keeps =
         subst (Lands sectors (number m) (place_of (value known 2) (pos 0) n) n) same lands
 
 copy_loose : (program : List (Option Instr)) (sectors : ℕ) (device : List (List ℕ)) (context : Context) (known : Abstract) (m : Parts)
-    → IsSetting program sectors device context → Site sectors known m → is_some (at program (m.slot + 1)) ≡ true → first_failing (guarded_call_rules known helper.Copy) ≡ None
-    → LooselyGoes sectors m (is_guarded_call known helper.Copy) ((m.slot + 1, loosely_called known helper.Copy) ∷ []) (call_writes_own (machine m) helper.Copy)
+    → IsSetting program sectors device context → Site sectors known m → is_some (at program (m.slot + 1)) ≡ true → first_failing (call_rules true known helper.Copy) ≡ None
+    → LooselyGoes sectors m (is_guarded_call known helper.Copy) ((m.slot + 1, call_with true known helper.Copy) ∷ []) (call_writes_own (machine m) helper.Copy)
     (after_checks (machine m) (call_checks program (byte_at (context_bytes context) device (all_frames m)) (machine m) helper.Copy) (call_effect device (machine m) helper.Copy))
-unfolding guarded_call_rules loosely_called call_checks call_effect
+unfolding call_rules call_with call_checks call_effect
 copy_loose program sectors device context known m set site next keeps = by (is_own (machine m) a w) refl
   where
     w : ℕ
@@ -342,79 +341,15 @@ copy_loose program sectors device context known m set site next keeps = by (is_o
       outside (is_own_place (value known 2) (pos 0) n) (is_own (machine m) a w) own_when e,
     )
 
--- the other helpers
-
-reads_pass : (program : List (Option Instr)) (sectors : ℕ) (known : Abstract) (m : Parts) (list : List ℕ) → Site sectors known m → are_words known list ≡ true → is_some (at program (m.slot + 1)) ≡ true
-    → first_failing (step.reads (machine m) list ∷ step.goes_on program (m.slot + 1) ∷ []) ≡ None
-reads_pass program sectors known m list site are next =
-    pass_two fault.UnsetRegister fault.NoInstruction (list_all (λ r. is_some (get_or m.registers r None)) list) (is_some (at program (m.slot + 1)))
-    (words_set sectors (number m) known m.registers list site.stands.values are) next
-
 pub helper_loose : (program : List (Option Instr)) (sectors : ℕ) (device : List (List ℕ)) (context : Context) (known : Abstract) (m : Parts) (h : Helper)
     → IsSetting program sectors device context → Site sectors known m → is_some (at program (m.slot + 1)) ≡ true
-    → (h ≡ helper.Again → is_limit (word (machine m) 1) ≡ true) → first_failing (guarded_call_rules known h) ≡ None
-    → LooselyGoes sectors m (is_guarded_call known h) ((m.slot + 1, loosely_called known h) ∷ []) (call_writes_own (machine m) h)
+    → (h ≡ helper.Again → is_limit (word (machine m) 1) ≡ true) → first_failing (call_rules true known h) ≡ None
+    → LooselyGoes sectors m (is_guarded_call known h) ((m.slot + 1, call_with true known h) ∷ []) (call_writes_own (machine m) h)
     (after_checks (machine m) (call_checks program (byte_at (context_bytes context) device (all_frames m)) (machine m) h) (call_effect device (machine m) h))
-unfolding guarded_call_rules loosely_called call_checks call_effect
+unfolding call_with
 helper_loose program sectors device context known m helper.Copy set site next limit keeps = copy_loose program sectors device context known m set site next keeps
-helper_loose program sectors device context known m helper.Sector set site next limit keeps =
-    let are = (first_check cause.UnsetRegister (are_words known (1 ∷ [])) [] keeps).0 in
-    let x : ℕ = sector_answer device (word (machine m) 1) in
-    let d : Describes sectors (number m) SectorOrNull x = sector_means sectors (number m) device (word (machine m) 1) set.count in
-    inl (
-      refl,
-      answers sectors known m (step.reads (machine m) (1 ∷ []) ∷ step.goes_on program (m.slot + 1) ∷ []) SectorOrNull x m.turns m.codes site site.turns
-          (reads_pass program sectors known m (1 ∷ []) site are next) (described_word sectors (number m) SectorOrNull x site.few refl tt d) (x, refl, d),
-    )
-helper_loose program sectors device context known m helper.Again set site next limit keeps =
-    let are = (first_check cause.UnsetRegister (are_words known (1 ∷ [])) [] keeps).0 in
-    let n : ℕ = word (machine m) 1 in
-    let x : ℕ = again_answer (turns_here (machine m)) n in
-    let most = again_most (turns_here (machine m)) n in
-    inl (
-      refl,
-      answers sectors known m (step.reads (machine m) (1 ∷ []) ∷ check fault.HelperArgument (is_limit n) ∷ step.goes_on program (m.slot + 1) ∷ []) (Num (any_sign (span 0 1))) x
-          (count_turn (machine m) n) m.codes site (counted_long m n site.turns)
-          (pass_three fault.UnsetRegister fault.HelperArgument fault.NoInstruction (list_all (λ r. is_some (get_or m.registers r None)) (1 ∷ [])) (is_limit n) (is_some (at program (m.slot + 1)))
-          (words_set sectors (number m) known m.registers (1 ∷ []) site.stands.values are) (limit refl) next)
-          (omega (arith, most)) (number_means sectors (number m) 1 x (omega arith) most),
-    )
-helper_loose program sectors device context known m helper.Report set site next limit keeps =
-    let are = (first_check cause.UnsetRegister (are_words known (1 ∷ [])) [] keeps).0 in
-    let x : ℕ = report_answer m.codes in
-    let most = report_most m.codes in
-    inl (
-      refl,
-      answers sectors known m (step.reads (machine m) (1 ∷ []) ∷ step.goes_on program (m.slot + 1) ∷ []) (Num (any_sign (span 0 1))) x m.turns (codes_after m.codes (word (machine m) 1)) site site.turns
-          (reads_pass program sectors known m (1 ∷ []) site are next) (omega (arith, most)) (number_means sectors (number m) 1 x (omega arith) most),
-    )
-helper_loose program sectors device context known m helper.Zero set site next limit keeps =
-    let are = (first_check cause.UnsetRegister (are_words known (1 ∷ [])) [] keeps).0 in
-    let x : ℕ = zero_answer device (word (machine m) 1) in
-    let most = zero_most device (word (machine m) 1) in
-    inl (
-      refl,
-      answers sectors known m (step.reads (machine m) (1 ∷ []) ∷ step.goes_on program (m.slot + 1) ∷ []) (Num (any_sign (span 0 2))) x m.turns m.codes site site.turns
-          (reads_pass program sectors known m (1 ∷ []) site are next) (omega (arith, most)) (number_means sectors (number m) 2 x (omega arith) most),
-    )
-helper_loose program sectors device context known m helper.Mix set site next limit keeps =
-    let are = (first_check cause.UnsetRegister (are_words known (1 ∷ [])) [] keeps).0 in
-    let x : ℕ = mix_answer device (word (machine m) 1) in
-    let small = mix_word device (word (machine m) 1) in
-    inl (
-      refl,
-      answers sectors known m (step.reads (machine m) (1 ∷ []) ∷ step.goes_on program (m.slot + 1) ∷ []) (Num any_word) x m.turns m.codes site site.turns
-          (reads_pass program sectors known m (1 ∷ []) site are next) small (number_means sectors (number m) (2 ^ 64 - 1) x (omega arith) (omega (arith, small))),
-    )
-helper_loose program sectors device context known m helper.Same set site next limit keeps =
-    let are = (first_check cause.UnsetRegister (are_words known (1 ∷ 2 ∷ [])) [] keeps).0 in
-    let x : ℕ = same_answer device (word (machine m) 1) (word (machine m) 2) in
-    let most = same_most device (word (machine m) 1) (word (machine m) 2) in
-    inl (
-      refl,
-      answers sectors known m (step.reads (machine m) (1 ∷ 2 ∷ []) ∷ step.goes_on program (m.slot + 1) ∷ []) (Num (any_sign (span 0 2))) x m.turns m.codes site site.turns
-          (reads_pass program sectors known m (1 ∷ 2 ∷ []) site are next) (omega (arith, most)) (number_means sectors (number m) 2 x (omega arith) most),
-    )
+helper_loose program sectors device context known m h set site next limit keeps =
+    inl (refl, other_goes true program sectors device context known m h refl set site next limit keeps)
 
 -- what isn't guarded writes nothing but the frame at hand
 
@@ -430,7 +365,7 @@ own_store sectors known m base n distance site fits e =
     pointer (Stack o) f means = described sectors (number m) (Stack o) (get_or m.registers base None) refl means
     pointer _ f means = absurd (let bad : false ≡ true = f in cc)
 
-pub own_copy : (sectors : ℕ) (known : Abstract) (m : Parts) → Site sectors known m → first_failing (guarded_call_rules known helper.Copy) ≡ None
+pub own_copy : (sectors : ℕ) (known : Abstract) (m : Parts) → Site sectors known m → first_failing (call_rules true known helper.Copy) ≡ None
     → is_own_place (value known 2) (pos 0) (length_of (value known 3)) ≡ true → is_own (machine m) (word (machine m) 2) (word (machine m) 3) ≡ true
 own_copy sectors known m site keeps e =
     let told = copy_arguments sectors known m site keeps in

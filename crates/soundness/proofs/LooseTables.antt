@@ -1,42 +1,23 @@
 -- Steps with guards over a good table, and the machines that are reached.
-use Rattle.std.proofs.Common.{◌≡◌, ◌≤◌, ℕ, zero, suc, ◌+◌, true, List, Option, None, Some, refl, sym, ap, ◌∙◌, inl, inr, subst, arith}
+use Rattle.std.proofs.Common.{◌≡◌, ℕ, zero, suc, ◌+◌, true, List, Option, None, Some, sym, ap, ◌∙◌, inl, inr, subst}
 use Rattle.std.proofs.lemmas.List.{length-map}
-use Rattle.limits.specs.Sizes.{most_sectors}
 use Rattle.bpf_isa.specs.declared.instr.Instr.{Instr}
-use Rattle.bpf_isa.specs.Program.{IsProgram}
-use Rattle.bpf_isa.specs.Slots.{at}
-use Rattle.bpf_shape.specs.Again.{heads}
 use Rattle.helpers.specs.declared.device.Context.{Context}
 use Rattle.machine.specs.State.{State, start}
 use Rattle.machine.specs.Memory.{context_bytes}
 use Rattle.machine.specs.Step.{Stepped, Next, Done, Fault}
 use Rattle.machine.specs.Guards.{filled_frame, filled, guarded_step}
 use Rattle.ranges.specs.States.{Abstract}
-use Rattle.ranges.specs.Order.{Each, Holds, IsState}
-use Rattle.ranges.specs.Guards.{passed_with_guards}
-use Rattle.ranges.proofs.GuardedPasses.{guarded_passes_fit}
-use Rattle.verifier.specs.Tables.{state_at, AreStates, passed_on_with, sent_with}
+use Rattle.verifier.specs.Tables.{sent_with}
 use Rattle.verifier.specs.Good.{IsGoodWith}
 use Rattle.verifier.specs.Guards.{is_guarded_at}
 use Rattle.soundness.specs.Machines.{IsSetting}
 use Rattle.soundness.specs.Laws.{IsKnown, IsNoFault, Follows}
 use Rattle.soundness.specs.Guards.{GuardedReached}
 use Rattle.soundness.specs.GuardedTables.{IsCoveredWithGuards, IsSafeWithGuards, GuardedTableCovers}
-use Rattle.soundness.proofs.Programs.{range_at}
-use Rattle.soundness.proofs.Tables.{arrivals_fit, way_safe, start_known}
+use Rattle.soundness.proofs.Tables.{sent_fit, way_safe, start_known}
 use Rattle.soundness.proofs.Filling.{known_filled, filled_twice}
 use Rattle.soundness.proofs.LooseSteps.{guarded_step_covered}
-
-guarded_sent_fit : (program : List (Option Instr)) (sectors : ℕ) (table : List (Option Abstract)) (slot : ℕ) → IsProgram program → sectors ≤ most_sectors → AreStates table
-    → Each (λ (p : ℕ × Abstract). IsState p.1) (sent_with true program sectors table slot)
-unfolding sent_with
-guarded_sent_fit program sectors table slot made few states = by (at program slot) (state_at table slot) refl (states slot)
-  where
-    by : (o : Option Instr) (q : Option Abstract) → at program slot ≡ o → Holds IsState q → Each (λ (p : ℕ × Abstract). IsState p.1) (passed_on_with true (heads program) sectors slot o q)
-    by None q e h = tt
-    by (Some i) None e h = tt
-    by (Some i) (Some s) e h =
-        arrivals_fit (heads program) (passed_with_guards sectors s slot i) (guarded_passes_fit sectors slot s i (omega (arith, few)) (range_at program slot i made e) h)
 
 follows_filled : (program : List (Option Instr)) (s t : State) → Follows program s t → Follows program s (filled t)
 unfolding filled
@@ -65,7 +46,7 @@ guarded_step_safe program sectors device context table s set good known full =
       ends = λ answer codes e. absurd (let bad : None ≡ Some (Done answer codes) = e in cc);
     }
     by (Some (Next u)) c =
-        let way = way_safe program sectors device context table s sent set good.states (guarded_sent_fit program sectors table s.slot set.made set.few good.states) (good.slots s.slot).edges known c.0 c.2 in
+        let way = way_safe program sectors device context table s sent set good.states (sent_fit true program sectors table s.slot set.made set.few good.states) (good.slots s.slot).edges known c.0 c.2 in
         let there : There program sectors table s (filled c.0) = (known_filled program sectors table c.0 way.0, filled_twice c.0, follows_filled program s c.0 way.1) in
         let here : There program sectors table s u = subst (There program sectors table s) (sym c.1) there in
         record {

@@ -3,7 +3,7 @@ use Rattle.std.proofs.Common.{◌≡◌, ◌<◌, ◌≤◌, ℕ, ◌+◌, ◌-�
 use Rattle.std.specs.Prelude.{FitsSigned}
 use Rattle.std.specs.Option.{option_map_or}
 use Rattle.std.specs.Int.{cast_unsigned, w16, w64}
-use Rattle.limits.specs.Sizes.{most_sectors}
+use Rattle.base.specs.Sizes.{most_sectors}
 use Rattle.helpers.specs.Answers.{sector_start}
 use Rattle.machine.specs.State.{context_start, stack_start}
 use Rattle.intervals.specs.Spans.{Span, span, IsSpan, Has}

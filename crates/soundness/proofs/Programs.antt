@@ -44,7 +44,7 @@ range_in (x ∷ rest) (suc s) i all e =
       | inr more ↦ range_in rest (s - length (halves x)) i all.1 more.1
     ]
 
--- behind a 64-bit immediate its second half stands
+-- after a 64-bit immediate its second half stands
 half_in : (instrs : List Instr) (s dst v : ℕ) → slice_get (slots_of instrs) s ≡ Some (Some (instr.LoadImmediate dst v)) → slice_get (slots_of instrs) (suc s) ≡ Some None
 half_in [] s dst v e = absurd (let bad : None ≡ Some (Some (instr.LoadImmediate dst v)) = e in cc)
 half_in (x ∷ rest) zero dst v e =
@@ -256,7 +256,7 @@ pub callee_is : (program : List (Option Instr)) (s : ℕ) (distance : ℤ) → a
 unfolding callee callee_of
 callee_is program s distance e = ap (λ (o : Option Instr). option_and_then (callee_of s) o) e
 
--- control goes on behind it
+-- control goes on after it
 pub behind_call : (program : List (Option Instr)) (s t : ℕ) → callee program s ≡ Some t → Leads (control program s) (s + 1)
 unfolding edges_of
 behind_call program s t e =
@@ -283,7 +283,7 @@ no_entry program s t shaped e calls =
     let bad : true ≡ false = sym (callee_marked program s t e) ∙ (before_again program t shaped calls).free in
     cc
 
--- behind it no limit is set
+-- after it no limit is set
 pub no_limit_behind : (program : List (Option Instr)) (s t k : ℕ) → callee program s ≡ Some t → limit_before program (s + 1) ≡ Some k → ⊥
 unfolding limit_of
 no_limit_behind program s t k e is =

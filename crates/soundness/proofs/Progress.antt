@@ -219,7 +219,7 @@ module _ (program : List (Option Instr)) (context : List ℕ) (device : List (Li
       let same : before.instr ≡ instr.CallLocal distance = cc in
       no_constant k distance (rw same at before.sets)
 
-  -- behind it stands no test
+  -- after it stands no test
   no_test : (s : ℕ) (c : Condition) (distance : ℤ) → at program s ≡ Some (instr.CallLocal distance) → answer_test program (s + 1) ≡ Some c → ⊥
   no_test s c distance there is =
       let test = test_there program (s + 1) c is in

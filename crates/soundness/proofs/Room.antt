@@ -42,7 +42,7 @@ pub slot_weighs : (program : List (Option Instr)) (depth : ℕ) (weight : ℕ �
 slot_weighs program zero weight s w = let one = w s in omega (arith, one)
 slot_weighs program (suc depth) weight s w = weighs_some program w.0 (callee program s) (weight s) (w.1.1 s)
 
--- a local function, or the program itself, with calls followed so many deep
+-- a local function, or the program itself, with calls followed that many deep
 pub record Function (program : List (Option Instr)) (depth : ℕ) : Type 0 where
   pub entry : ℕ
   pub weight : ℕ → ℕ
@@ -60,7 +60,7 @@ pub record Stands (program : List (Option Instr)) (whole depth slot below : ℕ)
   pub fits : room + below ≤ whole
   pub again : function.longest + below ≤ whole
 
--- The frames below wait behind their calls, and have so much room together.
+-- The frames below wait after their calls, and have so much room together.
 pub record WaitsBelow (program : List (Option Instr)) (whole depth : ℕ) (Rest : List (Option Caller) → ℕ → Type 0) (callers : List (Option Caller)) (below : ℕ) : Type 0 where
   pub front : List (Option Caller)
   pub caller : Caller
@@ -109,7 +109,7 @@ pub record Framed (program : List (Option Instr)) (whole : ℕ) (frames : List (
   pub waiting : Waiting program whole number depth frames below
   pub here : Stands program whole depth slot below
 
--- what holds before each step, with so many steps to go: there is room for the paths at hand; where the
+-- what holds before each step, with that many steps to go: there is room for the paths at hand; where the
 -- answer of a call is tested it is 0, or a whole path is pending
 pub record Runs (program : List (Option Instr)) (whole : ℕ) (s : State) (steps : ℕ) : Type 0 where
   pub arrived : Arrived program s

@@ -1,5 +1,5 @@
 -- A step, by the form of its instruction.
-use Rattle.std.proofs.Common.{◌≡◌, ◌<◌, ℕ, ◌+◌, ◌^◌, ◌==◌, ◌&&◌, nat_le, Bool, true, false, if◌then◌else◌, ℤ, List, [], ◌∷◌, ◌++◌, length, map, get_or, Option, None, Some, is_some, refl, sym, ap, ◌∙◌, inl, inr, ◌⊎◌, arith}
+use Rattle.std.proofs.Common.{◌≡◌, ℕ, ◌+◌, ◌==◌, ◌&&◌, nat_le, Bool, true, false, if◌then◌else◌, ℤ, List, [], ◌∷◌, ◌++◌, length, map, get_or, Option, None, Some, is_some, refl, sym, ap, ◌∙◌, inl, inr, ◌⊎◌, arith}
 use Rattle.std.specs.Prelude.{set, unwrap_or}
 use Rattle.std.specs.Option.{option_map_or}
 use Rattle.std.specs.Int.{cast_unsigned, w32, w64}
@@ -30,13 +30,12 @@ use Rattle.bpf_shape.specs.Again.{limit_of}
 use Rattle.bpf_shape.specs.Paths.{Leads}
 use Rattle.bpf_shape.specs.Rules.{IsShaped}
 use Rattle.ranges.specs.States.{Abstract, round_state}
-use Rattle.ranges.specs.Order.{Each, Holds, IsState, StateUnder}
-use Rattle.ranges.specs.Rules.{rules, call_rules}
-use Rattle.ranges.specs.After.{after_of, call_after, after_answer}
+use Rattle.ranges.specs.Order.{Each, IsState, StateUnder}
+use Rattle.ranges.specs.Rules.{rules, call_rules, rules_with}
+use Rattle.ranges.specs.After.{call_after, after_answer, after_with}
 use Rattle.ranges.specs.Reading.{any_word}
 use Rattle.ranges.specs.Kinds.{Num}
-use Rattle.ranges.specs.Passing.{passes, edge_of, entry_state, passed_state}
-use Rattle.ranges.proofs.Keeping.{after_fits, edge_fits, entry_fits}
+use Rattle.ranges.specs.Passing.{passes, passed_state, passed_with, edge_with}
 use Rattle.ranges.proofs.Covering.{state_round}
 use Rattle.verifier.specs.Tables.{arrival}
 use Rattle.soundness.specs.Machines.{IsSetting, HasLimit}
@@ -62,14 +61,14 @@ call_goes : (program : List (Option Instr)) (sectors : ℕ) (device : List (List
     → IsSetting program sectors device context → Site sectors known m → at program m.slot ≡ Some (instr.CallHelper number) → HasLimit program (machine m)
     → first_failing (rules known (instr.CallHelper number)) ≡ None
     → Goes sectors m (passes sectors known m.slot (instr.CallHelper number)) (step_of program (context_bytes context) device (machine m) (instr.CallHelper number))
-unfolding rules passes after_of step_of checks effect edges_of
+unfolding rules_with passed_with after_with step_of checks effect edges_of
 call_goes program sectors device context known m number set site e limit keeps =
     by (helper_of (cast_unsigned w32 number)) refl keeps
   where
     bytes : ℕ → ByteAt
     bytes = byte_at (context_bytes context) device (all_frames m)
 
-    by : (h : Option Helper) → helper_of (cast_unsigned w32 number) ≡ h → first_failing (option_map_or (call_rules known) h []) ≡ None
+    by : (h : Option Helper) → helper_of (cast_unsigned w32 number) ≡ h → first_failing (option_map_or (call_rules false known) h []) ≡ None
         → Goes sectors m ((m.slot + 1, option_map_or (call_after known) h (after_answer known (Num any_word))) ∷ [])
         (after_checks (machine m) (option_map_or (call_checks program bytes (machine m)) h (check fault.UnknownHelper false ∷ []))
         (option_map_or (call_effect device (machine m)) h (Next (machine m))))
@@ -81,13 +80,13 @@ call_goes program sectors device context known m number set site e limit keeps =
 jump_step : (program : List (Option Instr)) (context : List ℕ) (device : List (List ℕ)) (sectors : ℕ) (known : Abstract) (m : Parts) (distance : ℤ) → Site sectors known m
     → is_some (at program (target_slot m.slot distance)) ≡ true
     → Goes sectors m (passes sectors known m.slot (instr.Jump distance)) (step_of program context device (machine m) (instr.Jump distance))
-unfolding passes step_of checks effect
+unfolding passed_with step_of checks effect
 jump_step program context device sectors known m distance site begins = jump_goes program sectors known m (target_slot m.slot distance) site begins
 
 long_jump_step : (program : List (Option Instr)) (context : List ℕ) (device : List (List ℕ)) (sectors : ℕ) (known : Abstract) (m : Parts) (distance : ℤ) → Site sectors known m
     → is_some (at program (target_slot m.slot distance)) ≡ true
     → Goes sectors m (passes sectors known m.slot (instr.LongJump distance)) (step_of program context device (machine m) (instr.LongJump distance))
-unfolding passes step_of checks effect
+unfolding passed_with step_of checks effect
 long_jump_step program context device sectors known m distance site begins = jump_goes program sectors known m (target_slot m.slot distance) site begins
 
 -- an instruction that stays in its frame
@@ -163,20 +162,20 @@ next_leads e a b h = inl (ap (λ (n : ℕ). Some n) (sym h))
 pub target_leads : (e : Option ℕ) (a b : ℕ) → b ≡ a → (e ≡ Some b) ⊎ (Some a ≡ Some b)
 target_leads e a b h = inr (ap (λ (n : ℕ). Some n) (sym h))
 
-pub arrives_edge : (sectors : ℕ) (known : Abstract) (slot : ℕ) (i : Instr) (t : State) → stays i ≡ true → Arrives sectors (passes sectors known slot i) t → Leads (edges_of slot i) t.slot
-unfolding passes edges_of
-arrives_edge sectors known slot instr.Exit t inside a = absurd a
-arrives_edge sectors known slot (instr.CallLocal distance) t inside a = absurd (let bad : false ≡ true = inside in cc)
-arrives_edge sectors known slot (instr.Jump distance) t inside a = target_leads None (target_slot slot distance) t.slot (one_slot sectors (target_slot slot distance) known t a)
-arrives_edge sectors known slot (instr.LongJump distance) t inside a = target_leads None (target_slot slot distance) t.slot (one_slot sectors (target_slot slot distance) known t a)
-arrives_edge sectors known slot (instr.Branch w c dst from distance) t inside a =
-    elim (arrives_of sectors (passed_state (slot + 1) (edge_of known (instr.Branch w c dst from distance) false)) (passed_state (target_slot slot distance) (edge_of known (instr.Branch w c dst from distance) true)) t a) [
-      | inl left ↦ next_leads (Some (target_slot slot distance)) (slot + 1) t.slot (sent_slot sectors (slot + 1) (edge_of known (instr.Branch w c dst from distance) false) t left)
-      | inr right ↦ target_leads (Some (slot + 1)) (target_slot slot distance) t.slot (sent_slot sectors (target_slot slot distance) (edge_of known (instr.Branch w c dst from distance) true) t right)
+pub arrives_edge : (loose : Bool) (sectors : ℕ) (known : Abstract) (slot : ℕ) (i : Instr) (t : State) → stays i ≡ true → Arrives sectors (passed_with loose sectors known slot i) t → Leads (edges_of slot i) t.slot
+unfolding passed_with edges_of
+arrives_edge loose sectors known slot instr.Exit t inside a = absurd a
+arrives_edge loose sectors known slot (instr.CallLocal distance) t inside a = absurd (let bad : false ≡ true = inside in cc)
+arrives_edge loose sectors known slot (instr.Jump distance) t inside a = target_leads None (target_slot slot distance) t.slot (one_slot sectors (target_slot slot distance) known t a)
+arrives_edge loose sectors known slot (instr.LongJump distance) t inside a = target_leads None (target_slot slot distance) t.slot (one_slot sectors (target_slot slot distance) known t a)
+arrives_edge loose sectors known slot (instr.Branch w c dst from distance) t inside a =
+    elim (arrives_of sectors (passed_state (slot + 1) (edge_with loose known (instr.Branch w c dst from distance) false)) (passed_state (target_slot slot distance) (edge_with loose known (instr.Branch w c dst from distance) true)) t a) [
+      | inl left ↦ next_leads (Some (target_slot slot distance)) (slot + 1) t.slot (sent_slot sectors (slot + 1) (edge_with loose known (instr.Branch w c dst from distance) false) t left)
+      | inr right ↦ target_leads (Some (slot + 1)) (target_slot slot distance) t.slot (sent_slot sectors (target_slot slot distance) (edge_with loose known (instr.Branch w c dst from distance) true) t right)
     ]
-arrives_edge sectors known slot (instr.LoadImmediate dst x) t inside a =
-    next_leads None (slot + 2) t.slot (sent_slot sectors (slot + 2) (after_of sectors known (instr.LoadImmediate dst x)) t a)
-arrives_edge sectors known slot i t inside a = next_leads None (slot + 1) t.slot (sent_slot sectors (slot + 1) (after_of sectors known i) t a)
+arrives_edge loose sectors known slot (instr.LoadImmediate dst x) t inside a =
+    next_leads None (slot + 2) t.slot (sent_slot sectors (slot + 2) (after_with loose sectors known (instr.LoadImmediate dst x)) t a)
+arrives_edge loose sectors known slot i t inside a = next_leads None (slot + 1) t.slot (sent_slot sectors (slot + 1) (after_with loose sectors known i) t a)
 
 -- the limit of `again` is set before it
 
@@ -232,27 +231,3 @@ sent_rounded holds heads (p ∷ xs) slot more fits (inl h) = inl (h.0, by (get_o
     by true = more p.1 (round_state p.1) (state_round p.1 fits.0) h.1
     by false = h.1
 sent_rounded holds heads (p ∷ xs) slot more fits (inr h) = inr (sent_rounded holds heads xs slot more fits.1 h)
-
-each_append : (xs ys : List (ℕ × Abstract)) → Each (λ (p : ℕ × Abstract). IsState p.1) xs → Each (λ (p : ℕ × Abstract). IsState p.1) ys → Each (λ (p : ℕ × Abstract). IsState p.1) (xs ++ ys)
-each_append [] ys a b = b
-each_append (x ∷ xs) ys a b = (a.0, each_append xs ys a.1 b)
-
-each_sent : (slot : ℕ) (o : Option Abstract) → Holds IsState o → Each (λ (p : ℕ × Abstract). IsState p.1) (passed_state slot o)
-each_sent slot None h = tt
-each_sent slot (Some s) h = (h, tt)
-
-pub passes_fit : (sectors : ℕ) (known : Abstract) (slot : ℕ) (i : Instr) → sectors < 2 ^ 64 → IsInRange i → IsState known → Each (λ (p : ℕ × Abstract). IsState p.1) (passes sectors known slot i)
-unfolding passes
-passes_fit sectors known slot instr.Exit few range fits = tt
-passes_fit sectors known slot (instr.CallLocal distance) few range fits =
-    each_append (passed_state (slot + 1) (after_of sectors known (instr.CallLocal distance))) ((target_slot slot distance, entry_state known) ∷ [])
-    (each_sent (slot + 1) (after_of sectors known (instr.CallLocal distance)) (after_fits sectors known (instr.CallLocal distance) few range fits)) (entry_fits known fits, tt)
-passes_fit sectors known slot (instr.Jump distance) few range fits = (fits, tt)
-passes_fit sectors known slot (instr.LongJump distance) few range fits = (fits, tt)
-passes_fit sectors known slot (instr.Branch w c dst from distance) few range fits =
-    each_append (passed_state (slot + 1) (edge_of known (instr.Branch w c dst from distance) false)) (passed_state (target_slot slot distance) (edge_of known (instr.Branch w c dst from distance) true))
-    (each_sent (slot + 1) (edge_of known (instr.Branch w c dst from distance) false) (edge_fits known (instr.Branch w c dst from distance) false range fits))
-    (each_sent (target_slot slot distance) (edge_of known (instr.Branch w c dst from distance) true) (edge_fits known (instr.Branch w c dst from distance) true range fits))
-passes_fit sectors known slot (instr.LoadImmediate dst x) few range fits =
-    each_sent (slot + 2) (after_of sectors known (instr.LoadImmediate dst x)) (after_fits sectors known (instr.LoadImmediate dst x) few range fits)
-passes_fit sectors known slot i few range fits = each_sent (slot + 1) (after_of sectors known i) (after_fits sectors known i few range fits)

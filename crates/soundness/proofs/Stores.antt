@@ -1,4 +1,4 @@
--- Stores: what the stack means behind them.
+-- Stores: what the stack means after them.
 use Rattle.std.proofs.Common.{◌≡◌, ◌<◌, ◌≤◌, ℕ, ◌+◌, ◌*◌, ◌/◌, ◌%◌, ◌^◌, ◌&&◌, ◌||◌, not, Bool, true, false, if◌then◌else◌, ℤ, List, [], ◌∷◌, length, get_or, Option, None, Some, is_some, refl, sym, ap, ◌∙◌, subst, arith}
 use Rattle.std.specs.Prelude.{FitsSigned, set}
 use Rattle.std.specs.Option.{option_map_or}
@@ -28,9 +28,9 @@ use Rattle.ranges.specs.States.{Abstract}
 use Rattle.ranges.specs.Order.{IsBounded}
 use Rattle.ranges.specs.Reading.{value, second, are_set, with_groups, is_stack, is_base}
 use Rattle.ranges.specs.Places.{landing, place_of, is_inside, is_group}
-use Rattle.ranges.specs.Rules.{rules, store_rules, is_whole}
-use Rattle.ranges.specs.After.{stored_groups, groups_after_write, after_of}
-use Rattle.ranges.specs.Passing.{passes}
+use Rattle.ranges.specs.Rules.{rules, store_rules, is_whole, rules_with}
+use Rattle.ranges.specs.After.{stored_groups, groups_after_write, after_with}
+use Rattle.ranges.specs.Passing.{passes, passed_with}
 use Rattle.ranges.proofs.Keeping.{value_fits, second_fits}
 use Rattle.soundness.specs.Meaning.{Describes, GroupMeans}
 use Rattle.soundness.proofs.Checks.{pass_four, five_tell, tested_passes}
@@ -151,7 +151,7 @@ pub store_immediate_goes : (program : List (Option Instr)) (context : List ℕ) 
     → Site sectors known m → FitsSigned w16 distance → IsSourceInRange (source.Immediate z) → is_some (at program (m.slot + 1)) ≡ true
     → first_failing (rules known (instr.StoreImmediate s base distance z)) ≡ None
     → Goes sectors m (passes sectors known m.slot (instr.StoreImmediate s base distance z)) (step_of program context device (machine m) (instr.StoreImmediate s base distance z))
-unfolding rules store_rules passes after_of step_of checks effect
+unfolding rules_with store_rules passed_with after_with step_of checks effect
 store_immediate_goes program context device sectors known m s base distance z site fits range next keeps =
     let n : ℕ = byte_count s in
     let k : Kind = second known (source.Immediate z) in
@@ -164,7 +164,7 @@ pub store_goes : (program : List (Option Instr)) (context : List ℕ) (device : 
     → Site sectors known m → FitsSigned w16 distance → is_some (at program (m.slot + 1)) ≡ true
     → first_failing (rules known (instr.Store s base distance src)) ≡ None
     → Goes sectors m (passes sectors known m.slot (instr.Store s base distance src)) (step_of program context device (machine m) (instr.Store s base distance src))
-unfolding rules store_rules passes after_of step_of checks effect
+unfolding rules_with store_rules passed_with after_with step_of checks effect
 store_goes program context device sectors known m s base distance src site fits next keeps =
     let n : ℕ = byte_count s in
     let k : Kind = value known src in

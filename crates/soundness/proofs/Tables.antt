@@ -2,7 +2,7 @@
 use Rattle.std.proofs.Common.{◌≡◌, ◌<◌, ◌≤◌, ℕ, zero, suc, ◌+◌, ◌^◌, Bool, true, false, if◌then◌else◌, ℤ, List, [], ◌∷◌, ◌++◌, length, map, get_or, Option, None, Some, is_some, refl, sym, ap, ◌∙◌, inl, inr, ◌⊎◌, subst, arith}
 use Rattle.std.specs.Option.{option_map_or}
 use Rattle.std.proofs.Math.ListN.{length-replicate}
-use Rattle.limits.specs.Sizes.{most_sectors}
+use Rattle.base.specs.Sizes.{most_sectors}
 use Rattle.base.specs.Check.{first_failing}
 use Rattle.base.specs.declared.causes.MachineFault.TheVariants as fault
 use Rattle.bpf_isa.specs.declared.instr.Instr.{Instr}
@@ -17,16 +17,17 @@ use Rattle.bpf_shape.specs.Edges.{edges_of, control}
 use Rattle.bpf_shape.specs.Again.{limit_before, heads}
 use Rattle.bpf_shape.specs.Paths.{Leads, Reaches}
 use Rattle.bpf_shape.proofs.Kept.{edges_begin}
+use Rattle.ranges.proofs.GuardedPasses.{passed_with_fits}
 use Rattle.ranges.specs.States as states
 use Rattle.ranges.specs.States.{Abstract, round_state}
 use Rattle.ranges.specs.Order.{Each, Holds, IsState, StateUnder}
 use Rattle.ranges.specs.Reading.{value}
 use Rattle.ranges.specs.Rules.{rules}
-use Rattle.ranges.specs.Passing.{passes}
+use Rattle.ranges.specs.Passing.{passes, passed_with}
 use Rattle.ranges.proofs.Covering.{state_under}
 use Rattle.ranges.proofs.Fitting.{round_state_fits, start_fits}
 use Rattle.verifier.specs.Tables as tables
-use Rattle.verifier.specs.Tables.{state_at, CoversAll, AreStates, arrival, broken_with, passed_on_with, rule_with, sent_with, rule_at, sent_from}
+use Rattle.verifier.specs.Tables.{state_at, CoversAll, AreStates, arrival, broken_with, passed_on_with, rule_with, sent_with, rule_at, sent_from, is_loose, passes_with}
 use Rattle.verifier.specs.Good.{IsGood}
 use Rattle.soundness.specs.Meaning.{Means, CoversFrame, Covers, frame_number, last_stack}
 use Rattle.soundness.specs.Machines.{IsSetting, IsStack, IsMachine, HasLimit}
@@ -39,7 +40,7 @@ use Rattle.soundness.proofs.Computing.{Site}
 use Rattle.soundness.proofs.Programs.{range_at, leads_at, limit_is, no_limit, no_target, entry_begins}
 use Rattle.soundness.proofs.Frames.{split_last, length_of, each_last, whole_kept, waiting_kept, waiting_pushed}
 use Rattle.soundness.proofs.Locals.{unset_is_stack, unset_means, local_call, exit_covered}
-use Rattle.soundness.proofs.Steps.{stays, instr_goes, arrives_edge, limit_set, sent_rounded, passes_fit}
+use Rattle.soundness.proofs.Steps.{stays, instr_goes, arrives_edge, limit_set, sent_rounded}
 
 -- before a call of `again` its limit is set
 
@@ -67,12 +68,12 @@ limit_next program sectors device context m i t set long e (inl next) stepped = 
 -- a step at an instruction
 
 -- within a frame
-goes_on : (program : List (Option Instr)) (sectors : ℕ) (device : List (List ℕ)) (context : Context) (known : Abstract) (m : Parts) (i : Instr) (t : State)
+goes_on : (loose : Bool) (program : List (Option Instr)) (sectors : ℕ) (device : List (List ℕ)) (context : Context) (known : Abstract) (m : Parts) (i : Instr) (t : State)
     → IsSetting program sectors device context → Site sectors known m → IsMachine (machine m) → at program m.slot ≡ Some i → stays i ≡ true
-    → step_of program (context_bytes context) device (machine m) i ≡ Next t → Stays sectors m.below m.caller (passes sectors known m.slot i) t
-    → GoesOn program sectors (map (arrival (heads program)) (passes sectors known m.slot i)) (machine m) t
-goes_on program sectors device context known m i t set site whole e inside stepped g =
-    let leads = arrives_edge sectors known m.slot i t inside g.arrives in
+    → step_of program (context_bytes context) device (machine m) i ≡ Next t → Stays sectors m.below m.caller (passed_with loose sectors known m.slot i) t
+    → GoesOn program sectors (map (arrival (heads program)) (passed_with loose sectors known m.slot i)) (machine m) t
+goes_on loose program sectors device context known m i t set site whole e inside stepped g =
+    let leads = arrives_edge loose sectors known m.slot i t inside g.arrives in
     record {
       whole = whole_kept m t g.stack whole g.words g.frames g.cells g.turns;
       limit = limit_next program sectors device context m i t set site.stands.words.long e leads stepped;
@@ -85,22 +86,29 @@ goes_on program sectors device context known m i t set site whole e inside stepp
         has = g.frames;
         caller = refl;
       };
-      arrives = sent_rounded (λ k. Covers sectors k t) (heads program) (passes sectors known m.slot i) t.slot (λ k l under. covers_under sectors k l t under)
-          (passes_fit sectors known m.slot i (let few = set.few in omega arith) (range_at program m.slot i set.made e) site.fits) g.arrives;
+      arrives = sent_rounded (λ k. Covers sectors k t) (heads program) (passed_with loose sectors known m.slot i) t.slot (λ k l under. covers_under sectors k l t under)
+          (passed_with_fits loose sectors m.slot known i (let few = set.few in omega arith) (range_at program m.slot i set.made e) site.fits) g.arrives;
     }
+
+pub goes_covered : (loose : Bool) (program : List (Option Instr)) (sectors : ℕ) (device : List (List ℕ)) (context : Context) (table : List (Option Abstract)) (known : Abstract) (m : Parts) (i : Instr)
+    → IsSetting program sectors device context → Site sectors known m → IsMachine (machine m) → at program m.slot ≡ Some i → stays i ≡ true
+    → Goes sectors m (passed_with loose sectors known m.slot i) (step_of program (context_bytes context) device (machine m) i)
+    → IsCovered program sectors table (map (arrival (heads program)) (passed_with loose sectors known m.slot i)) (machine m) (step_of program (context_bytes context) device (machine m) i)
+goes_covered loose program sectors device context table known m i set site whole e inside goes = by (step_of program (context_bytes context) device (machine m) i) refl goes
+  where
+    by : (x : Stepped) → step_of program (context_bytes context) device (machine m) i ≡ x → Goes sectors m (passed_with loose sectors known m.slot i) x
+        → IsCovered program sectors table (map (arrival (heads program)) (passed_with loose sectors known m.slot i)) (machine m) x
+    by (Done answer codes) f g = absurd g
+    by (Fault cause slot) f g = g
+    by (Next t) f g = inl (goes_on loose program sectors device context known m i t set site whole e inside f g)
 
 inside_covered : (program : List (Option Instr)) (sectors : ℕ) (device : List (List ℕ)) (context : Context) (table : List (Option Abstract)) (known : Abstract) (m : Parts) (i : Instr)
     → IsSetting program sectors device context → Site sectors known m → IsMachine (machine m) → at program m.slot ≡ Some i → HasLimit program (machine m) → first_failing (rules known i) ≡ None
     → stays i ≡ true
     → IsCovered program sectors table (map (arrival (heads program)) (passes sectors known m.slot i)) (machine m) (step_of program (context_bytes context) device (machine m) i)
 inside_covered program sectors device context table known m i set site whole e limit keeps inside =
-    by (step_of program (context_bytes context) device (machine m) i) refl (instr_goes program sectors device context known m i set site e (range_at program m.slot i set.made e) limit keeps inside)
-  where
-    by : (x : Stepped) → step_of program (context_bytes context) device (machine m) i ≡ x → Goes sectors m (passes sectors known m.slot i) x
-        → IsCovered program sectors table (map (arrival (heads program)) (passes sectors known m.slot i)) (machine m) x
-    by (Done answer codes) f g = absurd g
-    by (Fault cause slot) f g = g
-    by (Next t) f g = inl (goes_on program sectors device context known m i t set site whole e inside f g)
+    goes_covered false program sectors device context table known m i set site whole e inside
+    (instr_goes program sectors device context known m i set site e (range_at program m.slot i set.made e) limit keeps inside)
 
 -- into a local function
 call_covered : (program : List (Option Instr)) (sectors : ℕ) (device : List (List ℕ)) (context : Context) (table : List (Option Abstract)) (known : Abstract) (m : Parts) (distance : ℤ)
@@ -113,7 +121,7 @@ call_covered program sectors device context table known m distance set site whol
     let sent = passes sectors known m.slot i in
     let call = local_call program (context_bytes context) device sectors table known m distance set.shaped site e whole waiting in
     let h = call.enters in
-    let fits = passes_fit sectors known m.slot i (let few = set.few in omega arith) (range_at program m.slot i set.made e) site.fits in
+    let fits = passed_with_fits false sectors m.slot known i (let few = set.few in omega arith) (range_at program m.slot i set.made e) site.fits in
     let frame : ℕ = frame_number (all_frames m) in
     let stack : List (Option ℕ) = last_stack (all_frames m) in
     let rounded : Enters program sectors (map (arrival (heads program)) sent) (machine m) call.to = record {
@@ -229,15 +237,17 @@ arrivals_fit hs (p ∷ xs) a = (by (get_or hs p.0 false), arrivals_fit hs xs a.1
     by true = round_state_fits p.1 a.0
     by false = a.0
 
-sent_fit : (program : List (Option Instr)) (sectors : ℕ) (table : List (Option Abstract)) (slot : ℕ) → IsProgram program → sectors ≤ most_sectors → AreStates table
-    → Each (λ (p : ℕ × Abstract). IsState p.1) (sent_from program sectors table slot)
+pub sent_fit : (guards : Bool) (program : List (Option Instr)) (sectors : ℕ) (table : List (Option Abstract)) (slot : ℕ) → IsProgram program → sectors ≤ most_sectors → AreStates table
+    → Each (λ (p : ℕ × Abstract). IsState p.1) (sent_with guards program sectors table slot)
 unfolding sent_with
-sent_fit program sectors table slot made few states = by (at program slot) (state_at table slot) refl (states slot)
+sent_fit guards program sectors table slot made few states = by (at program slot) (state_at table slot) refl (states slot)
   where
-    by : (o : Option Instr) (q : Option Abstract) → at program slot ≡ o → Holds IsState q → Each (λ (p : ℕ × Abstract). IsState p.1) (passed_on_with false (heads program) sectors slot o q)
+    by : (o : Option Instr) (q : Option Abstract) → at program slot ≡ o → Holds IsState q → Each (λ (p : ℕ × Abstract). IsState p.1) (passed_on_with guards (heads program) sectors slot o q)
     by None q e h = tt
     by (Some i) None e h = tt
-    by (Some i) (Some s) e h = arrivals_fit (heads program) (passes sectors s slot i) (passes_fit sectors s slot i (omega (arith, few)) (range_at program slot i made e) h)
+    by (Some i) (Some s) e h =
+        arrivals_fit (heads program) (passes_with guards sectors s slot i)
+        (passed_with_fits (is_loose guards s i) sectors slot s i (omega (arith, few)) (range_at program slot i made e) h)
 
 -- where the machine goes on, the table covers it, since what is sent is contained there
 pub way_safe : (program : List (Option Instr)) (sectors : ℕ) (device : List (List ℕ)) (context : Context) (table : List (Option Abstract)) (s : State) (sent : List (ℕ × Abstract))
@@ -318,7 +328,7 @@ step_safe program sectors device context table s set good known =
 
     each_way : (t : State) → IsCovered program sectors table sent s (Next t) → IsKnown program sectors table t × Follows program s t
     each_way =
-        way_safe program sectors device context table s sent set good.states (sent_fit program sectors table s.slot set.made set.few good.states) (good.slots s.slot).edges known
+        way_safe program sectors device context table s sent set good.states (sent_fit false program sectors table s.slot set.made set.few good.states) (good.slots s.slot).edges known
 
     by : (x : Stepped) → IsCovered program sectors table sent s x → IsSafe program sectors table s x
     by (Next u) g = record { sound = tt; goes = λ t e. let same : u ≡ t = cc in subst (λ (v : State). IsKnown program sectors table v × Follows program s v) same (each_way u g); ends = λ answer codes e. absurd (let bad : Next u ≡ Done answer codes = e in cc) }

@@ -21,7 +21,7 @@ use Rattle.soundness.proofs.Progress.{progress}
 
 module _ (program : List (Option Instr)) (context : List ℕ) (device : List (List ℕ)) (whole : ℕ)
     (p : IsProgram program) (shaped : IsShaped program) (form : AgainHasForm) where
-  -- within so many steps from a state the program ends in a verdict
+  -- within that many steps from a state the program ends in a verdict
   pub record Ends (s : State) (steps : ℕ) : Type 0 where
     pub answer : ℕ
     pub codes : List ℕ

@@ -9,7 +9,7 @@ use Rattle.verifier.specs.Verdicts.{IsAccepted}
 use Rattle.soundness.specs.Machines.{IsSector}
 use Rattle.soundness.specs.Reaching.{StepsWithoutFault}
 
--- an image of a device of so many sectors, and a context that tells of it
+-- an image of a device of that many sectors, and a context that tells of it
 pub record IsImage (sectors : ℕ) (device : List (List ℕ)) (context : Context) : Type 0 where
   pub count : length device ≡ sectors
   pub whole : (n : ℕ) (sector : List ℕ) → slice_get device n ≡ Some sector → IsSector sector
@@ -17,7 +17,7 @@ pub record IsImage (sectors : ℕ) (device : List (List ℕ)) (context : Context
   pub epoch : context.epoch ≤ 65536
   pub marks : context.marks ≤ 65536
 
--- a run of the machine is safe: no step is a fault, and it ends in a verdict within so many steps
+-- a run of the machine is safe: no step is a fault, and it ends in a verdict within that many steps
 pub record IsSafeRun (program : List (Option Instr)) (device : List (List ℕ)) (context : Context) (budget : ℕ) : Type 0 where
   pub faultless : StepsWithoutFault program (context_bytes context) device
   pub answer : ℕ

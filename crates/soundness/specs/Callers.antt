@@ -11,7 +11,7 @@ use Rattle.verifier.specs.Tables.{state_at}
 use Rattle.soundness.specs.Meaning.{CoversFrame}
 use Rattle.soundness.specs.Machines.{AreRegisters}
 
--- the registers of a frame behind its local call, where the function answered x
+-- the registers of a frame after its local call, where the function answered x
 abbrev pub registers_behind : Caller → ℕ → List (Option ℕ)
 registers_behind c x = Some x ∷ None ∷ None ∷ None ∷ None ∷ None ∷ c.registers
 
@@ -21,7 +21,7 @@ abbrev pub CoversWaiting : ℕ → ℕ → Abstract → List (Option ℕ) → Ca
 CoversWaiting sectors frame known stack c = (x : ℕ) → x < 2 ^ 64 → CoversFrame sectors frame known (registers_behind c x) stack
 
 -- A frame waits that runs the function at `entry`: it is at a local call, which it reached from there, of the
--- function at `enters`, and what the table knows behind the call covers it.
+-- function at `enters`, and what the table knows after the call covers it.
 pub record Waits (program : List (Option Instr)) (sectors : ℕ) (table : List (Option Abstract)) (frame entry enters : ℕ) (stack : List (Option ℕ)) (c : Caller) : Type 0 where
   pub call : ℕ
   pub reached : Reaches (control program) entry call

@@ -8,7 +8,7 @@ use Rattle.machine.specs.State.{start}
 use Rattle.machine.specs.Outcome.{Verdict, steps_end}
 use Rattle.soundness.specs.Reaching.{NeverFaults}
 
--- within so many steps from the start the program ends in a verdict
+-- within that many steps from the start the program ends in a verdict
 pub record EndsWithin (program : List (Option Instr)) (context : List ℕ) (device : List (List ℕ)) (limit : ℕ) : Type 0 where
   pub answer : ℕ
   pub codes : List ℕ

@@ -4,7 +4,7 @@ use Rattle.bpf_isa.specs.declared.instr.Instr.{Instr}
 use Rattle.helpers.specs.declared.device.Context.{Context}
 use Rattle.machine.specs.State.{State, start}
 use Rattle.machine.specs.Memory.{context_bytes}
-use Rattle.machine.specs.Step.{Stepped, Next, Done, Fault}
+use Rattle.machine.specs.Step.{Stepped, Next, Fault}
 use Rattle.machine.specs.Outcome.{Ending, Verdict, Stray}
 use Rattle.machine.specs.Guards.{filled, guarded_step, guarded_outcome}
 use Rattle.ranges.specs.States.{Abstract}
@@ -12,7 +12,7 @@ use Rattle.verifier.specs.Guards.{is_guarded_at}
 use Rattle.verifier.specs.Verdicts.{VerifiedValue, IsVerified}
 use Rattle.soundness.specs.Accepted.{IsImage}
 
--- so many steps with guards lead from the start to a state
+-- that many steps with guards lead from the start to a state
 abbrev pub GuardedReached : List (Option Instr) → List ℕ → List (List ℕ) → ℕ → State → Type 0
 GuardedReached program context device zero s = s ≡ filled start
 GuardedReached program context device (suc n) s =
@@ -30,7 +30,7 @@ IsOver program table (Verdict answer codes) = Unit {0}
 IsOver program table (Stray slot) = is_guarded_at program table slot ≡ true
 IsOver program table _ = ⊥
 
--- A run with guards is safe: no step is a fault, and none strays but at a guarded slot of the table; and within so many
+-- A run with guards is safe: no step is a fault, and none strays but at a guarded slot of the table; and within that many
 -- steps it ends in a verdict, or strays at such a slot.
 pub record IsSafeRunWithGuards (program : List (Option Instr)) (table : List (Option Abstract)) (device : List (List ℕ)) (context : Context) (budget : ℕ) : Type 0 where
   pub faultless : (n : ℕ) (s : State) → GuardedReached program (context_bytes context) device n s

@@ -25,7 +25,7 @@ pub record OrderKeepsMeaning : Type 0 where
   pub states : (sectors : ℕ) (known less : Abstract) (s : State) → StateUnder known less → Covers sectors known s → Covers sectors less s
 
 -- A machine at an instruction, and the state of the table at its slot, which covers it. The frames below
--- wait, each covered by the state of the table behind its call.
+-- wait, each covered by the state of the table after its call.
 pub record IsKnown (program : List (Option Instr)) (sectors : ℕ) (table : List (Option Abstract)) (s : State) : Type 0 where
   pub known : Abstract
   pub listed : state_at table s.slot ≡ Some known
@@ -62,7 +62,7 @@ pub record GoesOn (program : List (Option Instr)) (sectors : ℕ) (arrivals : Li
   pub arrives : Arrives sectors arrivals t
 
 -- A machine that enters a local function, in a frame of its own: a state that is sent to the entry covers it,
--- and one that is sent behind the call covers the frame that waits.
+-- and one that is sent after the call covers the frame that waits.
 pub record Enters (program : List (Option Instr)) (sectors : ℕ) (arrivals : List (ℕ × Abstract)) (s t : State) : Type 0 where
   pub whole : IsMachine t
   pub limit : HasLimit program t

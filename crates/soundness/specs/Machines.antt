@@ -1,6 +1,6 @@
 -- The machines of which the laws speak, and the device and the context in which they run.
 use Rattle.std.specs.Prelude.{◌≡◌, ◌<◌, ◌≤◌, ℕ, ◌^◌, true, List, [], ◌∷◌, length, slice_index_or, slice_index, slice_get, Option, None, Some}
-use Rattle.limits.specs.Sizes.{most_sectors}
+use Rattle.base.specs.Sizes.{most_sectors}
 use Rattle.bpf_isa.specs.declared.instr.Instr.{Instr}
 use Rattle.bpf_isa.specs.Program.{IsProgram}
 use Rattle.bpf_shape.specs.Again.{calls_again, limit_before}
@@ -14,7 +14,7 @@ pub record IsSector (sector : List ℕ) : Type 0 where
   pub long : length sector ≡ 512
   pub bytes : (i : ℕ) → slice_index sector i < 256
 
--- A program of right shape, on a device of so many sectors that is told of in the context.
+-- A program of right shape, on a device of that many sectors that is told of in the context.
 pub record IsSetting (program : List (Option Instr)) (sectors : ℕ) (device : List (List ℕ)) (context : Context) : Type 0 where
   pub made : IsProgram program
   pub shaped : IsShaped program

@@ -11,7 +11,7 @@ use Rattle.ranges.specs.Groups.{GroupKind, Marked, Spilled}
 use Rattle.ranges.specs.States.{Abstract}
 use Rattle.ranges.specs.Reading.{value}
 
--- What a value says of a word, on a device of so many sectors, where the frame at hand has this number:
+-- What a value says of a word, on a device of that many sectors, where the frame at hand has this number:
 -- a word of both ranges of a number; the address of the context, of the lower end of the frame's stack, or of a
 -- sector, and an offset; 0 or the address of a sector.
 abbrev pub Describes : ℕ → ℕ → Kind → ℕ → Type 0

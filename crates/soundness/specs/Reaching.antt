@@ -6,7 +6,7 @@ use Rattle.machine.specs.State.{State, start}
 use Rattle.machine.specs.Step.{Next, Fault, step}
 use Rattle.machine.specs.Outcome.{Stopped, steps_end}
 
--- so many steps lead from the start to a state
+-- that many steps lead from the start to a state
 abbrev pub Reached : List (Option Instr) → List ℕ → List (List ℕ) → ℕ → State → Type 0
 Reached program context device zero s = s ≡ start
 Reached program context device (suc n) s =

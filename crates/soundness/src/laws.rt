@@ -9,7 +9,7 @@ pub fn order_keeps_meaning()
 {}
 
 /// Where a slot breaks no rule, the step of a machine that its state covers is no fault, and what the
-/// slot sends covers the machine behind it.
+/// slot sends covers the machine after it.
 pub fn step_is_covered()
     ensures { StepIsCovered }
 {}
@@ -26,7 +26,7 @@ pub fn table_covers()
 {}
 
 /// Where a slot breaks no rule with guards, the step with guards of a machine that its state covers strays only at a guarded
-/// slot. Else it is no fault, and what the slot sends covers the machine behind it.
+/// slot. Else it is no fault, and what the slot sends covers the machine after it.
 pub fn guarded_step_is_covered()
     ensures { GuardedStepIsCovered }
 {}

@@ -25,12 +25,12 @@
 //!   `HasLimit` that register 1 holds the limit of a call of `again` that comes next. That is a fact about
 //!   the program and not about the table, whose state at the call may know less.
 //! - `Callers`: `AreWaiting` says of the frames below the one at hand that each is at a local call which it
-//!   reached from the entry of its own function, and that the state of the table behind the call covers it
+//!   reached from the entry of its own function, and that the state of the table after the call covers it
 //!   (`CoversWaiting`): what its call saved, its stack, and any word that the function may answer.
 //! - `Reaching`: `Reached program context device n s` says that n steps lead from the start to state s.
 //!   `StepsWithoutFault`: no step from a reached state is a fault. `NeverFaults`: the run stops at none,
 //!   however many steps are made.
-//! - `Ending`: `EndsWithin`: within so many steps from the start the program ends in a verdict.
+//! - `Ending`: `EndsWithin`: within that many steps from the start the program ends in a verdict.
 //! - `Accepted`: `IsImage` is what may be asked of a device and a context of a size, and `IsSafeRun` what is
 //!   promised of a run on it.
 //!
@@ -48,9 +48,9 @@
 //! - `step_is_covered`: where a slot breaks no rule, the step of a machine that its state covers is never a
 //!   fault. It is the end, in the outermost frame; or it goes on along a control edge to a machine which a state covers that the slot
 //!   sends there, and the frames below stay as they are; or it enters a local function, where a state that is
-//!   sent to the entry covers the machine and one that is sent behind the call covers the frame that waits; or
+//!   sent to the entry covers the machine and one that is sent after the call covers the frame that waits; or
 //!   it returns to a frame that the table knows. This holds for each instruction.
-//! - `step_is_safe`: the same over a good table, so over each that `check_table` takes: the machine behind the
+//! - `step_is_safe`: the same over a good table, so over each that `check_table` takes: the machine after the
 //!   step is covered by the table again, and its frames below wait as before.
 //! - `table_covers`: so a good table covers each machine that is reached in any number of steps, and no step
 //!   of any of them is a fault.
@@ -83,7 +83,7 @@
 //! its again edge takes what is pending and makes the longest path of the running function its room, which with
 //! the rooms below is never more than a longest path of slot 0. So the turns left times that path, what is
 //! pending and the rooms fall together with each step, and the room at hand is never 0. The form of `again`
-//! matters twice: no jump or call leads to a call of it, so register 1 has its K, and none to the test behind it,
+//! matters twice: no jump or call leads to a call of it, so register 1 has its K, and none to the test after it,
 //! so register 0 has its answer (`Room`, `Saved`, `Progress`, `Within`).
 //!
 //! # Example

@@ -1,4 +1,4 @@
--- What an entry of the cache has to say of a run (docs/PROVED.md, Verdict cache).
+-- What an entry of the cache has to say of a run (docs/PROVED.md, Threads and the cache).
 use Rattle.std.specs.Prelude.{ℕ, ◌≡◌, List, Some, slice_get, Contains}
 use Rattle.epochs.specs.Plan.{PlanValue}
 use Rattle.choices.specs.Choices.{ChoiceValue}

@@ -1,4 +1,4 @@
--- What a put answers, and what it makes of the entries (docs/PROVED.md, Verdict cache).
+-- What a put answers, and what it makes of the entries (docs/PROVED.md, Threads and the cache).
 use Rattle.std.specs.Prelude.{ℕ, ◌-◌, ◌≡◌, ◌<◌, List, ◌∷◌, length, take, IsSome, IsNone}
 use Rattle.interp.specs.declared.outcome.Outcome.{Outcome}
 use Rattle.images.specs.Keys.{KeyValue}

@@ -1,4 +1,4 @@
--- A shard as a list of entries, and what a look makes of it (docs/PROVED.md, Verdict cache).
+-- A shard as a list of entries, and what a look makes of it (docs/PROVED.md, Threads and the cache).
 use Rattle.std.specs.Prelude.{ℕ, ◌+◌, ◌-◌, ◌^◌, min, List, [], ◌∷◌, Option, None, Some}
 use Rattle.std.specs.Map.{lookup, remove_entry}
 use Rattle.interp.specs.declared.outcome.Outcome.{Outcome}

@@ -1,4 +1,4 @@
--- How the entries of a cache are spread over its shards (docs/PROVED.md, Verdict cache).
+-- How the entries of a cache are spread over its shards (docs/PROVED.md, Threads and the cache).
 use Rattle.std.specs.Prelude.{ℕ, ◌+◌, ◌/◌, ◌%◌, nat_lt, if◌then◌else◌, List, [], map}
 use Rattle.std.specs.List.{range_with_len}
 use Rattle.verdict_cache.specs.Shard.{ShardValue}

@@ -1,6 +1,6 @@
 //! What became of an entry that was put into a shard.
 
-/// What became of an entry that was put into a shard (docs/PROVED.md, Verdict cache).
+/// What became of an entry that was put into a shard (docs/PROVED.md, Threads and the cache).
 #[derive(Clone, Copy, Debug)]
 pub enum Kept {
     /// Its key is new, and there was room.

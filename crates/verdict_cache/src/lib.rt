@@ -1,13 +1,13 @@
 //! The verdict cache: what checkers ended in, by the keys of images, in sixteen shards.
 //!
 //! Crash images of one log often show a checker the same: another choice, or another cut, leaves the
-//! same bytes behind, with the same epoch and the same marks. Such images have one key (`images`), and
+//! same bytes after, with the same epoch and the same marks. Such images have one key (`images`), and
 //! a checker ends on all of them in the same. So a worker that is to judge an image looks for its key
 //! first, and runs the checker only where no one has judged that key lately.
 //!
 //! | Call | Does |
 //! |---|---|
-//! | `shards(alloc, history, checkers, size)` | makes the shards of a run, empty, each behind a lock |
+//! | `shards(alloc, history, checkers, size)` | makes the shards of a run, empty, each after a lock |
 //! | `shard.look(key)` | answers the outcome that is listed for a key, which becomes the most recently used |
 //! | `shard.put(key, outcome)` | lists an outcome for a key, and says what became of it (`Kept`) |
 //! | `shard.number()`, `shard.capacity()` | answer which shard it is, and how many entries there may be |
@@ -19,7 +19,7 @@
 //! It stands on `images`, whose keys it goes by, on `interp`, whose outcomes it keeps, and on the library
 //! `lru`, a map of bounded size. Those who judge images stand above it: a key belongs to the shard with
 //! the number `key.shard()`, and a shard is used while its lock is held. An image without a key is
-//! judged without the cache. The rules are those of docs/PROVED.md, 'Verdict cache', and
+//! judged without the cache. The rules are those of docs/PROVED.md, 'Threads and the cache', and
 //! docs/CRASH-MODEL.md, 'Keys of images'.
 //!
 //! # What is proved
@@ -41,7 +41,7 @@
 //!   (`share_of`, `specs/Sizes.antt`). A shard's type keeps that too, so `look`, `put` and `capacity` say
 //!   so to whoever holds the lock.
 //! - `shards` answers sixteen. That they are those of the numbers 0 to 15 in this order, without entries,
-//!   is the contract of the private function that makes them (`first_shards`); another puts each behind
+//!   is the contract of the private function that makes them (`first_shards`); another puts each after
 //!   a lock, and no contract can name what lies there.
 //!
 //! # Memory

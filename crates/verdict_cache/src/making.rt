@@ -10,11 +10,11 @@ use images::History;
 use std::alloc::{AllocError, Global};
 use std::sync::Mutex;
 
-/// The sixteen shards of a run in the order of their numbers, each behind a lock, for a cache of at
-/// most so many entries: 0 to 65,536. All are empty. The history, the checkers and the size are those
+/// The sixteen shards of a run in the order of their numbers, each after a lock, for a cache of at
+/// most that many entries: 0 to 65,536. All are empty. The history, the checkers and the size are those
 /// of the run.
 ///
-/// What lies behind a lock no contract names; that each shard has its part of the size is a property of
+/// What lies after a lock no contract names; that each shard has its part of the size is a property of
 /// its type, which `Shard::capacity`, `look` and `put` tell whoever holds the lock.
 ///
 /// # Errors
@@ -36,7 +36,7 @@ pub fn shards<'a, J: Run>(
     lock_each(alloc, empty_shards(alloc, size)?)
 }
 
-/// The shards of an empty cache of at most so many entries.
+/// The shards of an empty cache of at most that many entries.
 fn empty_shards<'a, J: Run>(alloc: Global, size: u32) -> Result<Vec<Shard<'a, J>>, AllocError>
     requires { size ≡ J.size }
     ensures shards { IfOk result (λ shards. shards.items ≡ first_shards size 16) }
@@ -49,7 +49,7 @@ fn empty_shards<'a, J: Run>(alloc: Global, size: u32) -> Result<Vec<Shard<'a, J>
     Ok(shards)
 }
 
-/// Each of them behind a lock, in their order.
+/// Each of them after a lock, in their order.
 fn lock_each<T: Drop>(alloc: Global, values: Vec<T>) -> Result<Vec<Mutex<T>>, AllocError>
     ensures { IfOk result (λ locks. length locks.items ≡ length values.items) }
 {

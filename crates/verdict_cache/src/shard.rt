@@ -22,8 +22,8 @@ use std::num::NonZeroUsize;
 /// Among how many shards the entries of a cache are spread.
 pub(crate) const SHARDS: u32 = 16;
 
-/// A shard of the verdict cache of a run: outcomes by key, at most so many, the most recently used
-/// first (docs/PROVED.md, Verdict cache). Each is what its key ends in, in that run.
+/// A shard of the verdict cache of a run: outcomes by key, at most that many, the most recently used
+/// first (docs/PROVED.md, Threads and the cache). Each is what its key ends in, in that run.
 ///
 /// Contracts see its number among the shards of the run, from 0, its entries, its capacity, and how many
 /// looks have found an entry.
@@ -50,7 +50,7 @@ impl<'a, J: Run> Model for Shard<'a, J> {
 }
 
 impl<'a, J: Run> Shard<'a, J> {
-    /// The shard of that number, without entries, in a cache of at most so many entries. Memory for
+    /// The shard of that number, without entries, in a cache of at most that many entries. Memory for
     /// entries is taken as they come.
     pub fn new(alloc: Global, size: u32, number: u32) -> Result<Shard<'a, J>, AllocError>
         requires { size ≡ J.size }
@@ -123,7 +123,7 @@ impl<'a, J: Run> Shard<'a, J> {
     }
 }
 
-/// How many entries a shard may have, by its number, in a cache of at most so many entries.
+/// How many entries a shard may have, by its number, in a cache of at most that many entries.
 fn share_of(size: u32, number: u32) -> u32
     ensures { result ≡ share_of size number }
 {

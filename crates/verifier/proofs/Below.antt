@@ -10,8 +10,8 @@ use Rattle.bpf_isa.specs.Slots.{at}
 use Rattle.bpf_isa.specs.Spelling.{IsInRange}
 use Rattle.bpf_shape.specs.Again.{heads}
 use Rattle.bpf_shape.specs.Rules.{IsShaped}
+use Rattle.ranges.specs.Rules.{rules_with}
 use Rattle.ranges.specs.States.{Abstract, round_state, start}
-use Rattle.ranges.specs.Guards.{rules_with}
 use Rattle.ranges.specs.Order.{StateUnder, IsState, Each, Holds, EdgeUnder, SentUnder}
 use Rattle.ranges.proofs.Chains.{state_chain}
 use Rattle.ranges.proofs.Covering.{state_least, state_same, state_under, state_round_mono}

@@ -15,8 +15,7 @@ use Rattle.helpers.specs.Helper.{helper_of}
 use Rattle.std.specs.Int.{cast_unsigned, w32}
 use Rattle.std.specs.Option.{option_map_or}
 use Rattle.ranges.specs.States.{Abstract}
-use Rattle.ranges.specs.Rules.{rules, load_rules, store_rules, call_rules}
-use Rattle.ranges.specs.Guards.{guarded_call_rules, guarded_rules, rules_with}
+use Rattle.ranges.specs.Rules.{load_rules, store_rules, call_rules, rules_with}
 use Rattle.ranges.specs.Order.{IsState, Each, Holds, EdgeUnder}
 use Rattle.ranges.proofs.Chains.{state_both}
 use Rattle.verifier.specs.Tables.{state_at, Covers, CoversAll, AreStates, broken_with, rule_with}
@@ -154,64 +153,27 @@ no_check (k ∷ rest) c u a e = by_test k.passes (no_check rest c u a.1) e
     by_test true below f = below f
     by_test false below f = no_other k.cause (let same : k.cause ≡ c = cc in same ∙ u) a.0
 
-other_calls : (s : Abstract) (h : Helper) → Each (λ k. Other k.cause) (call_rules s h)
+other_calls : (guards : Bool) (s : Abstract) (h : Helper) → Each (λ k. Other k.cause) (call_rules guards s h)
 unfolding call_rules
-other_calls s helper.Copy = (refl, (refl, (refl, tt)))
-other_calls s helper.Same = (refl, (refl, tt))
-other_calls s helper.Sector = (refl, (refl, tt))
-other_calls s helper.Again = (refl, (refl, tt))
-other_calls s helper.Report = (refl, (refl, tt))
-other_calls s helper.Zero = (refl, (refl, tt))
-other_calls s helper.Mix = (refl, (refl, tt))
+other_calls guards s helper.Copy = (refl, (refl, (refl, tt)))
+other_calls guards s h = (refl, (refl, tt))
 
-other_rules : (s : Abstract) (i : Instr) → Each (λ k. Other k.cause) (rules s i)
-unfolding rules load_rules store_rules
-other_rules s (instr.Arithmetic w o dst from) = (refl, (refl, tt))
-other_rules s (instr.Negate w dst) = (refl, (refl, tt))
-other_rules s (instr.SignExtend e dst src) = (refl, (refl, tt))
-other_rules s (instr.ByteOrder o size dst) = (refl, (refl, tt))
-other_rules s (instr.Jump distance) = tt
-other_rules s (instr.LongJump distance) = tt
-other_rules s (instr.Branch w c dst from distance) = (refl, (refl, tt))
-other_rules s (instr.CallHelper number) = by_helper (helper_of (cast_unsigned w32 number))
+other_rules : (guards : Bool) (s : Abstract) (i : Instr) → Each (λ k. Other k.cause) (rules_with guards s i)
+unfolding rules_with load_rules store_rules
+other_rules guards s (instr.Jump distance) = tt
+other_rules guards s (instr.LongJump distance) = tt
+other_rules guards s (instr.CallHelper number) = by_helper (helper_of (cast_unsigned w32 number))
   where
-    by_helper : (m : Option Helper) → Each (λ k. Other k.cause) (option_map_or (call_rules s) m [])
+    by_helper : (m : Option Helper) → Each (λ k. Other k.cause) (option_map_or (call_rules guards s) m [])
     by_helper None = tt
-    by_helper (Some h) = other_calls s h
-other_rules s (instr.CallLocal distance) = tt
-other_rules s instr.Exit = (refl, (refl, tt))
-other_rules s (instr.Load size dst base distance) = (refl, (refl, (refl, (refl, tt))))
-other_rules s (instr.LoadSigned size dst base distance) = (refl, (refl, (refl, (refl, tt))))
-other_rules s (instr.StoreImmediate size base distance n) = (refl, (refl, (refl, (refl, (refl, tt)))))
-other_rules s (instr.Store size base distance src) = (refl, (refl, (refl, (refl, (refl, tt)))))
-other_rules s (instr.LoadImmediate dst x) = tt
-
-other_guarded_calls : (s : Abstract) (h : Helper) → Each (λ k. Other k.cause) (guarded_call_rules s h)
-unfolding guarded_call_rules
-other_guarded_calls s helper.Copy = (refl, (refl, tt))
-other_guarded_calls s helper.Same = (refl, tt)
-other_guarded_calls s helper.Sector = (refl, tt)
-other_guarded_calls s helper.Again = (refl, tt)
-other_guarded_calls s helper.Report = (refl, tt)
-other_guarded_calls s helper.Zero = (refl, tt)
-other_guarded_calls s helper.Mix = (refl, tt)
-
-other_guarded : (s : Abstract) (i : Instr) → Each (λ k. Other k.cause) (guarded_rules s i)
-unfolding guarded_rules
-other_guarded s (instr.Jump distance) = tt
-other_guarded s (instr.LongJump distance) = tt
-other_guarded s (instr.CallHelper number) = by_helper (helper_of (cast_unsigned w32 number))
-  where
-    by_helper : (m : Option Helper) → Each (λ k. Other k.cause) (option_map_or (guarded_call_rules s) m [])
-    by_helper None = tt
-    by_helper (Some h) = other_guarded_calls s h
-other_guarded s (instr.CallLocal distance) = tt
-other_guarded s (instr.LoadImmediate dst x) = tt
-other_guarded s i = (refl, tt)
-
-other_with : (guards : Bool) (s : Abstract) (i : Instr) → Each (λ k. Other k.cause) (rules_with guards s i)
-other_with true s i = other_guarded s i
-other_with false s i = other_rules s i
+    by_helper (Some h) = other_calls guards s h
+other_rules guards s (instr.CallLocal distance) = tt
+other_rules guards s (instr.Load size dst base distance) = (refl, (refl, (refl, (refl, tt))))
+other_rules guards s (instr.LoadSigned size dst base distance) = (refl, (refl, (refl, (refl, tt))))
+other_rules guards s (instr.StoreImmediate size base distance n) = (refl, (refl, (refl, (refl, (refl, tt)))))
+other_rules guards s (instr.Store size base distance src) = (refl, (refl, (refl, (refl, (refl, tt)))))
+other_rules guards s (instr.LoadImmediate dst x) = tt
+other_rules guards s i = (refl, (refl, tt))
 
 no_rule : (guards : Bool) (program : List (Option Instr)) (table : List (Option Abstract)) (slot : ℕ) (c : VerifierCause) → c ≡ cause.Unsettled → rule_with guards program table slot ≡ Some c → ⊥
 unfolding rule_with
@@ -220,7 +182,7 @@ no_rule guards program table slot c u e = by_state (at program slot) (state_at t
     by_state : (i : Option Instr) (m : Option Abstract) → broken_with guards i m ≡ Some c → ⊥
     by_state None m f = let bad : None ≡ Some c = f in cc
     by_state (Some i) None f = let bad : None ≡ Some c = f in cc
-    by_state (Some i) (Some s) f = no_check (rules_with guards s i) c u (other_with guards s i) f
+    by_state (Some i) (Some s) f = no_check (rules_with guards s i) c u (other_rules guards s i) f
 
 no_breach : (guards : Bool) (program : List (Option Instr)) (sectors : ℕ) (table : List (Option Abstract)) (c : VerifierCause) (slot : ℕ) → c ≡ cause.Unsettled → IsRound (length program) table
     → CoversAll table (passed_states guards program sectors table) → FirstBreach guards program sectors table c slot → ⊥

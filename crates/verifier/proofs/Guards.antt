@@ -16,7 +16,6 @@ use Rattle.verifier.specs.Guards.{is_guarded_with, is_guarded_at, GoodNeedsNoGua
 
 -- where no rule without guards is broken, a slot passes on with guards what it does without
 passed_same : (sectors slot : ℕ) (s : Abstract) (i : Instr) → first_failing (rules s i) ≡ None → passed_with_guards sectors s slot i ≡ passes sectors s slot i
-unfolding passed_with_guards
 passed_same sectors slot s i e = rw e refl
 
 sent_same : (heads : List Bool) (sectors slot : ℕ) (i : Option Instr) (s : Option Abstract) → broken_with false i s ≡ None

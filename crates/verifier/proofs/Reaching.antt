@@ -1,8 +1,6 @@
 -- What a slot passes on are states, at slots of the program.
-use Rattle.std.proofs.Common.{◌≡◌, ◌<◌, ◌^◌, ◌≤◌, ℕ, zero, suc, Bool, true, false, if◌then◌else◌, List, [], ◌∷◌, ◌++◌, length, map, slice_get, get_or, is_some, Option, Some, None, refl, inl, inr, ◌∙◌}
+use Rattle.std.proofs.Common.{◌≡◌, ◌<◌, ◌^◌, ◌≤◌, ℕ, zero, suc, Bool, true, false, if◌then◌else◌, List, [], ◌∷◌, ◌++◌, length, map, slice_get, get_or, Option, Some, None, refl, inl, inr, ◌∙◌}
 use Rattle.std.specs.Option.{option_and_then, option_to_list}
-use Rattle.base.specs.Check.{first_failing}
-use Rattle.base.specs.declared.causes.VerifierCause.{VerifierCause}
 use Rattle.bpf_isa.specs.declared.instr.Instr.{Instr}
 use Rattle.bpf_isa.specs.declared.instr.Instr.TheVariants as instr
 use Rattle.bpf_isa.specs.Spelling.{IsInRange, second_of}
@@ -16,15 +14,14 @@ use Rattle.bpf_shape.specs.Keeping.{KeepsAll}
 use Rattle.bpf_shape.specs.Again.{heads}
 use Rattle.bpf_shape.proofs.Kept.{control_fits, entries_fit, at_past}
 use Rattle.ranges.specs.States.{Abstract, round_state}
-use Rattle.ranges.specs.Rules.{rules}
-use Rattle.ranges.specs.Passing.{passes}
-use Rattle.ranges.specs.Guards.{loose_after, loosely_passed, passed_with_guards}
 use Rattle.ranges.specs.Order.{IsState, Each, Holds}
 use Rattle.ranges.proofs.Fitting.{round_state_fits}
-use Rattle.ranges.proofs.Keeping.{after_fits, edge_fits, entry_fits}
-use Rattle.ranges.proofs.GuardedPasses.{guarded_passes_fit}
-use Rattle.verifier.specs.Tables.{state_at, arrival, passes_with, passed_on_with, rule_with, sent_with, AreStates}
-use Rattle.verifier.specs.Passing.{next_state, either, target_of, target_state, next_with, target_with, along, Arrive}
+use Rattle.ranges.proofs.Keeping.{entry_fits}
+use Rattle.ranges.proofs.GuardedPasses.{after_with_fits, edge_with_fits}
+use Rattle.verifier.specs.Tables.{state_at, arrival, passes_with, passed_on_with, rule_with, sent_with, AreStates, is_loose}
+use Rattle.verifier.specs.declared.passing.Edge.{Edge}
+use Rattle.verifier.specs.declared.passing.Edge.TheVariants as edge
+use Rattle.verifier.specs.Passing.{either, target_of, state_along, along, Arrive, along_with}
 use Rattle.verifier.proofs.Edges.{by_edges}
 
 pub each_append : {X : Type 0} (P : X → Type 0) (xs ys : List X) → Each P xs → Each P ys → Each P (xs ++ ys)
@@ -72,50 +69,15 @@ along_fits n marks None m inside h = tt
 along_fits n marks (Some slot) None inside h = tt
 along_fits n marks (Some slot) (Some s) inside h = ((inside slot refl, arriving_fits (get_or marks slot false) s h), tt)
 
-strict_next_fits : (sectors : ℕ) (s : Abstract) (i : Instr) → sectors < 2 ^ 64 → IsInRange i → IsState s → Holds IsState (next_state sectors s i)
-unfolding next_state
-strict_next_fits sectors s (instr.Branch w c dst from distance) few r a = edge_fits s (instr.Branch w c dst from distance) false r a
-strict_next_fits sectors s i few r a = after_fits sectors s i few r a
-
--- a state behind a broken rule
-loose_fits : (sectors slot : ℕ) (s : Abstract) (i : Instr) (why : VerifierCause) → sectors < 2 ^ 64 → IsInRange i → IsState s → first_failing (rules s i) ≡ Some why
-    → IsState (loose_after s i)
-unfolding passed_with_guards loosely_passed loose_after
-loose_fits sectors slot s i why few r a e = by_instr i (rw e at passed)
-  where
-    passed : Each (λ p. IsState p.1) (if is_some (first_failing (rules s i)) then loosely_passed s slot i else passes sectors s slot i)
-    passed = guarded_passes_fit sectors slot s i few r a
-
-    by_instr : (j : Instr) → Each (λ p. IsState p.1) (loosely_passed s slot j) → IsState (loose_after s j)
-    by_instr (instr.Branch w c dst from distance) h = a
-    by_instr instr.Exit h = a
-    by_instr j h = h.0
-
-next_fits : (guards : Bool) (sectors slot : ℕ) (s : Abstract) (i : Instr) → sectors < 2 ^ 64 → IsInRange i → IsState s → Holds IsState (next_with guards sectors s i)
-unfolding next_with
-next_fits false sectors slot s i few r a = strict_next_fits sectors s i few r a
-next_fits true sectors slot s i few r a = by_rule (first_failing (rules s i)) refl
-  where
-    by_rule : (m : Option VerifierCause) → first_failing (rules s i) ≡ m → Holds IsState (if is_some m then Some (loose_after s i) else next_state sectors s i)
-    by_rule None e = strict_next_fits sectors s i few r a
-    by_rule (Some why) e = loose_fits sectors slot s i why few r a e
+state_fits : (e : Edge) (loose : Bool) (sectors : ℕ) (s : Abstract) (i : Instr) → sectors < 2 ^ 64 → IsInRange i → IsState s → Holds IsState (along_with e loose sectors s i)
+unfolding along_with
+state_fits edge.Next loose sectors s (instr.Branch w c dst from distance) few r a = edge_with_fits loose s (instr.Branch w c dst from distance) false r a
+state_fits edge.Next loose sectors s i few r a = after_with_fits loose sectors s i few r a
+state_fits edge.Target loose sectors s (instr.CallLocal distance) few r a = entry_fits s a
+state_fits edge.Target loose sectors s i few r a = edge_with_fits loose s i true r a
 
 keeps_all : (program : List (Option Instr)) → IsShaped program → KeepsAll program
 keeps_all program h = record { targets = h.targets; ends = h.ends; frame_pointer = h.frame_pointer; helpers = h.helpers; again = h.again }
-
-strict_target_fits : (s : Abstract) (i : Instr) → IsInRange i → IsState s → Holds IsState (target_state s i)
-unfolding target_state
-strict_target_fits s (instr.CallLocal distance) r a = entry_fits s a
-strict_target_fits s i r a = edge_fits s i true r a
-
-target_fits : (guards : Bool) (s : Abstract) (i : Instr) → IsInRange i → IsState s → Holds IsState (target_with guards s i)
-unfolding target_with
-target_fits false s i r a = strict_target_fits s i r a
-target_fits true s i r a = by_rule (first_failing (rules s i))
-  where
-    by_rule : (m : Option VerifierCause) → Holds IsState (if is_some m then Some s else target_state s i)
-    by_rule None = strict_target_fits s i r a
-    by_rule (Some why) = a
 
 passed_fits : (guards : Bool) (n sectors slot : ℕ) (marks : List Bool) (s : Abstract) (i : Instr) → sectors < 2 ^ 64 → IsInRange i → IsState s
     → ((t : ℕ) → Leads (edges_of slot i) t → t < n) → ((t : ℕ) → callee_of slot i ≡ Some t → t < n) → Arrive n (map (arrival marks) (passes_with guards sectors s slot i))
@@ -123,8 +85,8 @@ unfolding target_of
 passed_fits guards n sectors slot marks s i few r a inside called =
     rw (← by_edges guards marks sectors slot s i)
     (each_append (λ p. (p.0 < n) × IsState p.1) _ _
-    (along_fits n marks (edges_of slot i).next (next_with guards sectors s i) (λ t e. inside t (inl e)) (next_fits guards sectors slot s i few r a))
-    (along_fits n marks (target_of slot i) (target_with guards s i) (λ t e. by_callee t (callee_of slot i) refl e) (target_fits guards s i r a)))
+    (along_fits n marks (edges_of slot i).next (state_along edge.Next guards sectors s i) (λ t e. inside t (inl e)) (state_fits edge.Next (is_loose guards s i) sectors s i few r a))
+    (along_fits n marks (target_of slot i) (state_along edge.Target guards sectors s i) (λ t e. by_callee t (callee_of slot i) refl e) (state_fits edge.Target (is_loose guards s i) sectors s i few r a)))
   where
     by_callee : (t : ℕ) (m : Option ℕ) → callee_of slot i ≡ m → either m (edges_of slot i).target ≡ Some t → t < n
     by_callee t None e f = inside t (inr f)

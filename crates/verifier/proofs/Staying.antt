@@ -50,8 +50,8 @@ use Rattle.ranges.specs.Reading.{value, second, with_value, with_groups, words, 
 use Rattle.ranges.specs.Places.{place_of, is_group}
 use Rattle.ranges.specs.Pointers.{moved_pointer}
 use Rattle.ranges.specs.Rules.{is_null_test}
-use Rattle.ranges.specs.After.{number_result, result_kind, is_touched, group_after, groups_after_write, stored_groups, load_after, after_answer, call_after, after_of}
-use Rattle.ranges.specs.Passing.{edge_of, entry_state, is_equal_edge, tested_kind, with_both, passed_state, passes}
+use Rattle.ranges.specs.After.{number_result, result_kind, is_touched, group_after, groups_after_write, stored_groups, load_after, after_answer, call_after, after_of, after_with}
+use Rattle.ranges.specs.Passing.{edge_of, entry_state, is_equal_edge, tested_kind, with_both, passed_state, passes, edge_with, passed_with}
 use Rattle.ranges.specs.Order.{Under, IsWord, GroupUnder, EachUnder, StateUnder, IsBounded, IsGroup, Each, IsState, Holds, EdgeUnder}
 use Rattle.ranges.proofs.Covering.{state_same, state_under, each_mono, group_round_mono}
 use Rattle.ranges.proofs.Fitting.{round_state_fits, round_fits, each_set, each_mapped, round_group_fits}
@@ -280,7 +280,7 @@ edge_self None = tt
 edge_self (Some s) = state_self s
 
 edge_below : (s : Abstract) (i : Instr) (taken : Bool) → IsInRange i → IsState s → EdgeUnder (edge_of s i taken) (unsigned_edge s i taken)
-unfolding edge_of unsigned_edge IsInRange
+unfolding edge_with unsigned_edge IsInRange
 edge_below s (instr.Branch w c dst from distance) taken r a = by (is_null_test w c from (value s dst))
   where
     x : Limits
@@ -468,7 +468,7 @@ unfolding IsInRange
 constant_range size base distance n r = r.2
 
 after_below : (sectors : ℕ) (s : Abstract) (i : Instr) → IsInRange i → IsState s → EdgeUnder (after_of sectors s i) (unsigned_after sectors s i)
-unfolding after_of unsigned_after IsInRange
+unfolding after_with unsigned_after IsInRange
 after_below sectors s (instr.Arithmetic w o dst from) r a =
     let i = instr.Arithmetic w o dst from in
     register_below s dst (result_kind i (value s dst) (second s from)) (unsigned_result i (value s dst) (second s from))
@@ -525,7 +525,7 @@ same_covered marks table sectors slot s i few states r a covered =
 
 passes_covered : (marks : List Bool) (table : List (Option Abstract)) (sectors slot : ℕ) (s : Abstract) (i : Instr) → sectors < 2 ^ 64 → AreStates table → IsInRange i → IsState s
     → WereCovered marks table (unsigned_passes sectors s slot i) → AreCovered marks table (passes sectors s slot i)
-unfolding passes unsigned_passes
+unfolding passed_with unsigned_passes
 passes_covered marks table sectors slot s (instr.Branch w c dst from distance) few states r a covered =
     two_covered marks table (slot + 1) (target_slot slot distance) (edge_of s (instr.Branch w c dst from distance) false) (unsigned_edge s (instr.Branch w c dst from distance) false)
     (edge_of s (instr.Branch w c dst from distance) true) (unsigned_edge s (instr.Branch w c dst from distance) true) states

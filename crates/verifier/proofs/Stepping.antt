@@ -1,29 +1,24 @@
 -- What a slot passes on arrives edge by edge, in part.
 use Rattle.std.proofs.Common.{◌≡◌, ◌<◌, ◌^◌, ℕ, Bool, List, ◌++◌, length, Option, Some}
-use Rattle.std.specs.Option.{option_to_list}
 use Rattle.bpf_isa.specs.declared.instr.Instr.{Instr}
 use Rattle.bpf_isa.specs.Program.{IsProgram}
 use Rattle.bpf_isa.specs.Slots.{at}
 use Rattle.bpf_shape.specs.Again.{heads}
-use Rattle.bpf_shape.specs.Edges.{edges_of}
 use Rattle.bpf_shape.specs.Rules.{IsShaped}
 use Rattle.ranges.specs.States.{Abstract}
-use Rattle.ranges.specs.Order.{EdgeUnder, IsState}
+use Rattle.ranges.specs.Order.{Each, EdgeUnder, IsState}
 use Rattle.verifier.specs.Tables.{state_at, AreStates, sent_with}
 use Rattle.verifier.specs.Sought.{AllBelow, TakesIn, one_more}
-use Rattle.verifier.specs.Passing.{Arrive, StaysSought, along, next_with, target_of, target_with}
-use Rattle.verifier.proofs.Edges.{by_edges}
+use Rattle.verifier.specs.declared.passing.Edge.{Edge}
+use Rattle.verifier.specs.declared.passing.Edge.TheVariants as edge
+use Rattle.verifier.specs.Passing.{Arrive, StaysSought}
+use Rattle.verifier.proofs.Edges.{Along, by_edges}
 use Rattle.verifier.proofs.Reaching.{each_left, each_right, sent_fits}
-
-abbrev pub ToNext : Bool → List (Option Instr) → ℕ → ℕ → Abstract → Instr → List (ℕ × Abstract)
-ToNext guards program sectors slot s i = option_to_list (along (heads program) (edges_of slot i).next (next_with guards sectors s i))
-
-abbrev pub ToTarget : Bool → List (Option Instr) → ℕ → Abstract → Instr → List (ℕ × Abstract)
-ToTarget guards program slot s i = option_to_list (along (heads program) (target_of slot i) (target_with guards s i))
 
 -- what a slot passes on, edge by edge
 parts : (guards : Bool) (program : List (Option Instr)) (sectors : ℕ) (table : List (Option Abstract)) (slot : ℕ) (s : Abstract) (i : Instr)
-    → at program slot ≡ Some i → state_at table slot ≡ Some s → ToNext guards program sectors slot s i ++ ToTarget guards program slot s i ≡ sent_with guards program sectors table slot
+    → at program slot ≡ Some i → state_at table slot ≡ Some s
+    → Along edge.Next guards (heads program) sectors slot s i ++ Along edge.Target guards (heads program) sectors slot s i ≡ sent_with guards program sectors table slot
 unfolding sent_with
 parts guards program sectors table slot s i there known = rw (there, known) (by_edges guards (heads program) sectors slot s i)
 
@@ -37,20 +32,23 @@ pub record Passes (guards : Bool) (program : List (Option Instr)) (sectors : ℕ
   pub there : at program slot ≡ Some i
   pub known : state_at table slot ≡ Some s
 
-all_fit : (guards : Bool) (program : List (Option Instr)) (sectors : ℕ) (table : List (Option Abstract)) (slot : ℕ) (s : Abstract) (i : Instr) → Passes guards program sectors table slot s i
-    → Arrive (length table) (ToNext guards program sectors slot s i ++ ToTarget guards program slot s i)
-all_fit guards program sectors table slot s i h =
-    rw (parts guards program sectors table slot s i h.there h.known, h.long) (sent_fits guards program sectors table slot h.few h.made h.shape h.states)
+-- what holds of all that is passed on holds of what goes along an edge
+one_edge : (P : ℕ × Abstract → Type 0) (e : Edge) (guards : Bool) (program : List (Option Instr)) (sectors : ℕ) (table : List (Option Abstract)) (slot : ℕ) (s : Abstract) (i : Instr)
+    → Passes guards program sectors table slot s i → Each P (sent_with guards program sectors table slot) → Each P (Along e guards (heads program) sectors slot s i)
+one_edge P e guards program sectors table slot s i h all = by_edge e
+  where
+    both : Each P (Along edge.Next guards (heads program) sectors slot s i ++ Along edge.Target guards (heads program) sectors slot s i)
+    both = rw (parts guards program sectors table slot s i h.there h.known) all
 
-pub next_fits : (guards : Bool) (program : List (Option Instr)) (sectors : ℕ) (table : List (Option Abstract)) (slot : ℕ) (s : Abstract) (i : Instr) → Passes guards program sectors table slot s i
-    → Arrive (length table) (ToNext guards program sectors slot s i)
-next_fits guards program sectors table slot s i h =
-    each_left (λ p. (p.0 < length table) × IsState p.1) (ToNext guards program sectors slot s i) (ToTarget guards program slot s i) (all_fit guards program sectors table slot s i h)
+    by_edge : (e : Edge) → Each P (Along e guards (heads program) sectors slot s i)
+    by_edge edge.Next = each_left P _ (Along edge.Target guards (heads program) sectors slot s i) both
+    by_edge edge.Target = each_right P (Along edge.Next guards (heads program) sectors slot s i) _ both
 
-pub target_fits : (guards : Bool) (program : List (Option Instr)) (sectors : ℕ) (table : List (Option Abstract)) (slot : ℕ) (s : Abstract) (i : Instr) → Passes guards program sectors table slot s i
-    → Arrive (length table) (ToTarget guards program slot s i)
-target_fits guards program sectors table slot s i h =
-    each_right (λ p. (p.0 < length table) × IsState p.1) (ToNext guards program sectors slot s i) (ToTarget guards program slot s i) (all_fit guards program sectors table slot s i h)
+pub edge_fits : (e : Edge) (guards : Bool) (program : List (Option Instr)) (sectors : ℕ) (table : List (Option Abstract)) (slot : ℕ) (s : Abstract) (i : Instr) → Passes guards program sectors table slot s i
+    → Arrive (length table) (Along e guards (heads program) sectors slot s i)
+edge_fits e guards program sectors table slot s i h =
+    one_edge (λ p. (p.0 < length table) × IsState p.1) e guards program sectors table slot s i h
+    (rw h.long (sent_fits guards program sectors table slot h.few h.made h.shape h.states))
 
 -- some of it arrives
 stays_part : (guards : Bool) (program : List (Option Instr)) (sectors : ℕ) (table new : List (Option Abstract)) (slot : ℕ) (ps : List (ℕ × Abstract)) → TakesIn table ps new
@@ -64,21 +62,8 @@ stays_part guards program sectors table new slot ps taken some = record {
   });
 }
 
--- what goes along both edges is below a table, if all that is passed on is
-in_parts : (guards : Bool) (program : List (Option Instr)) (sectors : ℕ) (table : List (Option Abstract)) (slot : ℕ) (s : Abstract) (i : Instr) → Passes guards program sectors table slot s i
-    → (g : List (Option Abstract)) → AllBelow g (sent_with guards program sectors table slot) → AllBelow g (ToNext guards program sectors slot s i ++ ToTarget guards program slot s i)
-in_parts guards program sectors table slot s i h g all = rw (parts guards program sectors table slot s i h.there h.known) all
-
-pub stays_next : (guards : Bool) (program : List (Option Instr)) (sectors : ℕ) (table new : List (Option Abstract)) (slot : ℕ) (s : Abstract) (i : Instr) → Passes guards program sectors table slot s i
-    → TakesIn table (ToNext guards program sectors slot s i) new → StaysSought guards program sectors table new
-stays_next guards program sectors table new slot s i h taken =
-    stays_part guards program sectors table new slot (ToNext guards program sectors slot s i) taken
-    (λ g all. each_left (λ p. EdgeUnder (Some p.1) (state_at g p.0)) (ToNext guards program sectors slot s i) (ToTarget guards program slot s i)
-    (in_parts guards program sectors table slot s i h g all))
-
-pub stays_target : (guards : Bool) (program : List (Option Instr)) (sectors : ℕ) (table new : List (Option Abstract)) (slot : ℕ) (s : Abstract) (i : Instr) → Passes guards program sectors table slot s i
-    → TakesIn table (ToTarget guards program slot s i) new → StaysSought guards program sectors table new
-stays_target guards program sectors table new slot s i h taken =
-    stays_part guards program sectors table new slot (ToTarget guards program slot s i) taken
-    (λ g all. each_right (λ p. EdgeUnder (Some p.1) (state_at g p.0)) (ToNext guards program sectors slot s i) (ToTarget guards program slot s i)
-    (in_parts guards program sectors table slot s i h g all))
+pub stays_edge : (e : Edge) (guards : Bool) (program : List (Option Instr)) (sectors : ℕ) (table new : List (Option Abstract)) (slot : ℕ) (s : Abstract) (i : Instr) → Passes guards program sectors table slot s i
+    → TakesIn table (Along e guards (heads program) sectors slot s i) new → StaysSought guards program sectors table new
+stays_edge e guards program sectors table new slot s i h taken =
+    stays_part guards program sectors table new slot (Along e guards (heads program) sectors slot s i) taken
+    (λ g all. one_edge (λ p. EdgeUnder (Some p.1) (state_at g p.0)) e guards program sectors table slot s i h all)

@@ -17,7 +17,7 @@ use Rattle.verifier.specs.Laws.{OneVerdict}
 use Rattle.verifier.proofs.Breaches.{one_breach}
 use Rattle.verifier.proofs.Exact.{one_least, least_with_guards}
 
--- behind a round that changes nothing, none does
+-- after a round that changes nothing, none does
 stays : (guards : Bool) (program : List (Option Instr)) (sectors n k : ℕ) → IsSame guards program sectors (rounds guards program sectors n) → rounds guards program sectors (n + k) ≡ rounds guards program sectors n
 stays guards program sectors n zero same = let e : n + 0 ≡ n = omega arith in rw e refl
 stays guards program sectors n (suc k) same =

@@ -1,5 +1,5 @@
 -- What little changes goes along an edge, part by part.
-use Rattle.std.proofs.Common.{◌≡◌, ◌<◌, ◌^◌, ℕ, zero, suc, Bool, false, List, [], ◌∷◌, map, length, get_or, Option, None, Some, refl, sym, ◌∙◌, ap}
+use Rattle.std.proofs.Common.{◌≡◌, ◌<◌, ◌^◌, ℕ, zero, suc, Bool, true, false, List, [], ◌∷◌, map, length, get_or, Option, None, Some, refl, sym, ◌∙◌, ap}
 use Rattle.std.specs.Prelude.{set, slice_index_or, slice_set}
 use Rattle.std.specs.Option.{option_map, option_to_list}
 use Rattle.std.proofs.lemmas.List.{length-map, length-set, get_or-set_other}
@@ -12,8 +12,8 @@ use Rattle.ranges.specs.Groups.{GroupKind, Marked, Spilled, join_group, round_gr
 use Rattle.ranges.specs.States.{Abstract, round_state}
 use Rattle.ranges.specs.Order.{IsState}
 use Rattle.ranges.specs.Reading.{value, with_value, with_groups}
-use Rattle.ranges.specs.After.{group_after, is_touched, groups_after_write}
-use Rattle.ranges.specs.Changing.{after_change, Leaves}
+use Rattle.ranges.specs.After.{group_after, is_touched}
+use Rattle.ranges.specs.Changing.{group_behind, groups_behind, left_of}
 use Rattle.ranges.specs.SeenStates.{state_of}
 use Rattle.ranges.proofs.Arrays.{mapped_set}
 use Rattle.ranges.proofs.Writing.{group_written}
@@ -22,14 +22,14 @@ use Rattle.bpf_isa.specs.declared.instr.Instr.{Instr}
 use Rattle.bpf_isa.specs.Program.{IsProgram}
 use Rattle.bpf_isa.specs.Slots.{at}
 use Rattle.bpf_shape.specs.Again.{heads}
-use Rattle.bpf_shape.specs.Edges.{edges_of}
 use Rattle.bpf_shape.specs.Rules.{IsShaped}
 use Rattle.verifier.specs.Tables.{state_at, AreStates}
 use Rattle.verifier.specs.Seen.{table_of}
 use Rattle.verifier.specs.Sought.{TakesIn}
-use Rattle.verifier.specs.Passing.{Arrive, LearnsAt, StaysSought, along, next_with, target_of, target_with}
+use Rattle.verifier.specs.declared.passing.Edge.{Edge}
+use Rattle.verifier.specs.Passing.{Arrive, LearnsAt, StaysSought, along, end_of, state_along}
 use Rattle.verifier.specs.Ways.{passed_along, Goes, IsWay, LearnsAlong, LeavesAt, TellsValue, TellsGroup, TellsValueAt, TellsGroupAt}
-use Rattle.verifier.proofs.Stepping.{Passes, next_fits, target_fits, stays_next, stays_target}
+use Rattle.verifier.proofs.Stepping.{Passes, edge_fits, stays_edge}
 use Rattle.verifier.proofs.Learned.{learns_self, learned_value, learned_group, learned_some, takes_in}
 
 -- a state is rounded place by place
@@ -53,13 +53,14 @@ pub group_left : (s : Abstract) (m n : ℕ) (g : GroupKind) → (n ≡ m → ⊥
     → slice_index_or s.groups n (Marked []) ≡ slice_index_or (with_groups s (slice_set s.groups m g)).groups n (Marked [])
 group_left s m n g other = sym (get_or-set_other s.groups m n g (Marked []) other)
 
-apart : (at k n : ℕ) (g : GroupKind) → is_touched at k n ≡ false → g ≡ group_after at k n g
+apart : (are_set : Bool) (at k n : ℕ) (g : GroupKind) → is_touched at k n ≡ false → g ≡ group_behind are_set at k n g
 unfolding group_after
-apart at k n g e = rw e refl
+apart true at k n g e = rw e refl
+apart false at k n g e = rw e refl
 
-pub bytes_left : (s : Abstract) (at k n : ℕ) → is_touched at k n ≡ false → n < length s.groups
-    → slice_index_or s.groups n (Marked []) ≡ slice_index_or (groups_after_write at k s.groups) n (Marked [])
-bytes_left s at k n e inside = apart at k n (slice_index_or s.groups n (Marked [])) e ∙ group_written at k s.groups n inside
+pub bytes_left : (s : Abstract) (are_set : Bool) (at k n : ℕ) → is_touched at k n ≡ false → n < length s.groups
+    → slice_index_or s.groups n (Marked []) ≡ slice_index_or (groups_behind are_set at k s.groups) n (Marked [])
+bytes_left s are_set at k n e inside = apart are_set at k n (slice_index_or s.groups n (Marked [])) e ∙ group_written are_set at k s.groups n inside
 
 -- one part is told
 
@@ -145,22 +146,24 @@ pub group_of_state : (way : Way) (s t : Abstract) (m : Option Abstract) (n : ℕ
 group_of_state way s t m n k a b e = rw (same_state m s t a b) at e
 
 -- what goes along an edge by a way
-pub by_way : (heads : List Bool) (way : Way) (from to n : ℕ) (effect : Effect) (s : Abstract) (m : Option Abstract) → IsWay from to (get_or heads to false) effect n way
-    → Leaves s effect m → option_to_list (along heads (Some to) m) ≡ (way.to, passed_along way s) ∷ []
-by_way heads way from to n effect s m w leaves =
-    let left : m ≡ Some (after_change s way.change) = rw w.changes at leaves in
-    rw (left, w.ends, w.rounds) refl
+by_way : (heads : List Bool) (way : Way) (from to n : ℕ) (effect : Effect) (s : Abstract) → IsWay from to (get_or heads to false) effect n way
+    → option_to_list (along heads (Some to) (left_of s effect)) ≡ (way.to, passed_along way s) ∷ []
+by_way heads way from to n effect s w = rw (w.changes, w.ends, w.rounds) refl
 
-by_learning : (table new : List (Option Abstract)) (heads : List Bool) (way : Way) (slot to : ℕ) (effect : Effect) (s : Abstract) (m : Option Abstract)
-    → IsWay slot to (get_or heads to false) effect (length table) way → Leaves s effect m → state_at table slot ≡ Some s → LearnsAlong way table new
-    → Arrive (length table) (option_to_list (along heads (Some to) m)) → TakesIn table (option_to_list (along heads (Some to) m)) new
-by_learning table new heads way slot to effect s m w leaves known learns arrive =
-    let e = by_way heads way slot to (length table) effect s m w leaves in
+by_learning : (table new : List (Option Abstract)) (heads : List Bool) (way : Way) (slot to : ℕ) (effect : Effect) (s : Abstract)
+    → IsWay slot to (get_or heads to false) effect (length table) way → state_at table slot ≡ Some s → LearnsAlong way table new
+    → Arrive (length table) (option_to_list (along heads (Some to) (left_of s effect))) → TakesIn table (option_to_list (along heads (Some to) (left_of s effect))) new
+by_learning table new heads way slot to effect s w known learns arrive =
+    let e = by_way heads way slot to (length table) effect s w in
     let fits : Arrive (length table) ((way.to, passed_along way s) ∷ []) = rw e at arrive in
     rw e (learns.takes s (rw w.begins known) fits.0.1)
 
 nothing_changes : (effect : Effect) (way : Way) → effect ≡ Nothing → effect ≡ Changed way.change → ⊥
 nothing_changes effect way a b = let both : Nothing ≡ Changed way.change = sym a ∙ b in cc
+
+-- what comes of a state that is known at a slot
+left_here : (m : Option Abstract) (s : Abstract) (effect : Effect) (f : Abstract → Option Abstract) → LeavesAt m effect f → m ≡ Some s → left_of s effect ≡ f s
+left_here m s effect f leaves e = rw e at leaves
 
 -- what holds where a slot passes something on along an edge
 pub record Sends (guards : Bool) (program : List (Option Instr)) (sectors : ℕ) (table : List (Option Abstract)) (slot : ℕ) (i : Instr) (marks : List Bool) : Type 0 where
@@ -184,48 +187,27 @@ passes_of guards program sectors table slot i marks s h known = record {
   known = known;
 }
 
-pub fits_next : (guards : Bool) (program : List (Option Instr)) (sectors : ℕ) (table : List (Option Abstract)) (slot to : ℕ) (i : Instr) (marks : List Bool) (s : Abstract)
-    → Sends guards program sectors table slot i marks → (edges_of slot i).next ≡ Some to → state_at table slot ≡ Some s
-    → Arrive (length table) (option_to_list (along marks (Some to) (next_with guards sectors s i)))
-fits_next guards program sectors table slot to i marks s h e known =
-    rw h.rounds (rw e at (next_fits guards program sectors table slot s i (passes_of guards program sectors table slot i marks s h known)))
+pub fits_along : (e : Edge) (guards : Bool) (program : List (Option Instr)) (sectors : ℕ) (table : List (Option Abstract)) (slot to : ℕ) (i : Instr) (marks : List Bool) (effect : Effect) (s : Abstract)
+    → Sends guards program sectors table slot i marks → end_of e slot i ≡ Some to → LeavesAt (state_at table slot) effect (λ s. state_along e guards sectors s i)
+    → state_at table slot ≡ Some s → Arrive (length table) (option_to_list (along marks (Some to) (left_of s effect)))
+fits_along e guards program sectors table slot to i marks effect s h ends leaves known =
+    rw (left_here (state_at table slot) s effect (λ s. state_along e guards sectors s i) leaves known, h.rounds)
+    (rw ends at (edge_fits e guards program sectors table slot s i (passes_of guards program sectors table slot i marks s h known)))
 
-pub comes_next : (guards : Bool) (program : List (Option Instr)) (sectors : ℕ) (table new : List (Option Abstract)) (slot to : ℕ) (i : Instr) (marks : List Bool) (s : Abstract)
-    → Sends guards program sectors table slot i marks → (edges_of slot i).next ≡ Some to → state_at table slot ≡ Some s
-    → TakesIn table (option_to_list (along marks (Some to) (next_with guards sectors s i))) new → StaysSought guards program sectors table new
-comes_next guards program sectors table new slot to i marks s h e known taken =
-    stays_next guards program sectors table new slot s i (passes_of guards program sectors table slot i marks s h known) (rw e (rw h.rounds at taken))
+pub comes_along : (e : Edge) (guards : Bool) (program : List (Option Instr)) (sectors : ℕ) (table new : List (Option Abstract)) (slot to : ℕ) (i : Instr) (marks : List Bool) (effect : Effect) (s : Abstract)
+    → Sends guards program sectors table slot i marks → end_of e slot i ≡ Some to → LeavesAt (state_at table slot) effect (λ s. state_along e guards sectors s i)
+    → state_at table slot ≡ Some s → TakesIn table (option_to_list (along marks (Some to) (left_of s effect))) new → StaysSought guards program sectors table new
+comes_along e guards program sectors table new slot to i marks effect s h ends leaves known taken =
+    let left = left_here (state_at table slot) s effect (λ s. state_along e guards sectors s i) leaves known in
+    stays_edge e guards program sectors table new slot s i (passes_of guards program sectors table slot i marks s h known) (rw ends (rw (left, h.rounds) at taken))
 
-pub learns_next : (guards : Bool) (program : List (Option Instr)) (sectors : ℕ) (table new : List (Option Abstract)) (slot to : ℕ) (i : Instr) (marks : List Bool) (effect : Effect) (way : Way)
-    → Sends guards program sectors table slot i marks → (edges_of slot i).next ≡ Some to → LeavesAt (state_at table slot) effect (λ s. next_with guards sectors s i)
+pub learns_along : (e : Edge) (guards : Bool) (program : List (Option Instr)) (sectors : ℕ) (table new : List (Option Abstract)) (slot to : ℕ) (i : Instr) (marks : List Bool) (effect : Effect) (way : Way)
+    → Sends guards program sectors table slot i marks → end_of e slot i ≡ Some to → LeavesAt (state_at table slot) effect (λ s. state_along e guards sectors s i)
     → IsWay slot to (get_or marks to false) effect (length table) way → LearnsAlong way table new → StaysSought guards program sectors table new
-learns_next guards program sectors table new slot to i marks effect way h e leaves w learns = by_known (state_at table slot) refl leaves
+learns_along e guards program sectors table new slot to i marks effect way h ends leaves w learns = by_known (state_at table slot) refl
   where
-    by_known : (m : Option Abstract) → state_at table slot ≡ m → LeavesAt m effect (λ s. next_with guards sectors s i) → StaysSought guards program sectors table new
-    by_known None known left = absurd (nothing_changes effect way left w.changes)
-    by_known (Some s) known left =
-        comes_next guards program sectors table new slot to i marks s h e known
-        (by_learning table new marks way slot to effect s (next_with guards sectors s i) w left known learns (fits_next guards program sectors table slot to i marks s h e known))
-
-pub fits_target : (guards : Bool) (program : List (Option Instr)) (sectors : ℕ) (table : List (Option Abstract)) (slot to : ℕ) (i : Instr) (marks : List Bool) (s : Abstract)
-    → Sends guards program sectors table slot i marks → target_of slot i ≡ Some to → state_at table slot ≡ Some s
-    → Arrive (length table) (option_to_list (along marks (Some to) (target_with guards s i)))
-fits_target guards program sectors table slot to i marks s h e known =
-    rw h.rounds (rw e at (target_fits guards program sectors table slot s i (passes_of guards program sectors table slot i marks s h known)))
-
-pub comes_target : (guards : Bool) (program : List (Option Instr)) (sectors : ℕ) (table new : List (Option Abstract)) (slot to : ℕ) (i : Instr) (marks : List Bool) (s : Abstract)
-    → Sends guards program sectors table slot i marks → target_of slot i ≡ Some to → state_at table slot ≡ Some s
-    → TakesIn table (option_to_list (along marks (Some to) (target_with guards s i))) new → StaysSought guards program sectors table new
-comes_target guards program sectors table new slot to i marks s h e known taken =
-    stays_target guards program sectors table new slot s i (passes_of guards program sectors table slot i marks s h known) (rw e (rw h.rounds at taken))
-
-pub learns_target : (guards : Bool) (program : List (Option Instr)) (sectors : ℕ) (table new : List (Option Abstract)) (slot to : ℕ) (i : Instr) (marks : List Bool) (effect : Effect) (way : Way)
-    → Sends guards program sectors table slot i marks → target_of slot i ≡ Some to → LeavesAt (state_at table slot) effect (λ s. target_with guards s i)
-    → IsWay slot to (get_or marks to false) effect (length table) way → LearnsAlong way table new → StaysSought guards program sectors table new
-learns_target guards program sectors table new slot to i marks effect way h e leaves w learns = by_known (state_at table slot) refl leaves
-  where
-    by_known : (m : Option Abstract) → state_at table slot ≡ m → LeavesAt m effect (λ s. target_with guards s i) → StaysSought guards program sectors table new
-    by_known None known left = absurd (nothing_changes effect way left w.changes)
-    by_known (Some s) known left =
-        comes_target guards program sectors table new slot to i marks s h e known
-        (by_learning table new marks way slot to effect s (target_with guards s i) w left known learns (fits_target guards program sectors table slot to i marks s h e known))
+    by_known : (m : Option Abstract) → state_at table slot ≡ m → StaysSought guards program sectors table new
+    by_known None known = absurd (nothing_changes effect way (rw known at leaves) w.changes)
+    by_known (Some s) known =
+        comes_along e guards program sectors table new slot to i marks effect s h ends leaves known
+        (by_learning table new marks way slot to effect s w known learns (fits_along e guards program sectors table slot to i marks effect s h ends leaves known))

@@ -1,38 +1,21 @@
 -- What is passed, edge by edge, and how it arrives. Only this crate's own contracts cite it.
-use Rattle.std.specs.Prelude.{◌≡◌, ◌<◌, ◌⊎◌, ℕ, ◌&&◌, Bool, true, false, if◌then◌else◌, List, [], length, get_or, Option, None, Some}
+use Rattle.std.specs.Prelude.{◌≡◌, ◌<◌, ◌⊎◌, ℕ, Bool, true, false, if◌then◌else◌, List, [], length, get_or, Option, None, Some}
 use Rattle.std.specs.Option.{option_map}
 use Rattle.bpf_isa.specs.declared.instr.Instr.{Instr}
 use Rattle.bpf_isa.specs.declared.instr.Instr.TheVariants as instr
 use Rattle.bpf_shape.specs.Edges.{edges_of}
 use Rattle.bpf_shape.specs.Calls.{callee_of}
 use Rattle.ranges.specs.States.{Abstract, start}
-use Rattle.ranges.specs.After.{after_of}
-use Rattle.ranges.specs.Passing.{edge_of, entry_state}
-use Rattle.ranges.specs.Guards.{breaks_rule, loose_after}
+use Rattle.ranges.specs.After.{after_with}
+use Rattle.ranges.specs.Passing.{edge_with, entry_state}
 use Rattle.ranges.specs.Order.{IsState, StateUnder, Each, Holds, EdgeUnder}
 use Rattle.std.specs.List.{fold, flat_map, range_with_len}
-use Rattle.verifier.specs.Tables.{state_at, Covers, CoversAll, AreStates, arriving}
+use Rattle.verifier.specs.declared.passing.Edge.{Edge}
+use Rattle.verifier.specs.declared.passing.Edge.TheVariants as edge
+use Rattle.verifier.specs.Tables.{state_at, Covers, CoversAll, AreStates, arriving, is_loose}
 use Rattle.verifier.specs.Rounds.{receive, passed_by, round_of, IsSame}
 use Rattle.verifier.specs.Sought.{IsSought}
 use Rattle.verifier.specs.Visits.{Learns, HaveLearned, count_set}
-
--- the state on the edge to the next slot, without guards
-unfoldable pub next_state : ℕ → Abstract → Instr → Option Abstract
-next_state sectors s (instr.Branch w c dst from distance) = edge_of s (instr.Branch w c dst from distance) false
-next_state sectors s (instr.Arithmetic w o dst from) = after_of sectors s (instr.Arithmetic w o dst from)
-next_state sectors s (instr.Negate w dst) = after_of sectors s (instr.Negate w dst)
-next_state sectors s (instr.SignExtend e dst src) = after_of sectors s (instr.SignExtend e dst src)
-next_state sectors s (instr.ByteOrder o size dst) = after_of sectors s (instr.ByteOrder o size dst)
-next_state sectors s (instr.Jump distance) = after_of sectors s (instr.Jump distance)
-next_state sectors s (instr.LongJump distance) = after_of sectors s (instr.LongJump distance)
-next_state sectors s (instr.CallHelper number) = after_of sectors s (instr.CallHelper number)
-next_state sectors s (instr.CallLocal distance) = after_of sectors s (instr.CallLocal distance)
-next_state sectors s instr.Exit = after_of sectors s instr.Exit
-next_state sectors s (instr.Load size dst base distance) = after_of sectors s (instr.Load size dst base distance)
-next_state sectors s (instr.LoadSigned size dst base distance) = after_of sectors s (instr.LoadSigned size dst base distance)
-next_state sectors s (instr.StoreImmediate size base distance n) = after_of sectors s (instr.StoreImmediate size base distance n)
-next_state sectors s (instr.Store size base distance src) = after_of sectors s (instr.Store size base distance src)
-next_state sectors s (instr.LoadImmediate dst x) = after_of sectors s (instr.LoadImmediate dst x)
 
 -- where a state is passed besides the next slot: to the entry of a local function, or the target of a jump
 abbrev pub either : Option ℕ → Option ℕ → Option ℕ
@@ -42,33 +25,20 @@ either (Some entry) target = Some entry
 unfoldable pub target_of : ℕ → Instr → Option ℕ
 target_of slot i = either (callee_of slot i) (edges_of slot i).target
 
--- the state that is passed there
-unfoldable pub target_state : Abstract → Instr → Option Abstract
-target_state s (instr.CallLocal distance) = Some (entry_state s)
-target_state s (instr.Arithmetic w o dst from) = edge_of s (instr.Arithmetic w o dst from) true
-target_state s (instr.Negate w dst) = edge_of s (instr.Negate w dst) true
-target_state s (instr.SignExtend e dst src) = edge_of s (instr.SignExtend e dst src) true
-target_state s (instr.ByteOrder o size dst) = edge_of s (instr.ByteOrder o size dst) true
-target_state s (instr.Jump distance) = edge_of s (instr.Jump distance) true
-target_state s (instr.LongJump distance) = edge_of s (instr.LongJump distance) true
-target_state s (instr.Branch w c dst from distance) = edge_of s (instr.Branch w c dst from distance) true
-target_state s (instr.CallHelper number) = edge_of s (instr.CallHelper number) true
-target_state s instr.Exit = edge_of s instr.Exit true
-target_state s (instr.Load size dst base distance) = edge_of s (instr.Load size dst base distance) true
-target_state s (instr.LoadSigned size dst base distance) = edge_of s (instr.LoadSigned size dst base distance) true
-target_state s (instr.StoreImmediate size base distance n) = edge_of s (instr.StoreImmediate size base distance n) true
-target_state s (instr.Store size base distance src) = edge_of s (instr.Store size base distance src) true
-target_state s (instr.LoadImmediate dst x) = edge_of s (instr.LoadImmediate dst x) true
+-- where an edge of a slot leads
+abbrev pub end_of : Edge → ℕ → Instr → Option ℕ
+end_of edge.Next slot i = (edges_of slot i).next
+end_of edge.Target slot i = target_of slot i
 
--- With guards a state is led along both edges where a rule without guards is broken.
-abbrev pub is_loose : Bool → Abstract → Instr → Bool
-is_loose guards s i = guards && breaks_rule s i
+-- the state that is passed along an edge; `loose` says whether a rule is broken there that guards lift
+unfoldable pub along_with : Edge → Bool → ℕ → Abstract → Instr → Option Abstract
+along_with edge.Next loose sectors s (instr.Branch w c dst from distance) = edge_with loose s (instr.Branch w c dst from distance) false
+along_with edge.Next loose sectors s i = after_with loose sectors s i
+along_with edge.Target loose sectors s (instr.CallLocal distance) = Some (entry_state s)
+along_with edge.Target loose sectors s i = edge_with loose s i true
 
-unfoldable pub next_with : Bool → ℕ → Abstract → Instr → Option Abstract
-next_with guards sectors s i = if is_loose guards s i then Some (loose_after s i) else next_state sectors s i
-
-unfoldable pub target_with : Bool → Abstract → Instr → Option Abstract
-target_with guards s i = if is_loose guards s i then Some s else target_state s i
+abbrev pub state_along : Edge → Bool → ℕ → Abstract → Instr → Option Abstract
+state_along e guards sectors s i = along_with e (is_loose guards s i) sectors s i
 
 -- what arrives along an edge, if there is one and something is passed
 abbrev pub along : List Bool → Option ℕ → Option Abstract → Option (ℕ × Abstract)

@@ -18,7 +18,7 @@ abbrev pub count_and_first : List ℕ → Option (ℕ × ℕ)
 count_and_first [] = None
 count_and_first (first ∷ rest) = Some (length (first ∷ rest), first)
 
--- the same with one more slot behind them
+-- the same with one more slot after them
 abbrev pub and_slot : Option (ℕ × ℕ) → ℕ → Option (ℕ × ℕ)
 and_slot None slot = Some (1, slot)
 and_slot (Some found) slot = Some (found.0 + 1, found.1)

@@ -30,7 +30,7 @@ round_of guards program sectors table = fold receive table (passed_states guards
 unfoldable pub first_table : ℕ → List (Option Abstract)
 first_table slots = set (replicate slots None) 0 (Some start)
 
--- the table of so many rounds
+-- the table of that many rounds
 abbrev pub rounds : Bool → List (Option Instr) → ℕ → ℕ → List (Option Abstract)
 rounds guards program sectors zero = first_table (length program)
 rounds guards program sectors (suc n) = round_of guards program sectors (rounds guards program sectors n)

@@ -1,14 +1,15 @@
 -- What a table knows at a slot, which rule is broken there, and what the slot passes on, by both kinds of acceptance
 -- (docs/VERIFIER.md, Good table and Guards). A table is a list with a state, or none, for each slot.
-use Rattle.std.specs.Prelude.{ℕ, Bool, true, false, if◌then◌else◌, List, [], map, get_or, Option, None, Some}
+use Rattle.std.specs.Prelude.{ℕ, ◌&&◌, Bool, false, if◌then◌else◌, List, [], map, get_or, Option, None, Some}
 use Rattle.base.specs.Check.{first_failing}
 use Rattle.base.specs.declared.causes.VerifierCause.{VerifierCause}
 use Rattle.bpf_isa.specs.declared.instr.Instr.{Instr}
 use Rattle.bpf_isa.specs.Slots.{at}
 use Rattle.bpf_shape.specs.Again.{heads}
+use Rattle.ranges.specs.Rules.{rules_with}
 use Rattle.ranges.specs.States.{Abstract, round_state, StateContains}
-use Rattle.ranges.specs.Passing.{passes}
-use Rattle.ranges.specs.Guards.{rules_with, passed_with_guards}
+use Rattle.ranges.specs.Passing.{passed_with}
+use Rattle.ranges.specs.Guards.{breaks_rule}
 use Rattle.ranges.specs.Order.{Each, Holds, IsState}
 
 -- what is known at a slot; None where it has no state
@@ -35,10 +36,13 @@ arriving heads slot s = if get_or heads slot false then round_state s else s
 abbrev pub arrival : List Bool → ℕ × Abstract → ℕ × Abstract
 arrival heads p = (p.0, arriving heads p.0 p.1)
 
+-- with guards a state is passed on where a rule without guards is broken
+abbrev pub is_loose : Bool → Abstract → Instr → Bool
+is_loose guards s i = guards && breaks_rule s i
+
 -- to which slots what state is passed, by both kinds of acceptance: with guards, or without
 abbrev pub passes_with : Bool → ℕ → Abstract → ℕ → Instr → List (ℕ × Abstract)
-passes_with true sectors s slot i = passed_with_guards sectors s slot i
-passes_with false sectors s slot i = passes sectors s slot i
+passes_with guards sectors s slot i = passed_with (is_loose guards s i) sectors s slot i
 
 -- of an instruction with a state: the first rule that is broken
 abbrev pub broken_with : Bool → Option Instr → Option Abstract → Option VerifierCause
@@ -54,7 +58,7 @@ passed_on_with guards heads sectors slot _ _ = []
 unfoldable pub rule_with : Bool → List (Option Instr) → List (Option Abstract) → ℕ → Option VerifierCause
 rule_with guards program table slot = broken_with guards (at program slot) (state_at table slot)
 
--- what a slot passes on to which slots, as it arrives there, on a device of so many sectors
+-- what a slot passes on to which slots, as it arrives there, on a device of that many sectors
 unfoldable pub sent_with : Bool → List (Option Instr) → ℕ → List (Option Abstract) → ℕ → List (ℕ × Abstract)
 sent_with guards program sectors table slot = passed_on_with guards (heads program) sectors slot (at program slot) (state_at table slot)
 

@@ -68,7 +68,7 @@ unsigned_stored k groups p n = groups
 abbrev pub unsigned_store : Abstract → Kind → Size → Place → Abstract
 unsigned_store s k size p = with_groups s (unsigned_stored k s.groups p (byte_count size))
 
--- the state behind an instruction that is no jump
+-- the state after an instruction that is no jump
 unfoldable pub unsigned_after : ℕ → Abstract → Instr → Option Abstract
 unsigned_after sectors s (instr.Arithmetic w o dst from) = option_map (with_value s dst) (unsigned_result (instr.Arithmetic w o dst from) (value s dst) (second s from))
 unsigned_after sectors s (instr.Negate w dst) = option_map (with_value s dst) (unsigned_computed (instr.Negate w dst) (value s dst) Unset)

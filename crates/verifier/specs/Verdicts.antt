@@ -1,6 +1,6 @@
 -- Which programs are accepted, with guards or without, and how the others are refused (docs/VERIFIER.md).
 use Rattle.std.specs.Prelude.{◌≡◌, ◌≤◌, ℕ, Bool, false, List, Option, Some}
-use Rattle.limits.specs.Sizes.{most_sectors}
+use Rattle.base.specs.Sizes.{most_sectors}
 use Rattle.base.specs.declared.causes.VerifierCause.{VerifierCause}
 use Rattle.bpf_isa.specs.declared.instr.Instr.{Instr}
 use Rattle.bpf_isa.specs.Program.{IsProgram}
@@ -42,7 +42,7 @@ pub data RefusedWith (guards : Bool) (program : List (Option Instr)) (sectors : 
   sought : (c : VerifierCause) (slot : ℕ) (table : List (Option Abstract)) → IsShaped program → HasNoGood guards program sectors
       → NeedMore guards program sectors most_visits → IsSought guards program sectors table → rule_with guards program table slot ≡ Some c → RefusedWith guards program sectors c slot
 
--- a program is accepted for so many sectors, with that budget
+-- a program is accepted for that many sectors, with that budget
 abbrev pub IsAcceptedWith : Bool → List (Option Instr) → ℕ → ℕ → Type 0
 IsAcceptedWith guards program sectors budget =
     (table : List (Option Abstract)) × IsVerified (record { guards = guards; program = program; sectors = sectors; budget = budget; table = table })

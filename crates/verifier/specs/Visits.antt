@@ -19,7 +19,7 @@ one_if false = 0
 abbrev pub count_set : List Bool → ℕ
 count_set marks = sum_by one_if marks
 
--- So many slots learned something from one table to another: those that are marked. The others know what they knew.
+-- That many slots learned something from one table to another: those that are marked. The others know what they knew.
 pub record HaveLearned (old : List (Option Abstract)) (new : List (Option Abstract)) (n : ℕ) : Type 0 where
   pub marks : List Bool
   pub long : length marks ≡ length new
@@ -27,7 +27,7 @@ pub record HaveLearned (old : List (Option Abstract)) (new : List (Option Abstra
   pub others : (slot : ℕ) → get_or marks slot false ≡ false → state_at new slot ≡ state_at old slot
   pub count : n ≡ count_set marks
 
--- so many visits come of so many rounds
+-- that many visits come of that many rounds
 abbrev pub Visits : Bool → List (Option Instr) → ℕ → ℕ → ℕ → Type 0
 Visits guards program sectors zero n = n ≡ 0
 Visits guards program sectors (suc turns) n =

@@ -5,7 +5,7 @@ use Rattle.ranges.specs.Groups.{GroupKind, Marked}
 use Rattle.ranges.specs.States.{Abstract, round_state}
 use Rattle.ranges.specs.Order.{IsState}
 use Rattle.ranges.specs.Reading.{value}
-use Rattle.ranges.specs.Changing.{after_change, Leaves}
+use Rattle.ranges.specs.Changing.{after_change, left_of}
 use Rattle.ranges.specs.declared.change.Change.{Change}
 use Rattle.ranges.specs.declared.change.Effect.{Effect}
 use Rattle.ranges.specs.declared.change.Effect.TheVariants.{Changed, Nothing}
@@ -59,4 +59,4 @@ pub record IsWay (slot : ℕ) (target : ℕ) (at_head : Bool) (made : Effect) (n
 -- an effect on what is known at a slot says what is left of it, and nothing is where nothing is known
 abbrev pub LeavesAt : Option Abstract → Effect → (Abstract → Option Abstract) → Type 0
 LeavesAt None effect f = effect ≡ Nothing
-LeavesAt (Some s) effect f = Leaves s effect (f s)
+LeavesAt (Some s) effect f = left_of s effect ≡ f s

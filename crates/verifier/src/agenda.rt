@@ -4,15 +4,16 @@
 
 use crate::news::News;
 use crate::order::Order;
-use crate::origins::{Edge, Gone};
+use crate::origins::Gone;
 use crate::parts::{Parts, looked_at};
+use crate::passing::Edge;
 use crate::scene::Scene;
 use crate::worklist::Worklist;
 use bpf_isa::instr::Instr;
 use bpf_isa::program::Program;
 use std::alloc::{AllocError, Global};
 
-/// Of so many steps the first half takes the first slot each time. The other half goes forward, so that where many
+/// Of that many steps the first half takes the first slot each time. The other half goes forward, so that where many
 /// loops share a body it isn't gone through for each of them alone.
 const TURN: u64 = 1 << 21;
 
@@ -57,7 +58,7 @@ impl Agenda {
         }
     }
 
-    /// Takes the first place that is on the agenda; in each other turn the next one, if there is one behind the last.
+    /// Takes the first place that is on the agenda; in each other turn the next one, if there is one after the last.
     fn take_place(&mut self) -> Option<usize> {
         if self.steps % TURN < TURN / 2 || 4096 <= self.place {
             return self.places.take();

@@ -5,56 +5,39 @@ ghost use Rattle.std.specs.Option.{option_to_list};
 ghost use Rattle.bpf_shape.specs.Shape.{IsShapeOf};
 ghost use Rattle.ranges.specs.SeenStates.{state_of};
 ghost use Rattle.ranges.specs.States.{start};
-ghost use Rattle.verifier.specs.Passing.{along, next_with, target_with};
+ghost use Rattle.verifier.specs.Passing.{along, end_of, state_along};
 ghost use Rattle.verifier.specs.Tables.{CoversAll, Covers, state_at, rule_with, sent_with, passed_on_with};
 ghost use Rattle.verifier.specs.Good.{IsGood, IsGoodWith, IsGoodAt};
 ghost use Rattle.verifier.specs.Breaches.{BreaksAt, FirstSlot, FirstBreach, FirstRule, KeepsRules};
 
-use crate::passing::{arrive_next, arrive_target, rule_at, target_of};
+use crate::passing::{Edge, arrive_by, effect_on, end_of, rule_at};
 use crate::scene::Scene;
 use crate::table::Table;
 use base::causes::VerifierCause;
 use bpf_isa::instr::Instr;
 use bpf_isa::program::Program;
-use bpf_shape::{Fault, Shape, edges_of};
+use bpf_shape::{Fault, Shape};
 use ranges::State;
 
-/// Whether what is passed to the next slot, if there is one, is contained in what is known there. A state is changed in
-/// place in the room that is given, whatever stands there.
-fn covers_next(
+/// Whether what is passed along an edge, if there is one, is contained in what is known where it arrives. A state is changed
+/// in place in the room that is given, whatever stands there.
+fn covers_along(
     scene: &Scene,
     table: &Table,
-    edge: Option<usize>,
+    edge: Edge,
+    slot: usize,
     instr: &Instr,
     state: &State,
     room: &mut State,
 ) -> bool
-    ensures { IsTrue result ↔ CoversAll table.now (option_to_list (along scene.now.shape.now.heads edge (next_with scene.now.guards scene.now.sectors (state_of state.now) instr.now))) }
+    requires { slot < 4096 }
+    ensures { IsTrue result ↔ CoversAll table.now (option_to_list (along scene.now.shape.now.heads (end_of edge slot instr.now) (state_along edge scene.now.guards scene.now.sectors (state_of state.now) instr.now))) }
 {
-    match edge {
-        Some(slot) => {
+    match end_of(edge, slot, instr) {
+        Some(to) => {
+            let effect = effect_on(scene, edge, instr, state);
             *room = *state;
-            !arrive_next(scene, slot, instr, room) || table.covers(slot, room)
-        }
-        None => true,
-    }
-}
-
-/// The same of the other edge.
-fn covers_target(
-    scene: &Scene,
-    table: &Table,
-    edge: Option<usize>,
-    instr: &Instr,
-    state: &State,
-    room: &mut State,
-) -> bool
-    ensures { IsTrue result ↔ CoversAll table.now (option_to_list (along scene.now.shape.now.heads edge (target_with scene.now.guards (state_of state.now) instr.now))) }
-{
-    match edge {
-        Some(slot) => {
-            *room = *state;
-            !arrive_target(scene, slot, instr, room) || table.covers(slot, room)
+            !arrive_by(scene, &effect, to, room) || table.covers(to, room)
         }
         None => true,
     }
@@ -72,9 +55,8 @@ fn covers_edges(
     requires { slot < 4096 }
     ensures { IsTrue result ↔ CoversAll table.now (passed_on_with scene.now.guards scene.now.shape.now.heads scene.now.sectors slot (Some instr.now) (Some (state_of state.now))) }
 {
-    let next = edges_of(slot, instr).next;
-    covers_next(scene, table, next, instr, state, room)
-        && covers_target(scene, table, target_of(slot, instr), instr, state, room)
+    covers_along(scene, table, Edge::Next, slot, instr, state, room)
+        && covers_along(scene, table, Edge::Target, slot, instr, state, room)
 }
 
 /// Whether all that a slot passes on is contained in what a table knows where it arrives.
@@ -131,7 +113,7 @@ pub(crate) fn check_good(scene: &Scene, table: &Table) -> Result<(), Fault>
     check_slots(scene, table, &mut room)
 }
 
-/// Whether a table is good for a program and its shape, on a device of so many sectors, with guards or without; else the
+/// Whether a table is good for a program and its shape, on a device of that many sectors, with guards or without; else the
 /// first breach, in the order of docs/VERIFIER.md, Good table.
 pub fn check_table_with(
     program: &Program,

@@ -2,7 +2,7 @@
 //!
 //! Of the slots that learned something the first in the order of the ways passes on what it knows, until none is left or
 //! a rule is broken. So a slot is visited once where several ways meet, however they are laid out; a loop is gone through
-//! until it is settled before what stands behind its end is looked at; and a slot costs nothing while nothing that it
+//! until it is settled before what stands after its end is looked at; and a slot costs nothing while nothing that it
 //! knows changes. Where that takes a million steps the next million goes forward in the order, and begins anew at its
 //! end, and so on in turn. Each table on the way is below every good one. Whether the last one is good is not known
 //! here: its caller tests it.
@@ -17,23 +17,23 @@ ghost use Rattle.std.specs.Prelude.{◌≡◌, ◌<◌, OnOk, IfOk, IfErr, IfSom
 ghost use Rattle.std.specs.Option.{option_to_list};
 ghost use Rattle.bpf_isa.specs.Program.{IsProgram};
 ghost use Rattle.bpf_isa.specs.Slots.{at};
+ghost use Rattle.ranges.specs.Changing.{left_of};
 ghost use Rattle.ranges.specs.Moving.{reach};
 ghost use Rattle.ranges.specs.SeenStates.{state_of};
 ghost use Rattle.verifier.specs.Sought.{TakesIn, IsSought};
 ghost use Rattle.verifier.specs.Tables.{state_at, rule_with};
 ghost use Rattle.verifier.specs.Ways.{Goes, IsWay, LearnsAlong, LeavesAt};
-ghost use Rattle.verifier.specs.Passing.{Arrive, StaysSought, along, next_with, target_with};
+ghost use Rattle.verifier.specs.Passing.{Arrive, StaysSought, along, state_along};
 
 use crate::agenda::Agenda;
 use crate::check::fault_at;
-use crate::origins::Edge;
 use crate::parts::{Parts, changed_by, parts_of};
-use crate::passing::{arrive_next, arrive_target, next_effect, rule_at, target_effect, target_of};
+use crate::passing::{Edge, arrive_by, effect_on, end_of, rule_at};
 use crate::scene::Scene;
 use crate::table::Table;
 use crate::way::{Way, learn_along};
 use bpf_isa::instr::Instr;
-use bpf_shape::{Fault, edges_of};
+use bpf_shape::Fault;
 use ranges::{Effect, State};
 use std::alloc::{AllocError, Global};
 
@@ -62,43 +62,23 @@ fn arrive_along(table: &mut Table, agenda: &mut Agenda, way: &Way, told: Parts)
     }
 }
 
-/// Leads a state along the edge to the next slot, if there is one. What is passed arrives there.
-fn lead_next(
+/// Leads a state along an edge to a slot. What is passed arrives there.
+fn lead_along(
     scene: &Scene,
     table: &mut Table,
     agenda: &mut Agenda,
-    edge: Option<usize>,
-    instr: &Instr,
+    edge: Edge,
+    slot: usize,
+    effect: &Effect,
+    changed: Parts,
     state: &mut State,
 )
-    requires { Arrive (length table.old) (option_to_list (along scene.now.shape.now.heads edge (next_with scene.now.guards scene.now.sectors (state_of state.old) instr.now))) }
-    ensures { TakesIn table.old (option_to_list (along scene.now.shape.now.heads edge (next_with scene.now.guards scene.now.sectors (state_of state.old) instr.now))) table.new }
+    requires { Arrive (length table.old) (option_to_list (along scene.now.shape.now.heads (Some slot) (left_of (state_of state.old) effect.now))) }
+    ensures { TakesIn table.old (option_to_list (along scene.now.shape.now.heads (Some slot) (left_of (state_of state.old) effect.now))) table.new }
 {
-    if let Some(slot) = edge {
-        if arrive_next(scene, slot, instr, state) {
-            let told = agenda.told(Edge::Next, slot, changed_by(instr));
-            arrive(table, agenda, slot, state, told);
-        }
-    }
-}
-
-/// The same of the other edge.
-fn lead_target(
-    scene: &Scene,
-    table: &mut Table,
-    agenda: &mut Agenda,
-    edge: Option<usize>,
-    instr: &Instr,
-    state: &mut State,
-)
-    requires { Arrive (length table.old) (option_to_list (along scene.now.shape.now.heads edge (target_with scene.now.guards (state_of state.old) instr.now))) }
-    ensures { TakesIn table.old (option_to_list (along scene.now.shape.now.heads edge (target_with scene.now.guards (state_of state.old) instr.now))) table.new }
-{
-    if let Some(slot) = edge {
-        if arrive_target(scene, slot, instr, state) {
-            let told = agenda.told(Edge::Target, slot, changed_by(instr));
-            arrive(table, agenda, slot, state, told);
-        }
+    if arrive_by(scene, effect, slot, state) {
+        let told = agenda.told(edge, slot, changed);
+        arrive(table, agenda, slot, state, told);
     }
 }
 
@@ -117,8 +97,8 @@ fn copy_state(table: &Table, slot: usize, room: &mut State) -> bool
 
 /// Where little changes and something is known there already, the way to another slot.
 #[inline(always)]
-fn way_to(table: &Table, from: usize, to: usize, effect: Effect, is_head: bool) -> Option<Way>
-    ensures { IfSome result (IsWay from to is_head effect (length table.now)) }
+fn way_to(table: &Table, from: usize, to: usize, effect: &Effect, is_head: bool) -> Option<Way>
+    ensures { IfSome result (IsWay from to is_head effect.now (length table.now)) }
 {
     match effect {
         Effect::Changed(change) => {
@@ -126,58 +106,36 @@ fn way_to(table: &Table, from: usize, to: usize, effect: Effect, is_head: bool) 
                 Some(Way {
                     from,
                     to,
-                    change,
+                    change: *change,
                     is_head,
                 })
             } else {
                 None
             }
         }
-        _ => None,
+        Effect::Nothing | Effect::Entered => None,
     }
 }
 
-/// What a slot's state becomes on the edge to the next slot. Nothing where it has none, and much where it isn't to be said.
+/// What comes of a slot's state along an edge. Nothing does where it has none.
 #[inline(always)]
-fn effect_next(scene: &Scene, table: &Table, slot: usize, is_asked: bool, instr: &Instr) -> Effect
-    ensures { LeavesAt (state_at table.now slot) result (λ s. next_with scene.now.guards scene.now.sectors s instr.now) }
+fn effect_at(scene: &Scene, table: &Table, slot: usize, edge: Edge, instr: &Instr) -> Effect
+    ensures { LeavesAt (state_at table.now slot) result (λ s. state_along edge scene.now.guards scene.now.sectors s instr.now) }
 {
     match table.state(slot) {
-        Some(state) => {
-            if is_asked {
-                next_effect(scene, instr, state)
-            } else {
-                Effect::Much
-            }
-        }
+        Some(state) => effect_on(scene, edge, instr, state),
         None => Effect::Nothing,
     }
 }
 
-/// The same on the other edge.
-#[inline(always)]
-fn effect_target(scene: &Scene, table: &Table, slot: usize, is_asked: bool, instr: &Instr) -> Effect
-    ensures { LeavesAt (state_at table.now slot) result (λ s. target_with scene.now.guards s instr.now) }
-{
-    match table.state(slot) {
-        Some(state) => {
-            if is_asked {
-                target_effect(scene, instr, state)
-            } else {
-                Effect::Much
-            }
-        }
-        None => Effect::Nothing,
-    }
-}
-
-/// What a slot passes to the next one arrives.
+/// What a slot passes along an edge arrives.
 #[tactic(auto, using(crate::proofs::Ascending::stays_self, crate::proofs::Ascending::stays_more))]
-fn pass_next(
+fn pass_along(
     scene: &Scene,
     table: &mut Table,
     agenda: &mut Agenda,
     slot: usize,
+    edge: Edge,
     instr: &Instr,
     room: &mut State,
 )
@@ -188,46 +146,16 @@ fn pass_next(
 {
     let _states = table.slots();
     let _slots = scene.program.slots();
-    let edge = edges_of(slot, instr).next;
-    let Some(to) = edge else {
+    let Some(to) = end_of(edge, slot, instr) else {
         return;
     };
-    let effect = effect_next(scene, table, slot, agenda.has_told(Edge::Next), instr);
-    if let Some(way) = way_to(table, slot, to, effect, scene.shape.is_head(to)) {
-        let told = agenda.told(Edge::Next, to, parts_of(&way.change));
+    let effect = effect_at(scene, table, slot, edge, instr);
+    if let Some(way) = way_to(table, slot, to, &effect, scene.shape.is_head(to)) {
+        let told = agenda.told(edge, to, parts_of(&way.change));
         arrive_along(table, agenda, &way, told);
     } else if !matches!(effect, Effect::Nothing) && copy_state(table, slot, room) {
-        lead_next(scene, table, agenda, edge, instr, room);
-    }
-}
-
-/// What a slot passes to the target of a jump or the entry of a local function arrives.
-#[tactic(auto, using(crate::proofs::Ascending::stays_self, crate::proofs::Ascending::stays_more))]
-fn pass_target(
-    scene: &Scene,
-    table: &mut Table,
-    agenda: &mut Agenda,
-    slot: usize,
-    instr: &Instr,
-    room: &mut State,
-)
-    requires long { length table.old ≡ length scene.now.program.now }
-    requires small { slot < 4096 }
-    requires instr { at scene.now.program.now slot ≡ Some instr.now }
-    ensures { StaysSought scene.now.guards scene.now.program.now scene.now.sectors table.old table.new }
-{
-    let _states = table.slots();
-    let _slots = scene.program.slots();
-    let edge = target_of(slot, instr);
-    let Some(to) = edge else {
-        return;
-    };
-    let effect = effect_target(scene, table, slot, agenda.has_told(Edge::Target), instr);
-    if let Some(way) = way_to(table, slot, to, effect, scene.shape.is_head(to)) {
-        let told = agenda.told(Edge::Target, to, parts_of(&way.change));
-        arrive_along(table, agenda, &way, told);
-    } else if !matches!(effect, Effect::Nothing) && copy_state(table, slot, room) {
-        lead_target(scene, table, agenda, edge, instr, room);
+        let changed = changed_by(instr);
+        lead_along(scene, table, agenda, edge, to, &effect, changed, room);
     }
 }
 
@@ -254,11 +182,11 @@ fn make_step(
     if is_seen && let Some(cause) = rule_at(scene, table, slot) {
         return Err(fault_at(cause, slot));
     }
-    pass_next(scene, table, agenda, slot, &instr, room);
+    pass_along(scene, table, agenda, slot, Edge::Next, &instr, room);
     if agenda.keeps_from_target(&instr) {
         return Ok(true);
     }
-    pass_target(scene, table, agenda, slot, &instr, room);
+    pass_along(scene, table, agenda, slot, Edge::Target, &instr, room);
     Ok(true)
 }
 

@@ -40,7 +40,7 @@
 //! - `Good`: `IsGoodWith`, and `IsGood` without guards. That the states are within their bounds is a part of it, and holds
 //!   of each `Table`. `Breaches`: `FirstBreach` of a table, in the order of the document.
 //! - `Least`: `IsLeast`, a good table that is contained in each good table.
-//! - `Rounds`: `round_of`, the table of so many `rounds`, and `IsSettled`: the one of them that a round doesn't
+//! - `Rounds`: `round_of`, the table of that many `rounds`, and `IsSettled`: the one of them that a round doesn't
 //!   change. `Measure`: the sum of a table, by which the rounds end. `Visits`: how often slots are visited in them.
 //! - `Sought`: `IsSought`, a table to which a search comes that passes on what one slot after the other knows.
 //! - `Verdicts`: `IsVerified`, what holds of each `Verified`, and `RefusedWith`, by cases; `IsAccepted` and `Refused`
@@ -57,7 +57,7 @@
 //! - What it refuses, want of memory aside, breaks this shape rule first; or no table is good for it, and this is
 //!   the first breach of its settled table. Where the rounds need more than 500,000 visits of slots, it is a breach that
 //!   the search met. No program is both accepted and refused, there is one budget and one table at most, one refusal
-//!   up to so many visits, and none is refused for a table that isn't settled (`laws`).
+//!   up to that many visits, and none is refused for a table that isn't settled (`laws`).
 //! - The rounds end: each that changes the table raises its sum, which stays below 2^96 (`laws`). So there is no
 //!   limit of rounds.
 //! - A program that is accepted without guards is accepted with them, with the same budget and the same table, and none of

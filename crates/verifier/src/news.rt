@@ -2,15 +2,15 @@
 //!
 //! A loop is settled by what its heads learn. A sum of numbers that widen changes with each of their steps, in all
 //! slots to which it goes, and mostly no head learns of it. So a long search makes a sample now and then: a lap in
-//! which all is told, and what each slot learns is taken down. Behind it only those parts are told at once on which
+//! which all is told, and what each slot learns is taken down. After it only those parts are told at once on which
 //! hangs what a head learned in the sample. The others wait for many laps, and are told once for all of them.
 //!
 //! Nothing that is proved rests on it: a table that is found with it is tested.
 
 use crate::order::Order;
-use crate::origins::{Edge, Gone, Origins};
+use crate::origins::{Gone, Origins};
 use crate::parts::{Parts, needed_before};
-use crate::passing::target_of;
+use crate::passing::{Edge, target_of};
 use crate::scene::Scene;
 use bpf_shape::edges_of;
 use std::alloc::{AllocError, Global};
@@ -18,7 +18,7 @@ use std::alloc::{AllocError, Global};
 /// How many steps are made before the first sample.
 const FIRST: u64 = 1 << 16;
 
-/// How many steps are made at most behind a sample.
+/// How many steps are made at most after a sample.
 const NARROW: u64 = 1 << 18;
 
 /// What is told at once.

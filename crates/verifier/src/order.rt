@@ -85,7 +85,7 @@ impl Ways {
     }
 }
 
-/// Whether a slot is the test behind a call of `again`.
+/// Whether a slot is the test after a call of `again`.
 fn tests_again(program: &Program, slot: usize) -> bool {
     if slot == 0 {
         return false;

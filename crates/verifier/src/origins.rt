@@ -10,6 +10,7 @@ ghost use Rattle.std.specs.Prelude.{◌<◌};
 
 use crate::order::Order;
 use crate::parts::{Parts, changed_by};
+use crate::passing::Edge;
 use crate::scene::Scene;
 use bpf_isa::instr::Instr;
 use bpf_shape::edges_of;
@@ -18,15 +19,8 @@ use std::alloc::{AllocError, Global};
 /// How many groups a stack has.
 const GROUPS: usize = 64;
 
-/// Behind the numbers of the slots: what the instruction at slot 0 makes. A slot's instruction makes this and its slot.
+/// After the numbers of the slots: what the instruction at slot 0 makes. A slot's instruction makes this and its slot.
 const MADE: u16 = 4096;
-
-/// The two edges of a slot: to the next one, and to the target of a jump or the entry of a local function.
-#[derive(Clone, Copy)]
-pub(crate) enum Edge {
-    Next,
-    Target,
-}
 
 /// On which edges something was passed on.
 #[derive(Drop)]
@@ -44,7 +38,7 @@ fn is_first(passed: &mut Vec<bool>, slot: usize) -> bool {
     true
 }
 
-/// No slot of so many has passed something on.
+/// No slot of that many has passed something on.
 fn none_passed(alloc: Global, slots: usize) -> Result<Vec<bool>, AllocError> {
     let mut passed = Vec::new(alloc);
     passed.resize(slots, false)?;
@@ -52,7 +46,7 @@ fn none_passed(alloc: Global, slots: usize) -> Result<Vec<bool>, AllocError> {
 }
 
 impl Gone {
-    /// No slot of so many has passed something on.
+    /// No slot of that many has passed something on.
     pub(crate) fn new(alloc: Global, slots: usize) -> Result<Gone, AllocError> {
         Ok(Gone {
             nexts: none_passed(alloc, slots)?,
@@ -78,7 +72,7 @@ impl Gone {
     }
 }
 
-/// For each group the slot from which it comes, or behind these the one whose instruction made it.
+/// For each group the slot from which it comes, or after these the one whose instruction made it.
 #[derive(Clone, Copy)]
 struct Origin {
     is_known: bool,
@@ -130,7 +124,7 @@ impl Origin {
     }
 }
 
-/// The groups that an instruction makes for the slots behind it.
+/// The groups that an instruction makes for the slots after it.
 fn made_by(instr: &Instr) -> Parts {
     match instr {
         Instr::CallLocal { .. } => Parts::NONE,

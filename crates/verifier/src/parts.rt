@@ -173,7 +173,7 @@ fn parts_of_store(base: Register, offset: i16) -> Parts {
     group_at(distance).and(group_at(distance.wrapping_add(7)))
 }
 
-/// The parts at which an instruction looks: what it breaks and what changes behind it hangs on no others.
+/// The parts at which an instruction looks: what it breaks and what changes after it hangs on no others.
 pub(crate) fn looked_at(instr: &Instr) -> Parts {
     match instr {
         Instr::Arithmetic { dst, source, .. } | Instr::Branch { dst, source, .. } => {
@@ -213,14 +213,14 @@ fn parts_of_bytes(bytes: Stretch) -> Parts {
 pub(crate) fn parts_of(change: &Change) -> Parts {
     match change {
         Change::Stays => Parts::NONE,
-        Change::Register(n, _) => register(*n),
-        Change::Registers(n, _, m, _) => register(*n).and(register(*m)),
+        Change::Register(r, _) => Parts::of(*r),
+        Change::Registers(r, _, q, _) => Parts::of(*r).and(Parts::of(*q)),
         Change::Answer(_) => Parts::CALLED,
         Change::Group(n, _) => Parts {
             values: 0,
-            groups: 1 << (n % 64),
+            groups: 1 << (n.number % 64),
         },
-        Change::Written(bytes) => parts_of_bytes(*bytes),
+        Change::Bytes(bytes) => parts_of_bytes(*bytes),
         Change::Copied(bytes, _) => Parts::CALLED.and(parts_of_bytes(*bytes)),
     }
 }
@@ -244,7 +244,7 @@ pub(crate) fn changed_by(instr: &Instr) -> Parts {
     }
 }
 
-/// The parts in front of an instruction on which these parts behind it hang.
+/// The parts in front of an instruction on which these parts after it hang.
 pub(crate) fn needed_before(instr: &Instr, behind: Parts) -> Parts {
     let changed = changed_by(instr);
     match instr {

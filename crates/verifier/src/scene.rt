@@ -7,7 +7,7 @@ ghost use Rattle.bpf_shape.specs.Rules.{IsShaped};
 use bpf_isa::program::Program;
 use bpf_shape::Shape;
 
-/// A program with its shape, on devices of so many sectors, with guards or without.
+/// A program with its shape, on devices of that many sectors, with guards or without.
 #[derive(Clone, Copy)]
 pub(crate) struct Scene<'x> {
     pub program: &'x Program,

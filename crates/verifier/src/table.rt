@@ -97,7 +97,7 @@ impl Table {
         }
     }
 
-    /// The table of so many slots with the start in slot 0 and no other state.
+    /// The table of that many slots with the start in slot 0 and no other state.
     pub(crate) fn first(alloc: Global, slots: usize) -> Result<Table, AllocError>
         ensures { IfOk result (λ table. table ≡ first_table slots) }
     {

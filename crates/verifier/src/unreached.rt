@@ -20,7 +20,7 @@ fn is_unreached(verified: &Verified<'_>, slot: usize) -> bool
     verified.program().at(slot).is_some() && verified.table().state(slot).is_none()
 }
 
-/// These, and the instruction at a slot behind them.
+/// These, and the instruction at a slot after them.
 fn and_slot(found: Option<Unreached>, slot: usize) -> Unreached
     requires slot { slot < 4096 }
     requires few { IfSome found (λ u. u.count ≤ slot) }

@@ -2,7 +2,7 @@
 
 ghost use Rattle.std.specs.Prelude.{◌≡◌, ◌≤◌, ◌⊎◌, IfOk, IfErr, OnOk, None, false};
 ghost use Rattle.std.specs.Option.{option_map};
-ghost use Rattle.limits.specs.Sizes.{most_sectors};
+ghost use Rattle.base.specs.Sizes.{most_sectors};
 ghost use Rattle.bpf_isa.specs.Program.{IsProgram};
 ghost use Rattle.bpf_shape.specs.Fault.{memory_fault};
 ghost use Rattle.ranges.specs.SeenStates.{state_of};
@@ -24,7 +24,7 @@ use ranges::State;
 use std::alloc::Global;
 use std::marker::Model;
 
-/// A program that is accepted for devices of so many sectors, with guards or without, with the budget of its steps and its
+/// A program that is accepted for devices of that many sectors, with guards or without, with the budget of its steps and its
 /// least good table.
 ///
 /// Contracts see it as a record of these five, of which `IsVerified` always holds.
@@ -136,7 +136,7 @@ fn kept_table(alloc: Global, scene: &Scene) -> Result<Table, Unaccepted>
     }
 }
 
-/// Whether a program is accepted for devices of so many sectors, with guards or without (docs/VERIFIER.md): it is where it
+/// Whether a program is accepted for devices of that many sectors, with guards or without (docs/VERIFIER.md): it is where it
 /// has the right shape and some table is good for it, and then it has the least good table. Else the first broken shape
 /// rule; or the first breach of the table at which the rounds end, where no table is good; or, where they need more than
 /// 500,000 visits of slots, the first breach that the search met. `Memory` is want of memory. Beside a fault it is told what
@@ -196,7 +196,7 @@ pub fn verify_known<'x>(
     verify_with(alloc, program, sectors, false)
 }
 
-/// Whether a program is accepted without guards for devices of so many sectors, as `verify_with` says.
+/// Whether a program is accepted without guards for devices of that many sectors, as `verify_with` says.
 pub fn verify<'x>(alloc: Global, program: &'x Program, sectors: u32) -> Result<Verified<'x>, Fault>
     requires some { 1 ≤ sectors }
     requires device { sectors ≤ most_sectors }

@@ -42,8 +42,8 @@ fn leaves_group(change: &Change, n: usize) -> bool
         | Change::Register(_, _)
         | Change::Registers(_, _, _, _)
         | Change::Answer(_) => true,
-        Change::Group(changed, _) => *changed != n,
-        Change::Written(bytes) | Change::Copied(bytes, _) => !touches(*bytes, n),
+        Change::Group(changed, _) => changed.number != n,
+        Change::Bytes(bytes) | Change::Copied(bytes, _) => !touches(*bytes, n),
     }
 }
 

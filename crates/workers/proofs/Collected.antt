@@ -6,7 +6,7 @@ use Rattle.std.proofs.lemmas.Option.{slice_get_within, get_or_from_slice_get, sl
 use Rattle.std.proofs.lemmas.List.Quantifiers.{position-Some}
 use Rattle.std.proofs.lemmas.List.Sums.{fails_before_first}
 use Rattle.std.proofs.lemmas.Grind.{common_steps}
-use Rattle.lines.specs.Line.{FailingLine}
+use Rattle.report.specs.Line.{FailingLine}
 use Rattle.workers.specs.Least.{least_image}
 use Rattle.workers.specs.Pieces.{PieceValue, AreWhole, of_block, counted_at, lines_at, lines_of, full_lines, counts, lines_by_block, IsFirstTwice, IsFirstMissing}
 use Rattle.workers.specs.Table.{AreRows, is_missing, row_lines}

@@ -2,7 +2,7 @@
 use denote.RattleType.{RattleType}
 use denote.Param.Send.{IsSend, sendable}
 use Rattle.std.proofs.Crossing.{crosses}
-use Rattle.lines.proofs.Crossing.{Part-send}
+use Rattle.report.proofs.Crossing.{Part-send}
 use Rattle.shares.proofs.Crossing.{Seat-send, Hand-send}
 use Rattle.workers.specs.contracts.piece.Piece as Piece
 use Rattle.workers.specs.contracts.crew.Done as Done

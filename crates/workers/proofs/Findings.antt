@@ -6,7 +6,7 @@ use Rattle.choices.specs.Picked.{PickedValue, IsRanked, choice_of_picked}
 use Rattle.interp.specs.declared.outcome.Outcome.{Outcome}
 use Rattle.interp.specs.Ending.{ending_of}
 use Rattle.checker.specs.Checker.{CheckerValue}
-use Rattle.lines.specs.Line.{FailingLine}
+use Rattle.report.specs.Line.{FailingLine}
 use Rattle.workers.specs.declared.judging.Finding.{Finding}
 use Rattle.workers.specs.declared.judging.Finding.TheVariants.{Good, Ends}
 use Rattle.workers.specs.declared.look.Stop.{Stop}

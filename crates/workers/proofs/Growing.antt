@@ -1,4 +1,4 @@
--- The entries of a cut, when parts and entries are added behind those that there are.
+-- The entries of a cut, when parts and entries are added after those that there are.
 use Rattle.std.proofs.Common.{ℕ, zero, suc, ◌≡◌, ◌-◌, ◌<◌, ◌≤◌, List, [], ◌∷◌, ◌++◌, length, map, take, drop, slice_get, Some, refl, sym, ap, ◌∙◌, subst, inl, inr, arith, length-append, length-drop}
 use Rattle.std.specs.Option.{option_map}
 use Rattle.std.proofs.lemmas.List.{map-append, take-append-le, take_all}
@@ -12,7 +12,7 @@ use Rattle.workers.specs.Entries.{AreKept, Stands, between, entry_value}
 use Rattle.workers.specs.Failing.{Subject}
 use Rattle.workers.specs.Reuse.{AreKnown, EntryValue, IsEntryOf, IsKnown, Rises, told_or}
 
--- Numbers behind those of a list don't change what stands between two of its places.
+-- Numbers after those of a list don't change what stands between two of its places.
 
 dropped : (parts more : List ℕ) (n : ℕ) → n ≤ length parts → drop n (parts ++ more) ≡ drop n parts ++ more
 dropped parts more zero le = refl

@@ -2,7 +2,7 @@
 use Rattle.std.proofs.Common.{ℕ, zero, suc, ◌≡◌, ◌+◌, ◌-◌, ◌*◌, min, if◌then◌else◌, IfSome, ◌<◌, ◌≤◌, ⊎_elim, Bool, true, false, ◌&&◌, nat_lt, nat_le, eqb, List, [], ◌∷◌, ◌++◌, Option, None, Some, refl, sym, ◌∙◌, ap, subst, arith}
 use Rattle.std.proofs.lemmas.Bool.Decides.{eqb_tells, leb_tells, nat_tests}
 use Rattle.std.proofs.lemmas.Grind.{flat_map-append}
-use Rattle.lines.specs.Line.{FailingLine}
+use Rattle.report.specs.Line.{FailingLine}
 use Rattle.shares.specs.declared.view.SeatStep.{SeatStep}
 use Rattle.shares.specs.declared.view.SeatStep.TheVariants.{Drew, Posted, SawLeast}
 use Rattle.shares.specs.Steps.{bit, none_posted, posted_it, found_it, posts, finds, image_or_none, shown_next, next_seen, late_draws}

@@ -10,7 +10,7 @@ use Rattle.epochs.specs.Plan.{PlanValue}
 use Rattle.choices.specs.Choices.{ChoiceValue}
 use Rattle.choices.specs.Picked.{PickedValue, IsRanked}
 use Rattle.checker.specs.Checker.{CheckerValue}
-use Rattle.lines.specs.Line.{FailingLine}
+use Rattle.report.specs.Line.{FailingLine}
 use Rattle.workers.specs.Failing.{Subject, choices_of, image_count, judged_count, ending_at, line_if, line_of, image_lines, lines_from, failing_lines, part}
 use Rattle.verdict_cache.specs.Endings.{ending_on}
 use Rattle.machine.specs.Outcome.{Ending}

@@ -28,7 +28,7 @@ taken_on [] i x there = absurd (let bad : None ≡ Some x = there in cc)
 taken_on (p ∷ own) zero x there = ap (λ (y : Pick). y ∷ []) (sym (same_Some p x there))
 taken_on (p ∷ own) (suc i) x there = ap (λ (rest : List Pick). p ∷ rest) (taken_on own i x there)
 
--- behind the last of them, all are marked that there are
+-- after the last of them, all are marked that there are
 pub all_marked : (marks : List Bool) (picks own : List Pick) (place seen : ℕ) → length picks ≤ place → marked_picks marks (take place picks) ≡ take seen own
     → IsTrue (seen == length own) → marked_picks marks picks ≡ own
 all_marked marks picks own place seen past so whole =

@@ -11,7 +11,7 @@ use Rattle.choices.specs.Choices.{ChoiceValue, choice_of}
 use Rattle.choices.specs.Picked.{PickedValue, choice_of_picked}
 use Rattle.machine.specs.Outcome.{Ending}
 use Rattle.checker.specs.Checker.{CheckerValue}
-use Rattle.lines.specs.Line.{FailingLine}
+use Rattle.report.specs.Line.{FailingLine}
 use Rattle.workers.specs.Failing.{Subject, choices_of, ending_at, line_if, line_of, image_lines, lines_from}
 use Rattle.workers.specs.Input.{line_list}
 use Rattle.workers.proofs.JudgedLines.{line_here, lines_of_image}
@@ -61,7 +61,7 @@ one_more s image before after e = e ∙ ap (λ (ls : List FailingLine). before +
 pub as_many : (s : Subject) (image count : ℕ) (before after : List FailingLine) → after ≡ before ++ lines_from s image count → after ≡ before ++ lines_from s image (image + count - image)
 as_many s image count before after e = let n : count ≡ image + count - image = omega arith in e ∙ ap (λ k. before ++ lines_from s image k) n
 
--- images in a row, and those behind them
+-- images in a row, and those after them
 pub lines_join : (s : Subject) (first image next : ℕ) (before after : List FailingLine) → first ≤ image → image ≤ next → before ≡ lines_from s first (image - first)
     → after ≡ before ++ lines_from s image (next - image) → after ≡ lines_from s first (next - first)
 lines_join s first image next before after low high so e =

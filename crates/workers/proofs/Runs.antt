@@ -6,7 +6,7 @@ use Rattle.base.proofs.Lists.{slice_get_of_push}
 use Rattle.base.specs.declared.causes.WorkCause.TheVariants as work
 use Rattle.base.specs.declared.refusal.Refusal.{Refusal}
 use Rattle.base.specs.Refusals.{work_refusal}
-use Rattle.lines.specs.Line.{FailingLine, first_lines}
+use Rattle.report.specs.Line.{FailingLine, first_lines}
 use Rattle.workers.specs.declared.found.Found.{Found}
 use Rattle.workers.specs.declared.found.Found.TheVariants.{Lines, Passed}
 use Rattle.workers.specs.Exploring.{ArePiecesOf}

@@ -9,7 +9,7 @@ use Rattle.helpers.specs.declared.device.Context.{Context}
 use Rattle.machine.specs.Outcome.{Ending, Verdict, Stopped, OutOfSteps, Stray}
 use Rattle.checker.specs.Checker.{CheckerValue, Suits, IsFor, AreFor, judgement}
 use Rattle.checker.proofs.Suiting.{suits_image, for_each}
-use Rattle.lines.specs.Line.{FailingLine}
+use Rattle.report.specs.Line.{FailingLine}
 use Rattle.verifier.specs.Verdicts.{VerifiedValue}
 use Rattle.soundness.specs.Accepted.{IsImage, IsSafeRun, AcceptedRunsSafely}
 use Rattle.soundness.specs.Guards.{IsSafeRunWithGuards, GuardedRunsSafely}

@@ -1,4 +1,4 @@
--- Images that are passed over: where a checker finds one good, it finds those behind it good for which the entry holds too.
+-- Images that are passed over: where a checker finds one good, it finds those after it good for which the entry holds too.
 use Rattle.std.proofs.Common.{ℕ, zero, suc, ◌≡◌, ◌+◌, ◌-◌, ◌*◌, ◌<◌, ◌≤◌, inl, inr, Bool, false, List, [], ◌∷◌, ◌++◌, length, take, drop, Option, None, Some, slice_get, refl, sym, ◌∙◌, ap, subst, arith, append-nil}
 use Rattle.std.specs.List.{filter_map, flat_map, range_with_len, slice_index_or}
 use Rattle.std.proofs.lemmas.Bool.{cases_lt}
@@ -17,7 +17,7 @@ use Rattle.choices.specs.Picked.{PickedValue, choice_of_picked, IsRanked, CanPas
 use Rattle.choices.proofs.Passing.{ranked_is_choice, pass_leads, passed_part}
 use Rattle.machine.specs.Outcome.{Ending}
 use Rattle.checker.specs.Checker.{CheckerValue}
-use Rattle.lines.specs.Line.{FailingLine, fails}
+use Rattle.report.specs.Line.{FailingLine, fails}
 use Rattle.workers.specs.declared.entries.Known.{Known}
 use Rattle.workers.specs.Failing.{Subject, choices_of, ending_at, line_if, line_of, image_lines, lines_from}
 use Rattle.workers.specs.Reuse.{EntryValue, AreKnown, IsFound, IsNextTold, tells}

@@ -3,7 +3,7 @@ use Rattle.std.proofs.Common.{ℕ, zero, suc, ◌≡◌, ◌≢◌, ◌+◌, ◌
 use Rattle.std.specs.List.{flat_map, range_with_len}
 use Rattle.std.proofs.lemmas.Bool.Decides.{eqb_tells, nat_tests}
 use Rattle.std.proofs.lemmas.List.Elements.{filter-append}
-use Rattle.lines.specs.Line.{FailingLine, first_lines}
+use Rattle.report.specs.Line.{FailingLine, first_lines}
 use Rattle.workers.specs.Laws.{Precedes, AreSomeOf, BeginsWithFirst}
 use Rattle.workers.proofs.Sets.{Each, Ordered, each_append, each_then}
 

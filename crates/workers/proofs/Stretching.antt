@@ -42,7 +42,7 @@ last_pick picks d = slice_index_or picks (length picks - 1) d
 abbrev pub no_pick : Pick
 no_pick = record { part = 0; fate = 0 }
 
--- these are the departures of a choice of the run, at least one, with so many fates
+-- these are the departures of a choice of the run, at least one, with that many fates
 pub record HasLast (s : Subject) (tears : Bool) (p : PickedValue) (picks : List Pick) (m : ℕ) : Type 0 where
   pub tears_is : tears ≡ s.tears
   pub picks_is : picks ≡ p.picks

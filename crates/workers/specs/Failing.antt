@@ -1,4 +1,4 @@
--- The failing lines of a run: each image with each checker that does not answer 0 there (docs/REPORT.md,
+-- The failing lines of a run: each image with each checker that does not answer 0 there (docs/OUTPUT.md,
 -- The report; docs/CRASH-MODEL.md, Order and numbers of the images).
 use Rattle.std.specs.Prelude.{ℕ, ◌+◌, ◌-◌, ◌*◌, min, Bool, if◌then◌else◌, List, length, Option, None, Some, slice_get}
 use Rattle.std.specs.Option.{option_and_then}
@@ -9,7 +9,7 @@ use Rattle.choices.specs.Choices.{ChoiceValue, ranked_choices}
 use Rattle.machine.specs.Outcome.{Ending}
 use Rattle.checker.specs.Checker.{CheckerValue, judgement}
 use Rattle.images.specs.Views.{view_of, sectors_of, context_at}
-use Rattle.lines.specs.Line.{FailingLine, fails}
+use Rattle.report.specs.Line.{FailingLine, fails}
 
 -- what is judged: images of a plan with at most `bound` departures, torn writes or none, by checkers. They are those from one on to
 -- before another; the whole run is from 0 to the number of its images. And whether the first failing image is all that is asked for.

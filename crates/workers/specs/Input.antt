@@ -5,7 +5,7 @@ use Rattle.epochs.specs.Plan.{PlanValue}
 use Rattle.checker.specs.Checker.{CheckerValue, AreFor}
 use Rattle.choices.specs.Choices.{limit}
 use Rattle.choices.specs.Sums.{StartsValue}
-use Rattle.lines.specs.Line.{FailingLine}
+use Rattle.report.specs.Line.{FailingLine}
 use Rattle.workers.specs.Failing.{Subject, image_count, judged_count}
 
 -- the history, the table of choices and what departs as one are those of the plan. Each checker is for the device of its log, the

@@ -1,6 +1,6 @@
 -- The least failing image, as the code computes it.
 use Rattle.std.specs.Prelude.{ℕ, min, List, [], ◌∷◌, Option, None, Some}
-use Rattle.lines.specs.Line.{FailingLine}
+use Rattle.report.specs.Line.{FailingLine}
 
 -- the lower of two images, each of which there may not be
 abbrev pub lower : Option ℕ → Option ℕ → Option ℕ

@@ -53,7 +53,7 @@ EndsAt s choice i ending = (checker : CheckerValue) → slice_get s.checkers i �
 abbrev pub IsOutcome : Subject → ChoiceValue → Stop → Type 0
 IsOutcome s choice stop = IfSome stop.outcome (λ o. EndsAt s choice stop.checker (ending_of o))
 
--- of so many images in a row, from that of a choice on, a checker makes no line
+-- of that many images in a row, from that of a choice on, a checker makes no line
 abbrev pub AreGood : Subject → PickedValue → ℕ → ℕ → Type 0
 AreGood s p count i = (n j : ℕ) → IsRanked s.plan s.bound s.tears n p → j < count → line_of s (n + j) i ≡ None
 
@@ -61,11 +61,11 @@ AreGood s p count i = (n j : ℕ) → IsRanked s.plan s.bound s.tears n p → j 
 abbrev pub parts_at : Subject → PickedValue → ℕ
 parts_at s p = length (volatile_parts s.plan.by s.plan.log.entries p.cut)
 
--- so many choices in a row, from one on, differ in their last departure alone
+-- that many choices in a row, from one on, differ in their last departure alone
 abbrev pub Reaches : Subject → PickedValue → ℕ → Type 0
 Reaches s p count = (j : ℕ) → 1 ≤ j → j < count → (parts_at s p ≤ 262144) × (front : List Pick) × (last : Pick) × CanPass (fates_of s.tears) (parts_at s p) j front last p.picks
 
--- the entry that was found for a choice holds for so many in a row from it on, of which the last departure alone differs
+-- the entry that was found for a choice holds for that many in a row from it on, of which the last departure alone differs
 abbrev pub HoldsFrom : Subject → PickedValue → Known → EntryValue → ℕ → Type 0
 HoldsFrom s p found entry count = (front : List Pick) (last : Pick) (j : ℕ) → CanPass (fates_of s.tears) (parts_at s p) j front last p.picks → 1 ≤ j → j < count
     → (slice_index_or found.marks (length front) false ≡ false) × (tells entry.told (pick_after (fates_of s.tears) j last).part ≡ false)
@@ -75,7 +75,7 @@ abbrev pub Tells : Subject → PickedValue → ℕ → ℕ → Look → Type 0
 Tells s p most i (Good count) = (1 ≤ count) × (count ≤ most) × AreGood s p count i
 Tells s p most i (Stops stop) = (stop.checker ≡ i) × IsOutcome s (choice_of_picked s.plan p) stop
 
--- what is said of a choice: so many images are good by all checkers, or its own is by those before one
+-- what is said of a choice: that many images are good by all checkers, or its own is by those before one
 abbrev pub TellsAll : Subject → PickedValue → ℕ → Look → Type 0
 TellsAll s p most (Good count) = (1 ≤ count) × (count ≤ most) × Reaches s p count × ((i : ℕ) → i < length s.checkers → AreGood s p count i)
 TellsAll s p most (Stops stop) = ((i : ℕ) → i < stop.checker → AreGood s p 1 i) × IsOutcome s (choice_of_picked s.plan p) stop

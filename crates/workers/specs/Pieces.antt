@@ -4,7 +4,7 @@ use Rattle.std.specs.List.{flat_map, range_with_len, list_any}
 use Rattle.base.specs.declared.causes.WorkCause.TheVariants as work
 use Rattle.base.specs.declared.refusal.Refusal.{Refusal}
 use Rattle.base.specs.Refusals.{work_refusal}
-use Rattle.lines.specs.Line.{FailingLine}
+use Rattle.report.specs.Line.{FailingLine}
 use Rattle.workers.specs.declared.found.Found.{Found}
 use Rattle.workers.specs.declared.found.Found.TheVariants.{Lines, Passed}
 use Rattle.workers.specs.Failing.{Subject, judged_count, part}

@@ -49,7 +49,7 @@ pub record IsFound (entries : List EntryValue) (picks : List Pick) (found : Know
   pub there : slice_get entries found.entry ≡ Some entry
   pub holds : Holds entry found.marks picks
 
--- the first part behind one that may be told, if there is one
+-- the first part after one that may be told, if there is one
 abbrev pub IsNextTold : Option (List ℕ) → ℕ → Option ℕ → Type 0
 IsNextTold told part None = (n : ℕ) → part < n → tells told n ≡ false
 IsNextTold told part (Some next) = (part < next) × (tells told next ≡ true) × ((n : ℕ) → part < n → n < next → tells told n ≡ false)

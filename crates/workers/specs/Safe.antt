@@ -5,7 +5,7 @@ use Rattle.choices.specs.Choices.{ChoiceValue}
 use Rattle.images.specs.Views.{view_of, sectors_of, context_at}
 use Rattle.machine.specs.Outcome.{Ending, Verdict}
 use Rattle.checker.specs.Checker.{CheckerValue}
-use Rattle.lines.specs.Line.{FailingLine}
+use Rattle.report.specs.Line.{FailingLine}
 use Rattle.verifier.specs.Verdicts.{IsAcceptedWith}
 use Rattle.soundness.specs.Accepted.{IsSafeRun}
 use Rattle.soundness.specs.Guards.{IsSafeRunWithGuards, IsOver}

@@ -1,6 +1,6 @@
 -- The pieces so far by block, in the terms that the code computes with.
 use Rattle.std.specs.Prelude.{ℕ, ◌≡◌, ◌<◌, ◌≤◌, min, Bool, true, not, List, [], length, Option, None, Some, slice_get}
-use Rattle.lines.specs.Line.{FailingLine}
+use Rattle.report.specs.Line.{FailingLine}
 use Rattle.workers.specs.Counting.{counts_with}
 use Rattle.workers.specs.Least.{least_image}
 use Rattle.workers.specs.Pieces.{PieceValue, of_block, pieces_at, lines_of, full_lines, IsFirstTwice}

@@ -1,10 +1,10 @@
 //! The failing lines of a block.
 
 ghost use Rattle.std.specs.Prelude.{◌≡◌, ◌++◌, ◌∷◌, [], OnOk, Some};
-ghost use Rattle.lines.specs.Lines.{line_value};
+ghost use Rattle.report.specs.LineValues.{line_value};
 ghost use Rattle.workers.specs.Least.{least_image, lower};
 
-use lines::{Line, Part};
+use report::lines::{Line, Part};
 use std::alloc::{AllocError, Global};
 use std::marker::Model;
 
@@ -17,7 +17,7 @@ struct KeptLines {
 
 impl Model for KeptLines {
     ghost use Rattle.std.specs.Prelude.{◌≡◌, List};
-    ghost use Rattle.lines.specs.Line.{FailingLine};
+    ghost use Rattle.report.specs.Line.{FailingLine};
     ghost use Rattle.workers.specs.Least.{least_image};
 
     ghost Value = { List FailingLine };
@@ -92,7 +92,7 @@ pub(crate) struct BlockLines {
 impl Model for BlockLines {
     ghost use Rattle.std.specs.Prelude.{List, []};
     ghost use Rattle.std.specs.Option.{option_map_or};
-    ghost use Rattle.lines.specs.Line.{FailingLine};
+    ghost use Rattle.report.specs.Line.{FailingLine};
 
     ghost Value = { List FailingLine };
 

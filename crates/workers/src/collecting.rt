@@ -9,7 +9,7 @@ use crate::block_lines::lower;
 use crate::piece::Piece;
 use base::causes::WorkCause;
 use base::refusal::Refusal;
-use lines::Lines;
+use report::lines::Lines;
 use std::alloc::{AllocError, Global};
 
 /// The piece of each block so far, the first block that came twice, and the least failing image.
@@ -31,7 +31,7 @@ fn first_of(seen: Option<u32>, block: u32) -> u32
 }
 
 impl Table {
-    /// A table of so many blocks, of which none has a piece.
+    /// A table of that many blocks, of which none has a piece.
     fn new(alloc: Global, blocks: u32) -> Result<Table, AllocError>
         ensures { IfOk result (λ table. AreRows [] blocks table.rows.items table.twice table.least) }
     {

@@ -173,7 +173,7 @@ fn split_done<H: Deal>(alloc: Global, done: Vec<Done<H>>) -> Result<Returned<H>,
     })
 }
 
-/// Sends out so many workers of a run, and waits until all are back. No block is left in their hands, unless
+/// Sends out that many workers of a run, and waits until all are back. No block is left in their hands, unless
 /// the push of a closing mark was refused.
 ///
 /// # Errors

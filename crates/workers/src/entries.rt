@@ -262,7 +262,7 @@ impl Entries {
         &self.entries[found.entry].outcome
     }
 
-    /// The first part behind one that is told.
+    /// The first part after one that is told.
     pub(crate) fn next_told(&self, found: &Known, part: u32) -> Option<u32>
         requires { found.now.entry < length self.now }
         ensures { (entry : EntryValue) → slice_get self.now found.now.entry ≡ Some entry → tells entry.told part ≡ false → IsNextTold entry.told part result }

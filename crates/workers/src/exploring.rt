@@ -4,7 +4,7 @@ ghost use Rattle.std.specs.Prelude.{◌≡◌, ◌≤◌, false, map, IfOk, IfEr
 ghost use Rattle.std.specs.List.Sorted.{IsNonDecreasing};
 ghost use Rattle.base.specs.Refusals.{memory_refusal};
 ghost use Rattle.workers.specs.Failing.{failing_lines};
-ghost use Rattle.lines.specs.Line.{first_lines};
+ghost use Rattle.report.specs.Line.{first_lines};
 ghost use Rattle.workers.specs.Exploring.{ArePiecesOf};
 ghost use Rattle.workers.specs.Input.{IsRunOf};
 ghost use Rattle.workers.specs.Laws.{BeginsWithFirst};
@@ -18,7 +18,7 @@ use crate::input::Input;
 use crate::piece::Piece;
 use crate::settling::with_left;
 use base::refusal::Refusal;
-use lines::Lines;
+use report::lines::Lines;
 use std::alloc::Global;
 use std::marker::Brand;
 use std::sync::Wait;
@@ -105,7 +105,7 @@ fn explore_by<J: Run + Send + Sync, G: Gate + Sync, R: Threads + Wait + Sync>(
 }
 
 /// Judges the images that are asked of a run, and answers the failing lines: all of them, or with `first` those of
-/// the first failing image and perhaps some behind them, since blocks that lie wholly after a failing image
+/// the first failing image and perhaps some after them, since blocks that lie wholly after a failing image
 /// are passed over. It takes as many workers as `Input::new` was told, but no more than there are blocks:
 /// the caller is worker 0, and each other one has a thread of its own, where one can be made. `gate` is
 /// told how many images are judged first, and then of each block before and after it is taken.

@@ -4,7 +4,7 @@
 /// about to judge a block, and when it has judged it or passed over it. A test holds workers by it, and a
 /// run may count by it how far it is.
 pub trait Gate {
-    /// So many images are to be judged. Where it is left out, nothing is done.
+    /// That many images are to be judged. Where it is left out, nothing is done.
     fn begin(&self, _images: u64) {}
 
     /// The worker takes the block.

@@ -31,7 +31,7 @@ pub struct Input<'a> {
 }
 
 /// What is asked of a run, by names: at most `bound` departures, and torn writes or none; with `first` the first
-/// failing image alone. Image `from` is the first that is judged, and `to` the one behind the last. The whole run is
+/// failing image alone. Image `from` is the first that is judged, and `to` the one after the last. The whole run is
 /// from 0 to the number of its images, as `choices::count` gives it. It is judged by 1 to 64 workers, who keep at most
 /// `cache` outcomes, 0 to 65,536.
 #[derive(Clone, Copy)]
@@ -114,7 +114,7 @@ impl<'a> Input<'a> {
         self.judged_count().div_ceil(BLOCK) as u32
     }
 
-    /// The images of a block: the first, and the one behind the last.
+    /// The images of a block: the first, and the one after the last.
     pub(crate) fn images_of(&self, block: u32) -> (u64, u64)
         requires { block < block_count self.now }
         ensures first { result.0 ≡ self.now.from + 64 * block }
@@ -169,7 +169,7 @@ impl<'a> Input<'a> {
         let _moved = picked.next(self.plan, self.asked.bound, self.asked.tears);
     }
 
-    /// How many images there are in a row, from that of a choice on and at most so many, in which its last departure alone changes.
+    /// How many images there are in a row, from that of a choice on and at most that many, in which its last departure alone changes.
     #[inline(always)]
     pub(crate) fn reach(&self, picked: &Picked, most: u64) -> u64
         requires member { (image : ℕ) × IsRanked self.now.plan self.now.bound self.now.tears image picked.now }
@@ -187,7 +187,7 @@ impl<'a> Input<'a> {
         stretch(fates(self.asked.tears), picks[at], parts).min(most)
     }
 
-    /// Goes on from the picks of an image to those of the one that is so many behind it, if there is one. Up to that one the last
+    /// Goes on from the picks of an image to those of the one that is that many after it, if there is one. Up to that one the last
     /// departure alone changes.
     #[inline(always)]
     pub(crate) fn go_over(&self, picked: &mut Picked, count: u64)
@@ -241,7 +241,7 @@ impl<'a> Input<'a> {
         self.asked.first
     }
 
-    /// How far an image that is judged lies behind the first one.
+    /// How far an image that is judged lies after the first one.
     pub(crate) fn behind_first(&self, image: u64) -> u64
         requires { (self.now.from ≤ image) × (image < self.now.to) }
         ensures value { self.now.from + result ≡ image }

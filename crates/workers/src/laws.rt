@@ -5,7 +5,7 @@ ghost use Rattle.workers.specs.Safe.{AcceptedCheckersRunSafely};
 
 use soundness::{accepted_runs_safely, guarded_runs_safely};
 
-/// The failing lines of a run are those that docs/REPORT.md says, no other, each once, by image and
+/// The failing lines of a run are those that docs/OUTPUT.md says, no other, each once, by image and
 /// then by program.
 pub fn lines_are_set()
     ensures { LinesAreSet }

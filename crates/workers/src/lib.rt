@@ -33,8 +33,8 @@
 //! # Place
 //!
 //! It stands on `choices` and `images`, which number and form the images, on `checker`, which judges them, on
-//! `interp`, which has what a run ends in, on `soundness` for its law alone, on `shares` and `verdict_cache`, which the workers share, on `lines`, which
-//! keeps failing lines, and on `base`, which has the type of a refusal. `runs` calls it.
+//! `interp`, which has what a run ends in, on `soundness` for its law alone, on `shares` and `verdict_cache`, which the workers
+//! share, on `report`, which keeps failing lines (`lines`), and on `base`, which has the type of a refusal. `runs` calls it.
 //!
 //! # What is proved
 //!

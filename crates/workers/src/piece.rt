@@ -8,7 +8,7 @@ ghost use Rattle.workers.specs.Pieces.{lines_of};
 
 use crate::block_lines::BlockLines;
 use crate::found::Found;
-use lines::Lines;
+use report::lines::Lines;
 use std::alloc::AllocError;
 use std::marker::Model;
 
@@ -31,7 +31,7 @@ impl Model for Piece {
     ghost view = { λ p. record { block = p.block; found = p.found } };
 }
 
-/// Whether a failing image, if there is one, is at most so many behind another.
+/// Whether a failing image, if there is one, is at most that many after another.
 fn reaches(least: Option<u64>, from: u64, image: u64) -> bool
     ensures { result ≡ reaches least (from + image) }
 {

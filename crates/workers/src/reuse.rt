@@ -56,7 +56,7 @@ impl Reuse {
         }
     }
 
-    /// The picks of the choice of an image. Those behind the images of the block before are at hand.
+    /// The picks of the choice of an image. Those after the images of the block before are at hand.
     pub(crate) fn start(&mut self, input: &Input<'_>, image: u64) -> Picked
         requires known { IsTrueOf input.now self.old }
         requires image { image < image_count input.now }
@@ -69,7 +69,7 @@ impl Reuse {
         }
     }
 
-    /// Keeps those of the image behind a block.
+    /// Keeps those of the image after a block.
     pub(crate) fn keep(&mut self, image: u64, picked: Picked)
         ensures { (s : Subject) → IsTrueOf s self.old → (image < image_count s → IsRanked s.plan s.bound s.tears image picked) → IsTrueOf s self.new }
     {
@@ -109,7 +109,7 @@ impl Reuse {
         self.on
     }
 
-    /// How many images in a row from one on a checker finds good, without a run of their own. Of so many the last departure
+    /// How many images in a row from one on a checker finds good, without a run of their own. Of that many the last departure
     /// alone changes.
     fn look_by(
         &mut self,
@@ -215,7 +215,7 @@ fn are_vain(entries: &[Entries]) -> bool {
     true
 }
 
-/// So many lists of entries at least, all empty.
+/// That many lists of entries at least, all empty.
 fn empty_entries(entries: &mut Vec<Entries>, alloc: Global, count: usize) -> Result<(), AllocError>
     ensures empty { OnOk result (All (λ own. own ≡ []) entries.new.items) }
     ensures enough { OnOk result (count ≤ length entries.new.items) }
@@ -236,7 +236,7 @@ fn clear_all(entries: &mut [Entries])
     }
 }
 
-/// Of so many images in a row from one on, in which the last departure alone changes, how many the entry that was found for the
+/// Of that many images in a row from one on, in which the last departure alone changes, how many the entry that was found for the
 /// first of them speaks of.
 fn alike(input: &Input<'_>, own: &Entries, found: &Known, picked: &Picked, most: u64) -> u64
     requires found { IsFound own.now picked.now.picks found.now }

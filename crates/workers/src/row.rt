@@ -223,7 +223,7 @@ impl<'b, 'a, J: Run, G: Gate> Worker<'b, 'a, J, G> {
     }
 }
 
-/// Judges the images of a block: 64 in a row, from the one on that is `64 * block` behind the first, or those that are left. The
+/// Judges the images of a block: 64 in a row, from the one on that is `64 * block` after the first, or those that are left. The
 /// sixteen shards are those of the cache of the run. Without a cache it asks none of them.
 ///
 /// Without a cache it takes memory for the lines, and for what is known by footprints: where that is refused, images are

@@ -33,7 +33,7 @@ pub(crate) fn piece_left<'a, J: Run, G: Gate, R: Wait>(
     Ok(piece)
 }
 
-/// The pieces of all workers, and behind them those of the blocks that are left in their hands, which the
+/// The pieces of all workers, and after them those of the blocks that are left in their hands, which the
 /// caller judges now.
 pub(crate) fn with_left<'a, J: Run, G: Gate, R: Wait>(
     rt: &R,

@@ -6,10 +6,10 @@ ghost use Rattle.choices.specs.Choices.{ranked_choices};
 use crate::calls::borrowing::{history_of, plan_of, starts_of};
 use crate::calls::refused::OfMemory;
 use crate::calls::texts::{Item, text_of};
+use base::limits::Limits;
 use choices::{Starts, count};
 use epochs::Plan;
 use images::{Changes, History, View};
-use limits::Limits;
 use logfmt::read;
 use std::alloc::Global;
 
@@ -19,7 +19,7 @@ const TWO_WRITES: [Item; 2] = [(0, 1, 0, 0x11), (1, 1, 0, 0x22)];
 /// How many sectors the key of each image has, by cut and choice: those of the writes that didn't depart.
 const CHANGED: [usize; 7] = [0, 1, 0, 2, 1, 1, 0];
 
-/// Whether the key of an image is the same in both ways, and has so many sectors; its copy too.
+/// Whether the key of an image is the same in both ways, and has that many sectors; its copy too.
 fn key_is_right<'a>(
     alloc: Global,
     changes: &mut Changes<'a>,

@@ -4,7 +4,7 @@ use crate::calls::refused::OfMemory;
 use arrayvec::ArrayVec;
 use epochs::By;
 use interp::Outcome;
-use lines::{Line, Lines, Mark, Part};
+use report::lines::{Line, Lines, Mark, Part};
 use std::alloc::{AllocError, Global};
 
 /// The line of an image whose run was out of steps.

@@ -2,7 +2,7 @@
 
 use crate::calls::refused::OfMemory;
 use crate::calls::texts::{FLUSH, Item, text_of};
-use limits::Limits;
+use base::limits::Limits;
 use logfmt::{Log, read, write};
 use notes::{log_table, put_entry, put_escaped, put_least, put_note, put_refused};
 use std::alloc::{AllocError, Global};

@@ -15,7 +15,7 @@ pub enum Content {
     /// The record of the journal with that number: the number, then 0x11 times the number in each
     /// byte; sealed.
     Record(u8),
-    /// The header of a journal of so many records, or of pages whose last commit has that number: the number, then zeros.
+    /// The header of a journal of that many records, or of pages whose last commit has that number: the number, then zeros.
     Header(u8),
     /// A leaf of the tree, by the commit that writes it and the byte of its data: the number of the commit, then that byte;
     /// sealed.
@@ -48,7 +48,7 @@ pub enum Contents {
     /// The page of the commit with that number, of eight sectors. Each byte is 0xc0 and the number, but for the first word,
     /// which is the number, and the last one, which makes the sum of the mixes of its sectors 1.
     Page(u8),
-    /// The header of a journal of so many records, and these.
+    /// The header of a journal of that many records, and these.
     Journal(u8),
     /// A page of two sectors, by its number and its version.
     SmallPage(u8, u8),

@@ -204,7 +204,7 @@ const TREE_WRONG: [Item; 16] = [
     Mark("commit 3"),
 ];
 
-/// The leaves of a commit, a flush, the header, and the root node behind it.
+/// The leaves of a commit, a flush, the header, and the root node after it.
 const TREE_ORDER: [Item; 16] = [
     Write(1, Leaf(1, 0xd1)),
     Write(2, Leaf(1, 0xe1)),

@@ -2,8 +2,8 @@
 
 use crate::logs::content::Contents;
 use crate::logs::entries::{Item, Which};
+use base::limits::Limits;
 use base::numbers::{put_u32, put_u64, put_zeros};
-use limits::Limits;
 use logfmt::{LogFault, read, write};
 use std::alloc::{AllocError, Global};
 

@@ -8,4 +8,5 @@ returns c =
       programs = c.one_program.ensures;
       verdicts = c.one_verdict.ensures;
       sources = c.one_source.ensures;
+      findings = c.finding_is_one.ensures;
     })

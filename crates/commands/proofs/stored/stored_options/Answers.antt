@@ -1,6 +1,6 @@
 use Rattle.std.proofs.Common.{ℕ, ◌≡◌, ◌≤◌, ◌∙◌, arith, None, Some, false, replicate}
 use native.Mathlib.Bridge.{le_prop}
-use Rattle.limits.specs.declared.Limits.TheVariants as limit
+use Rattle.base.specs.declared.limits.Limits.TheVariants as limit
 use Rattle.request.specs.declared.extent.Extent.TheVariants as extent
 use Rattle.epochs.specs.declared.cuts.CutKind.TheVariants as kind
 use Rattle.epochs.specs.declared.part.By.TheVariants as by

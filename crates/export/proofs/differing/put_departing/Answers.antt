@@ -6,7 +6,7 @@ use Rattle.export.specs.Kept.{Spans, IsDeparting}
 use Rattle.export.proofs.Listing.{lists_on, lists_less, listed_so_far}
 use Rattle.export.proofs.differing.put_departing.Goals as goal
 
--- one of the first so many departures has a sector
+-- one of the first that many departures has a sector
 abbrev IsOfFirst : List Departure → ℕ → ℕ → Type 0
 IsOfFirst ds i n = (j : ℕ) × (d : Departure) × (j < i) × (slice_get ds j ≡ Some d) × Spans d.part.sector d.part.count n
 

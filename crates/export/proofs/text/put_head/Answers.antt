@@ -1,7 +1,7 @@
 use Rattle.std.proofs.Common.{ℕ, ◌+◌, ◌++◌, string_bytes, List, ◌∙◌, ap, append_assoc, arith}
 use Rattle.epochs.specs.Plan.{PlanValue}
 use Rattle.epochs.specs.Units.{epoch_at, marks_at}
-use Rattle.choice_text.specs.Text.{departures_text}
+use Rattle.report.specs.ChoiceText.{departures_text}
 use Rattle.export.specs.Kept.{place_text}
 use Rattle.export.proofs.Told.{head_is}
 use Rattle.export.proofs.text.put_head.Goals as goal

@@ -1,7 +1,7 @@
 use Rattle.std.proofs.Common.{◌≡◌, refl, sym, ◌∙◌, ap, arith, length, slice_get, rules}
 use Rattle.std.specs.Prelude.{sum_by}
 use Rattle.std.proofs.lemmas.Option.{slice_get_read}
-use Rattle.limits.specs.Sizes.{most_sectors}
+use Rattle.base.specs.Sizes.{most_sectors}
 use Rattle.epochs.specs.Units.{units_before}
 use Rattle.choices.specs.declared.choice.Departure.{Departure}
 use Rattle.images.specs.Changes.{whole_image, image_of}

@@ -1,4 +1,4 @@
-use Rattle.lines.proofs.Parted.{some_cut, none_cut}
+use Rattle.report.proofs.Parted.{some_cut, none_cut}
 use Rattle.join.proofs.words.cut.Goals as goal
 
 pub returns-in-Some : goal.returns-in-Some

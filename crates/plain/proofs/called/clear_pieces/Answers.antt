@@ -1,4 +1,4 @@
-use Rattle.std.proofs.Common.{ℕ, ◌≡◌, ◌+◌, ◌*◌, ◌≤◌, List, length, replicate, subst, sym, refl, ◌∙◌, ap, arith}
+use Rattle.std.proofs.Common.{ℕ, ◌≡◌, ◌+◌, ◌*◌, List, length, replicate, subst, sym, refl, ◌∙◌, ap, arith}
 use Rattle.plain.specs.Blocks.{overwritten}
 use Rattle.plain.specs.Clean.{IsClean}
 use Rattle.plain.proofs.Clean.{piece_cleared, all_clean}

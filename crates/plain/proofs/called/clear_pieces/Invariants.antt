@@ -1,4 +1,4 @@
-use Rattle.std.proofs.Common.{ℕ, ◌≡◌, ◌-◌, length}
+use Rattle.std.proofs.Common.{◌≡◌, ◌-◌, length}
 use Rattle.plain.specs.Clean.{IsClean}
 use Rattle.plain.proofs.called.clear_pieces.Given as goal
 

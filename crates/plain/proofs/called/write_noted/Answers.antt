@@ -1,4 +1,4 @@
-use Rattle.std.proofs.Common.{ℕ, ◌≡◌, ◌+◌, ◌/◌, ◌<◌, ◌≤◌, min, List, [], length, get_or, subst, sym, arith}
+use Rattle.std.proofs.Common.{ℕ, ◌≡◌, ◌+◌, ◌/◌, ◌≤◌, min, List, [], length, get_or, subst, sym, arith}
 use Rattle.plain.specs.Blocks.{overwritten}
 use Rattle.plain.specs.Clean.{IsClean}
 use Rattle.plain.proofs.Clean.{clean_long, clean_at, clean_set, written_clean}

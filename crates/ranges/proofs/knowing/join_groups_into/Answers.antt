@@ -1,5 +1,5 @@
-use Rattle.std.proofs.Common.{◌<◌, length, sym, ◌∙◌, arith}
-use Rattle.ranges.proofs.Arrays.{joined_none, joined_more, joined_same, joined_all}
+use Rattle.std.proofs.Common.{sym, ◌∙◌, arith}
+use Rattle.ranges.proofs.Arrays.{joined_none, joined_all}
 use Rattle.ranges.specs.Groups.{join_group}
 use Rattle.ranges.specs.SeenStates.{group_of}
 use Rattle.ranges.proofs.Nothing.{no_marks}

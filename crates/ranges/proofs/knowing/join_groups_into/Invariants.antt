@@ -1,5 +1,3 @@
-use Rattle.std.proofs.Common.{◌≡◌, ◌<◌, ◌≤◌, ℕ, length}
-use Rattle.std.specs.Prelude.{get_or}
 use Rattle.ranges.specs.Groups.{join_group}
 use Rattle.ranges.specs.SeenStates.{group_of}
 use Rattle.ranges.proofs.Nothing.{no_marks}

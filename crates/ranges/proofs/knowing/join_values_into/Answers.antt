@@ -1,5 +1,5 @@
-use Rattle.std.proofs.Common.{◌<◌, length, sym, ◌∙◌, arith}
-use Rattle.ranges.proofs.Arrays.{joined_none, joined_more, joined_same, joined_all}
+use Rattle.std.proofs.Common.{sym, ◌∙◌, arith}
+use Rattle.ranges.proofs.Arrays.{joined_none, joined_more, joined_all}
 use Rattle.ranges.specs.Kinds.{join}
 use Rattle.ranges.specs.Seen.{kind_of}
 use Rattle.ranges.specs.declared.value.Value.TheVariants as value

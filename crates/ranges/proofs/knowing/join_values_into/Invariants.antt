@@ -1,5 +1,3 @@
-use Rattle.std.proofs.Common.{◌≡◌, ◌<◌, ◌≤◌, ℕ, length}
-use Rattle.std.specs.Prelude.{get_or}
 use Rattle.ranges.specs.Kinds.{join}
 use Rattle.ranges.specs.Seen.{kind_of}
 use Rattle.ranges.specs.declared.value.Value.TheVariants as value

@@ -1,6 +1,5 @@
-use Rattle.std.proofs.Common.{◌<◌, length, sym, ◌∙◌, arith}
-use Rattle.std.specs.Prelude.{get_or}
-use Rattle.ranges.proofs.Arrays.{joined_none, joined_more, map_filled}
+use Rattle.std.proofs.Common.{arith}
+use Rattle.ranges.proofs.Arrays.{joined_none, map_filled}
 use Rattle.ranges.specs.Groups.{round_group}
 use Rattle.ranges.specs.SeenStates.{group_of}
 use Rattle.ranges.proofs.Nothing.{no_marks}

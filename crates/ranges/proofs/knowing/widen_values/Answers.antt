@@ -1,5 +1,4 @@
-use Rattle.std.proofs.Common.{◌<◌, length, sym, ◌∙◌, arith}
-use Rattle.std.specs.Prelude.{get_or}
+use Rattle.std.proofs.Common.{arith}
 use Rattle.ranges.proofs.Arrays.{joined_none, joined_more, map_filled}
 use Rattle.ranges.specs.Kinds.{round}
 use Rattle.ranges.specs.Seen.{kind_of}

@@ -1,5 +1,5 @@
 use Rattle.std.proofs.Common.{rules, ℕ, ◌≡◌, ◌-◌, ◌∙◌, length, ap, inr, arith}
-use Rattle.limits.specs.Sizes.{byte_limit}
+use Rattle.base.specs.Sizes.{byte_limit}
 use Rattle.raw_log.specs.Faults.{in_super}
 use Rattle.raw_log.proofs.Progress.{start, go_on, whole, fault_here}
 use Rattle.raw_log.proofs.importer.import.Goals as goal

@@ -1,7 +1,7 @@
 use Rattle.std.proofs.Common.{rules, ℕ, ◌≡◌, ◌≤◌, ◌⊎◌, ◌∙◌, List, length, ap, subst, arith}
-use Rattle.limits.specs.Sizes.{byte_limit}
+use Rattle.base.specs.Sizes.{byte_limit}
 use Rattle.base.specs.declared.causes.LogCause.TheVariants as cause
-use Rattle.limits.specs.declared.Limits.{Limits}
+use Rattle.base.specs.declared.limits.Limits.{Limits}
 use Rattle.logfmt.specs.Bounds.{AreBytes}
 use Rattle.logfmt.specs.Faults.{FirstFault}
 use Rattle.request.proofs.Logs.{recorded_over}

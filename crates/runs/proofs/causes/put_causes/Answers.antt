@@ -1,9 +1,9 @@
 use Rattle.std.proofs.Common.{◌≡◌, ◌∙◌, List, ℕ, length, map, sym, ap, subst, arith}
 use Rattle.std.proofs.lemmas.Result.{on_ok_weaker}
 use Rattle.choices.specs.Sums.{StartsValue}
-use Rattle.why.specs.declared.cut.CutFailures.{CutFailures}
-use Rattle.why.specs.Failures.{AreImages}
-use Rattle.why.specs.Text.{AreAllNumbered}
+use Rattle.losses.specs.declared.why.cut.CutFailures.{CutFailures}
+use Rattle.losses.specs.Failures.{AreImages}
+use Rattle.losses.specs.WhyText.{AreAllNumbered}
 use Rattle.runs.proofs.Explained.{as_many, tells_program}
 use Rattle.runs.proofs.causes.put_causes.Goals as goal
 

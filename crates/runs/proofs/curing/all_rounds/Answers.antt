@@ -1,7 +1,7 @@
 use Rattle.std.proofs.Common.{rules, ◌≡◌, ◌≢◌, ◌∙◌, sym, ap, subst, List, [], length, vec_len, string_bytes}
-use Rattle.flushes.specs.declared.window.Window.{Window}
-use Rattle.flushes.specs.Places.{AreWindows}
-use Rattle.cure.specs.Failures.{windows_in, HoldNoFlush}
+use Rattle.losses.specs.declared.flushes.window.Window.{Window}
+use Rattle.losses.specs.Places.{AreWindows}
+use Rattle.losses.specs.FailureWindows.{windows_in, HoldNoFlush}
 use Rattle.runs.proofs.Leading.{trying_first, trying_more, trying_past, trying_end, none_left}
 use Rattle.runs.proofs.Tried.{run_refused, past_of}
 use Rattle.runs.proofs.curing.all_rounds.Goals as goal

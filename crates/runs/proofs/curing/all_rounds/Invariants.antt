@@ -1,5 +1,5 @@
 use Rattle.std.proofs.Common.{string_bytes}
-use Rattle.cure.specs.Failures.{calm_entries}
+use Rattle.losses.specs.FailureWindows.{calm_entries}
 use Rattle.runs.proofs.Leading.{Trying}
 use Rattle.runs.proofs.curing.all_rounds.Given as goal
 

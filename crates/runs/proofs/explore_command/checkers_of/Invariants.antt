@@ -1,5 +1,5 @@
 use Rattle.std.proofs.Common.{◌≡◌, length, None}
-use Rattle.facts.specs.Found.{KeepsLog}
+use Rattle.request.specs.Found.{KeepsLog}
 use Rattle.runs.specs.Programs.{AreFirstMade}
 use Rattle.runs.proofs.Finding.{Finding}
 use Rattle.runs.proofs.explore_command.checkers_of.Given as goal

@@ -5,19 +5,21 @@ use Rattle.epochs.specs.Plan.{PlanValue}
 use Rattle.request.specs.Source.{for_plan}
 use Rattle.runs.specs.declared.explore_command.Wanted.TheVariants as wanted
 use Rattle.runs.specs.Blind.{is_blind}
-use Rattle.runs.specs.Cured.{TellsWanted}
-use Rattle.runs.specs.Explore.{for_count, for_source, for_program, no_list_memory}
+use Rattle.runs.specs.Cured.{TellsCure}
+use Rattle.runs.specs.Why.{Tells}
+use Rattle.runs.specs.Explore.{for_count, for_source, for_program, no_list_memory, for_rest}
 use Rattle.runs.specs.Inputs.{inputs_number}
 use Rattle.runs.specs.Judged.{takes, IsJudged}
 use Rattle.runs.specs.declared.explore_command.Wanted.{Wanted}
 use Rattle.runs.proofs.Judging.{whole_of}
 use Rattle.runs.proofs.Findings.{told_by_number}
 use Rattle.runs.proofs.RefusalLemmas.{counted, uncounted, few_decoded, unaccepted_of, undecoded_of, checkers_decoded}
-use Rattle.runs.proofs.Finding.{breach_of, fewer_of_log}
+use Rattle.runs.proofs.Finding.{breach_of, fewer_of_log, finds_all}
 use Rattle.runs.proofs.Fitting.{made_fit}
-use Rattle.facts.proofs.Recorded.{promises_of_log, of_any_ok}
+use Rattle.request.proofs.Recorded.{promises_of_log, of_any_ok}
 use Rattle.request.proofs.Logs.{bounds_of, device_of, has_images}
 use Rattle.request.proofs.Results.{both_ok, one_err}
+use Rattle.runs.proofs.Casing.{is_cases, refused_for}
 use Rattle.runs.proofs.Runs.{of_log, run_of}
 use Rattle.runs.proofs.Unseeing.{found_blind}
 use Rattle.runs.proofs.explore_command.make_run.Goals as goal
@@ -25,28 +27,32 @@ use Rattle.runs.proofs.explore_command.make_run.Goals as goal
 pub returns-then-not-is_program_count-clause-refused : goal.returns-then-not-is_program_count-clause-refused
 returns-then-not-is_program_count-clause-refused g c =
     rw c.option_refusal_of.ensures
-    (for_count (λ count. false≢true (sym c.if-not-is_program_count.true ∙ c.is_program_count.ensures.1 (uncounted _ c.args.question.now.programs.now count))))
+    (for_rest _ c.requires
+    (for_count (λ count. false≢true (sym c.if-not-is_program_count.true ∙ c.is_program_count.ensures.1 (uncounted _ c.args.question.now.programs.now count)))))
 
 pub returns-in_err-log-clause-refused : goal.returns-in_err-log-clause-refused
 returns-in_err-log-clause-refused g c =
     let p = err_from_is_err_and c.from_residual.result c.from_residual.ensures.1 in
     rw (p.1, p.2)
-    (of_log _ _ _ _ (counted _ c.args.question.now.programs.now (c.is_program_count.ensures.0 c.if-not-is_program_count.false)) c.in_err-log.ensures.refused)
+    (for_rest _ c.requires
+    (of_log _ _ _ _ (counted _ c.args.question.now.programs.now (c.is_program_count.ensures.0 c.if-not-is_program_count.false)) c.in_err-log.ensures.refused))
 
 pub returns-in_err-plan-clause-refused : goal.returns-in_err-plan-clause-refused
 returns-in_err-plan-clause-refused g c =
     let p = err_from_is_err_and c.from_residual-in_err-plan.result c.from_residual-in_err-plan.ensures.1 in
     rw (p.1, p.2)
+    (for_rest _ c.requires
     (for_source _ (counted _ c.args.question.now.programs.now (c.is_program_count.ensures.0 c.if-not-is_program_count.false))
-    (for_plan _ c.in_ok-log.log c.in_ok-log.ensures.log c.in_err-plan.ensures.refused))
+    (for_plan _ c.in_ok-log.log c.in_ok-log.ensures.log c.in_err-plan.ensures.refused)))
 
 pub returns-in_err-decoded-clause-refused : goal.returns-in_err-decoded-clause-refused
 returns-in_err-decoded-clause-refused g c =
     let p = err_from_is_err_and c.from_residual-in_err-decoded.result c.from_residual-in_err-decoded.ensures.1 in
     rw (p.1, p.2, c.in_err-decoded.ensures.refused)
+    (for_rest _ c.requires
     (for_program _ c.in_ok-log.log (counted _ c.args.question.now.programs.now (c.is_program_count.ensures.0 c.if-not-is_program_count.false))
     (has_images _ _ _ _ c.in_ok-log.ensures.log c.in_ok-plan.ensures.count c.in_ok-plan.ensures.few c.in_ok-plan.ensures.within)
-    no_list_memory)
+    no_list_memory))
 
 pub checkers_of-requires-clause-few : goal.checkers_of-requires-clause-few
 checkers_of-requires-clause-few g c =
@@ -56,9 +62,10 @@ pub returns-in_err-checkers-clause-refused : goal.returns-in_err-checkers-clause
 returns-in_err-checkers-clause-refused g c =
     let p = err_from_is_err_and c.from_residual-in_err-checkers.result c.from_residual-in_err-checkers.ensures.1 in
     rw (p.1, p.2)
+    (for_rest _ c.requires
     (for_program _ c.in_ok-log.log (counted _ c.args.question.now.programs.now (c.is_program_count.ensures.0 c.if-not-is_program_count.false))
     (has_images _ _ _ _ c.in_ok-log.ensures.log c.in_ok-plan.ensures.count c.in_ok-plan.ensures.few c.in_ok-plan.ensures.within)
-    (unaccepted_of _ _ _ c.as_slice.result.now _ _ c.as_slice.ensures.value c.in_ok-decoded.ensures.decoded c.in_err-checkers.ensures.refused))
+    (unaccepted_of _ _ _ c.as_slice.result.now _ _ c.as_slice.ensures.value c.in_ok-decoded.ensures.decoded c.in_err-checkers.ensures.refused)))
 
 pub returns-in_err-checkers-clause-breach : goal.returns-in_err-checkers-clause-breach
 returns-in_err-checkers-clause-breach g c =
@@ -68,10 +75,11 @@ returns-in_err-checkers-clause-breach g c =
 
 pub returns-in-Some-clause-refused : goal.returns-in-Some-clause-refused
 returns-in-Some-clause-refused g c =
-    for_program _ c.in_ok-log.log (counted _ c.args.question.now.programs.now (c.is_program_count.ensures.0 c.if-not-is_program_count.false))
+    for_rest _ c.requires
+    (for_program _ c.in_ok-log.log (counted _ c.args.question.now.programs.now (c.is_program_count.ensures.0 c.if-not-is_program_count.false))
     (has_images _ _ _ _ c.in_ok-log.ensures.log c.in_ok-plan.ensures.count c.in_ok-plan.ensures.few c.in_ok-plan.ensures.within)
     (undecoded_of _ _ _ c.as_slice.result.now _ _ _ c.as_slice.ensures.value c.in_ok-decoded.ensures.decoded c.in-Some.is
-    c.in_ok-checkers.ensures.made c.in_ok-checkers.ensures.all)
+    c.in_ok-checkers.ensures.made c.in_ok-checkers.ensures.all))
 
 pub invariant_of-task : goal.invariant_of-task
 invariant_of-task g c =
@@ -90,7 +98,7 @@ returns-in-Told-clause-told g c =
     rw c.in-Told.is
     (both_ok c.judge_task.result _ _ _ c.judge_task.ensures.bytes c.judge_task.ensures.failing
     (λ e bytes failing.
-    run_of c.accepted_checkers_run_safely.ensures (TellsWanted (wanted.Told c.in-Told.telling) (inputs_number c.args.question.now.recording.now.text _)) _ _ _ c.in_ok-log.log c.in_ok-checkers.checkers.items c.as_slice-made.result.now _ _
+    run_of c.accepted_checkers_run_safely.ensures (Tells c.in-Told.telling (inputs_number c.args.question.now.recording.now.text _)) _ _ _ c.in_ok-log.log c.in_ok-checkers.checkers.items c.as_slice-made.result.now _ _
     (counted _ c.args.question.now.programs.now (c.is_program_count.ensures.0 c.if-not-is_program_count.false))
     (has_images _ _ _ _ c.in_ok-log.ensures.log c.in_ok-plan.ensures.count c.in_ok-plan.ensures.few c.in_ok-plan.ensures.within)
     (checkers_decoded _ _ _ c.as_slice.result.now _ _ c.as_slice.ensures.value c.in_ok-decoded.ensures.decoded c.in_default.not-Some
@@ -115,8 +123,9 @@ pub returns-in-Told-clause-refused : goal.returns-in-Told-clause-refused
 returns-in-Told-clause-refused g c =
     one_err c.judge_task.result _ _ c.judge_task.ensures.refused
     (λ r refused.
-    for_source r (counted _ c.args.question.now.programs.now (c.is_program_count.ensures.0 c.if-not-is_program_count.false))
-    (for_plan r c.in_ok-log.log c.in_ok-log.ensures.log refused))
+    for_rest r c.requires
+    (for_source r (counted _ c.args.question.now.programs.now (c.is_program_count.ensures.0 c.if-not-is_program_count.false))
+    (for_plan r c.in_ok-log.log c.in_ok-log.ensures.log refused)))
 
 pub returns-in-Told-clause-fewer : goal.returns-in-Told-clause-fewer
 returns-in-Told-clause-fewer g c =
@@ -142,7 +151,7 @@ returns-in-Cured-clause-told g c =
     rw c.in-Cured.is
     (both_ok c.cured_log.result _ _ _ c.cured_log.ensures.bytes c.cured_log.ensures.failing
     (λ e bytes failing.
-    run_of c.accepted_checkers_run_safely.ensures (TellsWanted wanted.Cured 0) _ _ _ c.in_ok-log.log c.in_ok-checkers.checkers.items c.as_slice-made.result.now _ _
+    run_of c.accepted_checkers_run_safely.ensures TellsCure _ _ _ c.in_ok-log.log c.in_ok-checkers.checkers.items c.as_slice-made.result.now _ _
     (counted _ c.args.question.now.programs.now (c.is_program_count.ensures.0 c.if-not-is_program_count.false))
     (has_images _ _ _ _ c.in_ok-log.ensures.log c.in_ok-plan.ensures.count c.in_ok-plan.ensures.few c.in_ok-plan.ensures.within)
     (checkers_decoded _ _ _ c.as_slice.result.now _ _ c.as_slice.ensures.value c.in_ok-decoded.ensures.decoded c.in_default.not-Some
@@ -165,8 +174,9 @@ pub returns-in-Cured-clause-refused : goal.returns-in-Cured-clause-refused
 returns-in-Cured-clause-refused g c =
     one_err c.cured_log.result _ _ c.cured_log.ensures.refused
     (λ r refused.
-    for_source r (counted _ c.args.question.now.programs.now (c.is_program_count.ensures.0 c.if-not-is_program_count.false))
-    (for_plan r c.in_ok-log.log c.in_ok-log.ensures.log refused))
+    for_rest r c.requires
+    (for_source r (counted _ c.args.question.now.programs.now (c.is_program_count.ensures.0 c.if-not-is_program_count.false))
+    (for_plan r c.in_ok-log.log c.in_ok-log.ensures.log refused)))
 
 pub returns-in-Cured-clause-fewer : goal.returns-in-Cured-clause-fewer
 returns-in-Cured-clause-fewer g c =
@@ -181,3 +191,68 @@ pub returns-in-Cured-clause-promises : goal.returns-in-Cured-clause-promises
 returns-in-Cured-clause-promises g c =
     of_any_ok c.cured_log.result _
     (promises_of_log _ _ c.in_ok-log.log _ _ c.in_ok-log.ensures.log (c.in_ok-checkers.ensures.others.promises ∙ c.in_ok-plan.ensures.promises) c.in_ok-log.ensures.promises)
+
+pub told_cases-requires : goal.told_cases-requires
+told_cases-requires g c =
+    rw c.as_slice-made.ensures.value (record { verified = made_fit c.args.question.now.options.now c.as_slice.result.now c.in_ok-checkers.checkers.items c.in_ok-checkers.ensures.made })
+
+pub returns-in-Cases-clause-told : goal.returns-in-Cases-clause-told
+returns-in-Cases-clause-told g c =
+    rw c.in-Cases.is
+    (both_ok c.told_cases.result _ _ _ c.told_cases.ensures.told c.told_cases.ensures.told
+    (λ e tells again.
+    is_cases c.in-Cases.losses _ _ c.args.question.now.options.now c.in_ok-log.log c.in_ok-checkers.checkers.items c.as_slice-made.result.now _ _
+    (counted _ c.args.question.now.programs.now (c.is_program_count.ensures.0 c.if-not-is_program_count.false))
+    (has_images _ _ _ _ c.in_ok-log.ensures.log c.in_ok-plan.ensures.count c.in_ok-plan.ensures.few c.in_ok-plan.ensures.within)
+    (checkers_decoded _ _ _ c.as_slice.result.now _ _ c.as_slice.ensures.value c.in_ok-decoded.ensures.decoded c.in_default.not-Some
+    c.in_ok-checkers.ensures.made c.in_ok-checkers.ensures.all)
+    c.as_slice-made.ensures.value tells))
+
+pub returns-in-Cases-clause-blind : goal.returns-in-Cases-clause-blind
+returns-in-Cases-clause-blind g c =
+    rw c.in-Cases.is
+    (both_ok c.told_cases.result _ _ _ c.told_cases.ensures.told c.told_cases.ensures.told
+    (λ e tells again.
+    found_blind (wanted.Cases c.in-Cases.losses) _ _ c.args.question.now.options.now c.in_ok-log.log c.in_ok-checkers.checkers.items c.as_slice-made.result.now _
+    (has_images _ _ _ _ c.in_ok-log.ensures.log c.in_ok-plan.ensures.count c.in_ok-plan.ensures.few c.in_ok-plan.ensures.within)
+    (checkers_decoded _ _ _ c.as_slice.result.now _ _ c.as_slice.ensures.value c.in_ok-decoded.ensures.decoded c.in_default.not-Some
+    c.in_ok-checkers.ensures.made c.in_ok-checkers.ensures.all)
+    c.as_slice-made.ensures.value
+    (c.in_ok-checkers.ensures.others.blind ∙ c.in_ok-plan.ensures.others.blind ∙ c.in_ok-log.ensures.others.blind ∙ c.new.ensures.blind)))
+
+pub returns-in-Cases-clause-refused : goal.returns-in-Cases-clause-refused
+returns-in-Cases-clause-refused g c =
+    one_err c.told_cases.result _ _ c.told_cases.ensures.refused
+    (λ r refused.
+    refused_for c.args.question.now.wanted c.in-Cases.losses _ _ c.args.question.now.options.now c.in_ok-log.log c.in_ok-checkers.checkers.items c.as_slice-made.result.now r
+    c.in-Cases.is c.requires
+    (counted _ c.args.question.now.programs.now (c.is_program_count.ensures.0 c.if-not-is_program_count.false))
+    (has_images _ _ _ _ c.in_ok-log.ensures.log c.in_ok-plan.ensures.count c.in_ok-plan.ensures.few c.in_ok-plan.ensures.within)
+    (checkers_decoded _ _ _ c.as_slice.result.now _ _ c.as_slice.ensures.value c.in_ok-decoded.ensures.decoded c.in_default.not-Some
+    c.in_ok-checkers.ensures.made c.in_ok-checkers.ensures.all)
+    c.as_slice-made.ensures.value refused)
+
+pub returns-in-Cases-clause-fewer : goal.returns-in-Cases-clause-fewer
+returns-in-Cases-clause-fewer g c =
+    fewer_of_log _ _ c.in_ok-log.log _ _ c.in_ok-log.ensures.log c.in_ok-checkers.ensures.others.fewer c.in_ok-plan.ensures.fewer
+
+pub returns-in-Cases-clause-promises : goal.returns-in-Cases-clause-promises
+returns-in-Cases-clause-promises g c =
+    of_any_ok c.told_cases.result _
+    (promises_of_log _ _ c.in_ok-log.log _ _ c.in_ok-log.ensures.log (c.in_ok-checkers.ensures.others.promises ∙ c.in_ok-plan.ensures.promises) c.in_ok-log.ensures.promises)
+
+pub returns-in-Told-clause-found : goal.returns-in-Told-clause-found
+returns-in-Told-clause-found g c =
+    of_any_ok c.judge_task.result _
+    (finds_all _ _ c.args.question.now.options.now c.in_ok-log.log _ _ c.as_slice.result.now _ c.in_ok-log.ensures.log
+    (c.in_ok-checkers.ensures.others.large ∙ c.in_ok-plan.ensures.large ∙ c.in_ok-log.ensures.large)
+    (c.in_ok-checkers.ensures.others.forced ∙ c.in_ok-plan.ensures.forced ∙ c.in_ok-log.ensures.forced)
+    c.as_slice.ensures.value c.in_ok-decoded.ensures.decoded c.in_default.not-Some c.in_ok-checkers.ensures.unreached)
+
+pub returns-in-Cured-clause-found : goal.returns-in-Cured-clause-found
+returns-in-Cured-clause-found g c =
+    of_any_ok c.cured_log.result _
+    (finds_all _ _ c.args.question.now.options.now c.in_ok-log.log _ _ c.as_slice.result.now _ c.in_ok-log.ensures.log
+    (c.in_ok-checkers.ensures.others.large ∙ c.in_ok-plan.ensures.large ∙ c.in_ok-log.ensures.large)
+    (c.in_ok-checkers.ensures.others.forced ∙ c.in_ok-plan.ensures.forced ∙ c.in_ok-log.ensures.forced)
+    c.as_slice.ensures.value c.in_ok-decoded.ensures.decoded c.in_default.not-Some c.in_ok-checkers.ensures.unreached)

@@ -1,7 +1,6 @@
-use Rattle.std.proofs.Common.{◌≡◌, true, false, ◌∙◌, sym, subst}
+use Rattle.std.proofs.Common.{◌≡◌, false, ◌∙◌, sym, subst}
 use Rattle.request.specs.declared.extent.Extent.{Extent}
-use Rattle.request.proofs.Results.{one_err}
-use Rattle.runs.specs.Explore.{for_extent, for_rest}
+use Rattle.runs.specs.Explore.{for_extent}
 use Rattle.runs.specs.Judged.{takes}
 use Rattle.runs.proofs.explore_command.run_with.Goals as goal
 
@@ -11,7 +10,4 @@ returns-then-not-does_take-clause-refused g c =
     (for_extent (subst (λ (e : Extent). takes c.args.question.now.wanted e ≡ false) c.extent.ensures.value (sym c.does_take.ensures ∙ c.if-not-does_take.true)))
 
 pub returns-clause-refused : goal.returns-clause-refused
-returns-clause-refused g c =
-    one_err c.make_run.result _ _ c.make_run.ensures.refused
-    (λ r refused.
-    for_rest r (subst (λ (e : Extent). takes c.args.question.now.wanted e ≡ true) c.extent.ensures.value (sym c.does_take.ensures ∙ c.if-not-does_take.false)) refused)
+returns-clause-refused g c = c.make_run.ensures.refused

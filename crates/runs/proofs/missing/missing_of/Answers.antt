@@ -1,8 +1,8 @@
 use Rattle.std.proofs.Common.{◌≡◌, ◌∙◌, List, ℕ, length, sym, ap, subst, rules}
-use Rattle.flushes.specs.declared.window.Window.{Window}
-use Rattle.flushes.specs.Places.{AreWindows}
-use Rattle.flushes.specs.Counted.{AreMissing}
-use Rattle.cure.specs.Failures.{windows_in}
+use Rattle.losses.specs.declared.flushes.window.Window.{Window}
+use Rattle.losses.specs.Places.{AreWindows}
+use Rattle.losses.specs.Counted.{AreMissing}
+use Rattle.losses.specs.FailureWindows.{windows_in}
 use Rattle.runs.proofs.missing.missing_of.Goals as goal
 
 pub missing_flushes-requires-clause-windows : goal.missing_flushes-requires-clause-windows

@@ -1,8 +1,8 @@
 use Rattle.std.proofs.Common.{ℕ, ◌≡◌, ◌∙◌, ap, sym, subst, length, List, [], All, rules, string_bytes, Vec, Global}
 use Rattle.choices.specs.Sums.{StartsValue}
-use Rattle.flushes.specs.Places.{AreWindows}
-use Rattle.cure.specs.declared.failure.Failure.{Failure}
-use Rattle.cure.specs.Failures.{AreFailures, windows_in}
+use Rattle.losses.specs.Places.{AreWindows}
+use Rattle.losses.specs.declared.cure.failure.Failure.{Failure}
+use Rattle.losses.specs.FailureWindows.{AreFailures, windows_in}
 use Rattle.report.specs.Report.{HeadValue}
 use Rattle.crash_page.specs.declared.program.ProgramFailures.{ProgramFailures}
 use Rattle.crash_page.specs.Page.{AreOfRun}

@@ -1,9 +1,9 @@
 use Rattle.std.proofs.Common.{◌≡◌, ◌∙◌, List, ℕ, length, map, sym, ap, subst, arith, rules}
 use Rattle.logfmt.specs.declared.entry.Entry.{Entry}
-use Rattle.flushes.specs.Places.{AreWindows}
-use Rattle.cure.specs.Failures.{windows_in}
-use Rattle.why.specs.Failures.{AreImages, AreCuts}
-use Rattle.why.specs.Text.{AreAllNumbered}
+use Rattle.losses.specs.Places.{AreWindows}
+use Rattle.losses.specs.FailureWindows.{windows_in}
+use Rattle.losses.specs.Failures.{AreImages, AreCuts}
+use Rattle.losses.specs.WhyText.{AreAllNumbered}
 use Rattle.runs.specs.Marked.{images_marked}
 use Rattle.runs.proofs.Explained.{as_many}
 use Rattle.runs.proofs.paging.program_failures.Goals as goal

@@ -1,5 +1,5 @@
 use Rattle.std.proofs.Common.{◌≡◌, ◌≤◌, length, filter, take}
-use Rattle.cure.specs.Text.{is_uncured}
+use Rattle.losses.specs.CureText.{is_uncured}
 use Rattle.runs.proofs.paging.uncured_of.Given as goal
 
 abbrev pub invariant-loop-failure : goal.invariant-loop-failure

@@ -6,5 +6,5 @@ use Rattle.verifier.proofs.passing.push_passed_on.Goals as goal
 
 pub returns : goal.returns
 returns c =
-    rw (c.in_ok-push_along_target.ensures, c.in_ok-push_along_next.ensures, c.target_of.ensures, c.edges_of-next.ensures)
+    rw (c.in_ok-push_along-2.ensures, c.in_ok-push_along.ensures)
     (by_both c.args.scene.now.guards c.args.scene.now.shape.now.heads c.args.scene.now.sectors c.args.slot (state_of c.args.state.now) c.args.instr.now (map arrival_of c.args.waiting.now.items))

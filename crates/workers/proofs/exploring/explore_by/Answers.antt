@@ -1,5 +1,5 @@
 use Rattle.std.proofs.Common.{◌∙◌, ap, subst}
-use Rattle.lines.specs.Line.{first_lines}
+use Rattle.report.specs.Line.{first_lines}
 use Rattle.workers.specs.Pieces.{RefusesPieces, block_count, lines_by_block}
 use Rattle.workers.proofs.Runs.{without_passed, with_passed, same_first_lines, lines_ordered, whole_run_of, only_memory}
 use Rattle.workers.proofs.Sets.{images_rise}

@@ -1,5 +1,5 @@
 use Rattle.std.proofs.Common.{◌∙◌, Some, Option, ℕ, ap, sym}
-use Rattle.lines.specs.Lines.{line_value}
+use Rattle.report.specs.LineValues.{line_value}
 use Rattle.workers.specs.Least.{least_image, lower}
 use Rattle.workers.proofs.Least.{least_push}
 use Rattle.workers.proofs.block_lines.KeptLines.push.Goals as goal

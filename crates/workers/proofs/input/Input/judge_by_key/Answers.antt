@@ -1,6 +1,6 @@
 use Rattle.std.proofs.Common.{◌≡◌, ◌∙◌, ◌++◌, refl, ap, arith, length, Some, slice_get, List}
 use Rattle.std.proofs.lemmas.Option.{slice_get_read}
-use Rattle.lines.specs.Line.{FailingLine}
+use Rattle.report.specs.Line.{FailingLine}
 use Rattle.workers.proofs.JudgedLines.{same_ending, checker_found, lines_of_image}
 use Rattle.workers.proofs.Safe.{each_fits}
 use Rattle.workers.proofs.input.Input.judge_by_key.Goals as goal

@@ -1,7 +1,7 @@
 use Rattle.std.proofs.Common.{◌∙◌, slice_set, refl, sym, ap}
 use Rattle.interp.specs.Ending.{ending_of}
 use Rattle.std.proofs.lemmas.Option.{slice_get_within}
-use Rattle.lines.specs.Line.{fails}
+use Rattle.report.specs.Line.{fails}
 use Rattle.choices.specs.Picked.{choice_of_picked}
 use Rattle.workers.specs.Local.{ReuseValue}
 use Rattle.workers.proofs.Telling.{found_ends}

@@ -1,7 +1,0 @@
-use Rattle.std.proofs.Common.{◌≡◌, ◌++◌, take, string_bytes}
-use Rattle.std.specs.List.{flat_map}
-use Rattle.choice_text.specs.Text.{next_name_text}
-use Rattle.choice_text.proofs.printing.put_names.Given as goal
-
-abbrev pub invariant-loop-name : goal.invariant-loop-name
-invariant-loop-name l = string_bytes l.out ≡ (string_bytes l.initial.out) ++ flat_map (next_name_text l.by) (take l.name-index l.rest)

@@ -1,4 +1,0 @@
-use Rattle.choice_text.proofs.reading.+read_on.Given as goal
-
-abbrev pub decreases-read_on : goal.decreases-read_on
-decreases-read_on l = l.left

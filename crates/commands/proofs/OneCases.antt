@@ -1,0 +1,282 @@
+-- The text of cases is one, and where it is told there aren't too many.
+use Rattle.std.proofs.Common.{ℕ, zero, suc, ◌≡◌, ◌+◌, ◌<◌, ◌≤◌, ◌==◌, ◌||◌, Bool, false, not, List, [], ◌∷◌, ◌++◌, length, map, flat_map, sum_by, slice_get, None, Some, refl, sym, ◌∙◌, ap, subst, arith}
+use Rattle.std.specs.Prelude.{codes}
+use Rattle.std.specs.Fmt.{decimal}
+use Rattle.std.specs.List.{list_any}
+use Rattle.std.proofs.lemmas.List.Sums.{sum_by-cons, sum_by-append}
+use Rattle.std.proofs.lemmas.Option.{slice_get_within, slice_get-get_or, slice_get_cases, same_Some}
+use Rattle.machine.specs.Outcome.{Ending}
+use Rattle.logfmt.specs.Bounds.{LogValue}
+use Rattle.logfmt.specs.Laws.{TextOfOneLog}
+use Rattle.epochs.specs.declared.part.By.{By}
+use Rattle.bpf_isa.specs.Laws.{OneProgram}
+use Rattle.verifier.specs.Laws.{OneVerdict}
+use Rattle.checker.specs.Checker.{CheckerValue}
+use Rattle.report.specs.LineText.{ending_text}
+use Rattle.cases.specs.AtCut.{CutValue, parts_of}
+use Rattle.case_runs.specs.declared.found.Losses.{Losses}
+use Rattle.case_runs.specs.declared.found.Found.{Found}
+use Rattle.case_runs.specs.declared.found.CutFound.{CutFound}
+use Rattle.case_runs.specs.declared.leaves.FailingCase.{FailingCase}
+use Rattle.case_runs.specs.Leaves.{failing_value}
+use Rattle.case_runs.specs.Found.{IsFoundAt, AreFoundAt, AreFoundIn, AreFirstAt, AreFirstIn, cases_at, cases_in, most_cases, IsPastAt, AreTooMany, KnownCase, known_case, SameFound, FindingIsOne}
+use Rattle.epochs.specs.Units.{epoch_at, marks_at}
+use Rattle.case_text.specs.Known.{known_of}
+use Rattle.case_text.specs.Window.{case_window}
+use Rattle.case_text.specs.Text.{known_text, window_text, place_text, number_text, case_line, program_cases, programs_cases, cut_cases, all_found, count_cases, count_failing, count_torn_beyond, count_lost_beyond, complete_word, totals_text, counts_text, beyond_text, in_word, head_text, cases_bytes, fails_at, is_any_failing}
+use Rattle.report.specs.Report.{HeadValue}
+use Rattle.request.specs.declared.any_losses.AnyLosses.{AnyLosses}
+use Rattle.request.specs.declared.settings.Settings.{Settings}
+use Rattle.request.specs.Source.{Recording}
+use Rattle.runs.specs.CaseCuts.{losses_of, case_cuts, HasTooMany}
+use Rattle.runs.specs.Cases.{TellsCases, IsCases}
+use Rattle.runs.specs.Explore.{head_of}
+use Rattle.runs.specs.Why.{with_first}
+use Rattle.commands.proofs.OneReport.{same_log, same_checkers}
+
+-- the same was found with each checker, and at each cut
+abbrev EachSame : CutValue → Bool → List Found → List Found → Type 0
+EachSame at tears [] [] = Unit {0}
+EachSame at tears [] (g ∷ gs) = ⊥
+EachSame at tears (f ∷ fs) [] = ⊥
+EachSame at tears (f ∷ fs) (g ∷ gs) = SameFound at tears f g × EachSame at tears fs gs
+
+abbrev cut_value : LogValue → By → ℕ → CutValue
+cut_value log way cut = record { log = log; way = way; cut = cut }
+
+abbrev CutsSame : LogValue → By → Bool → List CutFound → List CutFound → Type 0
+CutsSame log way tears [] [] = Unit {0}
+CutsSame log way tears [] (d ∷ ds) = ⊥
+CutsSame log way tears (c ∷ cs) [] = ⊥
+CutsSame log way tears (c ∷ cs) (d ∷ ds) = (c.cut ≡ d.cut) × EachSame (cut_value log way c.cut) tears c.programs.items d.programs.items × CutsSame log way tears cs ds
+
+each_same : FindingIsOne → (asked : Losses) (at : CutValue) (checkers : List CheckerValue) (fs gs : List Found) → AreFoundAt asked at checkers fs → AreFoundAt asked at checkers gs
+    → EachSame at asked.tears fs gs
+each_same one asked at checkers [] [] a b = tt
+each_same one asked at checkers [] (g ∷ gs) a b = let here = a.count in let there = b.count in absurd (omega (arith, here, there))
+each_same one asked at checkers (f ∷ fs) [] a b = let here = a.count in let there = b.count in absurd (omega (arith, here, there))
+each_same one asked at [] (f ∷ fs) (g ∷ gs) a b = let here = a.count in absurd (omega (arith, here))
+each_same one asked at (c ∷ cs) (f ∷ fs) (g ∷ gs) a b =
+    let here = a.count in
+    let there = b.count in (
+      one.same asked at c f g (a.each 0 c f refl refl) (b.each 0 c g refl refl),
+      each_same one asked at cs fs gs (record { count = omega (arith, here); each = λ i d h own its. a.each (suc i) d h own its })
+          (record { count = omega (arith, there); each = λ i d h own its. b.each (suc i) d h own its }),
+    )
+
+cuts_same : FindingIsOne → (asked : Losses) (log : LogValue) (way : By) (cuts : List ℕ) (checkers : List CheckerValue) (ls ms : List CutFound) → AreFoundIn asked log way cuts checkers ls
+    → AreFoundIn asked log way cuts checkers ms → CutsSame log way asked.tears ls ms
+cuts_same one asked log way cuts checkers [] [] a b = tt
+cuts_same one asked log way cuts checkers [] (d ∷ ds) a b = let here = a.count in let there = b.count in absurd (omega (arith, here, there))
+cuts_same one asked log way cuts checkers (c ∷ cs) [] a b = let here = a.count in let there = b.count in absurd (omega (arith, here, there))
+cuts_same one asked log way [] checkers (c ∷ cs) (d ∷ ds) a b = let here = a.count in absurd (omega (arith, here))
+cuts_same one asked log way (k ∷ ks) checkers (c ∷ cs) (d ∷ ds) a b =
+    let here = a.count in
+    let there = b.count in
+    let at = a.cut 0 k c refl refl in (
+      at ∙ sym (b.cut 0 k d refl refl),
+      subst (λ n. EachSame (cut_value log way n) asked.tears c.programs.items d.programs.items) (sym at)
+          (each_same one asked (cut_value log way k) checkers c.programs.items d.programs.items (a.each 0 k c refl refl) (b.each 0 k d refl refl)),
+      cuts_same one asked log way ks checkers cs ds
+          (record { count = omega (arith, here); cut = λ i j f own its. a.cut (suc i) j f own its; each = λ i j f own its. a.each (suc i) j f own its })
+          (record { count = omega (arith, there); cut = λ i j f own its. b.cut (suc i) j f own its; each = λ i j f own its. b.each (suc i) j f own its }),
+    )
+
+-- the lines of the same cases are the same
+known_line : CutValue → Bool → ℕ → KnownCase → List ℕ
+known_line at tears program k =
+    place_text at.cut (epoch_at at.log.entries at.cut) (marks_at at.log.entries at.cut) ++ number_text program k.number ++ ending_text k.ending
+    ++ known_text at.way (known_of tears k.is (parts_of at)) ++ window_text (case_window at k.is) ++ codes "\n"
+
+lines_known : (at : CutValue) (tears : Bool) (program : ℕ) (items : List FailingCase) → program_cases at tears program items ≡ flat_map (known_line at tears program) (map (known_case at tears) items)
+unfolding case_line known_line
+lines_known at tears program [] = refl
+lines_known at tears program (f ∷ items) =
+    ap (λ (xs : List ℕ). case_line at tears program (failing_value f) ++ xs) (lines_known at tears program items)
+
+each_lines : (at : CutValue) (tears : Bool) (program : ℕ) (fs gs : List Found) → EachSame at tears fs gs → programs_cases at tears program fs ≡ programs_cases at tears program gs
+each_lines at tears program [] [] same = refl
+each_lines at tears program [] (g ∷ gs) same = absurd same
+each_lines at tears program (f ∷ fs) [] same = absurd same
+each_lines at tears program (f ∷ fs) (g ∷ gs) same =
+    let own : program_cases at tears program f.failing.items ≡ program_cases at tears program g.failing.items =
+    lines_known at tears program f.failing.items ∙ ap (flat_map (known_line at tears program)) same.0.failing ∙ sym (lines_known at tears program g.failing.items) in
+    let rest = each_lines at tears (program + 1) fs gs same.1 in
+    λ i. own i ++ rest i
+
+cut_lines : (log : LogValue) (way : By) (tears : Bool) (ls ms : List CutFound) → CutsSame log way tears ls ms → flat_map (cut_cases log way tears) ls ≡ flat_map (cut_cases log way tears) ms
+cut_lines log way tears [] [] same = refl
+cut_lines log way tears [] (d ∷ ds) same = absurd same
+cut_lines log way tears (c ∷ cs) [] same = absurd same
+cut_lines log way tears (c ∷ cs) (d ∷ ds) same =
+    let own : cut_cases log way tears c ≡ cut_cases log way tears d =
+    each_lines (cut_value log way c.cut) tears 0 c.programs.items d.programs.items same.1
+    ∙ ap (λ n. programs_cases (cut_value log way n) tears 0 d.programs.items) same.0 in
+    let rest = cut_lines log way tears cs ds same.2 in
+    λ i. own i ++ rest i
+
+-- and so are their numbers
+length_failing : (at : CutValue) (tears : Bool) (f g : Found) → SameFound at tears f g → length f.failing.items ≡ length g.failing.items
+length_failing at tears f g same = sym (long f.failing.items) ∙ ap (λ (ks : List KnownCase). length ks) same.failing ∙ long g.failing.items
+  where
+    long : (items : List FailingCase) → length (map (known_case at tears) items) ≡ length items
+    long [] = refl
+    long (x ∷ items) = ap suc (long items)
+
+abbrev Tells : (Found → ℕ) → Type 0
+Tells number = (at : CutValue) (tears : Bool) (f g : Found) → SameFound at tears f g → number f ≡ number g
+
+sum_each : (number : Found → ℕ) → Tells number → (at : CutValue) (tears : Bool) (fs gs : List Found) → EachSame at tears fs gs → sum_by number fs ≡ sum_by number gs
+sum_each number tells at tears [] [] same = refl
+sum_each number tells at tears [] (g ∷ gs) same = absurd same
+sum_each number tells at tears (f ∷ fs) [] same = absurd same
+sum_each number tells at tears (f ∷ fs) (g ∷ gs) same =
+    let own = tells at tears f g same.0 in
+    let rest = sum_each number tells at tears fs gs same.1 in
+    sum_by-cons number f fs ∙ (λ i. own i + rest i) ∙ sym (sum_by-cons number g gs)
+
+sum_all : (number : Found → ℕ) → Tells number → (log : LogValue) (way : By) (tears : Bool) (ls ms : List CutFound) → CutsSame log way tears ls ms
+    → sum_by number (all_found ls) ≡ sum_by number (all_found ms)
+sum_all number tells log way tears [] [] same = refl
+sum_all number tells log way tears [] (d ∷ ds) same = absurd same
+sum_all number tells log way tears (c ∷ cs) [] same = absurd same
+sum_all number tells log way tears (c ∷ cs) (d ∷ ds) same =
+    let own = sum_each number tells (cut_value log way c.cut) tears c.programs.items d.programs.items same.1 in
+    let rest = sum_all number tells log way tears cs ds same.2 in
+    sum_by-append number c.programs.items (all_found cs) ∙ (λ i. own i + rest i) ∙ sym (sum_by-append number d.programs.items (all_found ds))
+
+length_same : (log : LogValue) (way : By) (tears : Bool) (ls ms : List CutFound) → CutsSame log way tears ls ms → length ls ≡ length ms
+length_same log way tears [] [] same = refl
+length_same log way tears [] (d ∷ ds) same = absurd same
+length_same log way tears (c ∷ cs) [] same = absurd same
+length_same log way tears (c ∷ cs) (d ∷ ds) same = ap suc (length_same log way tears cs ds same.2)
+
+totals_same : (log : LogValue) (way : By) (tears : Bool) (ls ms : List CutFound) → CutsSame log way tears ls ms → totals_text ls ≡ totals_text ms
+unfolding totals_text
+totals_same log way tears ls ms same =
+    let long = length_same log way tears ls ms same in
+    let cases : count_cases ls ≡ count_cases ms = ap in_word (sum_all (λ f. f.cases) (λ at t f g s. s.cases) log way tears ls ms same) in
+    let failing : count_failing ls ≡ count_failing ms = ap in_word (sum_all (λ f. length f.failing.items) (λ at t f g s. length_failing at t f g s) log way tears ls ms same) in
+    let torn : count_torn_beyond ls ≡ count_torn_beyond ms = ap in_word (sum_all (λ f. f.torn_beyond) (λ at t f g s. s.torn) log way tears ls ms same) in
+    let lost : count_lost_beyond ls ≡ count_lost_beyond ms = ap in_word (sum_all (λ f. f.lost_beyond) (λ at t f g s. s.lost) log way tears ls ms same) in
+    λ i. counts_text (long i) (cases i) (failing i) ++ beyond_text (torn i) (lost i) ++ complete_word (torn i) (lost i) ++ codes "\n"
+
+any_each : (at : CutValue) (tears : Bool) (fs gs : List Found) → EachSame at tears fs gs → fails_at fs ≡ fails_at gs
+any_each at tears [] [] same = refl
+any_each at tears [] (g ∷ gs) same = absurd same
+any_each at tears (f ∷ fs) [] same = absurd same
+any_each at tears (f ∷ fs) (g ∷ gs) same =
+    let own = length_failing at tears f g same.0 in
+    let more = any_each at tears fs gs same.1 in
+    λ i. not (own i == 0) || more i
+
+any_same : (log : LogValue) (way : By) (tears : Bool) (ls ms : List CutFound) → CutsSame log way tears ls ms → is_any_failing ls ≡ is_any_failing ms
+any_same log way tears [] [] same = refl
+any_same log way tears [] (d ∷ ds) same = absurd same
+any_same log way tears (c ∷ cs) [] same = absurd same
+any_same log way tears (c ∷ cs) (d ∷ ds) same =
+    let own = any_each (cut_value log way c.cut) tears c.programs.items d.programs.items same.1 in
+    let rest = any_same log way tears cs ds same.2 in
+    λ i. own i || rest i
+
+bytes_same : (h : HeadValue) (asked : Losses) (log : LogValue) (ls ms : List CutFound) → CutsSame log h.by asked.tears ls ms → cases_bytes h asked log ls ≡ cases_bytes h asked log ms
+unfolding cases_bytes
+bytes_same h asked log ls ms same =
+    let lines = cut_lines log h.by asked.tears ls ms same in
+    let totals = totals_same log h.by asked.tears ls ms same in
+    λ i. head_text h asked ++ lines i ++ totals i
+
+tells_once : FindingIsOne → (l : AnyLosses) (s : Settings) (value : LogValue) (checkers : List CheckerValue) (bytes others : List ℕ) (failing fails : Bool)
+    → TellsCases l s value checkers bytes failing → TellsCases l s value checkers others fails → (bytes ≡ others) × (failing ≡ fails)
+unfolding head_of
+tells_once one l s value checkers bytes others failing fails a b =
+    let same = cuts_same one (losses_of l s) value s.by (case_cuts l s.cuts value) checkers a.found b.found a.are b.are in (
+      a.text ∙ bytes_same (head_of (with_first false s) value checkers) (losses_of l s) value a.found b.found same ∙ sym b.text,
+      a.fails ∙ any_same value s.by s.tears a.found b.found same ∙ sym b.fails,
+    )
+
+pub one_cases : TextOfOneLog → OneProgram → OneVerdict → FindingIsOne → (l : AnyLosses) (text : Recording) (files : List (List ℕ)) (s : Settings) (bytes others : List ℕ) (failing fails : Bool)
+    → IsCases l text files s bytes failing → IsCases l text files s others fails → (bytes ≡ others) × (failing ≡ fails)
+one_cases texts programs verdicts one l text files s bytes others failing fails h k =
+    let value = same_log texts text s h.value k.value h.source k.source in
+    let checkers = same_checkers programs verdicts s files h.checkers k.checkers h.made k.made in
+    let by_value = subst (λ (v : LogValue). TellsCases l s v k.checkers others fails) (sym value) k.tells in
+    let tells = subst (λ (cs : List CheckerValue). TellsCases l s h.value cs others fails) (sym checkers) by_value in
+    tells_once one l s h.value h.checkers bytes others failing fails h.tells tells
+
+-- the cases of the first checkers, and those of the next one, are among all
+first_at : FindingIsOne → (asked : Losses) (at : CutValue) (checkers : List CheckerValue) (n : ℕ) (before found : List Found) (f : Found) → AreFirstAt asked at checkers n before
+    → AreFoundAt asked at checkers found → slice_get found n ≡ Some f → cases_at before + f.cases ≤ cases_at found
+first_at one asked at checkers n before [] f a b there = absurd (let bad : None ≡ Some f = there in cc)
+first_at one asked at checkers zero [] (g ∷ gs) f a b there =
+    let same : f.cases ≡ g.cases = ap (λ (x : Found). x.cases) (sym (same_Some g f there)) in
+    let all = sum_by-cons (λ (x : Found). x.cases) g gs in
+    omega (arith, same, all)
+first_at one asked at checkers (suc n) [] (g ∷ gs) f a b there = let count = a.count in absurd (omega (arith, count))
+first_at one asked at checkers zero (e ∷ es) (g ∷ gs) f a b there = let count = a.count in absurd (omega (arith, count))
+first_at one asked at [] (suc n) (e ∷ es) (g ∷ gs) f a b there = let count = b.count in absurd (omega (arith, count))
+first_at one asked at (c ∷ cs) (suc n) (e ∷ es) (g ∷ gs) f a b there =
+    let here = a.count in
+    let count = b.count in
+    let own = (one.same asked at c e g (a.each 0 c e refl refl) (b.each 0 c g refl refl)).cases in
+    let rest = first_at one asked at cs n es gs f (record { count = omega (arith, here); each = λ i d h x y. a.each (suc i) d h x y })
+    (record { count = omega (arith, count); each = λ i d h x y. b.each (suc i) d h x y }) there in
+    let first = sum_by-cons (λ (x : Found). x.cases) e es in
+    let all = sum_by-cons (λ (x : Found). x.cases) g gs in
+    omega (arith, own, rest, first, all)
+
+-- the same of cuts
+first_in : FindingIsOne → (asked : Losses) (log : LogValue) (way : By) (cuts : List ℕ) (checkers : List CheckerValue) (n : ℕ) (before found : List CutFound) (f : CutFound)
+    → AreFirstIn asked log way cuts checkers n before → AreFoundIn asked log way cuts checkers found → slice_get found n ≡ Some f
+    → cases_in before + cases_at f.programs.items ≤ cases_in found
+first_in one asked log way cuts checkers n before [] f a b there = absurd (let bad : None ≡ Some f = there in cc)
+first_in one asked log way cuts checkers zero [] (g ∷ gs) f a b there =
+    let same : cases_at f.programs.items ≡ cases_at g.programs.items = ap (λ (x : CutFound). cases_at x.programs.items) (sym (same_Some g f there)) in
+    let all = sum_by-cons (λ (x : CutFound). cases_at x.programs.items) g gs in
+    omega (arith, same, all)
+first_in one asked log way cuts checkers (suc n) [] (g ∷ gs) f a b there = let count = a.count in absurd (omega (arith, count))
+first_in one asked log way cuts checkers zero (e ∷ es) (g ∷ gs) f a b there = let count = a.count in absurd (omega (arith, count))
+first_in one asked log way [] checkers (suc n) (e ∷ es) (g ∷ gs) f a b there = let count = b.count in absurd (omega (arith, count))
+first_in one asked log way (k ∷ ks) checkers (suc n) (e ∷ es) (g ∷ gs) f a b there =
+    let here = a.count in
+    let count = b.count in
+    let own = sum_each (λ (x : Found). x.cases) (λ at t x y s. s.cases) (cut_value log way k) asked.tears e.programs.items g.programs.items
+    (each_same one asked (cut_value log way k) checkers e.programs.items g.programs.items (a.each 0 k e refl refl) (b.each 0 k g refl refl)) in
+    let rest = first_in one asked log way ks checkers n es gs f
+    (record { count = omega (arith, here); cut = λ i j h x y. a.cut (suc i) j h x y; each = λ i j h x y. a.each (suc i) j h x y })
+    (record { count = omega (arith, count); cut = λ i j h x y. b.cut (suc i) j h x y; each = λ i j h x y. b.each (suc i) j h x y }) there in
+    let first = sum_by-cons (λ (x : CutFound). cases_at x.programs.items) e es in
+    let all = sum_by-cons (λ (x : CutFound). cases_at x.programs.items) g gs in
+    omega (arith, own, rest, first, all)
+
+-- a list as long as another has an element at the same place
+there_too : {A B : Type 0} (xs : List A) (ys : List B) (i : ℕ) (x : A) → length ys ≡ length xs → slice_get xs i ≡ Some x → (y : B) × (slice_get ys i ≡ Some y)
+there_too [] ys i x long at = absurd (let bad : None ≡ Some x = at in cc)
+there_too (a ∷ xs) [] i x long at = absurd (omega (arith, long))
+there_too (a ∷ xs) (b ∷ ys) zero x long at = (b, refl)
+there_too (a ∷ xs) (b ∷ ys) (suc i) x long at = there_too xs ys i x (omega (arith, long)) at
+
+past_at : FindingIsOne → (asked : Losses) (at : CutValue) (checkers : List CheckerValue) (left : ℕ) (found : List Found) → AreFoundAt asked at checkers found → IsPastAt asked at checkers left
+    → left < cases_at found
+past_at one asked at checkers left found are past =
+    let there = there_too checkers found past.number past.checker are.count past.own in
+    let own = are.each past.number past.checker there.0 past.own there.1 in
+    let among = first_at one asked at checkers past.number past.before found there.0 past.are are there.1 in
+    let many = one.fewer asked at past.checker there.0 past.past.more own past.past.begun in
+    let counted = past.counted in
+    let more = past.past.past in
+    omega (arith, among, many, counted, more)
+
+-- where cases are told there aren't too many
+pub not_too_many : FindingIsOne → (l : AnyLosses) (s : Settings) (value : LogValue) (checkers : List CheckerValue) (bytes : List ℕ) (failing : Bool) (cut : ℕ)
+    → TellsCases l s value checkers bytes failing → HasTooMany l s value checkers cut → ⊥
+not_too_many one l s value checkers bytes failing cut h many =
+    let asked = losses_of l s in
+    let cuts = case_cuts l s.cuts value in
+    let there = there_too cuts h.found many.place cut h.are.count many.own in
+    let own = h.are.each many.place cut there.0 many.own there.1 in
+    let among = first_in one asked value s.by cuts checkers many.place many.before h.found there.0 many.are h.are there.1 in
+    let past = past_at one asked (cut_value value s.by cut) checkers many.rest there.0.programs.items own many.past in
+    let counted = many.counted in
+    let few = h.few in
+    omega (arith, among, past, counted, few)

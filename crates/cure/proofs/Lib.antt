@@ -1,5 +1,0 @@
--- Lemmas of the crate.
-pub mod Newlines
-pub mod Windows
-pub mod Fewer
-pub mod Told

@@ -1,5 +1,0 @@
-use Rattle.cure.proofs.Newlines.{printed_line}
-use Rattle.cure.proofs.printed.line_at.Goals as goal
-
-pub returns : goal.returns
-returns c = printed_line c.args.text.now c.args.number c.behind_lines-rest.result.now c.line_len.result c.behind_lines-rest.ensures c.line_len.ensures.line

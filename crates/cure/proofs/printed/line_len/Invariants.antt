@@ -1,6 +1,0 @@
-use Rattle.std.proofs.Common.{◌≡◌, true, take}
-use Rattle.lines.specs.Reading.{lacks}
-use Rattle.cure.proofs.printed.line_len.Given as goal
-
-abbrev pub invariant-loop-place : goal.invariant-loop-place
-invariant-loop-place l = lacks 10 (take l.place l.text) ≡ true

@@ -1,7 +1,0 @@
-use Rattle.std.proofs.Common.{◌≡◌, ◌≤◌, length, filter, take}
-use Rattle.cure.specs.Text.{is_of}
-use Rattle.cure.proofs.text.failing.Given as goal
-
-abbrev pub invariant-loop-failure : goal.invariant-loop-failure
-invariant-loop-failure l =
-    (l.count ≡ length (filter (is_of l.fn.program) (take l.failure-index l.fn.failures))) × (l.count ≤ l.failure-index)

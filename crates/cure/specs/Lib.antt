@@ -1,4 +1,0 @@
--- What a cure is.
-pub mod Failures
-pub mod Printed
-pub mod Text

@@ -1,5 +1,0 @@
-pub mod Between
-pub mod Bounds
-pub mod Marks
-pub mod Recorded
-pub mod Stamps

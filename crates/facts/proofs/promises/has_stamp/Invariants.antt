@@ -1,5 +1,0 @@
-use Rattle.facts.specs.Search.{AllAre}
-use Rattle.facts.proofs.promises.has_stamp.Given as goal
-
-abbrev pub invariant-loop-place : goal.invariant-loop-place
-invariant-loop-place l = AllAre l.stamps l.stamp l.entry.sector l.place

@@ -1,5 +1,0 @@
-use Rattle.facts.specs.Search.{is_among, AreStamped}
-use Rattle.facts.proofs.promises.put_stamp.Given as goal
-
-abbrev pub invariant-loop-place : goal.invariant-loop-place
-invariant-loop-place l = AreStamped (is_among l.entry.sector l.place) l.stamp l.initial.stamps l.stamps

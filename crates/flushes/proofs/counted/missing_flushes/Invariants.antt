@@ -1,6 +1,0 @@
-use Rattle.std.proofs.Common.{◌≡◌, take}
-use Rattle.flushes.specs.Counted.{missing}
-use Rattle.flushes.proofs.counted.missing_flushes.Given as goal
-
-abbrev pub invariant-loop-window : goal.invariant-loop-window
-invariant-loop-window l = l.flushes.items ≡ missing (take l.window-index l.fn.windows) l.places.items

@@ -1,7 +1,0 @@
-use Rattle.std.proofs.Common.{◌≡◌, [], map}
-use Rattle.std.specs.List.{range_with_len}
-use Rattle.flushes.specs.Counted.{missing_at}
-use Rattle.flushes.proofs.counted.none_counted.Given as goal
-
-abbrev pub invariant-loop-place : goal.invariant-loop-place
-invariant-loop-place l = l.flushes.items ≡ map (missing_at [] l.fn.places) (range_with_len 0 l.place-index)

@@ -1,5 +1,0 @@
-use Rattle.flushes.proofs.Same.{nothing_else_is_lost}
-use Rattle.flushes.proofs.laws.nothing_else_is_lost.Goals as goal
-
-pub returns : goal.returns
-returns c = nothing_else_is_lost

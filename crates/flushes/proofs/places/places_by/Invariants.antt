@@ -1,9 +1,0 @@
-use Rattle.std.proofs.Common.{List, length}
-use Rattle.flushes.specs.declared.window.Window.{Window}
-use Rattle.flushes.specs.Places.{AreWindows, AreStarts}
-use Rattle.flushes.proofs.Walked.{Walked}
-use Rattle.flushes.proofs.places.places_by.Given as goal
-
-abbrev pub invariant-loop-end : goal.invariant-loop-end
-invariant-loop-end l =
-    (ws : List Window) → AreWindows (length l.fn.starts) ws → AreStarts (length l.fn.starts) ws l.fn.starts → Walked ws l.end l.last l.places.items

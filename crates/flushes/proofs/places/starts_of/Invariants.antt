@@ -1,6 +1,0 @@
-use Rattle.std.proofs.Common.{take}
-use Rattle.flushes.specs.Places.{AreStarts}
-use Rattle.flushes.proofs.places.starts_of.Given as goal
-
-abbrev pub invariant-loop-window : goal.invariant-loop-window
-invariant-loop-window l = AreStarts l.fn.entries (take l.window-index l.fn.windows) l.starts.items

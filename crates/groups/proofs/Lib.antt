@@ -1,5 +1,0 @@
--- Lemmas of the crate.
-pub mod Parts
-pub mod Keyed
-pub mod Progress
-pub mod Folds

@@ -1,5 +1,0 @@
--- Groups of failing choices.
-pub mod Groups
-pub mod Keys
-pub mod Folded
-pub mod Laws

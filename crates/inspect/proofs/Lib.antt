@@ -1,0 +1,14 @@
+-- Lemmas of `looks`.
+pub mod Counts
+pub mod EvenParts
+pub mod Refused
+pub mod Texts
+pub mod Printed
+pub mod Short
+pub mod Meant
+-- Lemmas on images, on runs and their lines, and on refusals.
+pub mod Images
+pub mod Steps
+pub mod Lines
+pub mod Changes
+pub mod TrialRefused

@@ -1,0 +1,97 @@
+-- A run, step by step: what is left of it leads to what the whole comes to.
+use Rattle.std.proofs.Common.{ℕ, suc, ◌≡◌, ◌<◌, ◌≤◌, ◌+◌, ◌-◌, Option, None, Some, refl, ap, ◌∙◌, arith}
+use Rattle.machine.specs.State.{State}
+use Rattle.machine.specs.Step.{Stepped, Next, step}
+use Rattle.machine.specs.Outcome.{OutOfSteps, after, steps_end}
+use Rattle.interp.specs.declared.walk.Halt.{Halt}
+use Rattle.interp.specs.declared.walk.Halt.TheVariants as halt
+use Rattle.interp.specs.Walks.{WalkValue, stepped_to, with_state}
+use Rattle.inspect.specs.Trace.{behind, ending_of_halt, steps_made}
+
+-- a run that came so far
+pub record Comes (w : WalkValue) (limit made : ℕ) (v : WalkValue) : Type 0 where
+  pub within : made ≤ limit
+  pub same : v ≡ with_state w v.state
+  pub ends : steps_end w.program w.context w.device (limit - made) v.state ≡ steps_end w.program w.context w.device limit w.state
+  pub steps : steps_made w.program w.context w.device (limit - made) v.state + made ≡ steps_made w.program w.context w.device limit w.state
+
+pub begin : (w : WalkValue) (limit : ℕ) → Comes w limit 0 w
+begin w limit =
+    let all : limit - 0 ≡ limit = omega arith in
+    let count : steps_made w.program w.context w.device limit w.state + 0 ≡ steps_made w.program w.context w.device limit w.state = omega arith in
+    record { within = omega arith; same = refl; ends = rw all refl; steps = rw all count }
+
+-- one step of it, of which x came
+run_next : (w : WalkValue) (n : ℕ) (s : State) (x : Stepped) → x ≡ step w.program w.context w.device s
+    → after (steps_end w.program w.context w.device n) x ≡ steps_end w.program w.context w.device (suc n) s
+unfolding steps_end
+run_next w n s x came = ap (after (steps_end w.program w.context w.device n)) came
+
+count_next : (w : WalkValue) (n : ℕ) (s : State) (x : Stepped) → x ≡ step w.program w.context w.device s
+    → behind 0 (steps_made w.program w.context w.device n) x + 1 ≡ steps_made w.program w.context w.device (suc n) s
+unfolding steps_made
+count_next w n s x came = ap (λ (y : Stepped). behind 0 (steps_made w.program w.context w.device n) y + 1) came
+
+-- the step that was made is one of the run
+pub step_there : (w v : WalkValue) (x : Stepped) → v ≡ with_state w v.state → x ≡ step v.program v.context v.device v.state
+    → x ≡ step w.program w.context w.device v.state
+step_there w v x same came = came ∙ ap (λ (y : WalkValue). step y.program y.context y.device v.state) same
+
+pub same_run : (w v u : WalkValue) → v ≡ with_state w v.state → u ≡ with_state v u.state → u ≡ with_state w u.state
+same_run w v u same more = more ∙ ap (λ (y : WalkValue). with_state y u.state) same
+
+-- the run goes on
+pub go_on : (w : WalkValue) (limit made : ℕ) (v u : WalkValue) (end : Option Halt) → made < limit → Comes w limit made v → end ≡ None
+    → stepped_to u end ≡ step v.program v.context v.device v.state → u ≡ with_state v u.state → Comes w limit (made + 1) u
+go_on w limit made v u end less h none came more =
+    let next : Next u.state ≡ step v.program v.context v.device v.state = rw none at came in
+    let stepped = step_there w v (Next u.state) h.same next in
+    let left : limit - made ≡ suc (limit - (made + 1)) = omega (arith, less) in
+    let ends : steps_end w.program w.context w.device (suc (limit - (made + 1))) v.state ≡ steps_end w.program w.context w.device limit w.state = rw left at h.ends in
+    let steps : steps_made w.program w.context w.device (suc (limit - (made + 1))) v.state + made ≡ steps_made w.program w.context w.device limit w.state = rw left at h.steps in
+    let count : steps_made w.program w.context w.device (limit - (made + 1)) u.state + 1 ≡ steps_made w.program w.context w.device (suc (limit - (made + 1))) v.state =
+    count_next w (limit - (made + 1)) v.state (Next u.state) stepped in
+    record {
+      within = omega (arith, less);
+      same = same_run w v u h.same more;
+      ends = run_next w (limit - (made + 1)) v.state (Next u.state) stepped ∙ ends;
+      steps = omega (arith, steps, count);
+    }
+
+-- what it came to where it ended
+ending_halted : (w u : WalkValue) (n : ℕ) (h : Halt) → ending_of_halt u.state.codes h ≡ after (steps_end w.program w.context w.device n) (stepped_to u (Some h))
+ending_halted w u n (halt.Verdict answer) = refl
+ending_halted w u n (halt.Fault cause slot) = refl
+
+count_halted : (w u : WalkValue) (n : ℕ) (h : Halt) → behind 0 (steps_made w.program w.context w.device n) (stepped_to u (Some h)) ≡ 0
+count_halted w u n (halt.Verdict answer) = refl
+count_halted w u n (halt.Fault cause slot) = refl
+
+pub ended : (w : WalkValue) (limit made : ℕ) (v u : WalkValue) (end : Option Halt) (h : Halt) → made < limit → Comes w limit made v → end ≡ Some h
+    → stepped_to u end ≡ step v.program v.context v.device v.state
+    → (ending_of_halt u.state.codes h ≡ steps_end w.program w.context w.device limit w.state) × (made + 1 ≡ steps_made w.program w.context w.device limit w.state)
+ended w limit made v u end h less c some came =
+    let stop : stepped_to u (Some h) ≡ step v.program v.context v.device v.state = rw some at came in
+    let stepped = step_there w v (stepped_to u (Some h)) c.same stop in
+    let left : limit - made ≡ suc (limit - (made + 1)) = omega (arith, less) in
+    let ends : steps_end w.program w.context w.device (suc (limit - (made + 1))) v.state ≡ steps_end w.program w.context w.device limit w.state = rw left at c.ends in
+    let steps : steps_made w.program w.context w.device (suc (limit - (made + 1))) v.state + made ≡ steps_made w.program w.context w.device limit w.state = rw left at c.steps in
+    let count = count_next w (limit - (made + 1)) v.state (stepped_to u (Some h)) stepped in
+    let none = count_halted w u (limit - (made + 1)) h in
+    (ending_halted w u (limit - (made + 1)) h ∙ run_next w (limit - (made + 1)) v.state (stepped_to u (Some h)) stepped ∙ ends, omega (arith, steps, count, none))
+
+-- all steps were made
+pub spent : (w : WalkValue) (limit made : ℕ) (v : WalkValue) → limit ≤ made → Comes w limit made v
+    → (OutOfSteps ≡ steps_end w.program w.context w.device limit w.state) × (limit ≡ steps_made w.program w.context w.device limit w.state)
+unfolding steps_end steps_made
+spent w limit made v past c =
+    let none : limit - made ≡ 0 = omega (arith, past) in
+    let all : made ≡ limit = omega (arith, past, c.within) in
+    let ends : steps_end w.program w.context w.device 0 v.state ≡ steps_end w.program w.context w.device limit w.state = rw none at c.ends in
+    let steps : 0 + made ≡ steps_made w.program w.context w.device limit w.state = rw none at c.steps in
+    (ends, omega (arith, steps, all))
+
+-- where nothing is there
+pub not_some : {X : Type 0} (x : Option X) → ((y : X) → x ≡ Some y → ⊥) → x ≡ None
+not_some None none = refl
+not_some (Some y) none = absurd (none y refl)

@@ -1,0 +1,17 @@
+use Rattle.std.proofs.Common.{◌≡◌, ◌∙◌, ap, sym, false}
+use Rattle.request.specs.Extents.{is_at_once}
+use Rattle.request.specs.Source.{for_log, for_plan}
+use Rattle.export.proofs.Streaming.{nothing_kept}
+use Rattle.inspect.specs.Export.{for_extent, for_source}
+use Rattle.inspect.proofs.looks.export_command.write_images.Goals as goal
+
+pub returns-then-not-is_at_once-clause-stopped : goal.returns-then-not-is_at_once-clause-stopped
+returns-then-not-is_at_once-clause-stopped g c =
+    let lack : is_at_once c.args.options.now.extent ≡ false = ap is_at_once (sym c.extent.ensures.value) ∙ sym c.is_at_once.ensures ∙ c.if-not-is_at_once.true in
+    (rw c.option_refusal_of-refusal.ensures (for_extent lack), nothing_kept _)
+
+pub returns-in-Err-clause-stopped : goal.returns-in-Err-clause-stopped
+returns-in-Err-clause-stopped g c = (for_source _ (for_log _ c.in-Err.ensures.refused), nothing_kept _)
+
+pub returns-in-Err-plan-clause-stopped : goal.returns-in-Err-plan-clause-stopped
+returns-in-Err-plan-clause-stopped g c = (for_source _ (for_plan _ c.in-Ok.log c.in-Ok.ensures.log c.in-Err-plan.ensures.refused), nothing_kept _)

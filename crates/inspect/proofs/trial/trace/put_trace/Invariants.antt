@@ -1,0 +1,6 @@
+use Rattle.std.specs.Prelude.{string_bytes}
+use Rattle.inspect.proofs.Lines.{Traces}
+use Rattle.inspect.proofs.trial.trace.put_trace.Given as goal
+
+abbrev pub invariant-loop-made : goal.invariant-loop-made
+invariant-loop-made g l = Traces l.limits l.initial.walk l.steps l.above (string_bytes l.initial.out) (string_bytes l.out) l.made l.walk

@@ -1,0 +1,86 @@
+-- The steps of a run in words (docs/OUTPUT.md, The text of `check`).
+use Rattle.std.specs.Prelude.{ℕ, zero, suc, ◌+◌, ◌-◌, ◌*◌, ◌/◌, ◌%◌, ◌==◌, nat_lt, Bool, true, false, if◌then◌else◌, List, [], ◌++◌, map, codes, Option, None, Some, slice_index_or}
+use Rattle.std.specs.List.{flat_map, range_with_len}
+use Rattle.std.specs.Option.{option_map_or}
+use Rattle.std.specs.Fmt.{decimal}
+use Rattle.base.specs.Sizes.{sector_limit}
+use Rattle.base.specs.declared.limits.Limits.{Limits}
+use Rattle.bpf_isa.specs.declared.instr.Instr.{Instr}
+use Rattle.bpf_isa.specs.Slots.{at}
+use Rattle.bpf_asm.specs.Listing.{line_text}
+use Rattle.helpers.specs.Answers.{sector_start}
+use Rattle.machine.specs.State.{State, register, context_start, stack_start}
+use Rattle.machine.specs.Step.{Stepped, Next, Done, Fault, step}
+use Rattle.machine.specs.Outcome.{Ending, Verdict, Stopped}
+use Rattle.interp.specs.declared.walk.Halt.{Halt}
+use Rattle.interp.specs.declared.walk.Halt.TheVariants as halt
+
+-- what follows a step that led to a next state, or else this
+abbrev pub behind : {X : Type 0} → X → (State → X) → Stepped → X
+behind end rest (Next s) = rest s
+behind end rest (Done _ _) = end
+behind end rest (Fault _ _) = end
+
+-- what a run came to that a step ended so, where these codes were reported
+abbrev pub ending_of_halt : List ℕ → Halt → Ending
+ending_of_halt numbers (halt.Verdict answer) = Verdict answer numbers
+ending_of_halt numbers (halt.Fault cause slot) = Stopped cause slot
+
+-- how many of at most n steps from a state on are made; one that ends the run is made too
+unfoldable pub steps_made : List (Option Instr) → List ℕ → List (List ℕ) → ℕ → State → ℕ
+steps_made program context device zero s = 0
+steps_made program context device (suc n) s = behind 0 (steps_made program context device n) (step program context device s) + 1
+
+-- memory stands in blocks that begin 1,024 addresses apart: the block of an address, and the place in it
+abbrev pub place_text : ℕ → List ℕ
+place_text distance = decimal (distance / 1024) ++ codes "+" ++ decimal (distance % 1024)
+
+-- the end of the addresses of the sectors of a largest device within these limits
+abbrev pub sector_end : Limits → ℕ
+sector_end limits = sector_start + 1024 * sector_limit limits
+
+-- a word: what lies in the addresses of the context, of the stacks or of the sectors of a largest device within these limits is
+-- written so, and any other as a number
+unfoldable pub word_text : Limits → ℕ → List ℕ
+word_text limits n =
+    if nat_lt n context_start then decimal n
+    else if nat_lt n stack_start then codes "context+" ++ decimal (n - context_start)
+    else if nat_lt n sector_start then codes "stack " ++ place_text (n - stack_start)
+    else if nat_lt n (sector_end limits) then codes "sector " ++ place_text (n - sector_start)
+    else decimal n
+
+-- what a register holds
+abbrev pub held_text : Limits → Option ℕ → List ℕ
+held_text limits None = codes "unset"
+held_text limits (Some n) = word_text limits n
+
+abbrev pub is_same : Option ℕ → Option ℕ → Bool
+is_same None None = true
+is_same None (Some _) = false
+is_same (Some _) None = false
+is_same (Some m) (Some n) = m == n
+
+-- a register that held one thing before a step and another after it
+abbrev pub change_text : Limits → ℕ → Option ℕ → Option ℕ → List ℕ
+change_text limits number before now = if is_same before now then [] else codes "; r" ++ decimal number ++ codes " " ++ held_text limits now
+
+-- what the eleven registers hold
+unfoldable pub registers_of : State → List (Option ℕ)
+registers_of s = map (register s) (range_with_len 0 11)
+
+-- the registers that a step changed, by what they all held before and after it
+unfoldable pub changes_text : Limits → List (Option ℕ) → List (Option ℕ) → List ℕ
+changes_text limits before now = flat_map (λ r. change_text limits r (slice_index_or before r None) (slice_index_or now r None)) (range_with_len 0 11)
+
+-- the line of a step: its number, its slot, the instruction there, and the registers that it changed
+unfoldable pub step_text : Limits → List (Option Instr) → ℕ → State → Stepped → List ℕ
+step_text limits program number s x =
+    codes "step " ++ decimal number ++ codes " slot " ++ decimal s.slot ++ codes " " ++ option_map_or line_text (at program s.slot) []
+    ++ behind [] (λ t. changes_text limits (registers_of s) (registers_of t)) x ++ codes "\n"
+
+-- of at most n steps from a state on, the first of this number, the lines of those whose numbers are above another
+unfoldable pub trace_text : Limits → List (Option Instr) → List ℕ → List (List ℕ) → ℕ → ℕ → ℕ → State → List ℕ
+trace_text limits program context device zero number above s = []
+trace_text limits program context device (suc n) number above s =
+    (if nat_lt above number then step_text limits program number s (step program context device s) else [])
+    ++ behind [] (trace_text limits program context device n (number + 1) above) (step program context device s)

@@ -1,0 +1,100 @@
+-- What one run of a program on one image comes to (docs/OUTPUT.md, The text of `check`).
+use Rattle.std.specs.Prelude.{ℕ, ◌≡◌, ◌-◌, Bool, true, false, List, length, ◌++◌, codes, Option, None, Some, MatchOption}
+use Rattle.std.specs.Fmt.{decimal}
+use Rattle.base.specs.declared.causes.CodeCause.{CodeCause}
+use Rattle.base.specs.declared.causes.CodeCause.TheVariants as code
+use Rattle.base.specs.declared.causes.VerifierCause.{VerifierCause}
+use Rattle.base.specs.declared.causes.VerifierCause.TheVariants as verifier
+use Rattle.base.specs.declared.refusal.Refusal.{Refusal}
+use Rattle.base.specs.declared.refusal.Cause.TheVariants.{Verifier}
+use Rattle.base.specs.Refusals.{memory_refusal}
+use Rattle.bpf_isa.specs.declared.instr.Instr.{Instr}
+use Rattle.bpf_isa.specs.Program.{IsSpelledBy, FirstFault}
+use Rattle.helpers.specs.declared.device.Context.{Context}
+use Rattle.machine.specs.Memory.{context_bytes}
+use Rattle.machine.specs.Outcome.{Ending, outcome}
+use Rattle.machine.specs.State.{start}
+use Rattle.verifier.specs.Verdicts.{IsAccepted, Refused}
+use Rattle.report.specs.Line.{fails}
+use Rattle.report.specs.LineText.{ending_text}
+use Rattle.request.specs.declared.trials.Trial.{Trial}
+use Rattle.request.specs.Refusals.{bytes_refusal, file_refusal}
+use Rattle.inspect.specs.TrialImage.{sectors_of, is_image, device_of}
+use Rattle.inspect.specs.Trace.{steps_made, trace_text}
+
+-- the device that the bytes of an image are
+abbrev pub disk_of : List ℕ → List (List ℕ)
+disk_of image = device_of image (sectors_of image)
+
+-- what the program is told of the image
+abbrev pub context_of : List ℕ → Trial → Context
+context_of image t = record { sectors = sectors_of image; epoch = t.epoch; marks = t.marks }
+
+-- the most steps of the run: the limit where one is given, else the budget with which the verifier accepts the program
+abbrev pub Allows : List (Option Instr) → List ℕ → Trial → ℕ → Type 0
+Allows slots image t limit = MatchOption t.checked (IsAccepted slots (sectors_of image) limit) (λ most. limit ≡ most)
+
+-- what the run comes to within that many steps, and how many it makes
+abbrev pub ending_of_trial : List (Option Instr) → List ℕ → Trial → ℕ → Ending
+ending_of_trial slots image t limit = outcome slots (disk_of image) (context_of image t) limit
+
+abbrev pub steps_of_trial : List (Option Instr) → List ℕ → Trial → ℕ → ℕ
+steps_of_trial slots image t limit = steps_made slots (context_bytes (context_of image t)) (disk_of image) limit start
+
+-- the line of what the program is told
+unfoldable pub context_text : Context → List ℕ
+context_text c = codes "sectors " ++ decimal c.sectors ++ codes " epoch " ++ decimal c.epoch ++ codes " marks " ++ decimal c.marks ++ codes "\n"
+
+-- the line of the program: its number of slots, and its limit, or else its budget
+abbrev pub bound_text : Option ℕ → List ℕ
+bound_text (Some limit) = codes " limit "
+bound_text None = codes " budget "
+
+unfoldable pub program_text : Option ℕ → ℕ → ℕ → List ℕ
+program_text checked slots limit = codes "program slots " ++ decimal slots ++ bound_text checked ++ decimal limit ++ codes "\n"
+
+-- the lines before the steps
+unfoldable pub head_text : Context → Option ℕ → ℕ → ℕ → List ℕ
+head_text context checked slots limit = codes "crash check 1\n" ++ context_text context ++ program_text checked slots limit
+
+-- the lines of the last steps of a run that makes that many
+abbrev pub last_steps : List (Option Instr) → List ℕ → Trial → ℕ → List ℕ
+last_steps slots image t steps = trace_text t.limits slots (context_bytes (context_of image t)) (disk_of image) steps 1 (steps - t.trace) start
+
+-- the lines after them: how many steps were made, and what the program ended in
+unfoldable pub end_text : ℕ → Ending → List ℕ
+end_text steps ending = codes "steps " ++ decimal steps ++ codes "\n" ++ ending_text ending ++ codes "\n"
+
+-- what is said of a run of this program on this image, within this limit
+unfoldable pub trial_text : List (Option Instr) → List ℕ → Trial → ℕ → List ℕ
+trial_text slots image t limit =
+    head_text (context_of image t) t.checked (length slots) limit
+    ++ last_steps slots image t (steps_of_trial slots image t limit)
+    ++ end_text (steps_of_trial slots image t limit) (ending_of_trial slots image t limit)
+
+-- what the bytes of a program and of an image come to: the text, and whether the program rejects the image
+pub record IsTried (program image : List ℕ) (t : Trial) (text : List ℕ) (failing : Bool) : Type 0 where
+  pub whole : is_image t.limits image ≡ true
+  pub slots : List (Option Instr)
+  pub spelled : IsSpelledBy program slots
+  pub limit : ℕ
+  pub allowed : Allows slots image t limit
+  pub says : text ≡ trial_text slots image t limit
+  pub ends : failing ≡ fails (ending_of_trial slots image t limit)
+
+-- no limit is given, and the verifier refuses the program, or memory was wanting for it
+pub data RefusesLimit (slots : List (Option Instr)) (image : List ℕ) (t : Trial) : Refusal → Type 0 where
+  with_verifier_fault : (cause : VerifierCause) (slot : ℕ) → t.checked ≡ None → Refused slots (sectors_of image) cause slot
+      → RefusesLimit slots image t (record { code = Verifier cause; at = slot; program = None })
+  no_verifier_memory : t.checked ≡ None → RefusesLimit slots image t (record { code = Verifier verifier.Memory; at = 0; program = None })
+
+-- refused for the size of the image, the second file; of one of a good size for the first fault of the program's bytes; of a program that
+-- they spell for what the verifier says of it; or for want of memory
+pub data RefusesTrial (program image : List ℕ) (t : Trial) : Refusal → Type 0 where
+  for_size : is_image t.limits image ≡ false → RefusesTrial program image t (file_refusal 1)
+  with_code_fault : (cause : CodeCause) (slot : ℕ) → is_image t.limits image ≡ true → FirstFault program cause slot
+      → RefusesTrial program image t (bytes_refusal cause slot)
+  no_code_memory : is_image t.limits image ≡ true → RefusesTrial program image t (bytes_refusal code.Memory 0)
+  for_limit : (slots : List (Option Instr)) (r : Refusal) → is_image t.limits image ≡ true → IsSpelledBy program slots → RefusesLimit slots image t r
+      → RefusesTrial program image t r
+  no_memory : is_image t.limits image ≡ true → RefusesTrial program image t memory_refusal

@@ -1,0 +1,95 @@
+//! What looks at one log, image or program by itself: the answers of the commands that judge no run of all images, each from bytes to
+//! bytes.
+//!
+//! | Module | Has |
+//! |---|---|
+//! | `looks` | the images of a log, one or all of them as bytes or in words, a log as a table, the import of a raw log; a program verified, assembled and listed |
+//! | `trial` | one run of a program on one image, told step by step |
+//!
+//! # Place
+//!
+//! Below `commands`, which performs these commands, and beside `runs`. `request` says what is asked, reads the log and counts its images,
+//! `choices` and `images` find and form an image, `report` reads and prints a choice, `crash_text` puts an image into words, `export`
+//! writes all images, `notes` has tables and listings, `raw_log` imports, `bpf_isa`, `bpf_asm` and `verifier` decode, assemble, list and
+//! verify a program, and `interp` makes the steps of a run.
+//!
+//! Of `looks`:
+//!
+//! | Call | Command | Answers |
+//! |---|---|---|
+//! | `survey(alloc, recording, parts, options, facts)` | `images` | the number of crash images, cut by cut, and how the run is laid out in parts |
+//! | `image(alloc, recording, which, options, facts)` | `image` | the bytes of one crash image |
+//! | `show(alloc, recording, which, options, facts)` | `show` | one crash image in words |
+//! | `shown_log(alloc, recording, options, facts)` | `log` | the log as a table |
+//! | `import(alloc, raw, limits)` | `import` | the log that is imported of a raw log |
+//! | `verify_program(alloc, code, options, listed, facts)` | `verify` | the budget with which a program is accepted, and with guards the guarded slots; what else is known of it goes into `facts` |
+//! | `assemble(alloc, source)` | `asm` | the program of a source text, as bytes |
+//! | `list(alloc, code, numbered)` | `list` | the listing of a program, with its slots or without |
+//!
+//! Of `trial`:
+//!
+//! | Call | Command | Answers |
+//! |---|---|---|
+//! | `try_image(alloc, code, image, asked, facts)` | `check` | what the program comes to on the image, in how many steps, and the last steps in words |
+//!
+//! # What is proved
+//!
+//! ## `looks`
+//!
+//! `image` answers the bytes of the image that is meant, of which there is one (`specs/Which.antt`), and `show` its text, beside
+//! the image of the same cut where nothing departs (`specs/Image.antt`). What the report prints of a choice, by which an image
+//! may be named, is what `show` prints of it, and no choice's text has more than 96 bytes (`report_prints_choices`,
+//! `choices_are_short`). `survey` answers the text of `specs/Survey.antt`. The parts in which it lays a run out have each image
+//! once, in their order, and each can be asked for (`parts_are_even`, `specs/Layout.antt`). `shown_log` answers the table of the log
+//! (`specs/Table.antt`). `import` answers the text of `raw_log` for the largest device within the limits (`specs/Import.antt`).
+//!
+//! What `verify_program` answers is the budget of an accepted program, and with guards how many of its slots are guarded, and
+//! which (`specs/Verifying.antt`). What `assemble` answers spells the
+//! program that the source text says, and what `list` answers is the listing of the program that the bytes spell
+//! (`specs/Assembly.antt`).
+//!
+//! Where one of them answers `Err`, the refusal is the first in the order of docs/REFUSALS.md, as these files say it, or memory
+//! ran out; of a source text only that it says no program.
+//!
+//! ## `trial`
+//!
+//! Where `try_image` answers, its text says what the machine comes to within the limit or the budget, how many steps that takes,
+//! and of each of the last ones its number, its slot, its instruction and the registers that it changed (`specs/TrialText.antt`,
+//! `specs/Trace.antt`), all of it by the definition of the machine; `failing` is whether the program rejects the image. It is refused for
+//! the size of the image, for the first fault of the program's bytes, for what the verifier says, or for want of memory.
+//!
+//! # Example
+//!
+//! ```
+//! use inspect::looks::{image, survey};
+//! use request::Which;
+//!
+//! let cuts = survey(alloc, &recording, None, &options, &mut facts)?;
+//! // cut 0 epoch 0 marks 0 volatile 0 images 1
+//! // total 1
+//! let sectors = image(alloc, &recording, Which::Number(0), &options, &mut facts)?;
+//! // the sectors of that image, one after the other
+//! ```
+//!
+//! A run on one image:
+//!
+//! ```
+//! use base::limits::Limits;
+//! use inspect::trial::try_image;
+//! use request::Trial;
+//! use request::facts::Facts;
+//!
+//! let asked = Trial { limits: Limits::Usual, epoch: 0, marks: 0, checked: None, trace: 10 };
+//! let report = try_image(alloc, bytes, &[0; 2048], &asked, &mut Facts::new())?;   // mov64 r0, 0; exit
+//! // crash check 1
+//! // sectors 4 epoch 0 marks 0
+//! // program slots 2 budget 2
+//! // step 1 slot 0 mov64 r0, 0; r0 0
+//! // step 2 slot 1 exit
+//! // steps 2
+//! // answer 0 codes -
+//! ```
+#![tactic(auto)]
+
+pub mod looks;
+pub mod trial;

@@ -1,0 +1,29 @@
+//! Looks at logs, images and programs by themselves: the answers of the commands that run no program.
+//!
+//! `which.rt` finds the choice of the image that is meant, by its number, or by its cut and its choice as the report prints it;
+//! `laws.rt` has what holds of the texts of choices, and of the parts of a run.
+#![tactic(auto)]
+
+mod asm_command;
+mod export_command;
+mod image_command;
+mod images_command;
+mod import_command;
+mod laws;
+mod layout;
+mod list_command;
+mod log_command;
+mod show_command;
+mod verify_command;
+mod which;
+
+pub use asm_command::assemble;
+pub use export_command::{Stopped, export_images, write_images};
+pub use image_command::image;
+pub use images_command::survey;
+pub use import_command::import;
+pub use laws::{choices_are_short, parts_are_even, report_prints_choices};
+pub use list_command::list;
+pub use log_command::shown_log;
+pub use show_command::show;
+pub use verify_command::verify_program;

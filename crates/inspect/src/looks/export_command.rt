@@ -1,0 +1,134 @@
+//! The crash images of a log as bytes, each by what differs.
+
+ghost use Rattle.std.specs.Prelude.{◌≡◌, ◌≤◌, length, IfOk, IfErr, OnOk, OnErr, IfSome, true, false};
+ghost use Rattle.std.specs.Io.KnownBytes.{Appends};
+ghost use Rattle.request.specs.Fewer.{FindsLarge, FindsFewer};
+ghost use Rattle.request.specs.Forced.{FindsForced};
+ghost use Rattle.request.specs.Extents.{most_images, has_extent, is_at_once};
+ghost use Rattle.request.specs.Source.{plan_of, images_of};
+ghost use Rattle.export.specs.Export.{export_text};
+ghost use Rattle.export.specs.Streaming.{TakesPart};
+ghost use Rattle.inspect.specs.Export.{exported, IsExport, RefusesExport, WritesExport, StopsExport, RefusesInstead};
+
+use base::refusal::Refusal;
+use epochs::Plan;
+use export::{Asked, Fault, Output, Wanted, export};
+use logfmt::Log;
+use request::facts::{Facts, Recording};
+use request::{OptionPlace, Options, option_refusal_of};
+use std::alloc::Global;
+use std::io::Write;
+
+/// Why the text of the images isn't written, or not all of it.
+#[derive(Clone, Copy)]
+pub enum Stopped {
+    /// It is refused, and none of it is written.
+    Refused(Refusal),
+    /// The first bytes are written, and not all.
+    Cut(Fault),
+}
+
+/// Writes the text of the images that are meant, of a plan of a log that has that many.
+fn write_meant<W: Write>(
+    alloc: Global,
+    log: &Log,
+    plan: &Plan<'_>,
+    options: &Options,
+    images: u64,
+    output: Output<W>,
+) -> (Result<(), Fault>, Output<W>)
+    requires going { output.has_failed ≡ false }
+    requires plan { plan.now ≡ plan_of options.now log.now }
+    requires count { images ≡ length (images_of options.now log.now) }
+    requires few { images ≤ most_images options.now.extent }
+    requires within { has_extent options.now.extent images ≡ true }
+    requires at_once { is_at_once options.now.extent ≡ true }
+    ensures all { OnOk result.0 (Appends (W.contents output.writer) (W.contents result.1.writer) (export_text (exported options.now log.now))) }
+    ensures part { OnErr result.0 (TakesPart (W.contents output.writer) (W.contents result.1.writer) (export_text (exported options.now log.now))) }
+{
+    let extent = options.extent();
+    let wanted = Wanted {
+        by: options.by(),
+        bound: options.bound(),
+        tears: options.tears(),
+        from: extent.first(),
+        to: extent.end(images),
+    };
+    export(alloc, &Asked::of(log, plan, wanted), output)
+}
+
+/// Writes the crash images of a log that are meant, one after the other, as they are made: a line for each, and of a new one the
+/// sectors in which it differs from the last that was new (docs/OUTPUT.md, The text of `export`).
+///
+/// # Errors
+///
+/// The first refusal in the order of docs/REFUSALS.md: the log, then the number of its images; or want of memory. Before these, that
+/// more than 16,777,216 images may be meant. After these, that memory is wanted on the way, or that the writer takes no more.
+pub fn write_images<W: Write>(
+    alloc: Global,
+    recording: &Recording<'_>,
+    options: &Options,
+    facts: &mut Facts,
+    output: Output<W>,
+) -> (Result<(), Stopped>, Output<W>)
+    requires going { output.has_failed ≡ false }
+    ensures told { OnOk result.0 (WritesExport recording.now options.now (W.contents output.writer) (W.contents result.1.writer)) }
+    ensures stopped { IfErr result.0 (StopsExport recording.now options.now (W.contents output.writer) (W.contents result.1.writer)) }
+    ensures large { OnOk result.0 (FindsLarge recording.now options.now facts.new.large) }
+    ensures forced { OnOk result.0 (FindsForced recording.now options.now facts.new.forced) }
+    ensures fewer { IfSome facts.new.fewer (FindsFewer recording.now options.now) }
+{
+    *facts = Facts::new();
+    if !options.extent().is_at_once() {
+        let refusal = option_refusal_of(OptionPlace::Images);
+        return (Err(Stopped::Refused(refusal)), output);
+    }
+    let log = match recording.read(alloc, options, facts) {
+        Ok(log) => log,
+        Err(refusal) => return (Err(Stopped::Refused(refusal)), output),
+    };
+    let (plan, images) = match facts.plan(alloc, &log, options) {
+        Ok(planned) => planned,
+        Err(refusal) => return (Err(Stopped::Refused(refusal)), output),
+    };
+    let (written, output) = write_meant(alloc, &log, &plan, options, images, output);
+    match written {
+        Ok(()) => (Ok(()), output),
+        Err(fault) => (Err(Stopped::Cut(fault)), output),
+    }
+}
+
+/// The refusal by which a text that is wanted as bytes ends, where it stops so.
+fn refusal_of(why: Stopped) -> Refusal
+    ensures { RefusesInstead why result }
+{
+    match why {
+        Stopped::Refused(refusal) => refusal,
+        Stopped::Cut(_fault) => Refusal::of_memory(),
+    }
+}
+
+/// The same text as bytes.
+///
+/// # Errors
+///
+/// As those of `write_images`; want of memory on the way is one more.
+pub fn export_images(
+    alloc: Global,
+    recording: &Recording<'_>,
+    options: &Options,
+    facts: &mut Facts,
+) -> Result<Vec<u8>, Refusal>
+    ensures told { IfOk result (λ bytes. IsExport recording.now options.now bytes.items) }
+    ensures refused { IfErr result (RefusesExport recording.now options.now) }
+    ensures large { IfOk result (λ _. FindsLarge recording.now options.now facts.new.large) }
+    ensures forced { IfOk result (λ _. FindsForced recording.now options.now facts.new.forced) }
+    ensures fewer { IfSome facts.new.fewer (FindsFewer recording.now options.now) }
+{
+    let output = Output::new(Vec::new(alloc));
+    let (written, output) = write_images(alloc, recording, options, facts, output);
+    match written {
+        Ok(()) => Ok(output.into_writer()),
+        Err(why) => Err(refusal_of(why)),
+    }
+}

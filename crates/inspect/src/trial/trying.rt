@@ -1,0 +1,216 @@
+//! A run of a program on an image, and what is said of it.
+
+ghost use Rattle.std.specs.Prelude.{◌≡◌, ◌≤◌, ◌*◌, ◌++◌, length, IfOk, IfErr, OnOk, None, string_bytes};
+ghost use Rattle.base.specs.declared.refusal.Cause.TheVariants.{Verifier};
+ghost use Rattle.base.specs.Sizes.{most_sectors};
+ghost use Rattle.interp.specs.Ending.{ending_of};
+ghost use Rattle.report.specs.Line.{fails};
+ghost use Rattle.inspect.specs.TrialImage.{sectors_of};
+ghost use Rattle.inspect.specs.TrialText.{context_of, ending_of_trial, Allows, bound_text, context_text, head_text, program_text, end_text, trial_text, IsTried, RefusesLimit, RefusesTrial};
+
+use crate::trial::course::course_of;
+use crate::trial::image::{Image, is_image, sectors_of};
+use crate::trial::trace::put_last;
+use base::refusal::{Cause, Refusal};
+use bpf_isa::codec::decode;
+use bpf_isa::program::Program;
+use bpf_shape::Fault;
+use helpers::Context;
+use interp::Outcome;
+use report::lines::put_outcome;
+use request::facts::Facts;
+use request::{Trial, bytes_refusal_of, unreadable};
+use std::alloc::{AllocError, Global};
+use verifier::verify_known;
+
+/// What is said of a run, and whether the program rejects the image.
+#[derive(Drop)]
+pub struct TrialReport {
+    pub bytes: Vec<u8>,
+    pub failing: bool,
+}
+
+/// The refusal of a program that the verifier doesn't accept.
+fn unaccepted_refusal_of(fault: Fault) -> Refusal
+    ensures { result ≡ record { code = Verifier fault.code; at = fault.slot; program = None } }
+{
+    Refusal {
+        code: Cause::Verifier(fault.code),
+        at: fault.slot,
+        program: None,
+    }
+}
+
+/// The most steps of a run on an image. What is found on the way is put into `facts`.
+fn limit_of(
+    alloc: Global,
+    program: &Program,
+    image: &[u8],
+    asked: &Trial,
+    facts: &mut Facts,
+) -> Result<u64, Refusal>
+    requires some { 512 ≤ length image.now }
+    requires few { length image.now ≤ 512 * most_sectors }
+    ensures allowed { IfOk result (Allows program.now image.now asked.now) }
+    ensures refused { IfErr result (RefusesLimit program.now image.now asked.now) }
+{
+    if let Some(limit) = asked.checked {
+        return Ok(limit);
+    }
+    match verify_known(alloc, program, sectors_of(image)) {
+        Ok(verified) => {
+            facts.accept(&verified);
+            Ok(verified.budget())
+        }
+        Err(unaccepted) => {
+            facts.refuse(program, &unaccepted);
+            Err(unaccepted_refusal_of(unaccepted.fault))
+        }
+    }
+}
+
+/// What a program is told of an image.
+fn context_of(image: &[u8], asked: &Trial) -> Context
+    requires some { 512 ≤ length image.now }
+    requires few { length image.now ≤ 512 * most_sectors }
+    ensures { result ≡ context_of image.now asked.now }
+{
+    Context {
+        sectors: sectors_of(image),
+        epoch: asked.epoch,
+        marks: asked.marks,
+    }
+}
+
+/// Appends the line of what a program is told.
+#[tactic(auto, unfolding(crate::specs::TrialText::context_text))]
+fn put_context(out: &mut String, context: &Context) -> Result<(), AllocError>
+    ensures { OnOk result (string_bytes out.new ≡ string_bytes out.old ++ context_text context.now) }
+{
+    write!(out, "sectors {}", context.sectors)?;
+    write!(out, " epoch {}", context.epoch)?;
+    write!(out, " marks {}\n", context.marks)
+}
+
+/// Appends the word before a limit, or else before a budget.
+fn put_bound(out: &mut String, checked: Option<u64>) -> Result<(), AllocError>
+    ensures { OnOk result (string_bytes out.new ≡ string_bytes out.old ++ bound_text checked) }
+{
+    match checked {
+        Some(_) => write!(out, " limit "),
+        None => write!(out, " budget "),
+    }
+}
+
+/// Appends the line of a program: its number of slots, and its limit or budget.
+#[tactic(auto, unfolding(crate::specs::TrialText::program_text))]
+fn put_program(
+    out: &mut String,
+    checked: Option<u64>,
+    slots: usize,
+    limit: u64,
+) -> Result<(), AllocError>
+    ensures { OnOk result (string_bytes out.new ≡ string_bytes out.old ++ program_text checked slots limit) }
+{
+    write!(out, "program slots {slots}")?;
+    put_bound(out, checked)?;
+    write!(out, "{limit}\n")
+}
+
+/// Appends the lines before the steps.
+#[tactic(auto, unfolding(crate::specs::TrialText::head_text))]
+fn put_head(
+    out: &mut String,
+    context: &Context,
+    checked: Option<u64>,
+    slots: usize,
+    limit: u64,
+) -> Result<(), AllocError>
+    ensures { OnOk result (string_bytes out.new ≡ string_bytes out.old ++ head_text context.now checked slots limit) }
+{
+    write!(out, "crash check 1\n")?;
+    put_context(out, context)?;
+    put_program(out, checked, slots, limit)
+}
+
+/// Appends how many steps a run made, and what it came to.
+#[tactic(auto, unfolding(crate::specs::TrialText::end_text))]
+fn put_end(out: &mut String, steps: u64, outcome: &Outcome) -> Result<(), AllocError>
+    ensures { OnOk result (string_bytes out.new ≡ string_bytes out.old ++ end_text steps (ending_of outcome.now)) }
+{
+    write!(out, "steps {steps}\n")?;
+    put_outcome(out, outcome)?;
+    write!(out, "\n")
+}
+
+/// Whether a program that ended so rejects the image.
+fn rejects(outcome: &Outcome) -> bool
+    ensures { result ≡ fails (ending_of outcome.now) }
+{
+    match outcome {
+        Outcome::Verdict(verdict) => verdict.answer != 0,
+        Outcome::Fault { .. } | Outcome::OutOfSteps | Outcome::Stray(_) => true,
+    }
+}
+
+/// What is said of a run of a program on an image, and whether the program rejects it.
+#[tactic(auto, unfolding(crate::specs::TrialText::trial_text))]
+fn report_of(
+    alloc: Global,
+    program: &Program,
+    image: &[u8],
+    asked: &Trial,
+    limit: u64,
+) -> Result<TrialReport, AllocError>
+    requires some { 512 ≤ length image.now }
+    requires few { length image.now ≤ 512 * most_sectors }
+    ensures text { IfOk result (λ report. report.bytes.items ≡ trial_text program.now image.now asked.now limit) }
+    ensures failing { IfOk result (λ report. report.failing ≡ fails (ending_of_trial program.now image.now asked.now limit)) }
+{
+    let device = Image::of(alloc, image, sectors_of(image))?;
+    let context = context_of(image, asked);
+    let course = course_of(program, &context, &device, limit);
+    let mut out = String::new(alloc);
+    put_head(&mut out, &context, asked.checked, program.slots(), limit)?;
+    put_last(&mut out, program, &context, &device, asked, course.steps)?;
+    put_end(&mut out, course.steps, &course.outcome)?;
+    Ok(TrialReport {
+        bytes: out.into_bytes(),
+        failing: rejects(&course.outcome),
+    })
+}
+
+/// Runs the program that bytes spell on the image that bytes are, and says step by step what it comes to (docs/OUTPUT.md, The
+/// text of `check`).
+///
+/// # Errors
+///
+/// 14 at 1 for the size of the image; the first fault of the program's bytes; then, where no limit is given, why the verifier refuses the
+/// program, each at its slot; or want of memory. What is found on the way takes the place of what `facts` held.
+pub fn try_image(
+    alloc: Global,
+    code: &[u8],
+    image: &[u8],
+    asked: &Trial,
+    facts: &mut Facts,
+) -> Result<TrialReport, Refusal>
+    ensures tried { IfOk result (λ report. IsTried code.now image.now asked.now report.bytes.items report.failing) }
+    ensures refused { IfErr result (RefusesTrial code.now image.now asked.now) }
+{
+    *facts = Facts::new();
+    if !is_image(image, asked.limits) {
+        return Err(unreadable(1));
+    }
+    let program = match decode(alloc, code) {
+        Ok(program) => program,
+        Err(fault) => return Err(bytes_refusal_of(fault)),
+    };
+    let limit = match limit_of(alloc, &program, image, asked, facts) {
+        Ok(limit) => limit,
+        Err(refusal) => return Err(refusal),
+    };
+    match report_of(alloc, &program, image, asked, limit) {
+        Ok(report) => Ok(report),
+        Err(_error) => Err(Refusal::of_memory()),
+    }
+}

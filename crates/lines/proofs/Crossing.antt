@@ -1,7 +1,0 @@
--- Lines may cross threads.
-use denote.Param.Send.{IsSend, sendable}
-use Rattle.std.proofs.Crossing.{crosses}
-use Rattle.lines.specs.contracts.part.Part as Part
-
-pub Part-send : IsSend Part.the_row
-Part-send = search (sendable, crosses) depth 40

@@ -1,9 +1,0 @@
-pub mod Changes
-pub mod Leads
-pub mod Order
-pub mod Keeping
-pub mod Crossing
-pub mod Back
-pub mod Parted
-pub mod Lined
-pub mod Texts

@@ -1,6 +1,0 @@
-use Rattle.lines.proofs.Lined.{line_read}
-use Rattle.lines.proofs.reading.read_mark.Goals as goal
-
-pub returns-clause-line : goal.returns-clause-line
-returns-clause-line c =
-    line_read _ _ _ _ _ _ _ _ _ _ _ c.field.ensures.field c.field-2.ensures.field c.field-3.ensures.field c.cut.ensures.parts c.number.ensures c.program_number.ensures

@@ -1,6 +1,0 @@
-use Rattle.std.proofs.Common.{◌≡◌, take}
-use Rattle.looks.specs.Image.{sector_bytes}
-use Rattle.looks.proofs.image_command.bytes_of.Given as goal
-
-abbrev pub invariant-loop-number : goal.invariant-loop-number
-invariant-loop-number g l = l.bytes.items ≡ sector_bytes (take l.number (g.D.Device.content l.device))

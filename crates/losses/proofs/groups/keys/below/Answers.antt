@@ -1,0 +1,15 @@
+use Rattle.std.proofs.Common.{ℕ, ltb, ltb-true, ltb-false, arith, rules}
+use Rattle.std.proofs.lemmas.List.Sorted.{IsPartitionPoint-from_clause, IsPartitionedBy-ltb}
+use Rattle.losses.proofs.groups.keys.below.Goals as goal
+
+pub returns-clause-before : goal.returns-clause-before
+returns-clause-before c =
+    let parted = IsPartitionedBy-ltb (λ (k : ℕ). k) _ c.args.key c.requires in
+    let point = IsPartitionPoint-from_clause (λ (k : ℕ). ltb k c.args.key) _ _ c.partition_point.ensures.partitioned parted (λ a r q k. search rules) in
+    λ k d h. ltb-true _ _ (point.0 k d (omega arith) h)
+
+pub returns-clause-behind : goal.returns-clause-behind
+returns-clause-behind c =
+    let parted = IsPartitionedBy-ltb (λ (k : ℕ). k) _ c.args.key c.requires in
+    let point = IsPartitionPoint-from_clause (λ (k : ℕ). ltb k c.args.key) _ _ c.partition_point.ensures.partitioned parted (λ a r q k. search rules) in
+    λ k d h lt. ltb-false _ _ (point.1 k d h lt)

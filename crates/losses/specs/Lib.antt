@@ -1,0 +1,21 @@
+-- Groups of failing choices.
+pub mod FirstParts
+pub mod Keys
+pub mod Folded
+pub mod FirstPartLaws
+-- Where a flush would take failing images away.
+pub mod Windows
+pub mod Places
+pub mod Counted
+pub mod WindowLaws
+-- Why a program fails.
+pub mod CountedGroups
+pub mod Failures
+pub mod GroupLaws
+pub mod WhyText
+-- What programs end in.
+pub mod ProgramOutcomes
+-- What a cure is.
+pub mod FailureWindows
+pub mod Printed
+pub mod CureText

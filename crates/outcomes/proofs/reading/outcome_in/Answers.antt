@@ -1,5 +1,0 @@
-use Rattle.outcomes.proofs.Words.{ending_read}
-use Rattle.outcomes.proofs.reading.outcome_in.Goals as goal
-
-pub returns : goal.returns
-returns c = ending_read _ _ _ _ _ c.cut.ensures c.without.ensures c.without-2.ensures

@@ -1,5 +1,0 @@
-use Rattle.outcomes.proofs.Words.{outcome_read}
-use Rattle.outcomes.proofs.reading.read_outcome.Goals as goal
-
-pub returns : goal.returns
-returns c = outcome_read _ _ _ _ _ _ _ _ _ _ c.field.ensures c.field-2.ensures c.field-3.ensures c.cut.ensures c.outcome_in.ensures

@@ -1,2 +1,0 @@
--- What programs end in.
-pub mod Outcomes

@@ -1,0 +1,14 @@
+//! What a command is given of a log, and what it finds on its way that the notes beside its answer or after its refusal say.
+#![tactic(auto)]
+
+mod fewer;
+mod forced;
+mod found;
+mod large;
+mod promises;
+mod recording;
+
+pub use fewer::{Fewer, Smaller};
+pub use found::{Breach, Facts};
+pub use promises::Promises;
+pub use recording::Recording;

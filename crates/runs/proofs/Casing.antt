@@ -1,0 +1,88 @@
+-- What is found of the cases of a run, and why they aren't told.
+use Rattle.std.proofs.Common.{ℕ, ◌≡◌, ◌<◌, ◌≤◌, ◌⊎◌, inl, inr, Bool, true, false, List, length, slice_get, Some, All, refl, sym, ◌∙◌, ap, subst, arith}
+use Rattle.std.proofs.lemmas.List.Elements.{All-get_or}
+use Rattle.std.proofs.lemmas.Option.{slice_get-get_or, slice_get_within, same_Some}
+use Rattle.base.specs.declared.refusal.Refusal.{Refusal}
+use Rattle.base.specs.Refusals.{memory_refusal}
+use Rattle.logfmt.specs.Bounds.{LogValue}
+use Rattle.epochs.specs.declared.cuts.Cuts.{Cuts}
+use Rattle.epochs.specs.declared.part.By.{By}
+use Rattle.epochs.specs.Cuts.{cuts_of}
+use Rattle.epochs.specs.Plan.{PlanValue}
+use Rattle.checker.specs.Checker.{CheckerValue, AreFor}
+use Rattle.report.specs.Report.{HeadValue}
+use Rattle.case_runs.specs.declared.found.Losses.{Losses}
+use Rattle.case_runs.specs.declared.found.CutFound.{CutFound}
+use Rattle.case_runs.specs.declared.found.CasesFault.{CasesFault}
+use Rattle.case_runs.specs.declared.found.CasesFault.TheVariants as fault
+use Rattle.case_runs.specs.Found.{AreFoundIn, cases_in, most_cases, AreTooMany, StopsIn}
+use Rattle.case_text.specs.Text.{cases_bytes, is_any_failing}
+use Rattle.request.specs.declared.any_losses.AnyLosses.{AnyLosses}
+use Rattle.request.specs.declared.settings.Settings.{Settings}
+use Rattle.request.specs.Source.{Recording, plan_of, images_refusal, HasImages, for_plan, no_plan_memory}
+use Rattle.runs.specs.declared.task.Task.{Task}
+use Rattle.runs.specs.CaseCuts.{losses_of, case_cuts, HasTooMany}
+use Rattle.runs.specs.CaseRefusals.{StopsFor, RefusesFor}
+use Rattle.runs.specs.Cases.{TellsCases, IsCases}
+use Rattle.runs.specs.Judged.{takes}
+use Rattle.runs.specs.declared.explore_command.Wanted.{Wanted}
+use Rattle.runs.specs.declared.explore_command.Wanted.TheVariants as wanted
+use Rattle.runs.specs.Explore.{IsProgramCount, AreCheckersOf, head_of, for_source, RefusesWanted, for_rest, for_cases}
+use Rattle.runs.specs.Why.{with_first}
+
+-- what was found is of cuts of the log
+pub found_within : (asked : Losses) (log : LogValue) (way : By) (cuts : List ℕ) (checkers : List CheckerValue) (found : List CutFound) (n : ℕ)
+    → AreFoundIn asked log way cuts checkers found → All (λ cut. cut ≤ n) cuts → All (λ (c : CutFound). c.cut ≤ n) found
+found_within asked log way cuts checkers found n are within k d lt =
+    let long = are.count in
+    let here : k < length cuts = omega (arith, lt, long) in
+    let cut = slice_get-get_or cuts k 0 here in
+    let own = are.cut k _ _ cut (slice_get-get_or found k d lt) in
+    subst (λ m. m ≤ n) (sym own) (within k 0 here)
+
+-- why they aren't told
+pub why_refused : (l : AnyLosses) (t : Task) (cuts : List ℕ) (why : CasesFault) (r : Refusal) → cuts ≡ case_cuts l t.options.now.cuts t.log.now
+    → StopsIn (losses_of l t.options.now) t.log.now t.options.now.by cuts t.checkers.now why → StopsFor why r → RefusesFor l t r
+why_refused l t cuts fault.Memory r are stops is = inl is
+why_refused l t cuts (fault.TooMany cut) r are stops is =
+    inr (cut, is, subst (λ (cs : List ℕ). AreTooMany (losses_of l t.options.now) t.log.now t.options.now.by cs t.checkers.now cut) are stops)
+
+-- with what is known of the arguments
+pub stops_so : (asked own : Losses) (log : LogValue) (way by : By) (cuts : List ℕ) (checkers : List CheckerValue) (why : CasesFault) → own ≡ asked → way ≡ by
+    → StopsIn own log way cuts checkers why → StopsIn asked log by cuts checkers why
+stops_so asked own log way by cuts checkers why same kind stops =
+    subst (λ (x : Losses). StopsIn x log by cuts checkers why) same (subst (λ (b : By). StopsIn own log b cuts checkers why) kind stops)
+
+pub found_so : (asked own : Losses) (log : LogValue) (way by : By) (cuts : List ℕ) (checkers : List CheckerValue) (found : List CutFound) → own ≡ asked → way ≡ by
+    → AreFoundIn own log way cuts checkers found → AreFoundIn asked log by cuts checkers found
+found_so asked own log way by cuts checkers found same kind are =
+    subst (λ (x : Losses). AreFoundIn x log by cuts checkers found) same (subst (λ (b : By). AreFoundIn own log b cuts checkers found) kind are)
+
+-- the text of what was found
+pub tells_found : (l : AnyLosses) (t : Task) (cuts : List ℕ) (found : List CutFound) (h : HeadValue) (asked : Losses) (bytes : List ℕ) (failing : Bool)
+    → cuts ≡ case_cuts l t.options.now.cuts t.log.now → AreFoundIn (losses_of l t.options.now) t.log.now t.options.now.by cuts t.checkers.now found → cases_in found ≤ most_cases
+    → h ≡ head_of (with_first false t.options.now) t.log.now t.checkers.now → asked ≡ losses_of l t.options.now → bytes ≡ cases_bytes h asked t.log.now found
+    → failing ≡ is_any_failing found → TellsCases l t.options.now t.log.now t.checkers.now bytes failing
+tells_found l t cuts found h asked bytes failing are those few head same text fails = record {
+  found = found;
+  are = subst (λ (cs : List ℕ). AreFoundIn (losses_of l t.options.now) t.log.now t.options.now.by cs t.checkers.now found) are those;
+  few = few;
+  text = text ∙ (λ i. cases_bytes (head i) (same i) t.log.now found);
+  fails = fails;
+}
+
+-- what a run answers by cases
+pub is_cases : (l : AnyLosses) (text : Recording) (files : List (List ℕ)) (s : Settings) (log : LogValue) (checkers now : List CheckerValue) (bytes : List ℕ) (failing : Bool)
+    → IsProgramCount (length files) → HasImages text s log → AreCheckersOf s files checkers → now ≡ checkers → TellsCases l s log now bytes failing → IsCases l text files s bytes failing
+is_cases l text files s log checkers now bytes failing count source made same tells =
+    record { count = count; value = log; source = source; checkers = now; made = subst (AreCheckersOf s files) (sym same) made; tells = tells }
+
+-- and when it is refused
+pub refused_for : (w : Wanted) (l : AnyLosses) (text : Recording) (files : List (List ℕ)) (s : Settings) (log : LogValue) (checkers now : List CheckerValue) (r : Refusal)
+    → w ≡ wanted.Cases l → takes w s.extent ≡ true → IsProgramCount (length files) → HasImages text s log → AreCheckersOf s files checkers → now ≡ checkers
+    → (r ≡ memory_refusal) ⊎ ((cut : ℕ) × (r ≡ images_refusal cut) × HasTooMany l s log now cut) → RefusesWanted w text files s r
+refused_for w l text files s log checkers now r is taken count source made same (inl memory) =
+    subst (λ (q : Refusal). RefusesWanted w text files s q) (sym memory) (for_rest memory_refusal taken (for_source memory_refusal count (for_plan memory_refusal log source.reads no_plan_memory)))
+refused_for w l text files s log checkers now r is taken count source made same (inr (cut, at, many)) =
+    subst (λ (q : Refusal). RefusesWanted w text files s q) (sym at)
+    (for_cases l log now cut is taken count source (subst (AreCheckersOf s files) (sym same) made) many)

@@ -1,0 +1,19 @@
+-- Why the cases of a task aren't told.
+use Rattle.std.specs.Prelude.{ℕ, ◌≡◌, ◌⊎◌}
+use Rattle.base.specs.declared.refusal.Refusal.{Refusal}
+use Rattle.base.specs.Refusals.{memory_refusal}
+use Rattle.case_runs.specs.declared.found.CasesFault.{CasesFault}
+use Rattle.case_runs.specs.declared.found.CasesFault.TheVariants as fault
+use Rattle.request.specs.declared.any_losses.AnyLosses.{AnyLosses}
+use Rattle.request.specs.Source.{images_refusal}
+use Rattle.runs.specs.declared.task.Task.{Task}
+use Rattle.runs.specs.CaseCuts.{HasTooMany}
+
+-- the refusal that says why cases weren't found
+abbrev pub StopsFor : CasesFault → Refusal → Type 0
+StopsFor fault.Memory r = r ≡ memory_refusal
+StopsFor (fault.TooMany cut) r = r ≡ images_refusal cut
+
+-- memory was wanting, or there are too many cases, by the cut with which there are
+abbrev pub RefusesFor : AnyLosses → Task → Refusal → Type 0
+RefusesFor l t r = (r ≡ memory_refusal) ⊎ ((cut : ℕ) × (r ≡ images_refusal cut) × HasTooMany l t.options.now t.log.now t.checkers.now cut)

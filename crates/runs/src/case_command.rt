@@ -1,0 +1,178 @@
+//! From the checkers of a run to the text of its failing cases, whatever is lost.
+
+ghost use Rattle.std.specs.Prelude.{◌≡◌, ◌≤◌, length, min, All, IfOk, IfErr};
+ghost use Rattle.base.specs.Refusals.{memory_refusal};
+ghost use Rattle.checker.specs.Checker.{AreFor};
+ghost use Rattle.case_runs.specs.Found.{AreFoundIn, cases_in, most_cases};
+ghost use Rattle.runs.specs.CaseCuts.{losses_of, is_all, are_last_enough, first_wanted, last_wanted, case_cuts};
+ghost use Rattle.runs.specs.Cases.{TellsCases};
+ghost use Rattle.runs.specs.CaseRefusals.{StopsFor, RefusesFor};
+
+use crate::explore_command::{Explored, head_of_run};
+use crate::task::Task;
+use base::causes::RequestCause;
+use base::refusal::{Cause, Refusal};
+use case_runs::{CasesFault, CutFound, Losses, explored_cuts, find_failing};
+use case_text::{is_any_failing, write_cases};
+use epochs::{CutKind, Cuts};
+use request::{AnyLosses, Options};
+use std::alloc::{AllocError, Global};
+
+/// What is asked of the cases of a run.
+fn losses_of(losses: AnyLosses, options: &Options) -> Losses
+    ensures { result ≡ losses_of losses options.now }
+{
+    Losses {
+        tears: options.tears(),
+        torn: losses.torn,
+        lost: losses.at_most,
+    }
+}
+
+/// Whether all cuts are of that kind.
+fn is_all(kind: CutKind) -> bool
+    ensures { result ≡ is_all kind }
+{
+    match kind {
+        CutKind::All => true,
+        CutKind::BeforeFlush | CutKind::AfterMark => false,
+    }
+}
+
+/// The first cut that is wanted of a log with that many entries.
+fn first_wanted(cuts: &Cuts, count: u32) -> u32
+    ensures { result ≡ first_wanted cuts.now count }
+{
+    match cuts.from {
+        Some(from) => from.min(u64::from(count)) as u32,
+        None => 0,
+    }
+}
+
+/// The last.
+fn last_wanted(cuts: &Cuts, count: u32) -> u32
+    ensures { result ≡ last_wanted cuts.now count }
+{
+    match cuts.to {
+        Some(to) => to.min(u64::from(count)) as u32,
+        None => count,
+    }
+}
+
+/// A copy of some cuts.
+fn copy_cuts(alloc: Global, cuts: &[u32]) -> Result<Vec<u32>, AllocError>
+    ensures { IfOk result (λ copy. copy.items ≡ cuts.now) }
+{
+    let mut copy = Vec::new(alloc);
+    copy.extend_from_slice(cuts)?;
+    Ok(copy)
+}
+
+/// The cuts at which cases are looked for.
+#[tactic(auto, unfolding(crate::specs::CaseCuts::case_cuts))]
+fn cuts_of_cases(alloc: Global, task: &Task<'_>, losses: AnyLosses) -> Result<Vec<u32>, AllocError>
+    ensures value { IfOk result (λ cuts. cuts.items ≡ case_cuts losses task.now.options.now.cuts task.now.log.now) }
+    ensures within { IfOk result (λ cuts. All (λ cut. cut ≤ length task.now.log.now.entries) cuts.items) }
+{
+    let (log, cuts) = (task.log, task.options.cuts());
+    let all = is_all(cuts.kind);
+    if all && losses.at_most.is_none() {
+        let count = log.entries().len() as u32;
+        return explored_cuts(
+            alloc,
+            log,
+            first_wanted(&cuts, count),
+            last_wanted(&cuts, count),
+        );
+    }
+    copy_cuts(alloc, task.plan.cuts())
+}
+
+/// The refusal that says why cases weren't found.
+fn refusal_of(fault: CasesFault) -> Refusal
+    ensures { StopsFor fault result }
+{
+    match fault {
+        CasesFault::Memory => Refusal::of_memory(),
+        CasesFault::TooMany(cut) => Refusal {
+            code: Cause::Request(RequestCause::TooManyImages),
+            at: u64::from(cut),
+            program: None,
+        },
+    }
+}
+
+/// The failing cases at some cuts.
+fn cases_at(
+    alloc: Global,
+    task: &Task<'_>,
+    losses: AnyLosses,
+    cuts: &[u32],
+) -> Result<Vec<CutFound>, Refusal>
+    requires cuts { cuts.now ≡ case_cuts losses task.now.options.now.cuts task.now.log.now }
+    requires within { All (λ cut. cut ≤ length task.now.log.now.entries) cuts.now }
+    requires verified { AreFor task.now.options.now.sectors task.now.checkers.now }
+    ensures found { IfOk result (λ found. AreFoundIn (losses_of losses task.now.options.now) task.now.log.now task.now.options.now.by cuts.now task.now.checkers.now found.items) }
+    ensures few { IfOk result (λ found. cases_in found.items ≤ most_cases) }
+    ensures refused { IfErr result (RefusesFor losses task.now) }
+{
+    let asked = losses_of(losses, task.options);
+    match find_failing(
+        alloc,
+        task.plan,
+        task.log,
+        task.options.by(),
+        cuts,
+        task.checkers,
+        asked,
+    ) {
+        Ok(found) => Ok(found),
+        Err(fault) => Err(refusal_of(fault)),
+    }
+}
+
+/// The text of what was found.
+fn text_of(
+    alloc: Global,
+    task: &Task<'_>,
+    losses: AnyLosses,
+    cuts: &[u32],
+    found: &[CutFound],
+) -> Result<Explored, AllocError>
+    requires cuts { cuts.now ≡ case_cuts losses task.now.options.now.cuts task.now.log.now }
+    requires within { All (λ cut. cut ≤ length task.now.log.now.entries) cuts.now }
+    requires found { AreFoundIn (losses_of losses task.now.options.now) task.now.log.now task.now.options.now.by cuts.now task.now.checkers.now found.now }
+    requires few { cases_in found.now ≤ most_cases }
+    ensures { IfOk result (λ e. TellsCases losses task.now.options.now task.now.log.now task.now.checkers.now e.bytes.items e.failing) }
+{
+    let _cuts = cuts;
+    let head = head_of_run(alloc, task, false)?;
+    let asked = losses_of(losses, task.options);
+    let bytes = write_cases(alloc, &head, task.log, task.plan, asked, found)?;
+    Ok(Explored {
+        bytes,
+        hits: 0,
+        failing: is_any_failing(found),
+    })
+}
+
+/// The failing cases of a task, told as a text.
+pub(crate) fn told_cases(
+    alloc: Global,
+    task: &Task<'_>,
+    losses: AnyLosses,
+) -> Result<Explored, Refusal>
+    requires verified { AreFor task.now.options.now.sectors task.now.checkers.now }
+    ensures told { IfOk result (λ e. TellsCases losses task.now.options.now task.now.log.now task.now.checkers.now e.bytes.items e.failing) }
+    ensures refused { IfErr result (RefusesFor losses task.now) }
+{
+    let cuts = match cuts_of_cases(alloc, task, losses) {
+        Ok(cuts) => cuts,
+        Err(_error) => return Err(Refusal::of_memory()),
+    };
+    let found = cases_at(alloc, task, losses, cuts.as_slice())?;
+    match text_of(alloc, task, losses, cuts.as_slice(), found.as_slice()) {
+        Ok(explored) => Ok(explored),
+        Err(_error) => Err(Refusal::of_memory()),
+    }
+}

@@ -1,6 +1,0 @@
-use Rattle.std.proofs.Common.{map}
-use Rattle.why.proofs.Collected.{AreFirstCuts}
-use Rattle.why.proofs.cuts.failures.Given as goal
-
-abbrev pub invariant-loop-place : goal.invariant-loop-place
-invariant-loop-place l = AreFirstCuts l.fn.starts l.fn.failing (map (λ o. o.now) l.fn.outcomes) l.place l.found.items

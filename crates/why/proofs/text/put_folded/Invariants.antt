@@ -1,8 +1,0 @@
-use Rattle.std.proofs.Common.{◌≡◌, ◌++◌, take, string_bytes}
-use Rattle.std.specs.List.{flat_map}
-use Rattle.why.specs.Text.{next_lost_text}
-use Rattle.why.proofs.text.put_folded.Given as goal
-
-abbrev pub invariant-loop-departure : goal.invariant-loop-departure
-invariant-loop-departure l =
-    string_bytes l.out ≡ (string_bytes l.initial.out) ++ flat_map (next_lost_text l.by) (take l.departure-index l.rest)

@@ -1,7 +1,0 @@
-use Rattle.std.proofs.Common.{◌≡◌, ◌++◌, map, take, string_bytes}
-use Rattle.std.specs.List.{flat_map}
-use Rattle.why.specs.Text.{group_line}
-use Rattle.why.proofs.text.put_groups.Given as goal
-
-abbrev pub invariant-loop-group : goal.invariant-loop-group
-invariant-loop-group l = string_bytes l.out ≡ string_bytes l.initial.out ++ flat_map (group_line l.by l.starts (map (λ o. o.now) l.outcomes)) (take l.group-index l.groups)

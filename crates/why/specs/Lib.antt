@@ -1,5 +1,0 @@
--- Why a program fails.
-pub mod Groups
-pub mod Failures
-pub mod Laws
-pub mod Text
