@@ -178,8 +178,8 @@ HELPER_(7, u64, same, u64 a, u64 b);
  *
  *     const struct slot *slot = SECTOR(1, return 3);
  *
- * The null test stands right behind the call, which the verifier asks for; the
- * compiler may move the test of a plain sector(n) behind a copy of its answer.
+ * The null test stands right after the call, which the verifier asks for; the
+ * compiler may move the test of a plain sector(n) after a copy of its answer.
  */
 #define SECTOR(n, otherwise)					\
 	({							\

@@ -190,6 +190,37 @@ u64 check(const struct context *context)
 	return *(bytes + 8 + u16_at(0)) == 9;
 }
 """
+# A compiler knows these loops: as a call of memset, and as one that goes by a table.
+ZEROED = """\
+#include "checker.h"
+u64 check(const struct context *context)
+{
+	u8 bytes[64];
+	u64 sum = 0;
+
+	for (u64 i = 0; i < 64; i++)
+		bytes[i] = 1;
+	for (u64 i = 0; i < (u64_at(0) & 63); i++)
+		bytes[i] = 0;
+	for (u64 i = 0; i < 64; i++)
+		sum += bytes[i];
+	return sum != 59;
+}
+"""
+SUMMED = """\
+#include "checker.h"
+u64 check(const struct context *context)
+{
+	u32 sum = ~0u;
+
+	for (u64 i = 0; i < 9; i++) {
+		sum ^= u8_at(i);
+		for (int k = 0; k < 8; k++)
+			sum = sum & 1 ? sum >> 1 ^ 0xedb88320 : sum >> 1;
+	}
+	return ~sum != 0x94f1b12e;
+}
+"""
 EMPTY = NESTED.replace("3 + (u64_at(8) & 1)", "u64_at(8)")
 HEADER = """\
 #include "checker.h"
@@ -223,6 +254,8 @@ RUNS = [
     (INDEX, ["--guards"], {504: "stray at 6"}),
     (INDEX, ["--no-guards"], "refused 52 at "),
     (EMPTY, ["--turns", "100", "--turns", "6:5"], {5: "0", 6: "1000000 codes 6"}),
+    (ZEROED, [], {4: "1 codes -", 5: "0", 69: "0"}),
+    (SUMMED, [], {0: "1 codes -", int.from_bytes(b"12345678", "little"): "0"}),
 ]
 
 

@@ -32,12 +32,15 @@ CHANGED = 3000
 # How long a row waits for what has to come at once.
 SECONDS = 30
 
+# By the last way of compiling it hands out another object file, where there is one.
 CLANG = """\
 #!/bin/sh
-for it; do last=$it; case $it in -E | -fsyntax-only | -c) what=$it ;; esac; done
+object=object
+for it; do last=$it; case $it in -E | -fsyntax-only | -c) what=$it ;; -disable-lsr) [ ! -e other ] || object=other ;; esac; done
 case $what in
 -E) echo "# 1 \\"$last\\""; cat "$last" ;;
--c) if [ -e hang ]; then sleep 1000 & echo $! > sleeping; mv sleeping asleep; wait; fi; cat > /dev/null; cp object "$last" ;;
+-c) if [ -e hang ]; then sleep 1000 & echo $! > sleeping; mv sleeping asleep; wait; fi
+    cat > /dev/null; echo >> compiled; cp $object "$last" ;;
 esac
 """
 LISTING = '#!/bin/sh\ncat listing\n'
@@ -324,6 +327,34 @@ def accepted(place, crashbpf):
         yield f"{text} {words}", [] if good and written == wanted and not place.left() else [f"{found}, {written}"]
 
 
+def ways(place, crashbpf):
+    """Which program is taken of the ways in which a checker is compiled, and how often it is: the last way makes another one."""
+    guarded, strict, unset = (assembled(crashbpf, place.folder, it) for it in (NULL_POINTER, "mov64 r0, 7; exit", "exit"))
+    for first, last, words, wanted in (
+        (strict, guarded, "", (0, strict, 1)),
+        (strict, guarded, "--no-guards", (0, strict, 1)),
+        (guarded, strict, "", (0, guarded, 1)),
+        (guarded, strict, "--guards", (0, guarded, 1)),
+        (guarded, strict, "--no-guards", (0, strict, 3)),
+        (guarded, unset, "--no-guards", (2, None, 3)),
+        (unset, guarded, "", (0, guarded, 3)),
+        (unset, guarded, "--no-guards", (2, None, 3)),
+        (unset, unset, "", (2, None, 3)),
+    ):
+        place.holds("u64 check(void)\n{\n\treturn 0;\n}\n", elf([("check", first, False)]), listing_of(first))
+        (place.folder / "other").write_bytes(elf([("check", last, False)]))
+        yield f"{first.hex()} and by the last way {last.hex()} {words}", counted(place, words, wanted)
+    (place.folder / "other").unlink()
+
+
+def counted(place, words, wanted):
+    """What is wrong with the status, with what is written, or with how often the compiler made an object file."""
+    (place.folder / "compiled").unlink(missing_ok=True)
+    status, _, said = place.run("source.c", "check", "out.bpf", "--sectors", "4", *words.split())
+    found = (status, place.written("out.bpf"), len(place.written("compiled")))
+    return [] if found == wanted else [f"{found}, wanted {wanted}: {said[-300:]}"]
+
+
 def outputs(place, code):
     """Names of sources and outputs."""
     text, object_ = "u64 check(void)\n{\n\treturn 0;\n}\n", elf([("check", code, False)])
@@ -356,11 +387,12 @@ def rows(crashbpf, folder):
     yield from objects(place, code)
     yield from stopped(place, code)
     yield from accepted(place, crashbpf)
+    yield from ways(place, crashbpf)
     yield from outputs(place, code)
 
 
 def main(words):
-    # A process that was started by nohup, or behind a shell's &, ignores some signals, and so would what it starts.
+    # A process that was started by nohup, or by a shell's &, ignores some signals, and so would what it starts.
     for number in (signal.SIGHUP, signal.SIGINT, signal.SIGTERM):
         signal.signal(number, signal.SIG_DFL)
     crashbpf = Path(words[0] if words else TOP / "crates/crashbpf/out/crashbpf").resolve()

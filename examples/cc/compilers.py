@@ -10,12 +10,6 @@ CC = Path(__file__).resolve().parent
 # checker.h is found from anywhere. So is "../checker.h", as seen from the folder of this file: an example may be copied.
 HEADERS = ["-I", CC.parent, "-I", CC, "-isystem", CC / "include"]
 
-
-# A loop over bytes isn't made a call of the library, and indices stay as they are written.
-LOOPS_STAY = ["-fno-builtin-memset", "-fno-builtin-memcpy"]
-AS_WRITTEN = ["-mllvm", "-disable-lsr"]
-
-
 # What a call of a helper leaves nothing of.
 CLOBBERED = '"r0", "r1", "r2", "r3", "r4", "r5", "memory"'
 
@@ -40,9 +34,9 @@ def hints_for(said):
 class Clang:
     """clang 14 or newer, and llvm-objdump of the same version."""
 
-    # The ways in which a checker is compiled: whether the compiler knows nothing of the variables of a loop's condition where
-    # that is tested (source.py), and more options.
-    WAYS = [(False, []), (True, LOOPS_STAY), (True, [*LOOPS_STAY, *AS_WRITTEN])]
+    # The ways in which a checker is compiled, of which the first is the usual one: whether the compiler knows nothing of the
+    # variables of a loop's condition where that is tested (source.py), and more options. By the last indices stay as written.
+    WAYS = [(False, []), (True, []), (True, ["-mllvm", "-disable-lsr"])]
 
     def __init__(self, name, run):
         self.name, self.run = name, run
@@ -62,6 +56,8 @@ class Clang:
     def compile(self, text, options, out):
         """Compiles the preprocessed text to the file `out`; each function gets a section of its own, .text.NAME."""
         words = [*self.target, "-g", "-w", "-ffunction-sections", "-fno-jump-tables", "-fno-crash-diagnostics"]
+        # A loop stays one, and becomes no call of the library and no table.
+        words += ["-mllvm", "-disable-loop-idiom-all"]
         return self.run([*words, *options, "-c", "-x", "cpp-output", "-", "-o", out], text)
 
     def turn(self, times, code, answer):
@@ -122,7 +118,8 @@ class Gcc:
 
     def compile(self, text, options, out):
         words = [*self.target, "-gdwarf", "-w", "-ffunction-sections"]
-        words += ["-fno-tree-loop-distribute-patterns", "-fno-ipa-cp", "-fno-ipa-sra"]
+        # Loops stay as with clang. A length of `copy` isn't kept in a register over a loop, where the verifier would round it up.
+        words += ["-fno-tree-loop-distribute-patterns", "-fno-move-loop-invariants", "-fno-ipa-cp", "-fno-ipa-sra"]
         return self.run([*words, *options, "-c", "-x", "cpp-output", "-", "-o", out], text)
 
     def turn(self, times, code, answer):

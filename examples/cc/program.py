@@ -220,7 +220,7 @@ def slots_of(code):
 
 
 def edges_of(slots):
-    """The control edges but those of turns: for each slot the slots behind it (docs/VERIFIER.md, 'Shape rules')."""
+    """The control edges but those of turns: for each slot the slots after it (docs/VERIFIER.md, 'Shape rules')."""
     edges = {at: [to for to in it.targets(at) if to in slots] for at, it in slots.items()}
     for at, it in slots.items():
         test = slots.get(at + 1)

@@ -1,4 +1,4 @@
-"""A C file behind the preprocessor: its functions and loops, and the same text with other attributes and with turns.
+"""A C file after the preprocessor: its functions and loops, and the same text with other attributes and with turns.
 
 Nothing is known of types: a function is told by its shape, a loop by its word. The line markers of the preprocessor
 (`# 12 "checker.c"`) stay where they are, so each place keeps its file and line.
@@ -55,7 +55,7 @@ class Loop:
     line: int
     last_line: int
     body: int  # the token with which the body begins
-    condition: tuple  # the tokens of the condition: first, and the one behind
+    condition: tuple  # the tokens of the condition: first, and the one after
     tokens: tuple
     function: str
 
@@ -96,7 +96,7 @@ class Source:
         return self.tokens[at].text if at < len(self.tokens) else ""
 
     def closed(self, at):
-        """The token behind the bracket that closes the one at this place."""
+        """The token after the bracket that closes the one at this place."""
         opened = []
         while at < len(self.tokens):
             word = self.word(at)
@@ -138,7 +138,7 @@ class Source:
             at = self.statement(at)
 
     def block(self, at):
-        """The statements of a block, which begins at this token; the token behind it."""
+        """The statements of a block, which begins at this token; the token after it."""
         end = self.closed(at)
         at += 1
         while at < end - 1:
@@ -146,7 +146,7 @@ class Source:
         return end
 
     def statement(self, at):
-        """Goes over a statement, and answers the token behind it."""
+        """Goes over a statement, and answers the token after it."""
         word = self.word(at)
         if word == "{":
             return self.block(at)
@@ -187,11 +187,11 @@ class Source:
         word = self.word(at)
         if word == "do":
             body = at + 1
-            behind = self.statement(body)
-            if self.word(behind) != "while":
+            after = self.statement(body)
+            if self.word(after) != "while":
                 raise Unread("a do has no while")
-            condition = (behind + 2, self.closed(behind + 1) - 1)
-            end = self.closed(behind + 1) + 1
+            condition = (after + 2, self.closed(after + 1) - 1)
+            end = self.closed(after + 1) + 1
         else:
             body = self.expression(at + 1)
             condition = (at + 2, body - 1) if word == "while" else self.middle(at + 2, body - 1)
@@ -280,13 +280,13 @@ def is_changed(words, name):
     for at, word in enumerate(words):
         if word != name:
             continue
-        behind, before = words[at + 1 : at + 4], words[max(0, at - 2) : at]
-        if before in (["+", "+"], ["-", "-"]) or behind[:2] in (["+", "+"], ["-", "-"]):
+        after, before = words[at + 1 : at + 4], words[max(0, at - 2) : at]
+        if before in (["+", "+"], ["-", "-"]) or after[:2] in (["+", "+"], ["-", "-"]):
             return True
-        if behind[:1] == ["="] and behind[1:2] != ["="]:
+        if after[:1] == ["="] and after[1:2] != ["="]:
             return True
-        if behind[1:2] == ["="] and behind[0] in "+-*/%&|^":
+        if after[1:2] == ["="] and after[0] in "+-*/%&|^":
             return True
-        if behind[:2] in (["<", "<"], [">", ">"]) and behind[2:3] == ["="]:
+        if after[:2] in (["<", "<"], [">", ">"]) and after[2:3] == ["="]:
             return True
     return False

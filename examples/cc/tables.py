@@ -8,13 +8,13 @@ from program import broken
 MOST_ELEMENTS = 1024
 SIZES = "crashbpf_sizes"
 WORD = re.compile(r"[A-Za-z_$]")
-# Words behind which a name isn't declared.
+# Words after which a name isn't declared.
 NO_TYPES = {"return", "else", "case", "do", "sizeof", "goto"}
 
 
 @dataclass
 class Table:
-    """An array of constants, its tokens from the first of its declaration to the one behind it, and where it is known."""
+    """An array of constants, its tokens from the first of its declaration to the one after it, and where it is known."""
 
     name: str
     declared: tuple
@@ -53,14 +53,14 @@ def declared(source, start, at, function):
     """The array that is declared here, if it is one."""
     while WORD.match(source.word(at)) and source.word(at + 1) != "[":
         at += 1
-    name, behind = at, at + 1
+    name, after = at, at + 1
     dimensions = 0
-    while source.word(behind) == "[":
-        behind = source.closed(behind)
+    while source.word(after) == "[":
+        after = source.closed(after)
         dimensions += 1
-    if not WORD.match(source.word(name)) or not dimensions or source.word(behind) != "=":
+    if not WORD.match(source.word(name)) or not dimensions or source.word(after) != "=":
         return None
-    end = behind + 1
+    end = after + 1
     while end < len(source.tokens) and source.word(end) != ";":
         if source.word(end) == ",":
             return None
@@ -74,9 +74,9 @@ def named(source, table):
     found = [at for at in range(*table.scope) if source.word(at) == table.name and source.word(at - 1) != "."]
     found = [at for at in found if (source.word(at - 2), source.word(at - 1)) != ("-", ">")]
     for at in found:
-        before, behind = source.word(at - 1), source.word(at + 1)
+        before, after = source.word(at - 1), source.word(at + 1)
         typed = WORD.match(before) and before not in NO_TYPES
-        pointer = before == "*" and WORD.match(source.word(at - 2)) and behind in ("=", ";", ",", ")")
+        pointer = before == "*" and WORD.match(source.word(at - 2)) and after in ("=", ";", ",", ")")
         if typed or pointer:
             return None
     return found
@@ -87,19 +87,19 @@ def edits_of(source, tables, end):
     edits = []
     for table in tables:
         table.new_name = table.name if table.function is None else f"{table.name}_of_{table.function.name}"
-        first, behind = table.declared
-        text = source.text[source.tokens[first].start : source.tokens[behind - 1].end]
+        first, after = table.declared
+        text = source.text[source.tokens[first].start : source.tokens[after - 1].end]
         uses = [at for at in named(source, table) if not inside(source, tables, at)]
         code = function_text(table, end(table)) if table.sizes else ""
         if table.function is None:
-            place = source.tokens[behind - 1].end
+            place = source.tokens[after - 1].end
             edits.append((place, place, f" {code}"))
         else:
             place = source.tokens[table.function.declared].start
             middle = source.tokens[table.at].start - source.tokens[first].start
             text = text[:middle] + table.new_name + text[middle + len(table.name) :]
             text = " ".join(it for it in text.split("\n") if not it.startswith("#"))
-            last = source.tokens[behind - 1]
+            last = source.tokens[after - 1]
             edits.append((place, place, f"{text} {code} "))
             edits.append((source.tokens[first].start, last.end, f'\n# {last.line} "{last.file}"\n;'))
         for at in uses:
@@ -119,9 +119,9 @@ def use_of(source, table, at):
     address = before == "&" and not re.match(r"[\w$)\]&]", second)
     place = at + 1
     while source.word(place) == "[" and len(ends) < table.dimensions:
-        behind = source.closed(place)
-        ends.append((place, behind - 1))
-        place = behind
+        after = source.closed(place)
+        ends.append((place, after - 1))
+        place = after
     if not table.sizes or len(ends) < table.dimensions or address:
         return [(token.start, token.end, table.new_name)]
     edits = [(token.start, token.end, f"{table.new_name}_at_")]
@@ -156,7 +156,7 @@ def function_text(table, end):
 
 
 def sizes_text(tables):
-    """Text behind a source from which `sizes_in` tells the dimensions of its tables."""
+    """Text after a source from which `sizes_in` tells the dimensions of its tables."""
     words = []
     for table in tables:
         for number in range(table.dimensions):
