@@ -6,18 +6,20 @@
 FOLDER is made, and keeps the recordings: what is there is taken as it is, so that a run may be gone on with. KERNEL is as in
 tests/record.py: with it the same databases are recorded in a guest too, on ext4.
 
-Of each row the program makes three commits, each acknowledged by a mark. Each image, with as many marks, is laid out, and opened
+Of files recorded with names and sizes (`crashbpf-record --files`) there is a row for each table. Of each row the program makes three commits, each acknowledged by a mark. Each image, with as many marks, is laid out, and opened
 by the program itself. It is `broken` where that fails, where its own check finds something, or where a commit is there in part.
 A commit is `lost` where fewer are there than marks before the cut. The images are those of tests/model.py, and `crashbpf images`
 has to count as many. Equal images with as many marks are judged once. One image of each row is judged by crashbpf-files too,
 which has to say the same.
 
-It wants strace, sqlite3, liblmdb-dev, a C compiler, and the built program; with KERNEL what `guest` wants, and e2fsprogs.
+It wants strace, sqlite3, liblmdb-dev, libleveldb-dev, a C compiler, and the built program, which CRASHBPF names where it is another;
+with KERNEL what `guest` wants, and e2fsprogs.
 Prints a row for each: the entries of its log, how many writes are lost at most, by write, how many images that gives and how many
 of them differ, and how many are broken or lack a commit. At most two writes are lost, or one where two give more than 1,500 images.
 """
 import functools
 import hashlib
+import io
 import os
 import re
 import shutil
@@ -36,9 +38,11 @@ from rows.recording import entries_of
 
 RECORD = TOP / "examples/record"
 GUEST = TOP / "examples/recording/guest"
-PROGRAM = TOP / "crates/crashbpf/out/crashbpf"
+PROGRAM = os.environ.get("CRASHBPF", TOP / "crates/crashbpf/out/crashbpf")
 sys.path.insert(0, str(RECORD))
 import layout
+import named_layout
+from orders import TABLES as ORDERS
 
 COMMITS = (1, 2, 3)
 # The most images of a row that loses two writes at once.
@@ -99,6 +103,46 @@ def lmdb_base(folder, _):
         sys.exit(f"lmdb: {done.stdout}")
 
 
+def leveldb_found(folder):
+    done = ran([os.environ["LEVELDB"], "read", "."], folder)
+    return int(done.stdout) if done.returncode == 0 and done.stdout.strip().isdigit() else f"status {done.returncode}: {done.stdout.strip()}"[:100]
+
+
+def leveldb_base(folder, _):
+    done = sh(f"{os.environ['LEVELDB']} write . sync 0", folder)
+    if done.returncode:
+        sys.exit(f"leveldb: {done.stdout}")
+
+
+# A file that is replaced three times, by a new one that gets its name.
+RENAMES = """\
+import os
+files = os.environ["FILES"]
+for number in (1, 2, 3):
+    new = os.open(files + "/new", os.O_WRONLY | os.O_CREAT | os.O_TRUNC, 0o644)
+    os.write(new, bytes([number]) * 700 * number)
+    {sync}
+    os.close(new)
+    os.rename(files + "/new", files + "/kept")
+    {folder}
+    os.system("mark commit-%d" % number)
+"""
+FOLDER = "at = os.open(files, os.O_RDONLY); os.fsync(at); os.close(at)"
+
+
+def renames_base(folder, _):
+    Path(folder, "kept").write_bytes(b"\0" * 100)
+
+
+def renames_found(folder):
+    path = Path(folder, "kept")
+    if not path.exists():
+        return "the file isn't there"
+    content = path.read_bytes()
+    number = content[0] if content else 4
+    return number if content == bytes([number]) * (700 * number or 100) else f"the file has {len(content)} bytes, the first of which is {number}"
+
+
 # Two files: records, and how many of them there are. The five lines sync the records, or the other file in their place.
 LINES = """\
 import os
@@ -128,10 +172,28 @@ class Row:
     command: str
     skip: str | None
     found: object
+    # the table by which names and sizes are recorded too
+    orders: str | None = None
+
+
+def named_rows():
+    """What is recorded with names and sizes, by each table."""
+    programs = []
+    for journal, synchronous in (("DELETE", "OFF"), ("DELETE", "FULL"), ("DELETE", "EXTRA"), ("TRUNCATE", "OFF"), ("TRUNCATE", "FULL")):
+        programs.append((f"SQLite {journal} {synchronous}", sqlite_base, journal, sqlite_words(journal, synchronous), None, sqlite_found))
+    for kind in ("loose", "sync"):
+        programs.append((f"LevelDB {kind}", leveldb_base, kind, f"exec $LEVELDB write $FILES {kind} 1 2 3", "LO[GC]*", leveldb_found))
+    for name, sync, folder in (("a rename", "", ""), ("a rename, file synced", "os.fsync(new)", ""), ("a rename, file and folder synced", "os.fsync(new)", FOLDER)):
+        command = f"exec {sys.executable} -c '{RENAMES.format(sync=sync, folder=folder)}'"
+        programs.append((name, renames_base, "", command, None, renames_found))
+    for name, *rest in programs:
+        for table in ORDERS:
+            yield Row(f"{name}, {table}", *rest, table)
 
 
 def rows():
     """What is recorded by strace."""
+    yield from named_rows()
     for journal in ("PERSIST", "WAL"):
         for synchronous in ("OFF", "NORMAL", "FULL"):
             command = sqlite_words(journal, synchronous)
@@ -254,16 +316,20 @@ def traced(folder, row):
             shutil.rmtree(base, ignore_errors=True)
             base.mkdir()
             row.base(base, row.kind)
-        options = [*(["--base", base] if row.base else []), *(["--skip", row.skip] if row.skip else [])]
+        options = [*(["--base", base] if row.base else []), *(["--skip", row.skip] if row.skip else []), *(["--files", row.orders] if row.orders else [])]
         done = subprocess.run([RECORD / "crashbpf-record", *options, out, "--", "sh", "-c", row.command], capture_output=True, text=True)
         if done.returncode:
             print(f"| {row.name} | refused: {done.stderr.strip().splitlines()[-1]} |", flush=True)
             return
-    found, sectors = layout.read_map((out / "files.txt").read_text())
+    text = (out / "files.txt").read_text()
+    found, sectors = ([named_layout.read_map(text)], named_layout.read_map(text)[2]) if row.orders else layout.read_map(text)
 
     def lay(content, room):
+        if row.orders:
+            return named_layout.Image(io.BytesIO(content), found[0]).lay_out(room)
         for it in found:
             Path(room, os.fsdecode(it.name)).write_bytes(content[SECTOR * it.first :][: it.length])
+        return None
 
     judge = Judge(row.found, lay)
     judged(row.name, out / "writes.log", out / "base.img", sectors, judge)
@@ -315,10 +381,11 @@ def in_guest(folder, kernel, journal, synchronous):
 def main(words):
     folder = Path(words[0]).resolve()
     folder.mkdir(exist_ok=True)
-    os.environ["LMDB"] = str(folder / "lmdb")
-    done = sh(f"cc -O1 -w -o lmdb {TOP / 'tests/programs/lmdb.c'} -llmdb", folder)
-    if done.returncode:
-        sys.exit(f"cc: {done.stderr}")
+    for name in ("lmdb", "leveldb"):
+        os.environ[name.upper()] = str(folder / name)
+        done = sh(f"cc -O1 -w -o {name} {TOP / 'tests/programs' / name}.c -l{name}", folder)
+        if done.returncode:
+            sys.exit(f"cc: {done.stderr}")
     chosen = words[2] if len(words) > 2 else ""
     for row in rows():
         if chosen in row.name:

@@ -4,8 +4,8 @@ doesn't run it, since it needs these; it runs tests/traced.py, which has strace'
 
     python3 tests/record.py [KERNEL]
 
-By strace programs are recorded that write in each way that is followed, in threads and processes too, and those that have to be
-refused, with the call that shows why; of each the files are compared with those that the log has. By FUSE a few commands are
+By strace programs are recorded that write in each way that is followed, in threads and processes too, that change names and sizes,
+and those that have to be refused, with the call that shows why; of each the files are compared with those that the log has. By FUSE a few commands are
 recorded, and their logs are compared with what they did; of each the last image has to be the disk. KERNEL is a folder as `guest` takes it. With it scripts are recorded in virtual machines: what stands before a mark of each
 kind, whether a file is there at its mark though all that is in flight is lost, and how `guest` ends where something is wrong.
 
@@ -306,6 +306,87 @@ def traced(folder, seed):
     return None if found == wanted else f"written at random, {seed}: the last image isn't the files"
 
 
+# A program that makes, renames, unlinks, cuts off and writes files in folders, at random.
+CHANGES_NAMES = """\
+import os, random, sys
+chance = random.Random(int(sys.argv[1]))
+os.chdir(os.environ["FILES"])
+
+
+def found(kind):
+    return [os.path.relpath(os.path.join(here, it)) for here, folders, files in os.walk(".") for it in (folders if kind else files)]
+
+
+def free():
+    name = os.path.join(chance.choice([".", *found(True)]), chance.choice("abcdef"))
+    return name if not os.path.lexists(name) else None
+
+
+for _ in range(150):
+    kind, files, folders, new = chance.randrange(16), found(False), found(True), free()
+    if kind < 2 and new:
+        os.close(os.open(new, os.O_WRONLY | os.O_CREAT | os.O_EXCL))
+    elif kind < 6 and files:
+        flags = chance.choice((0, 0, os.O_APPEND, os.O_TRUNC, os.O_DSYNC))
+        fd = os.open(chance.choice(files), os.O_RDWR | flags)
+        if os.fstat(fd).st_size < 9000:
+            os.pwrite(fd, bytes([chance.randrange(256)]) * chance.randrange(1, 1500), chance.choice((0, os.fstat(fd).st_size, chance.randrange(3000))))
+        if chance.random() < 0.3:
+            os.fsync(fd)
+        if chance.random() < 0.2 and os.fstat(fd).st_nlink:
+            os.unlink(os.readlink("/proc/self/fd/%d" % fd))
+            os.write(fd, b"gone" * 100)
+        os.close(fd)
+    elif kind == 6 and files:
+        os.truncate(chance.choice(files), chance.randrange(5000))
+    elif kind == 7 and files:
+        os.unlink(chance.choice(files))
+    elif kind < 10 and files and new:
+        os.rename(chance.choice(files), new)
+    elif kind == 10 and len(files) > 1:
+        os.replace(*chance.sample(files, 2))
+    elif kind == 11 and files and new:
+        os.link(chance.choice(files), new)
+    elif kind == 12 and new:
+        os.mkdir(new)
+    elif kind == 13 and folders and new:
+        one = chance.choice(folders)
+        if not new.startswith("./" + one) and not new.startswith(one):
+            os.rename(one, new)
+    elif kind == 14:
+        for it in folders:
+            if not os.listdir(it):
+                os.rmdir(it)
+                break
+    elif kind == 15:
+        fd = os.open(chance.choice([".", *folders]), os.O_RDONLY)
+        os.fsync(fd)
+        os.close(fd)
+"""
+
+
+def below(folder):
+    """What a folder holds: a map of paths to contents, where a folder has none."""
+    return {str(it.relative_to(folder)): None if it.is_dir() else it.read_bytes() for it in Path(folder).rglob("*")}
+
+
+def named(folder, seed, table):
+    """What is wrong with a recording of names and sizes that are changed at random, over what an earlier one left."""
+    out, base = Path(folder, f"named_{table}_{seed}"), Path(folder, f"named_{table}_{seed - 1}", "files")
+    options = ["--base", base] if base.exists() and all(it.stat().st_nlink == 1 for it in base.rglob("*") if it.is_file()) else []
+    words = [RECORD, "--files", table, *options, out, "--", sys.executable, "-c", CHANGES_NAMES, str(seed)]
+    done = subprocess.run(words, capture_output=True, text=True)
+    if done.returncode:
+        return f"names at random, {seed}, {table}: status {done.returncode}, {done.stderr}"
+    image, seen = out / "image", out / "seen"
+    image.write_bytes(image_of(entries_of((out / "writes.log").read_bytes()), (out / "base.img").read_bytes()))
+    show = [RECORD.parent / "crashbpf-files", out / "files.txt", image, "--", "cp", "-r", ".", seen]
+    done = subprocess.run(show, capture_output=True, text=True)
+    if done.returncode:
+        return f"names at random, {seed}, {table}: crashbpf-files, status {done.returncode}, {done.stderr}"
+    return None if below(seen) == below(out / "files") else f"names at random, {seed}, {table}: the last image isn't the files"
+
+
 def refused_calls(folder):
     """What is wrong with how calls are refused that could hide a write."""
     source, program = Path(folder, "added.c"), Path(folder, "added")
@@ -539,7 +620,7 @@ def guests_of(folder, kernel):
 
 def main():
     with tempfile.TemporaryDirectory() as folder:
-        found = [*(traced(folder, it) for it in range(1, 6)), *refused_calls(folder), *traced_ends(folder)]
+        found = [*(traced(folder, it) for it in range(1, 6)), *(named(folder, it, table) for it in range(1, 4) for table in ("ordered", "writeback", "strict")), *refused_calls(folder), *traced_ends(folder)]
         found += [*(recorded(folder, *it) for it in RECORDED), *based(folder), in_flight(), hung_up(folder), *(cut(folder, *it) for it in DEVICES)]
         if sys.argv[1:]:
             found += guests_of(Path(folder).resolve(), sys.argv[1])

@@ -38,6 +38,13 @@ class Sector:
 
     durable: int = 0
     since: list = field(default_factory=list)
+    # the last version that is durable, or nothing where it is what stood there at first
+    held: bytes | None = None
+
+    @property
+    def newest(self):
+        """The number of its last version."""
+        return self.durable + len(self.since)
 
     def settle(self, version):
         """Makes all versions up to that number durable. Returns the last of them, or nothing where it was durable."""
@@ -45,6 +52,7 @@ class Sector:
         if count <= 0:
             return None
         content, self.since, self.durable = self.since[count - 1], self.since[count:], version
+        self.held = content
         return content
 
 
@@ -89,8 +97,16 @@ class Disk:
         """Whole sectors of a file, as they were just written, are durable."""
         self.entries.append(Entry(FUA, file, first, data))
         for at in range(len(data) // SECTOR):
-            it = self.sectors[file][first + at]
-            self.settle(file, first + at, it.durable + len(it.since))
+            self.settle(file, first + at, self.sectors[file][first + at].newest)
+
+    def lay(self, file, first, data):
+        """Whole sectors that nothing shows yet are written, and are durable."""
+        self.entries.append(Entry(FUA, file, first, data))
+        found = self.sectors.setdefault(file, {})
+        for at in range(len(data) // SECTOR):
+            it = found.setdefault(first + at, Sector())
+            it.since.append(data[SECTOR * at : SECTOR * (at + 1)])
+            self.settle(file, first + at, it.newest)
 
     def mark(self, text):
         self.entries.append(Entry(MARK, data=text))
@@ -98,7 +114,7 @@ class Disk:
     def begin_sync(self, files):
         """A sync of these files begins. Returns what it will make durable."""
         found = {file: self.sectors.get(file, {}) for file in files}
-        return {file: {number: it.durable + len(it.since) for number, it in these.items() if it.since} for file, these in found.items()}
+        return {file: {number: it.newest for number, it in these.items() if it.since} for file, these in found.items()}
 
     def end_sync(self, begun):
         """The sync has ended: what it was to make durable is."""

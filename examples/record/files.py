@@ -98,11 +98,19 @@ class Flight:
     sync: object = None
     # of all files, for a call that names one by its path
     all_changes: dict = field(default_factory=dict)
+    # the versions of the sets of names
+    sets: dict = field(default_factory=dict)
 
 
 def flags_of(text):
     """The names of flags in a text."""
     return set(re.findall(r"\b_*[A-Z][A-Z0-9]*_\w+", text))
+
+
+def skips_below(name, skipped):
+    """Whether a file is skipped, or a folder that it is in."""
+    parts = name.split(b"/")
+    return any(skips(b"/".join(parts[:end]), skipped) for end in range(1, len(parts) + 1))
 
 
 def skips(name, skipped):

@@ -14,10 +14,13 @@ from contextlib import suppress
 from pathlib import Path
 
 import layout
+import named_layout
 from calls import Refused, makers, shown
 from disk import SECTOR, Disk
+from files import skips, skips_below
 from layout import trace_log
-from files import skips
+from named import NamedTracing, beginning
+from orders import TABLES
 from tracing import Tracing
 
 # Calls that strace need not stop at: they write no file, move no place in one, and answer no descriptor of one.
@@ -50,6 +53,12 @@ def files_in(folder):
             if os.path.islink(os.path.join(here, name)):
                 others.append(os.path.join(here, name))
     return found, others
+
+
+def folders_in(folder):
+    """The folders below a folder, by their names in it."""
+    at = os.fsencode(folder)
+    return sorted(os.path.relpath(here, at) for here, _, _ in os.walk(at) if here != at)
 
 
 def contents_of(folder):
@@ -133,6 +142,20 @@ def follow(calls, files, before, skipped, at, marks=None):
     return tracing
 
 
+def follow_names(calls, files, before, folders, skipped, at, marks, table):
+    """The same of calls whose names and sizes count, by a table. Which names a rename ties together is known only at the end, so
+    the calls are followed twice where the table asks for it."""
+    joined = None
+    for _ in range(2 if table == "strict" else 1):
+        with open(calls, "rb") as stream:
+            made = makers(stream)
+        tracing = NamedTracing(files, beginning(table, Disk(), joined, before, folders), skipped, made, at, marks)
+        with open(calls, "rb") as stream:
+            tracing.follow(stream)
+        joined = tracing.tree.ties()
+    return tracing
+
+
 def compare(tracing, after):
     """Compares the files as they should be with those that are there."""
     for name in sorted(set(tracing.files) | set(after)):
@@ -175,37 +198,67 @@ def recorded(tracing, folder):
     return "\n".join(lines)
 
 
+def recorded_names(tracing, folder):
+    """The same of a recording whose names and sizes count."""
+    laid = named_layout.Laid(tracing.tree)
+    if not any(it.count for it in tracing.disk.entries):
+        raise Refused("the program changed no file of its folder, $FILES, so nothing was recorded")
+    parts, large = layout.log_of(list(laid.entries()), laid.firsts, laid.sectors)
+    Path(folder, "files.txt").write_text(laid.map_text())
+    Path(folder, "files.h").write_text(named_layout.header_text(laid))
+    Path(folder, BASE).write_bytes(laid.image())
+    options = f"--sectors {laid.sectors}" + (" --large" if large else "") + f" --base {Path(folder, BASE)}"
+    trace_log.write_log(str(Path(folder, LOG)), parts)
+    marks = sum(1 for it in tracing.disk.entries if it.kind == layout.MARK)
+    lines = [
+        *(f"names: sector {it.sector}" for it in laid.sets),
+        *(f"{layout.escaped(it.name)}: its size in sector {it.size}, {it.sectors} sectors from {it.first} on" for it in laid.rooms),
+        f"entries {len(tracing.disk.entries)} marks {marks}: crashbpf explore {Path(folder, LOG)} .. {options}",
+    ]
+    return "\n".join(lines)
+
+
 def notes_of(tracing, before):
     """What a reader should know of a recording: what was left out of it."""
-    made = [it for it in tracing.files.values() if it.name not in before and it.most]
-    grown = [it for it in tracing.files.values() if it.name in before and it.most > len(before[it.name])]
+    left_out = [] if isinstance(tracing, NamedTracing) else tracing.files.values()
+    made = [it for it in left_out if it.name not in before and it.most]
+    grown = [it for it in left_out if it.name in before and it.most > len(before[it.name])]
     notes = list(tracing.notes)
     for files, what in ((made, "is taken to be there from the start"), (grown, "is taken to have its largest size from the start")):
         notes += [f"{shown(os.fsdecode(it.name))} {what}" for it in files]
     return notes + [f"{shown(os.fsdecode(path))} isn't recorded: {call}" for path, call in tracing.written_outside.items()]
 
 
-def record(folder, base, skipped, words, environment, say):
-    """Records a program. Returns its status, and what is said of the log. `say` tells a line of what is left out."""
+def record(folder, base, skipped, words, environment, say, table=None):
+    """Records a program. Returns its status, and what is said of the log. `say` tells a line of what is left out. With a table
+    names and sizes count."""
     files, at = os.path.join(folder, FILES), os.path.realpath(".")
     os.mkdir(files)
     lay_base(base, files)
     Path(folder, MARKS).touch()
-    before = {name: it for name, it in contents_of(files).items() if not skips(name, skipped)}
+    leaves_out = skips if table is None else skips_below
+    before = {name: it for name, it in contents_of(files).items() if not leaves_out(name, skipped)}
+    folders = [it for it in folders_in(files) if not leaves_out(it, skipped)]
     status = run(folder, words, {**environment, "FILES": files})
-    tracing = follow(os.path.join(folder, CALLS), files, before, skipped, at, os.path.join(folder, MARKS))
-    compare(tracing, contents_of_recorded(files, skipped))
-    told = recorded(tracing, folder)
+    calls, marks = os.path.join(folder, CALLS), os.path.join(folder, MARKS)
+    if table is None:
+        tracing = follow(calls, files, before, skipped, at, marks)
+    else:
+        tracing = follow_names(calls, files, before, folders, skipped, at, marks, table)
+    compare(tracing, contents_of_recorded(files, skipped, leaves_out))
+    if table is not None and {b"", *(it for it in folders_in(files) if not leaves_out(it, skipped))} != set(tracing.folders):
+        raise Refused("other folders are there than the calls that were seen made")
+    told = recorded(tracing, folder) if table is None else recorded_names(tracing, folder)
     for line in notes_of(tracing, before):
         say(f"note: {line}")
     return status, told
 
 
-def contents_of_recorded(files, skipped):
+def contents_of_recorded(files, skipped, leaves_out):
     """The contents of the files that aren't skipped."""
     found, others = files_in(files)
-    names = {name: path for name, path in found.items() if not skips(name, skipped)}
+    names = {name: path for name, path in found.items() if not leaves_out(name, skipped)}
     for path in others:
-        if not skips(os.path.relpath(path, os.fsencode(files)), skipped):
+        if not leaves_out(os.path.relpath(path, os.fsencode(files)), skipped):
             raise Refused(f"{shown(os.fsdecode(path))} is a symbolic link")
     return {name: Path(os.fsdecode(path)).read_bytes() for name, path in names.items()}

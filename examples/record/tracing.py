@@ -199,7 +199,7 @@ class Tracing:
 
     # Descriptors
 
-    def end_open(self, call, process, _flight):
+    def end_open(self, call, process, flight):
         if call.failed() or call.result is None:
             return
         if call.path is None:
@@ -228,12 +228,17 @@ class Tracing:
                 if os.path.isdir(call.path):
                     return
                 raise Refused(f"{call}: no call was seen that made {shown(os.fsdecode(name))}")
-            self.still(call, f"{shown(os.fsdecode(name))} is made")
-            file = self.files[name] = File(name)
+            file = self.make(call, name, flight)
         if "O_TRUNC" in flags and writable:
             self.resize(call, file, 0, Flight(grown=file.grown, changes=len(file.changed)))
         through = bool(flags & THROUGH)
         process.table[call.result] = (Opened(file, "O_APPEND" in flags, through, writable), "O_CLOEXEC" in flags)
+
+    def make(self, call, name, _flight):
+        """A file is made."""
+        self.still(call, f"{shown(os.fsdecode(name))} is made")
+        self.files[name] = File(name)
+        return self.files[name]
 
     def end_dup(self, call, process, _flight):
         if call.failed() or call.result is None:
@@ -530,6 +535,10 @@ class Tracing:
             raise Refused(f"{call}: a sync that fails leaves nothing that is known")
         if flight.opened is not None and call.name != "syncfs":
             self.agrees_for(call, flight.opened)
+        self.end_synced(flight)
+
+    def end_synced(self, flight):
+        """A sync has ended."""
         if self.ended is None:
             self.disk.end_sync(flight.sync)
 
