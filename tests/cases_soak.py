@@ -1,131 +1,147 @@
 #!/usr/bin/env python3
-"""Compares the cases of cuts (cases_model.py) with all choices of these cuts, one by one, on random logs.
+"""Compares what the built program says of every loss of many random logs, by `explore --bound any`, with the model, to the byte.
 
-    python3 tests/cases_soak.py [--runs N] [--seed S]
+    python3 tests/cases_soak.py [--runs N] [--seed S] [--only NUMBER] [PROGRAM]
 
-N is 400 where it isn't given, S is 1. A run has a log of two to seven entries on a device of two to four sectors, and a checker that
-reads some bytes, of which sectors hangs on what it found. Each choice has to be in exactly one case, or if it has more losses than
-are asked for in at most one, and the checker ends on its image as its case says. Each image of a cut is one of a last cut. A flush in
-the window of a case takes all its images away. No program is run, so this shows that the rules of docs/CRASH-MODEL.md, 'Any number
-of losses', are sound as they stand there. It takes a few seconds, and is no part of the gate.
+PROGRAM is as in run.py; N is 2,000 where it isn't given, S is 1. A run has a log of entries of every kind, of which writes differ by
+pieces, what the device held before, one or two checkers, and options picked at random: `--tears` and `--torn`, `--at-most`, `--cuts`,
+`--from` and `--to`, `--by`, `--flush`, `--base`, `--checked` and `--guards`. It is expected that the program prints the text of
+cases_model.py, ends with status 1 exactly where a case fails, and says nothing else but notes.
+
+A checker looks at a few sectors, and at which ones hangs on what it found: by loads, by `zero`, `mix`, `same` and `copy`, in turns of
+`again`, by the epoch and the marks, and at addresses that are made of numbers. What it comes to is worked out by machine_model.py. Some
+end in a fault, stray, or spend their steps.
+
+Each run is made of its number and the seed alone. One that isn't as expected is printed, and `--only NUMBER` makes it again and leaves
+its files in the folder cases_soak. The last line is as in run.py. It takes some minutes, and is no part of the gate.
 """
-import argparse
-import itertools
 import random
+import subprocess
 import sys
+from pathlib import Path
 
 sys.dont_write_bytecode = True
 
-from cases_model import FATES, View, cases_of, is_last_cut, may_depart, window_of
-from model import Image, Run
-from notation import DISCARD, FLUSH, FUA, MARK, Entry
+from cases_model import Losses, cases, some_entry, status
+from footprint_soak import look
+from machine_model import judged
+from model import Checker, Run
+from notation import log
+from soaking import Soak, options, run_all
 
-# At most as many choices are made of a cut.
-MOST = 3_000
+LIMIT = 120
 
-
-def entry(chance, sectors, values):
-    """An entry of a device of that many sectors, mostly a write of which each piece has one of a few values."""
-    kind = chance.random()
-    if kind < 0.10:
-        return Entry(flags=MARK, text=b"m")
-    if kind < 0.18:
-        return Entry(flags=FLUSH)
-    count = min(sectors, chance.choice([1, 1, 1, 2, 3]))
-    at = chance.randrange(sectors - count + 1)
-    if kind < 0.25:
-        return Entry(at, count, DISCARD)
-    data = b""
-    for _ in range(count):
-        mostly, rarely = chance.choice(values), chance.choice(values)
-        data += b"".join(bytes([chance.choice([mostly, mostly, mostly, rarely])]) * 64 for _ in range(8))
-    flags = (chance.random() < 0.2) * FUA | (chance.random() < 0.1) * FLUSH
-    return Entry(at, count, flags, data=data)
+# How often a checker may be run on images of a run by the model.
+MOST_RUNS = 1_500
 
 
-def checker(chance, sectors):
+class TooLong(Exception):
+    """A run has more cases than the model is to make."""
+
+
+def turns(chance, sectors, label):
+    """A loop that looks at one sector after the other, and may end where it finds something. r6 has what was found before."""
+    helper, most = chance.choice([5, 5, 6]), chance.randint(1, sectors + 1)
+    text = f"mov64 r8, {chance.randrange(sectors)}\nturn{label}:\nmov64 r1, {most}\ncall 3\njeq r0, 0, end{label}\nmov64 r1, r8\ncall {helper}\n"
+    text += "mul64 r6, 5\nadd64 r6, r0\nadd64 r8, 1\n"
+    if chance.random() < 0.5:
+        text += f"mov64 r1, r6\nmod64 r1, {chance.randint(2, 4)}\njeq r1, {chance.randint(0, 1)}, end{label}\n"
+    return f"{text}ja turn{label}\nend{label}:\nmov64 r0, 1\n"
+
+
+def some_checker(chance, sectors, by_number):
     """A checker that goes on or ends by what it finds."""
-    steps = [(chance.randrange(sectors), chance.randrange(512), chance.random() < 0.3, chance.randint(2, 5), chance.randint(0, 2)) for _ in range(chance.randint(1, 4))]
-    begins_with_marks = chance.random() < 0.3
-
-    def judge(view):
-        found = view.marks if begins_with_marks else 0
-        for at, place, by_found, modulus, stop in steps:
-            found = (found * 3 + view.sector(found % sectors if by_found else at)[place]) % 1_000_003
-            if found % modulus == stop:
-                return found % 7
-        return found % 11
-
-    return judge
-
-
-def choices(run, cut):
-    """All choices of a cut."""
-    parts = may_depart(run, cut)
-    for fates in itertools.product(FATES if run.tears else FATES[:2], repeat=len(parts)):
-        yield dict(zip(parts, fates))
+    text = "mov64 r7, r1\nmov64 r6, 0\n"
+    for label in range(chance.randint(1, 4)):
+        text += turns(chance, sectors, label) if chance.random() < 0.25 else look(chance, sectors, by_number)
+        text += f"mul64 r6, {chance.choice([1, 3, 7])}\nadd64 r6, r0\n"
+        if chance.random() < 0.6:
+            text += f"mov64 r0, r6\nmod64 r0, {chance.randint(2, 5)}\njne r0, {chance.randint(0, 2)}, +2\nmov64 r0, 0\nexit\n"
+    if chance.random() < 0.3:
+        text += "mov64 r1, r6\ncall 4\n"
+    if by_number and chance.random() < 0.3:
+        text += f"mov64 r0, r6\nmod64 r0, 5\njne r0, 0, +1\n{chance.choice(['ldxb r0, [r0+0]', 'stb [r7+0], 1', 'mov64 r10, 1'])}\n"
+    good = chance.choice([2, 3, 3, 50])
+    return text + f"mov64 r0, r6\nmod64 r0, {good}\njne r0, 0, +2\nmov64 r0, {chance.choice([1, 9, -1])}\nexit\nmov64 r0, 0\nexit\n"
 
 
-def image_of(run, cut, choice):
-    return Image(None, cut, tuple((part, fate) for part, fate in choice.items() if fate != "whole"), run)
+def some_run(chance):
+    """A run of a random log with random options."""
+    sectors, values = chance.choice([2, 3, 4, 8, 16]), chance.sample(range(256), chance.choice([2, 3]))
+    entries = [some_entry(chance, sectors, values) for _ in range(chance.choice([0, 1, 3, 5, 7, 9, 12]))]
+    cut = chance.randrange(len(entries) + 1)
+    flush = tuple(chance.randrange(len(entries)) for _ in range(chance.choice([0, 0, 0, 1, 2]) if entries else 0))
+    first, last = chance.choice([(None, None), (None, None), (None, None), (cut, None), (None, cut), (cut, len(entries)), (cut, cut)])
+    cuts, by = chance.choice(["all", "all", "all", "flush", "mark"]), chance.choice(["sector", "write"])
+    base = chance.choice([b"", b"", bytes([values[0]]) * 700, bytes([values[-1]]) * 1024])
+    return Run(entries, sectors, cuts, 1, chance.random() < 0.4, by, flush, first, last, base)
 
 
-def differs_at(run, cut, judge, torn, most):
-    """What isn't as the rules say at a cut, and the images of its choices with at most that many torn."""
-    found, images = cases_of(run, cut, judge, run.tears, torn, most), set()
-    for choice in choices(run, cut):
-        tears = sum(fate not in ("whole", "drop") for fate in choice.values())
-        losses = sum(fate != "whole" for fate in choice.values())
-        own = [leaf for leaf in found.leaves if all(choice[part] in fates for part, fates in leaf.known.items())]
-        asked = tears <= torn and (most is None or losses <= most)
-        image = image_of(run, cut, choice)
-        ending = judge(View(image))
-        if len(own) > 1 or asked and not own:
-            yield f"cut {cut}: a choice is in {len(own)} cases", images
-        if any(leaf.ending != ending for leaf in own):
-            yield f"cut {cut}: a choice ends otherwise than its case says", images
-        if tears <= torn:
-            images.add((image.content(), image.epoch(), image.marks()))
-    for leaf in found.leaves:
-        for place in range(*(lambda window: (window[0], window[1] + 1) if window else (0, 0))(window_of(run, leaf))):
-            flushed = Run(run.entries, run.sectors, by=run.by, tears=run.tears, flush=[place])
-            left = {part.name for part in may_depart(flushed, cut)}
-            if all(part.name in left for part, fates in leaf.known.items() if "whole" not in fates):
-                yield f"cut {cut}: a flush before {place} leaves an image of a case", images
-    yield None, images
+class CasesSoak(Soak):
+    """A soak that also counts the texts with failing cases, and the cases."""
 
+    def __init__(self, program, folder):
+        super().__init__(program, folder)
+        self.failing = self.cases = 0
 
-def differs(number, seed):
-    """What isn't as the rules say of the run with that number, or None where it has too many choices."""
-    chance = random.Random(f"{seed} {number}")
-    sectors, values = chance.choice([2, 3, 4]), chance.sample(range(256), chance.choice([2, 3]))
-    entries = [entry(chance, sectors, values) for _ in range(chance.randint(2, 7))]
-    run = Run(entries, sectors, by=chance.choice(["sector", "write"]), tears=chance.random() < 0.4)
-    torn, most = chance.choice([1, 2, 3]) if run.tears else 0, chance.choice([None, None, 1, 2])
-    judge, said, images = checker(chance, sectors), [], {}
-    for cut in range(len(entries) + 1):
-        if len(FATES if run.tears else FATES[:2]) ** len(may_depart(run, cut)) > MOST:
+    def called(self, words):
+        done = subprocess.run([self.program, *words], cwd=self.folder, capture_output=True, timeout=LIMIT)
+        return done.returncode, done.stdout, done.stderr.decode()
+
+    def about(self, name, count, sectors, limit, guards):
+        """What the text says of a program, or None where it isn't accepted."""
+        if limit is not None:
+            return f"slots {count} limit {limit}"
+        ended, out, _error = self.called(["verify", name, "--sectors", str(sectors), *(["--guards"] if guards else [])])
+        return None if ended else f"slots {count} {out.decode().strip().removeprefix('accepted ')}"
+
+    def differs(self, number, seed):
+        """What isn't as the model says, or None where the run is too long for it or a program isn't accepted."""
+        chance = random.Random(f"{seed} {number}")
+        run, losses = some_run(chance), Losses(None, chance.choice([None, None, None, 1, 2, 3, 64]))
+        if run.tears:
+            losses = Losses(chance.choice([None, 1, 2, 3]), losses.most)
+        limit, guards = chance.choice([(None, False), (None, False), (chance.choice([9, 30, 200, 1000]), False), (None, True)])
+        files, checkers, left = [], [], [MOST_RUNS]
+        for place in range(chance.choice([1, 1, 2])):
+            made = self.assembler.assemble(some_checker(chance, run.sectors, limit is not None or guards))
+            Path(self.folder, f"p{place}").write_bytes(made)
+            files.append(f"p{place}")
+            checkers.append(Checker(self.about(f"p{place}", len(made) // 8, run.sectors, limit, guards), self.judge(made, limit, guards, left)))
+        if any(checker.about is None for checker in checkers):
             return None
-        for what, images[cut] in differs_at(run, cut, judge, torn, most):
-            said += [what] if what else []
-    last = set().union(*(own for cut, own in images.items() if is_last_cut(run, cut)))
-    return said + [f"cut {cut}: an image is none of a last cut" for cut, own in images.items() if not own <= last]
+        Path(self.folder, "log").write_bytes(log(run.recorded))
+        Path(self.folder, "base").write_bytes(run.base)
+        words = ["log", *files, *run.options().replace("--bound 1", losses.options()).split()]
+        words += (["--checked", str(limit)] if limit is not None else []) + ["--guards"] * guards + chance.choice([[], [], ["--workers", "4"]])
+        try:
+            text = cases(run, checkers, losses)
+        except TooLong:
+            return None
+        self.failing, self.cases = self.failing + status(text), self.cases + MOST_RUNS - left[0]
+        ended, out, error = self.called(["explore", *words])
+        quiet = all(line.startswith("note: ") for line in error.splitlines())
+        return [] if (ended, out, quiet) == (status(text), text.encode(), True) else [" ".join(["explore", *words])]
+
+    @staticmethod
+    def judge(made, limit, guards, left):
+        """A program as the model sees it, which may be run so often."""
+
+        def of(view):
+            left[0] -= 1
+            if left[0] < 0:
+                raise TooLong
+            return judged(made, view, limit, guards)
+
+        return of
+
+    def said(self):
+        return f", {self.failing} texts with failing cases, {self.cases} images judged"
 
 
 def main():
-    parser = argparse.ArgumentParser(description=__doc__.splitlines()[0])
-    parser.add_argument("--runs", type=int, default=400)
-    parser.add_argument("--seed", type=int, default=1)
-    given = parser.parse_args()
-    passed = failed = number = 0
-    while passed + failed < given.runs:
-        what = differs(number, given.seed)
-        for line in what or []:
-            print(f"run {number}: {line}")
-        passed, failed = passed + (what == []), failed + bool(what)
-        number += 1
-    print(f"{passed} passed, {failed} failed")
-    return 1 if failed else 0
+    given = options("Compares texts of cases with the model.", 2_000).parse_args()
+    return run_all(given, "cases_soak", CasesSoak)
 
 
 if __name__ == "__main__":

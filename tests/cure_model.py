@@ -1,7 +1,7 @@
 #!/usr/bin/env python3
 """The cure of a run once more, in the plainest form.
 
-Written from docs/CRASH-MODEL.md, 'Where a flush helps' and 'Added flushes', and docs/REPORT.md, 'The text of `cure`', and from
+Written from docs/CRASH-MODEL.md, 'Where a flush helps' and 'Added flushes', and docs/COMMANDS.md, 'cure', and docs/OUTPUT.md, 'The text of `cure`', and from
 nothing of the program under test. Windows and places are found as they are defined: by looking at all of them.
 
     python3 tests/cure_model.py

@@ -1,5 +1,6 @@
 #!/usr/bin/env python3
-"""Tests tools/check_documents.py: what it finds of names that aren't there, and what it lets pass.
+"""Tests tools/check_documents.py: what it finds of names that aren't there, and what it lets pass; and which definitions
+tools/statement.py follows.
 
     python3 tests/documents.py
 
@@ -12,7 +13,8 @@ sys.dont_write_bytecode = True
 TOP = Path(__file__).resolve().parent.parent
 sys.path.insert(0, str(TOP / "tools"))
 
-from check_documents import Repository, strays, unlisted
+from check_documents import Repository, strays, unknown_sections, unlisted
+from statement import Sources, followed
 
 # A word that no file has: not even this one, in one piece.
 LOST = "never_" + "heard"
@@ -24,7 +26,7 @@ ROWS = [
     ("docs/MAP.md", ["`plain/src/staying.rt` and `specs/Stepping.antt`"], ["no file plain/src/staying.rt", "no file specs/Stepping.antt"]),
     ("docs/CRATES.md", ["## shares", "`proofs/Moves.antt`"], []),
     ("docs/CRATES.md", ["## workers", "`proofs/Moves.antt`"], ["no file proofs/Moves.antt"]),
-    ("docs/CRATES.md", ["## Texts: why and shares", "`proofs/Moves.antt`"], []),
+    ("docs/CRATES.md", ["## Texts: losses and shares", "`proofs/Moves.antt`"], []),
     ("docs/CRATES.md", ["## workers", "what `shares` has in `proofs/Moves.antt`"], []),
     ("docs/MAP.md", ["`frames.rt` stands in some crate"], []),
     ("docs/MAP.md", ["`framing.rt`"], ["no file framing.rt"]),
@@ -41,12 +43,34 @@ ROWS = [
 ]
 
 
+# A definition, and what is to be among those that it leads to, and what isn't.
+LEADS = [
+    (("images.specs.Images", "crash_image"), {"byte_after", "survives", "keeps", "initial_byte", "unit_content"}, {"context_at", "failing_lines"}),
+    (("runs.specs.Explore", "IsReport"), {"line_text", "LogText", "IsSpelledBy", "step", "crash_image"}, {"IsPageOf", "IsGood", "HasNoFault"}),
+    (("machine.specs.Outcome", "outcome"), {"step", "checks", "arithmetic"}, {"guarded_outcome"}),
+    (("verifier.specs.Verdicts", "IsAccepted"), set(), {"IsGood", "rules"}),
+]
+
+
+def leads(sources, module, name):
+    """Returns the names of the definitions to which one leads."""
+    found = set()
+    followed(found, [sources.known[module][name]])
+    return {getattr(it, "name", it) for it in found}
+
+
 def main():
     repository, failed, page = Repository(TOP), 0, (TOP / "docs/MAP.md").read_text()
     tests = [(lines, [it for _, it in strays(repository, TOP / document, lines)], wanted) for document, lines, wanted in ROWS]
     tests.append((["the lists of MAP.md"], list(unlisted(repository, page)), []))
     lost = page.replace("`proofs/LooseSteps.antt`", "it")
     tests.append((["the lists without a file"], list(unlisted(repository, lost)), ["'For a new opcode' lacks soundness/proofs/LooseSteps.antt"]))
+    line = "MACHINE.md, 'Footprint', VERIFIER.md, 'Good tables' and CRASH-MODEL.md, 'What a clean report doesn't say'"
+    tests.append(([line], list(unknown_sections(TOP, line)), ["VERIFIER.md has no section 'Good tables'"]))
+    sources = Sources(TOP)
+    for start, wanted, unwanted in LEADS:
+        found = leads(sources, *start)
+        tests.append(([".".join(start)], sorted(wanted - found | unwanted & found), []))
     for lines, found, wanted in tests:
         if found != wanted:
             failed += 1

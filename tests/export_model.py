@@ -1,7 +1,7 @@
 #!/usr/bin/env python3
 """The text of `export` once more, in the plainest form, and a reader of it.
 
-Written from docs/REPORT.md, 'The text of `export`', over the images of model.py, and from nothing of the program under test.
+Written from docs/OUTPUT.md, 'The text of `export`', over the images of model.py, and from nothing of the program under test.
 Each image is made whole and compared with all before it.
 
     python3 tests/export_model.py

@@ -12,12 +12,12 @@ that thousands of them take seconds; rows are made side by side, one a processor
 
 ROWS are rows of run.py, by name. Each is run with its Nth allocation refused, for N = 1, 2, .. until a run asks for fewer
 than N; and then with all from the Nth on refused. A run either answers what the row says, byte by byte, with notes left
-out or not, or it is refused for want of memory: nothing on standard output, status 2, and one line on standard error. A row
-says how many allocations its run makes, so that a new one is noticed, and the refusals as they come with rising N where one
-is refused: `72 11` stands for some that are `refused 72 at 0` and then some that are `refused 11 at 0`, `26.0` for
-`refused 26 at 0 of program 0`, and a dot for right answers. Where all from the Nth on are refused each refusal has to be
-one of these. Where workers side by side make both vary, the number is None, and the refusals come in any order; and of a
-run with more than MOST allocations each STEPth is refused, and all from it on.
+out or not, or it is refused for want of memory: nothing on standard output, or of `export` the first bytes of its text,
+status 2, and one line on standard error. A row says how many allocations its run makes, so that a new one is noticed, and
+the refusals as they come with rising N where one is refused: `72 11` stands for some that are `refused 72 at 0` and then
+some that are `refused 11 at 0`, `26.0` for `refused 26 at 0 of program 0`, and a dot for right answers. Where all from the
+Nth on are refused each refusal has to be one of these. Where workers side by side make both vary, the number is None, and
+the refusals come in any order; and of a run with more than MOST allocations each STEPth is refused, and all from it on.
 
 `CALLS calls` makes public calls by themselves, those too that the program doesn't make, and makes each again that is refused for
 want of memory. Its allocations are refused one by one in the same way: it has to print what it always prints.
@@ -87,7 +87,7 @@ ROWS = {
     "two_epochs, image 20": (242, "72 . 72 11 72 11 72 ."),
     "overwritten_sector, bound 1, image 34": (253, "72 . 72 11 72 11 72 ."),
     "two_slots, wrong, survey": (258, "72 . 72 11 72 11 . 72 ."),
-    "export: run 2": (298, "72 . 72 11 72 11 72 ."),
+    "export: run 2": (296, "72 . 72 11 72 11 72 ."),
     "journal, image 17": (263, "72 . 72 11 72 11 . 72 ."),
     "journal/wrong, image 17 in words": (280, "72 . 72 11 72 11 . 72 ."),
     "pages/wrong, --cut 10 --choice 8:drop in words": (326, "72 . 72 11 72 11 . 72 ."),
@@ -122,6 +122,8 @@ ROWS = {
     "check: first_byte, step by step": (251, "72 . 72 26 72 26 60 72 ."),
     "check: turns": (231, "72 . 72 26 72 26 72 ."),
     "every image of sixteen writes fails, 16 workers": (None, MANY),
+    "cases: tree, wrong, root, --sectors 8 --cuts all --bound any": (363, "72 . 72 11 72 26.0 72 11 . 72 26.0 72 60.0 72 ."),
+    "cases: flushed, --sectors 2 --cuts all --bound any --at-most 1 --by write": (531, "72 . 72 11 72 26.0 26.1 26.2 72 11 72 26.0 72 26.1 26.2 60.0 72 60.1 60.2 72 ."),
     "a part: two_slots: --sectors 4 --cuts all --bound 2 --tears --images 236..354": (397, "72 . 72 11 72 26.0 72 11 . 72 26.0 72 60.0 72 . 72 . 72 . 72 ."),
     "joined in the midst: torn_over_torn --sectors 4 --cuts all --bound 1 --tears": (772, "72 . 72 66 72 66 ."),
     "joined in steps: torn_over_torn --sectors 4 --cuts all --bound 1 --tears": (1176, "72 . 72 66 72 66 ."),
@@ -263,11 +265,16 @@ def is_right(done, row):
     return (done.returncode, done.stdout, error) == (row.status, made(row.out), made(f"{row.error}\n" if row.error else ""))
 
 
+def is_first_part(done, row):
+    """Whether standard output may be that of a refusal: nothing, and of `export`, which writes its text as it is made, its first bytes."""
+    return not done.stdout or row.words.startswith("export ") and done.stdout != made(row.out) and made(row.out).startswith(done.stdout)
+
+
 def cause_of(done, row):
     """How a run ended, in short: a dot where it is right, else its refusal for want of memory, or None."""
     error, _notes = split_notes(error_of(done, row))
     refusal = WANT_OF_MEMORY.fullmatch(error)
-    if refusal and done.returncode == 2 and not done.stdout:
+    if refusal and done.returncode == 2 and is_first_part(done, row):
         return ".".join(part.decode() for part in refusal.groups() if part)
     return "." if is_right(done, row) else None
 

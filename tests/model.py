@@ -1,6 +1,6 @@
 """The crash model and the report once more, in the plainest form.
 
-Written from docs/CRASH-MODEL.md, docs/REPORT.md and, for `mix`, docs/MACHINE.md, and from nothing of the program under
+Written from docs/CRASH-MODEL.md, docs/OUTPUT.md and, for `mix`, docs/MACHINE.md, and from nothing of the program under
 test. It is slow and keeps everything in lists; rows use it where a report is too long to be written down. What programs
 answer isn't worked out: a checker is a function of an image that stands for a program of the folder programs/.
 """

@@ -1,4 +1,4 @@
-"""The page of `page` once more, in the plainest form, written from docs/REPORT.md, 'The page of `page`', and of what docs/CRASH-MODEL.md
+"""The page of `page` once more, in the plainest form, written from docs/OUTPUT.md, 'The page of `page`', and of what docs/CRASH-MODEL.md
 says of flushes that are missing.
 
 The parts that are the same on each page, its style, the keys of its entries and its script, are taken from where they stand

@@ -1,6 +1,6 @@
 """Runs in parts, and their join, in the plainest form.
 
-Written from docs/REPORT.md ('The text of a part', 'Joining parts', 'The text of `images`') and docs/CRASH-MODEL.md ('Order and
+Written from docs/OUTPUT.md ('The text of a part', 'The text of `images`'), docs/COMMANDS.md ('Joining parts') and docs/CRASH-MODEL.md ('Order and
 numbers of the images', 'How many there are'), and from nothing of the program under test. A run may have any number of
 images: they are counted, and each is found by its number, by binomials alone.
 """

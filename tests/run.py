@@ -14,8 +14,8 @@ the run takes too long (`seconds` of notation.py). Rows run side by side.
 
 A pair is two runs that differ in one option, and the places where what they print has to differ.
 
-Behind the rows it looks whether docs/crashbpf.1 is what the program's help says, whether the tables of docs/REPORT.md that
-tools/report_tables.py makes are those of the help and the sources, and whether text on a page has enough contrast. It also looks
+Behind the rows it looks whether docs/crashbpf.1 is what the program's help says, whether the tables of docs/ that
+tools/document_tables.py makes are those of the help and the sources, and whether text on a page has enough contrast. It also looks
 whether each command and each option of the help is tried: by a pair, and by an output that can't be written.
 
 What is printed is a line for each row that failed, with what differed, and last
@@ -54,6 +54,7 @@ Where the rows stand
     rows/shown.py       images in words, by number and by cut and choice, against the model
     rows/why.py         why checkers fail, of many logs and of the designs, against the model
     rows/cure.py        where flushes are missing, of many logs and of the designs, against the model
+    rows/cases.py       every loss of any number of writes, as cases: options, refusals, many logs and the designs, against the model
     rows/based.py       devices that held something before entry 0, in all commands, against the model
     rows/browser.py     runs as a page for a browser, of many logs and of the designs, against the model
     rows/ranges.py      flushes that are added and ranges of cuts, in `log`, in `page`, and of the designs, against the model
@@ -66,12 +67,14 @@ Where the rows stand
     rows/large.py       devices, logs and images that `--large` allows, against the model
 
     notation.py         how rows, logs and programs are written down
-    cure_model.py       the cure, written from docs/CRASH-MODEL.md and docs/REPORT.md alone; by itself it tries the laws of windows
+    cure_model.py       the cure, written from docs/CRASH-MODEL.md, docs/COMMANDS.md and docs/OUTPUT.md alone; by itself it tries the laws of windows
     designs.py          the designs of examples/: their logs entry by entry, their checkers, the runs whose texts are stored
     stored.py           writes these texts by the models
-    page_model.py       the page, written from docs/REPORT.md alone but for its style and script
+    page_model.py       the page, written from docs/OUTPUT.md alone but for its style and script
     contrast.py         the contrast of the text on a page, by the colours of its style
-    model.py            the crash model and the report, written from docs/CRASH-MODEL.md and docs/REPORT.md alone
+    model.py            the crash model and the report, written from docs/CRASH-MODEL.md and docs/OUTPUT.md alone
+    cases_model.py      cases and their text, written from the same documents; by itself it makes all choices of small cuts
+    machine_model.py    what a program comes to on an image, written from docs/MACHINE.md alone
     parts_model.py      runs in parts and their join, and runs of any number of images, written from the same documents
     programs/           programs as assembly texts
 
@@ -107,6 +110,7 @@ from rows import (
     based,
     blind,
     browser,
+    cases,
     checkers,
     commands,
     cure,
@@ -169,6 +173,7 @@ TABLES = [
     export,
     why,
     cure,
+    cases,
     browser,
     ranges,
     based,
@@ -393,8 +398,8 @@ def manual_differs(program):
 
 
 def tables_differ():
-    """What is wrong with the tables of docs/REPORT.md that are made of the man page and of the sources."""
-    command = [sys.executable, TOP / "tools/report_tables.py", "--check"]
+    """What is wrong with the tables of docs/ that are made of the man page and of the sources."""
+    command = [sys.executable, TOP / "tools/document_tables.py", "--check"]
     looked = subprocess.run(command, capture_output=True, timeout=SECONDS, text=True)
     return looked.stdout.splitlines() or looked.stderr.splitlines()[-1:]
 
@@ -417,7 +422,7 @@ def main(words):
     with ThreadPoolExecutor(os.cpu_count()) as pool:
         results = list(pool.map(lambda row: run_row(program, row, assembler), rows))
     names = [row.name for row in rows]
-    names += ["the man page is the program's help", "the tables of docs/REPORT.md are those of the help and the sources"]
+    names += ["the man page is the program's help", "the tables of docs/ are those of the help and the sources"]
     names += ["text on a page has enough contrast", "each option and each command of the help is tried"]
     results += [manual_differs(program), tables_differ(), contrast.too_low(), help_lacks(program)]
     failed = 0

@@ -21,33 +21,17 @@ sys.dont_write_bytecode = True
 
 import files_model
 from notation import FUA, SECTOR, TOP, F, M, S, log
+from strace_texts import FILES, HERE, MARKS, strace
 
 RECORD = TOP / "examples/record"
 sys.path.insert(0, str(RECORD))
 import disk
 import layout
 import traced
-from calls import Refused, hexed
+from calls import Refused
 
-HERE, FILES, MARKS = "/elsewhere", "/r/files", "/r/marks"
 A, B, C = (bytes([it]) * SECTOR for it in b"ABC")
 KINDS = {disk.WRITE: "w", disk.FLUSH: "f", disk.FUA: "fua", disk.MARK: "m"}
-
-
-def strace(text, last="100 +++ exited with 0 +++"):
-    """A text as strace writes it: 'text' becomes a string in hex, 'X*512' one of 512 X, <name> the path of a descriptor."""
-
-    def word(found):
-        times = re.fullmatch(r"(.)\*(\d+)", found[1])
-        return f'"{hexed((times[1] * int(times[2]) if times else found[1]).encode())}"'
-
-    def path(found):
-        name = found[1] if found[1].startswith("/") else f"{FILES}/{found[1]}"
-        return f"<{hexed(name.encode())}>"
-
-    lines = [it.strip() for it in text.strip().splitlines()] + ([last] if last else [])
-    lines = [it if it[:1].isdigit() else f"100 {it}" for it in lines]
-    return "".join(re.sub(r"<(?!unfinished|\.\.\. )([^<>]+)>", path, re.sub(r"'([^']*)'", word, it)) + "\n" for it in lines).encode()
 
 
 def followed(text, before=None, skipped=()):

@@ -1,4 +1,4 @@
-"""What `why` prints once more, in the plainest form, written from docs/REPORT.md, 'The text of `why`'."""
+"""What `why` prints once more, in the plainest form, written from docs/OUTPUT.md, 'The text of `why`'."""
 from dataclasses import dataclass
 
 from model import departures_of, failures_of, head, missing_flushes

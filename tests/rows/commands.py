@@ -203,6 +203,22 @@ FAULTY = [
     "log log --cuts all",
     "log log --tears",
     "log log --slots",
+    "explore log p0 --sectors 4 --bound Any",
+    "explore log p0 --sectors 4 --bound any1",
+    "explore log p0 --sectors 4 --bound any --bound 1",
+    "explore log p0 --sectors 4 --bound=any --workers two",
+    "explore log p0 --sectors any",
+    "explore log p0 --sectors 4 --bound any --torn +1",
+    "explore log p0 --sectors 4 --bound any --torn 01",
+    "explore log p0 --sectors 4 --bound any --torn any",
+    "explore log p0 --sectors 4 --bound any --at-most +1",
+    "explore log p0 --sectors 4 --bound any --at-most 01",
+    "explore log p0 --sectors 4 --bound any --at-most any",
+    "why log p0 --sectors 4 --torn 1",
+    "page log p0 --sectors 4 --at-most 1",
+    "images log --sectors 4 --torn 1",
+    "images log --sectors 4 --at-most 1",
+    "show log 0 --sectors 4 --at-most 1",
 ]
 
 FAULTS = [
@@ -251,7 +267,42 @@ OPTIONS = {
     "verify p0 --sectors 0": 1,
     "verify p0 --sectors 16385": 1,
 }
+OPTIONS.update({f"{words} --bound any": 2 for words in ("why log p0 --sectors 4", "page log p0 --sectors 4", "images log --sectors 4", "export log --sectors 4")})
+OPTIONS.update({f"{words} --sectors 4 --bound=any": 2 for words in ("image log 0", "show log 0")})
 OPTIONS.update({cure: OPTIONS[f"explore{cure[len('cure'):]}"] for cure in as_cures(OPTIONS)})
+
+OPTIONS["cure log p0 --sectors 4 --bound any"] = 2
+
+# Of any number of losses, which `explore` alone takes
+ANY_LOSSES = {
+    "--bound any --torn 1": 20,
+    "--bound any --tears --torn 0": 20,
+    "--bound any --tears --torn 4": 20,
+    "--bound any --tears --torn 4294967297": 20,
+    "--bound any --at-most 0": 21,
+    "--bound any --at-most 65": 21,
+    "--bound any --at-most 4294967297": 21,
+    "--bound any --cache 1": 4,
+    "--bound any --images 0..1": 17,
+    "--bound any --first": 22,
+    "--torn 1": 20,
+    "--tears --torn 1": 20,
+    "--tears --torn 9 --bound 1": 20,
+    "--at-most 1": 21,
+    "--at-most 0 --bound 3": 21,
+    "--tears --torn 1 --at-most 1": 20,
+    "--bound any --torn 1 --at-most 0": 20,
+    "--bound any --at-most 0 --cache 1": 21,
+    "--bound any --cache 1 --images 0..1": 4,
+    "--bound any --images 0..1 --first": 17,
+    "--bound any --first --cache 65537": 4,
+    "--bound any --at-most 0 --workers 0": 3,
+    "--bound any --torn 9 --images 1..1": 17,
+    "--bound any --torn 9 --from 2 --to 1": 13,
+    "--bound 4 --torn 1": 2,
+    "--bound 4 --at-most 1": 2,
+}
+OPTIONS.update({f"explore log p0 --sectors 4 {options}": place for options, place in ANY_LOSSES.items()})
 
 # The values at the ends of each option's range.
 ENDS = [

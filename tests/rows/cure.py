@@ -32,7 +32,7 @@ def design_modelled(name, folder, run, about, judge, status, work=""):
     return replace(row, words=row.words + work)
 
 
-# The runs of which docs/REPORT.md prints the text, and what their checkers answer
+# The runs of which docs/OUTPUT.md prints the text, and what their checkers answer
 WRONG_SLOTS = Run(two_slots(0), 4, bound=2)
 WRONG_PAGES = Run(pages(0), 24, by="write", **TWO_TORN)
 WRONG_JOURNAL = Run(JOURNAL_WRONG, 8)

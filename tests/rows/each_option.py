@@ -165,6 +165,11 @@ PAIRS["progress"] = {
 }
 PAIRS["first"] = {"explore": dict(two=["explore log p0 --sectors 4", "explore log p0 --sectors 4 --first"], statuses=(1, 1), differ=("out 2", "out -1"))}
 
+# Of all losses, how many parts may be torn, and how many not whole.
+ANY = "explore log p0 --sectors 4 --bound any"
+PAIRS["torn"] = {"explore": dict(two=[f"{ANY} --tears", f"{ANY} --tears --torn 2"], statuses=(1, 1), differ=("out 2", "out -1"), holds=("tears yes torn 2",))}
+PAIRS["at-most"] = {"explore": dict(two=[ANY, f"{ANY} --at-most 1"], statuses=(1, 1), differ=("out 2", "out -1"), holds=("at-most 1",))}
+
 # A part of the images, and a log with too many.
 TOO_MANY = "--sectors 3000 --bound 3"
 PAIRS["images"] = {
@@ -213,7 +218,7 @@ def lacking(commands):
 
 
 # A word where a number is to be, and where there is no word: a fault of the command line that names the option.
-NUMBERS = {"sectors": "N", "bound": "N", "workers": "N", "cache": "N", "checked": "N", "from": "K", "to": "K", "parts": "N", "cut": "K", "epoch": "N", "marks": "N", "trace": "N"}
+NUMBERS = {"sectors": "N", "bound": "N", "workers": "N", "cache": "N", "checked": "N", "from": "K", "to": "K", "parts": "N", "cut": "K", "epoch": "N", "marks": "N", "trace": "N", "torn": "N", "at-most": "N"}
 
 
 def no_numbers():

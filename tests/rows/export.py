@@ -1,4 +1,4 @@
-"""All images of a log as bytes, compared with the model, to the byte (docs/REPORT.md, The text of `export`)."""
+"""All images of a log as bytes, compared with the model, to the byte (docs/OUTPUT.md, The text of `export`)."""
 import random
 
 from export_model import exported, some_range, some_run

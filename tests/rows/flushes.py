@@ -46,7 +46,7 @@ for which, places in FORGOTTEN.items():
     assert named_places == places, f"{which}.cure names other flushes"
     assert stored[-1].endswith(" failing 0 lines 0")
 
-# What docs/REPORT.md shows of them with other options.
+# What docs/OUTPUT.md shows of them with other options.
 SHOWN = [
     ("two_slots/wrong", dict(bound=2)),
     ("pages/wrong", dict(bound=2, tears=True, by="write")),

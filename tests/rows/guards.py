@@ -1,5 +1,5 @@
 """`--guards`: programs that are accepted by the weaker rules, and what their runs come to (docs/VERIFIER.md and docs/MACHINE.md, both
-'Guards'; docs/REPORT.md). Which slots are guarded was also found by a model of the rules."""
+'Guards'; docs/OUTPUT.md). Which slots are guarded was also found by a model of the rules."""
 from notation import Row, Something, W, code, explore, files, lines, log, program, refused, report
 from parts_model import number_of
 

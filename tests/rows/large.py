@@ -176,7 +176,7 @@ VERIFIED = [
 
 # Answers the last byte of the last sector, whose number it is told of.
 LAST_BYTE = program("ldxdw r1, [r1+0]; sub64 r1, 1; call 1; jne r0, 0, +2; mov64 r0, 0; exit; ldxb r0, [r0+511]; exit")
-AN_IMAGE = "with --large an image has 1 to 1048576 whole sectors of 512 bytes (docs/REPORT.md, Commands)"
+AN_IMAGE = "with --large an image has 1 to 1048576 whole sectors of 512 bytes (docs/COMMANDS.md, Commands)"
 
 
 def checked(name, image, sectors, answer):

@@ -1,4 +1,4 @@
-"""The notes: what stands on standard error behind each refusal, and beside an answer (docs/REPORT.md, Notes)."""
+"""The notes: what stands on standard error behind each refusal, and beside an answer (docs/REFUSALS.md, Notes)."""
 from math import comb
 
 from notation import FUA, MARK, D, Entry, F, Folder, M, Row, Something, W, code, files, lines, log, program, report, super_block
@@ -235,7 +235,7 @@ OPTIONS = [
         files(LOG),
         "refused 15 at 99",
         "the log doesn't have it: of --flush each is an entry of the log, and --from and --to are at most the number of"
-        " entries (docs/REPORT.md, Options); 'crashbpf log' lists the entries",
+        " entries (docs/COMMANDS.md, Options); 'crashbpf log' lists the entries",
     ),
     noted("parts", "images log --sectors 4 --by page", {}, "refused 13 at 10", "--by is sector or write"),
     noted(
@@ -245,6 +245,13 @@ OPTIONS = [
         "refused 13 at 9",
         "the log has no image of that number with these --cuts, --by, --bound and --tears; 'crashbpf images' tells how many it has",
     ),
+    noted("a bound that none of these is", "images log --sectors 4 --bound any", {}, "refused 13 at 2", "--bound is 0 to 3"),
+    noted("torn", "explore log p0 --sectors 4 --bound any --torn 1", {}, "refused 13 at 20", "--torn is 1 to 3, beside --bound any and --tears"),
+    noted("at most", "explore log p0 --sectors 4 --at-most 1", {}, "refused 13 at 21", "--at-most is 1 to 64, beside --bound any"),
+    noted("the first, of any number of losses", "explore log p0 --sectors 4 --bound any --first", {}, "refused 13 at 22", "--first doesn't stand beside --bound any"),
+    noted("a cache, of any number of losses", "explore log p0 --sectors 4 --bound any --cache 9", {}, "refused 13 at 4", "--cache doesn't stand beside --bound any"),
+    noted("images, of any number of losses", "explore log p0 --sectors 4 --bound any --images 0..1", {}, "refused 13 at 17", "--images doesn't stand beside --bound any"),
+    noted("a cache, without any number of losses", "explore log p0 --sectors 4 --torn 1 --cache 65537", {}, "refused 13 at 4", "--cache is 0 to 65536"),
     noted("a missing log", "images log --sectors 4", {}, "refused 14 at 0", "log can't be read"),
     noted("a missing program", "explore log p0 there/p1 --sectors 4", files(LOG, GOOD), "refused 14 at 2", "there/p1 can't be read"),
     noted("a folder", "verify p --sectors 4", {"p": Folder()}, "refused 14 at 0", "p can't be read"),

@@ -1,5 +1,5 @@
 """Marks that promise what nothing made durable, and entries with FUA where parts are torn: their notes, against the model
-(docs/REPORT.md, Notes)."""
+(docs/REFUSALS.md, Notes)."""
 import random
 
 from model import Run, forced_notes, promise_notes

@@ -1,4 +1,4 @@
-"""Images in words, by number and by cut and choice, compared with the model (docs/REPORT.md, The text of `show`)."""
+"""Images in words, by number and by cut and choice, compared with the model (docs/OUTPUT.md, The text of `show`)."""
 
 from model import Run, shown
 from notation import FLUSH, M, Row, S, W, files, refused

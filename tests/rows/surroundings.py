@@ -44,7 +44,7 @@ def endless(command, error, notes=None):
     ]
 
 
-NO_TEXT = ["FILE can't be read", "an assembly text has at most 16777216 bytes (docs/REPORT.md, How files are read)"]
+NO_TEXT = ["FILE can't be read", "an assembly text has at most 16777216 bytes (docs/COMMANDS.md, How files are read)"]
 
 WITHOUT_END = [
     *endless("explore FILE good --sectors 4", "refused 10 at 0"),

@@ -1,4 +1,4 @@
-"""Logs as tables, and listings with slots (docs/REPORT.md, The text of `log` and The other commands)."""
+"""Logs as tables, and listings with slots (docs/OUTPUT.md, The text of `log` and The other texts)."""
 from notation import FLUSH, FUA, METADATA, D, Entry, F, M, Row, W, files, lines, program, refused, super_block
 
 

@@ -1,4 +1,4 @@
-"""`check`: what programs come to on one image, in how many steps, and the lines of the last ones (docs/REPORT.md, The text of
+"""`check`: what programs come to on one image, in how many steps, and the lines of the last ones (docs/OUTPUT.md, The text of
 `check`). The steps, the registers and the answers are worked out by hand from docs/MACHINE.md."""
 from notation import SECTOR, Folder, Hole, Row, Something, code, lines, named, program, refused
 
@@ -286,7 +286,7 @@ FAULTS = {
 
 REACHED = "crash check 1\n" + HEAD + "3 budget 2\nsteps 2\nanswer 0 codes -\n"
 NOT_REACHED = f"instructions that no run reaches: 1, the first at slot 2; {UNREACHED}"
-WHOLE = "an image has 1 to 16384 whole sectors of 512 bytes (docs/REPORT.md, Commands)"
+WHOLE = "an image has 1 to 16384 whole sectors of 512 bytes (docs/COMMANDS.md, Commands)"
 
 # What is noted: the files, and the refusal with its notes
 NOTED = [

@@ -1,0 +1,115 @@
+/* Makes the calls on files that its lines say, in a folder: a program of tests/names_in_guest.py.
+ *
+ *     names FOLDER <LINES
+ *
+ * open NAME, append NAME LENGTH BYTE, write NAME PLACE LENGTH BYTE, truncate NAME SIZE, fsync NAME, fdatasync NAME,
+ * folder NAME (fsync of a folder), rename NAME NAME, link NAME NAME, unlink NAME, mkdir NAME, rmdir NAME, sync,
+ * sleep MILLISECONDS, mark TEXT. */
+#define _GNU_SOURCE
+#include <fcntl.h>
+#include <stdio.h>
+#include <stdlib.h>
+#include <string.h>
+#include <sys/stat.h>
+#include <unistd.h>
+
+static struct file {
+	char name[64];
+	int at;
+} files[64];
+static int count;
+
+static int opened(const char *name)
+{
+	snprintf(files[count].name, sizeof files[count].name, "%s", name);
+	return files[count++].at = open(name, O_RDWR | O_CREAT, 0644);
+}
+
+/* The file that was opened last by this name; it is opened where none was. */
+static int of(const char *name)
+{
+	for (int it = count - 1; it >= 0; it--)
+		if (!strcmp(files[it].name, name))
+			return files[it].at;
+	return opened(name);
+}
+
+static void or_fail(int answer, const char *line)
+{
+	if (answer < 0) {
+		perror(line);
+		exit(1);
+	}
+}
+
+static int put(int file, long place, long length, char byte)
+{
+	char *data = malloc(length);
+
+	memset(data, byte, length);
+	return (place < 0 ? write(file, data, length) : pwrite(file, data, length, place)) == length ? 0 : -1;
+}
+
+static int synced(const char *folder)
+{
+	int at = open(folder, O_RDONLY | O_DIRECTORY), answer = at < 0 ? at : fsync(at);
+
+	close(at);
+	return answer;
+}
+
+static int marked(const char *text)
+{
+	char command[128];
+
+	snprintf(command, sizeof command, "mark %s", text);
+	return system(command) ? -1 : 0;
+}
+
+static int done(const char *call, const char *a, const char *b, const char *c, const char *d)
+{
+	if (!strcmp(call, "open"))
+		return opened(a);
+	if (!strcmp(call, "append"))
+		return lseek(of(a), 0, SEEK_END) < 0 ? -1 : put(of(a), -1, atol(b), *c);
+	if (!strcmp(call, "write"))
+		return put(of(a), atol(b), atol(c), *d);
+	if (!strcmp(call, "truncate"))
+		return ftruncate(of(a), atol(b));
+	if (!strcmp(call, "fsync"))
+		return fsync(of(a));
+	if (!strcmp(call, "fdatasync"))
+		return fdatasync(of(a));
+	if (!strcmp(call, "folder"))
+		return synced(a);
+	if (!strcmp(call, "rename"))
+		return rename(a, b);
+	if (!strcmp(call, "link"))
+		return link(a, b);
+	if (!strcmp(call, "unlink"))
+		return unlink(a);
+	if (!strcmp(call, "mkdir"))
+		return mkdir(a, 0755);
+	if (!strcmp(call, "rmdir"))
+		return rmdir(a);
+	if (!strcmp(call, "sync"))
+		return sync(), 0;
+	if (!strcmp(call, "sleep"))
+		return usleep(1000 * atol(a));
+	if (!strcmp(call, "mark"))
+		return marked(a);
+	return -1;
+}
+
+int main(int words, char **word)
+{
+	char line[256], call[32], a[64], b[64], c[64], d[64];
+
+	or_fail(words == 2 ? chdir(word[1]) : -1, "names FOLDER");
+	while (fgets(line, sizeof line, stdin)) {
+		*a = *b = *c = *d = 0;
+		if (sscanf(line, "%31s %63s %63s %63s %63s", call, a, b, c, d) > 0)
+			or_fail(done(call, a, b, c, d), line);
+	}
+	return 0;
+}
