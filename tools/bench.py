@@ -3,7 +3,7 @@
 
     tools/bench.py [--to FOLDER] [--try] [WORD ..]
 
-It is no crate of crates.txt, so the gate doesn't prove it. Its sources stand in bench/crate, each with `.txt` behind its
+It is no crate of crates.txt, so the gate doesn't prove it. Its sources stand in bench/crate, each with `.txt` after its
 name, and the libraries that it stands on in bench/crate/crate.txt. FOLDER gets a copy of the repository's files as they
 are now, with that crate in its place (`crashbpf-bench` in the folder for temporary files where none is said, kept for the
 next time). There `rt run` proves and builds it, and leaves it in FOLDER/crates/bench/out/bench; with WORDs it is then run

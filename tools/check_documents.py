@@ -8,8 +8,8 @@ The documents are the files *.md at the top (the folder above this one, or TOP),
 folders.
 
 - A link leads to a file that exists and, with #, to a heading in it.
-- A document that is named by its file, as docs/MAP.md or MAP.md, exists. This is asked of the crates' sources and
-  definitions too.
+- A document that is named by its file, as docs/MAP.md or MAP.md, exists, and one that is named with a section, as
+  MACHINE.md, 'Helpers', has it. This is asked of the crates' sources and definitions too.
 - Each run of table rows begins with a head and a line of dashes, so no blank line cuts a table in two.
 - README.md has at most 130 lines of at most 100 characters, and at most 1,300 words with code and tables.
 - The documents at the top and in docs/ and examples/ have no more long sentences than LONG allows. With --long they are
@@ -39,16 +39,15 @@ In README.md and docs/PROVED.md, moreover:
   word of the crates' sources or definitions, of their file names, or of crates.txt.
 - Names in parentheses after a name of a function, as in `read` (`found`, `clean`), are clauses of that function.
 
-In docs/PROVED.md each call and clause that a table names is one of the sources, as tools/ledger.py says it.
+In docs/PROVED.md each call and clause that a table names is one of the sources, as tools/ledger.py says it. docs/STATEMENT.md is
+what tools/statement.py writes of the sources.
 
 docs/MAP.md has a row for each crate of crates.txt in its table of layers, and for no other. Its lists of what to touch for a
-new opcode and a new helper name each file of code, definitions and lemmas that tells all forms of the enum in TOLD_APART
+new opcode, a new helper and a new fate name each file of code, definitions and lemmas that tells all forms of the enum in TOLD_APART
 apart, in a row of its crate. Tests are left out.
 
 tests/gate_edits.txt names edits of crates/*/wrong/. These and those of must-fail/ are at most EDITS, and no crate has more than
 OF_CRATE in must-fail/.
-
-docs/PROVED.md lists each definition to which those of ROOTS lead by their `use` lines.
 
 The files in docs/completions/ are what tools/completions.py writes of docs/crashbpf.1, which tests/run.py compares with what
 the program's help says.
@@ -58,13 +57,14 @@ Blocks of code, fenced or indented by four spaces, aren't looked at.
 import os
 import re
 import sys
-from functools import cached_property
+from functools import cache, cached_property
 from pathlib import Path
 
 sys.dont_write_bytecode = True
 
 import completions
 import ledger
+import statement
 
 # The most lines of README.md, the most characters of each, and its most words.
 LINES, CHARACTERS, WORDS = 130, 100, 1300
@@ -76,8 +76,6 @@ LONG = {40: 0, 60: 0}
 HIDDEN = {ord(" "): "\0", ord("|"): "\1"}
 SHOWN = {ord("\0"): " ", ord("\1"): "|"}
 NAME = re.compile(r"(--)?[A-Za-z_]\w*((::|\.)[A-Za-z_]\w*)*(\(\))?")
-ROOTS = ("commands", "command_line")
-USE = re.compile(r"(?m)^\s*(?:pub )?use Rattle\.(\w+)\.specs\.(\w+)")
 CLAUSES = re.compile(r"`([\w:]+)` \((`\w+`(?:, `\w+`)*)\)")
 CODE = re.compile(r"`([^`\s]+)`")
 PATH = re.compile(r"[\w.+-]+(?:/[\w.+-]+)*/?")
@@ -86,7 +84,11 @@ WORD = re.compile(r"[A-Za-z_][\w'-]*")
 NAMES = re.compile(r"[A-Za-z_][\w':.-]*(\(.*\))?")
 PLACED = re.compile(r"`([^`\s]+)` (?:in|of) `([^`\s]+)`")
 # The lists of docs/MAP.md, and the enum of which each is, with its file.
-TOLD_APART = {"For a new opcode": ("Instr", "bpf_isa/src/instr.rt"), "For a new helper": ("Helper", "helpers/src/helper.rt")}
+TOLD_APART = {
+    "For a new opcode": ("Instr", "bpf_isa/src/instr.rt"),
+    "For a new helper": ("Helper", "helpers/src/helper.rt"),
+    "For a new fate of a unit": ("Fate", "choices/src/fate.rt"),
+}
 # What the documents name of Linux, QEMU and compilers, of a reader's own, and of arithmetic.
 OTHERS = set(
     """drivers/md/dm-log-writes.c log_writes_map normal_end_io fuse_fsync sched_autogroup_enabled fuse_flush bdrv_co_flush
@@ -112,6 +114,7 @@ def prose(text):
     return lines
 
 
+@cache
 def headings(path):
     """Returns the anchors of a document's headings."""
     found = (re.match(r"#+ (.*)", line) for line in prose(path.read_text()))
@@ -135,6 +138,14 @@ def unknown_documents(top, line):
     for name in re.findall(r"\b[A-Z][A-Z-]+\.md\b", line):
         if not any((top / folder / name).exists() for folder in ("", "docs", "bench")):
             yield f"no document {name}"
+
+
+def unknown_sections(top, line):
+    """Returns the sections that a line names by document and heading, as MACHINE.md, 'Helpers', and that aren't there."""
+    for name, title in re.findall(r"\b([A-Z][A-Z-]+\.md), '((?:[^']|'(?=\w))+)'", line):
+        files = [it for it in (top / folder / name for folder in ("", "docs", "bench")) if it.exists()]
+        if files and re.sub(r"[^\w\- ]", "", title.lower()).replace(" ", "-") not in headings(files[0]):
+            yield f"{name} has no section '{title}'"
 
 
 def cut_tables(lines):
@@ -349,16 +360,6 @@ def other_kit(top, text):
         yield from ((number, f"{it} isn't {kit}, the kit of the program") for it in re.findall(r"`(rattle-kit-[^`]*)`", line) if it != kit)
 
 
-def believed(top):
-    """Returns the files of definitions to which those of ROOTS lead by their `use` lines."""
-    found, last = set(), [it for root in ROOTS for it in (top / "crates" / root / "specs").glob("*.antt") if it.stem != "Lib"]
-    while last:
-        found.update(last)
-        named = {top / "crates" / crate / "specs" / f"{module}.antt" for file in last for crate, module in USE.findall(file.read_text())}
-        last = sorted(it for it in named - found if it.exists())
-    return found
-
-
 def wrong_layers(top):
     """Returns what is wrong with the crates in the table of layers of docs/MAP.md."""
     crates = ledger.crates(top)
@@ -380,6 +381,7 @@ def findings(top):
     """Returns all findings, each with its file and line."""
     yield from ((path, 1, "isn't what tools/completions.py writes") for path in old_completions(top))
     yield from ((top / "docs/PROVED.md", number, it) for number, it in ledger.findings(top))
+    yield from ((top / statement.PAGE, 1, it) for it in statement.findings(top))
     yield from ((top / "docs/MAP.md", 1, it) for it in wrong_layers(top))
     files = list(sources(top))
     texts = [file.read_text() for file in files]
@@ -389,7 +391,7 @@ def findings(top):
     clauses = clauses_by_function(texts)
     for file, text in zip(files, texts):
         for number, line in enumerate(text.splitlines(), 1):
-            yield from ((file, number, it) for it in unknown_documents(top, line))
+            yield from ((file, number, it) for it in [*unknown_documents(top, line), *unknown_sections(top, line)])
     yield from ((top / "tests/gate_edits.txt", 1, it) for it in wrong_edits(top))
     repository = Repository(top)
     yield from ((top / "docs/MAP.md", 1, it) for it in unlisted(repository, (top / "docs/MAP.md").read_text()))
@@ -403,15 +405,11 @@ def findings(top):
             yield from ((path, number, it) for number, it in too_long(path.read_text()))
             yield from ((path, number, it) for number, it in other_kit(top, path.read_text()))
         yield from ((path, number, "table rows without a head") for number in cut_tables(lines))
-        if path == top / "docs" / "PROVED.md":
-            text = "\n".join(lines)
-            names = sorted(str(it.relative_to(top)) for it in believed(top))
-            yield from ((path, 1, f"{it} isn't listed, and what is promised rests on it") for it in names if f"`{it}`" not in text)
         yield from ((path, number, it) for number, it in strays(repository, path, lines))
         strict = path in (top / "README.md", top / "docs" / "PROVED.md")
         for number, line in enumerate(lines, 1):
             yield from ((path, number, it) for it in bad_links(path, line))
-            yield from ((path, number, it) for it in unknown_documents(top, line))
+            yield from ((path, number, it) for it in [*unknown_documents(top, line), *unknown_sections(top, line)])
             if strict:
                 yield from ((path, number, it) for it in unknown_names(top, line, words, clauses))
 

@@ -51,7 +51,7 @@ def gate():
 
 
 def crates(rt):
-    """Returns the crates of the repository at hand, each behind those that it stands on."""
+    """Returns the crates of the repository at hand, each after those that it stands on."""
     return sorted(rt.rtlib.crates_below(os.getcwd()), key=lambda it: len(it.below()))
 
 

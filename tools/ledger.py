@@ -5,7 +5,7 @@
     tools/ledger.py --check [TOP]
 
 prints the ledger of all crates, or of those that are named, as a page of Markdown: by crate and file each public call with an
-`ensures`, and the names of its clauses. A call with one clause without a name stands there alone. Methods stand behind the name
+`ensures`, and the names of its clauses. A call with one clause without a name stands there alone. Methods stand after the name
 of their type, as `Board::draw`. What is private isn't listed.
 
 With --check it compares docs/PROVED.md with the sources, and prints a line for each finding; the status is then 1, else 0.
@@ -79,7 +79,7 @@ def ledger(top):
         for path in sorted((top / "crates" / crate / "src").rglob("*.rt")):
             for name, is_public, clauses in calls_of(path.read_text()):
                 if is_public and clauses:
-                    listed = files.setdefault(path.name, {}).setdefault(name, [])
+                    listed = files.setdefault(str(path.relative_to(top / "crates" / crate / "src")), {}).setdefault(name, [])
                     listed.extend(it for it in clauses if it not in listed)
     return found
 

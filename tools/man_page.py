@@ -5,8 +5,8 @@
 
 runs PROGRAM (crates/crashbpf/out/crashbpf where it isn't given) with `--help`, and with each command's `--help`, and prints
 the page. docs/crashbpf.1 holds it; `man -l docs/crashbpf.1` shows it. tests/run.py compares the two, so help and page stay
-the same words. tools/completions.py makes of the page what shells complete, and tools/report_tables.py the tables of
-docs/REPORT.md.
+the same words. tools/completions.py makes of the page what shells complete, and tools/document_tables.py the
+tables of docs/.
 """
 import re
 import subprocess
@@ -43,7 +43,7 @@ def verbatim(text):
 
 
 def helps_in(page):
-    """Returns the helps that a page holds: the program's own behind the name "", but its first line, and each command's."""
+    """Returns the helps that a page holds: the program's own after the name "", but its first line, and each command's."""
     helps = {}
     for section in page.split("\n.SH ")[1:]:
         name, _, text = section.partition("\n")

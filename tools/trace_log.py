@@ -359,7 +359,7 @@ def made_of(stream, log):
 
 
 def made(text, folder=Path(), sectors=USUAL.sectors, most=USUAL.length):
-    """The log of a trace, of at most so many bytes. Raises Refused, which begins with the number of the line."""
+    """The log of a trace, of at most that many bytes. Raises Refused, which begins with the number of the line."""
     log = Log(folder, sectors, most, False)
     made_of(io.BytesIO(text.encode()), log)
     return b"".join(log.made())
@@ -434,7 +434,7 @@ def done(name, what, work):
 
 
 def sectors_of(word):
-    """The number behind --sectors."""
+    """The number after --sectors."""
     if not re.fullmatch(r"[0-9]{1,20}", word):
         raise argparse.ArgumentTypeError(f"no number: {word}")
     return int(word)

@@ -19,7 +19,7 @@ one check. An edit is refused where an error of the proof lies in a function tha
 one that names the constant.
 
 An edit of a definition names the law above it, in a line `# law: proofs/FILE` or `# law: src/FILE`, and is refused where an error
-lies there, in a check that tries nothing else. That is one of the whole crate, or where a function stands behind the file, as in
+lies there, in a check that tries nothing else. That is one of the whole crate, or where a function stands after the file, as in
 `# law: proofs/Sets.antt laws::cuts_are_set`, of that function and of those that the edit changes. With a law an edit may also
 change proofs below it, in other files than the law's, so that what lies between is proved.
 
@@ -107,7 +107,7 @@ class Function:
         return any(parts[: len(it)] == it and self.is_below(parts[len(it) :], words) for it in self.modules)
 
     def is_below(self, parts, words):
-        """The same of the parts behind those of a module."""
+        """Returns it of the parts after those of a module."""
         if self.of and not (parts and parts[0].startswith(self.of)):
             return False
         inner = parts[1:] if self.of else parts
@@ -116,7 +116,7 @@ class Function:
 
 
 def end_of(text, at, closes):
-    """Returns where the braces that open next behind a place end; `closes` says of that end whether it is the item's."""
+    """Returns where the braces that open next after a place end; `closes` says of that end whether it is the item's."""
     depth = 0
     while at < len(text):
         depth += (text[at] in "([{") - (text[at] in ")]}")

@@ -1,9 +1,9 @@
 #!/usr/bin/env python3
-"""Writes the tables of docs/REPORT.md that the program's help and the sources say already.
+"""Writes the tables of docs/ that the program's help and the sources say already.
 
-    tools/report_tables.py [--check]
+    tools/document_tables.py [--check]
 
-writes what stands there between each two marks `<!-- made: NAME -->` and `<!-- end: NAME -->`. The options are taken from the
+writes what stands in the documents of TABLES between each two marks `<!-- made: NAME -->` and `<!-- end: NAME -->`. The options are taken from the
 helps in docs/crashbpf.1, which tests/run.py compares with the program's own. The refusals, the places of refused options and
 the faults of the machine are taken from the crates' sources: a number, and the sentence that its note says, or else that of
 its docstring. With --check nothing is written: each table that isn't as it would be written is named, and the status is then
@@ -19,11 +19,10 @@ import completions
 import man_page
 
 TOP = Path(__file__).resolve().parent.parent
-REPORT = TOP / "docs/REPORT.md"
 PAGE = TOP / "docs/crashbpf.1"
 CAUSES = TOP / "crates/base/src/causes.rt"
 PLACES = TOP / "crates/request/src/settings.rt"
-RULES = TOP / "crates/command_notes/src/behind.rt"
+RULES = TOP / "crates/notes/src/command_notes/behind.rt"
 # The types of causes, with what each refuses, in the order of their numbers.
 KINDS = {"Log": "log", "Request": "request", "Code": "program", "Asm": "text", "Verifier": "verifier", "Join": "join", "Work": "work"}
 # What goes without an option, where that isn't `none` and the help names no default.
@@ -93,7 +92,7 @@ def variants(source, name):
 
 
 def split(says):
-    """Returns a sentence without what stands behind it in parentheses, and that as a link to the section of the document."""
+    """Returns a sentence without what stands after it in parentheses, and that as a link to the section of the document."""
     found = re.fullmatch(r"(.*?)\.? \(docs/([A-Z-]+\.md), (.*)\)", says)
     if not found:
         return says.rstrip("."), ""
@@ -129,17 +128,22 @@ def faults_table():
     return table(["No", "Fault"], [[str(number), split(lowered(says))[0]] for number, says in found])
 
 
-TABLES = {"options": options_table, "refusals": refusals_table, "places": places_table, "faults": faults_table}
+# The tables of each document.
+TABLES = {
+    "docs/COMMANDS.md": {"options": options_table},
+    "docs/OUTPUT.md": {"faults": faults_table},
+    "docs/REFUSALS.md": {"refusals": refusals_table, "places": places_table},
+}
 
 
-def made(text):
-    """Returns the document with its tables written anew, and the names of those that change."""
+def made(document, text):
+    """Returns a document's text with its tables written anew, and the names of those that change."""
     old = []
-    for name, make in TABLES.items():
+    for name, make in TABLES[document].items():
         before, mark, rest = text.partition(f"<!-- made: {name} -->\n")
         stands, end, after = rest.partition(f"<!-- end: {name} -->\n")
         if not mark or not end:
-            sys.exit(f"{REPORT.name} has no two marks for {name}")
+            sys.exit(f"{document} has no two marks for {name}")
         new = f"\n{make()}\n"
         if new != stands:
             old.append(name)
@@ -148,13 +152,16 @@ def made(text):
 
 
 def main(words):
-    text, old = made(REPORT.read_text())
-    if words == ["--check"]:
+    differ = False
+    for document in TABLES:
+        text, old = made(document, (TOP / document).read_text())
+        if words != ["--check"]:
+            (TOP / document).write_text(text)
+            continue
         for name in old:
-            print(f"docs/REPORT.md: the table {name} isn't what tools/report_tables.py writes")
-        return 1 if old else 0
-    REPORT.write_text(text)
-    return 0
+            print(f"{document}: the table {name} isn't what tools/document_tables.py writes")
+        differ |= bool(old)
+    return 1 if differ else 0
 
 
 if __name__ == "__main__":
