@@ -59,7 +59,7 @@ STEP = 7
 # The stack of a run by one worker, in KiB.
 STACK = 128
 
-# The notes behind want of memory for the work, the second of them in a run by several workers alone.
+# The notes after want of memory for the work, the second of them in a run by several workers alone.
 NO_MEMORY = b"note: there is no memory for the work\n"
 FEWER_WORKERS = b"note: fewer workers take less memory, and --workers 1 the least\n"
 
@@ -122,8 +122,8 @@ ROWS = {
     "check: first_byte, step by step": (251, "72 . 72 26 72 26 60 72 ."),
     "check: turns": (231, "72 . 72 26 72 26 72 ."),
     "every image of sixteen writes fails, 16 workers": (None, MANY),
-    "cases: tree, wrong, root, --sectors 8 --cuts all --bound any": (363, "72 . 72 11 72 26.0 72 11 . 72 26.0 72 60.0 72 ."),
-    "cases: flushed, --sectors 2 --cuts all --bound any --at-most 1 --by write": (531, "72 . 72 11 72 26.0 26.1 26.2 72 11 72 26.0 72 26.1 26.2 60.0 72 60.1 60.2 72 ."),
+    "cases: tree, wrong, root, --sectors 8 --cuts all --bound any": (390, "72 . 72 11 72 26.0 72 11 . 72 26.0 72 60.0 72 ."),
+    "cases: flushed, --sectors 2 --cuts all --bound any --at-most 1 --by write": (597, "72 . 72 11 72 26.0 26.1 26.2 72 11 72 26.0 72 26.1 26.2 60.0 72 60.1 60.2 72 ."),
     "a part: two_slots: --sectors 4 --cuts all --bound 2 --tears --images 236..354": (397, "72 . 72 11 72 26.0 72 11 . 72 26.0 72 60.0 72 . 72 . 72 . 72 ."),
     "joined in the midst: torn_over_torn --sectors 4 --cuts all --bound 1 --tears": (772, "72 . 72 66 72 66 ."),
     "joined in steps: torn_over_torn --sectors 4 --cuts all --bound 1 --tears": (1176, "72 . 72 66 72 66 ."),
@@ -156,7 +156,7 @@ def writes(count):
 
 
 def images(count):
-    """How many images there are of so many writes in one epoch with the bound 3."""
+    """How many images there are of that many writes in one epoch with the bound 3."""
     return sum(comb(cut, lost) for cut in range(count + 1) for lost in range(4))
 
 
@@ -174,7 +174,7 @@ LARGE = {
 
 
 def run_within(program, words, folder, out, room):
-    """The status of a run that may have so many bytes of addresses, or as many as it likes where that is None."""
+    """The status of a run that may have that many bytes of addresses, or as many as it likes where that is None."""
     limit = "unlimited" if room is None else str(room >> 10)
     with open(Path(folder, out), "wb") as printed:
         return subprocess.run(
@@ -190,7 +190,7 @@ def run_within(program, words, folder, out, room):
 def last_line(path):
     with open(path, "rb") as text:
         text.seek(max(0, path.stat().st_size - 100))
-        return text.read().split(b"\n")[-2].decode()
+        return text.read().split(b"\n")[-2].decode("latin-1")
 
 
 def overfull(program, name, assembler):
@@ -210,6 +210,35 @@ def overfull(program, name, assembler):
         status = run_within(program, words, folder, "narrow", room)
         if status != 1 or not filecmp.cmp(wide, narrow, shallow=False):
             return [f"status {status} within {room >> 20} MiB"]
+    return []
+
+
+# Of how many sectors the one write of a log is of which `export` writes each loss of two sectors or fewer: all images differ.
+EXPORTED = (300, 500)
+
+# How many bytes `export` keeps at most for a new image, and beside that for all.
+KEPT, BESIDE = 64, 256 << 10
+
+
+def least_room(program, words, folder):
+    """The least room within which a run ends with status 0, to 64 KiB."""
+    low, high = 0, ROOM
+    while high - low > 64 << 10:
+        middle = (low + high) // 2
+        low, high = (low, middle) if run_within(program, words, folder, "small", middle) == 0 else (middle, high)
+    return high
+
+
+def overkept(program, sectors, assembler):
+    """What went wrong with an export of images that all differ, within the room of one of them and KEPT bytes for each."""
+    count = 1 + sectors + comb(sectors, 2)
+    words = ["export", "log", "--sectors", str(sectors), "--from", "1", "--bound", "2"]
+    with tempfile.TemporaryDirectory() as folder:
+        put(folder, "log", log([W(0, sectors, 0x11)]), assembler)
+        room = least_room(program, [*words, "--images", "0..1"], folder) + KEPT * count + BESIDE
+        status = run_within(program, words, folder, "text", room)
+        if status != 0 or not last_line(Path(folder, "text")).endswith(f"total {count} new {count}"):
+            return [f"status {status} within {room} bytes, of {count} images"]
     return []
 
 
@@ -245,7 +274,7 @@ def read_runs(path):
 
 
 def sweep(program, library, words, folder, first, last, step=1, onwards=False):
-    """The runs with the numbers from `first` to `last`, as far as they ask for so many allocations."""
+    """The runs with the numbers from `first` to `last`, as far as they ask for that many allocations."""
     swept = Path(folder, "swept")
     surroundings = {**os.environ, "LD_PRELOAD": str(library), "SWEEP": f"{first} {last} {step} {int(onwards)}", "SWEPT": str(swept)}
     subprocess.run(words, executable=program, cwd=folder, stdin=subprocess.DEVNULL, check=True, env=surroundings)
@@ -329,9 +358,9 @@ def swept(program, library, row, wanted, assembler):
     if re.search(r"--workers (?!1\b)\d", row.words):
         behind = {split_notes(error_of(done, row))[1] for done in each if cause_of(done, row) == "72"}
         if not behind <= {b"", NO_MEMORY, NO_MEMORY + FEWER_WORKERS}:
-            found.append("other notes behind 72")
+            found.append("other notes after 72")
         if NO_MEMORY + FEWER_WORKERS not in behind:
-            found.append("no note behind 72 says that fewer workers take less")
+            found.append("no note after 72 says that fewer workers take less")
     if each[-1].asked >= each[-1].number or onwards[-1].asked >= onwards[-1].number:
         found.append("no end of the allocations")
     return found
@@ -401,13 +430,13 @@ def as_lonely(user):
 
 
 def in_room(room):
-    """The process may have so many bytes of addresses, of which each thread takes THREAD."""
+    """The process may have that many bytes of addresses, of which each thread takes THREAD."""
     resource.setrlimit(resource.RLIMIT_STACK, (THREAD, THREAD))
     resource.setrlimit(resource.RLIMIT_AS, (room, room))
 
 
 def with_stack(size):
-    """The process may have so many bytes of stack."""
+    """The process may have that many bytes of stack."""
     resource.setrlimit(resource.RLIMIT_STACK, (size, size))
 
 
@@ -470,6 +499,8 @@ def main(words):
             checks[f"{name} with memory refused"] = pool.submit(swept, program, library, rows[name], ROWS[name], assembler)
         for name in LARGE:
             checks[f"many lines, {name}"] = pool.submit(overfull, program, name, assembler)
+        for sectors in EXPORTED:
+            checks[f"an export of the losses of {sectors} sectors"] = pool.submit(overkept, program, sectors, assembler)
         for name, row, begin, answers in starved(rows):
             checks[name] = pool.submit(starved_run, program, row, assembler, begin, answers)
         found = {name: check.result() for name, check in checks.items()}

@@ -79,7 +79,7 @@ in_leaves P [] ys one none = absurd (none_one P ys one none)
 in_leaves P (x ∷ xs) ys (inl here) none = (0, x, refl, here.0)
 in_leaves P (x ∷ xs) ys (inr rest) none = let it = in_leaves P xs ys rest.1 none in (suc it.0, it.1, it.2, it.3)
 
-length_image : (log : LogValue) (way : By) (cut : ℕ) (choice : Choice) → length (image_at log way cut choice) ≡ log.sectors
+pub length_image : (log : LogValue) (way : By) (cut : ℕ) (choice : Choice) → length (image_at log way cut choice) ≡ log.sectors
 unfolding sectors_of
 length_image log way cut choice = length_view (record { log = log; cut = cut; departures = departures choice (parts_at_risk way log.entries cut) })
 

@@ -5,3 +5,4 @@ pub mod Judged
 pub mod Finding
 pub mod Cutting
 pub mod Once
+pub mod Failing

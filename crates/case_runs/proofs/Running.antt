@@ -1,9 +1,10 @@
 -- Runs of a checker on the images of cases.
-use Rattle.std.proofs.Common.{ℕ, zero, suc, ◌≡◌, ◌+◌, ◌-◌, ◌<◌, ◌≤◌, ◌==◌, nat_lt, Bool, true, false, if◌then◌else◌, List, [], ◌∷◌, ◌++◌, length, slice_get, Option, None, Some, refl, sym, subst, ◌∙◌, ap, arith}
+use Rattle.std.proofs.Common.{ℕ, zero, suc, ◌≡◌, ◌+◌, ◌-◌, ◌<◌, ◌≤◌, ◌==◌, nat_lt, Bool, true, false, if◌then◌else◌, List, [], ◌∷◌, ◌++◌, length, slice_get, Option, None, Some, MatchOption, refl, sym, subst, ◌∙◌, ap, arith}
 use Rattle.std.specs.List.{range_with_len, AllByRecursion}
 use Rattle.std.specs.Option.{option_and_then}
 use Rattle.std.proofs.lemmas.Bool.Decides.{eqb_tells, nat_tests}
 use Rattle.std.proofs.lemmas.Bool.{eq-eqb, ne_eqb}
+use Rattle.std.proofs.lemmas.Option.{MatchOption-at_none}
 use Rattle.base.proofs.Lists.{range_with_len-more, range_with_len-append}
 use Rattle.logfmt.specs.Bounds.{IsLog}
 use Rattle.helpers.specs.declared.device.Context.{Context}
@@ -21,10 +22,11 @@ use Rattle.cases.specs.Choices.{departures}
 use Rattle.cases.specs.Risk.{parts_at_risk}
 use Rattle.cases.specs.Rows.{row}
 use Rattle.cases.specs.Cases.{Split, representative, or_else, first_split, split_in_row}
-use Rattle.cases.specs.AtCut.{CutValue, parts_of, case_of, image_of, IsFound}
-use Rattle.case_runs.specs.declared.runs.Ran.{Ran}
+use Rattle.cases.specs.AtCut.{parts_of, case_of}
+use Rattle.interp.specs.declared.outcome.Outcome.{Outcome}
+use Rattle.case_runs.specs.declared.runs.Looked.{Looked}
 use Rattle.case_runs.specs.Images.{ImageValue, sectors_in, count_sectors}
-use Rattle.case_runs.specs.Judges.{most_looks, or_all, looks, program_of, IsSplitAt, RunsSo, JudgesSo}
+use Rattle.case_runs.specs.Judges.{most_looks, or_all, looks, program_of, looked_in, IsSplitAt, RunsSo, JudgesSo}
 use Rattle.case_runs.specs.Leaves.{IsFit}
 
 -- the part that splits a case, of some sectors
@@ -43,19 +45,13 @@ or_some : (o r : Option Split) (x : Split) → or_else o None ≡ Some x → or_
 or_some None r x is = absurd (let bad : None ≡ Some x = is in cc)
 or_some (Some it) r x is = is
 
-pub split_of : (v : ImageValue) (at : CutValue) (sets : List ℕ) (found : Option Parted) (sectors : List ℕ) → at ≡ v.at → sets ≡ v.sets
-    → IsFound (parts_of at) found (first_split at.log at.way at.cut (case_of v.tears (parts_of at) sets) sectors) → IsSplitAt v found sectors
-split_of v at sets found sectors one two is =
-    subst (λ (a : CutValue). IsFound (parts_of a) found (first_split a.log a.way a.cut (case_of v.tears (parts_of a) v.sets) sectors)) one
-    (subst (λ (ss : List ℕ). IsFound (parts_of at) found (first_split at.log at.way at.cut (case_of v.tears (parts_of at) ss) sectors)) two is)
-
 -- none of the sectors up to one
 pub split_more : (v : ImageValue) (s : ℕ) → first_of v (range_with_len 0 s) ≡ None → first_of v (s ∷ []) ≡ None → first_of v (range_with_len 0 (s + 1)) ≡ None
 split_more v s none own =
     let here : 0 + s ≡ s = omega arith in
     ap (first_of v) (range_with_len-more 0 s) ∙ first_append v (range_with_len 0 s) ((0 + s) ∷ []) none ∙ ap (λ n. first_of v (n ∷ [])) here ∙ own
 
-pub split_found : (v : ImageValue) (s n : ℕ) (it : Parted) → s < n → first_of v (range_with_len 0 s) ≡ None → IsSplitAt v (Some it) (s ∷ []) → IsSplitAt v (Some it) (range_with_len 0 n)
+pub split_found : (v : ImageValue) (s n : ℕ) (it : Parted) → s < n → first_of v (range_with_len 0 s) ≡ None → IsSplitAt v.at v.tears v.sets (Some it) (s ∷ []) → IsSplitAt v.at v.tears v.sets (Some it) (range_with_len 0 n)
 split_found v s n it less none found =
     let many : n ≡ s + suc (n - s - 1) = omega (arith, less) in
     let here : 0 + s ≡ s = omega arith in (
@@ -116,9 +112,24 @@ pub looks_all : (checker : CheckerValue) (context : Context) (v : ImageValue) �
 unfolding looks
 looks_all checker context v none = ap (or_all (sectors_in v)) none ∙ ap (range_with_len 0) (count_sectors v)
 
-pub runs_so : (checker : CheckerValue) (context : Context) (v : ImageValue) (ran : Ran) (sectors : List ℕ) → ending_of ran.outcome ≡ judgement checker (sectors_in v) context
-    → looks checker context (sectors_in v) ≡ sectors → IsSplitAt v ran.split sectors → RunsSo checker context v ran
-runs_so checker context v ran sectors ends is split = record { ending = ends; split = subst (IsSplitAt v ran.split) (sym is) split }
+-- a run whose footprint was kept
+pub runs_kept : (room : ℕ) (checker : CheckerValue) (context : Context) (v : ImageValue) (outcome : Outcome) (looked : Looked) (kept : FootprintValue) (old l : List ℕ) → room ≤ 16384
+    → ending_of outcome ≡ judgement checker (sectors_in v) context → kept ≡ kept_footprint room checker (sectors_in v) context → kept.sectors ≡ Some l
+    → looked.all ≡ false → old ≡ [] → looked.sectors.items ≡ old ++ l → RunsSo checker context v outcome looked
+runs_kept room checker context v outcome looked kept old l le ends is some one none put = record {
+  ending = ends;
+  sectors =
+      ap (λ b. if b then range_with_len 0 v.at.log.sectors else looked.sectors.items) one ∙ put ∙ ap (λ ns. ns ++ l) none
+      ∙ sym (looks_kept room checker context (sectors_in v) kept l le is some);
+}
+
+-- one that looked at too many sectors
+pub runs_all : (checker : CheckerValue) (context : Context) (v : ImageValue) (outcome : Outcome) (looked : Looked) → ending_of outcome ≡ judgement checker (sectors_in v) context
+    → (kept_footprint 16384 checker (sectors_in v) context).sectors ≡ None → looked.all ≡ true → RunsSo checker context v outcome looked
+runs_all checker context v outcome looked ends none all = record {
+  ending = ends;
+  sectors = ap (λ b. if b then range_with_len 0 v.at.log.sectors else looked.sectors.items) all ∙ sym (looks_all checker context v none);
+}
 
 -- a checker may be run on an image of a device of its size
 pub suits : (checker : CheckerValue) (context : Context) (v : ImageValue) → IsLog v.at.log → v.at.log.sectors ≡ context.sectors → IsFit checker context
@@ -135,22 +146,36 @@ suits checker context v is size fit =
     })
 
 -- on a device of its size
-pub judges_so : (checker : CheckerValue) (context : Context) (v : ImageValue) (ran : Ran) → v.at.log.sectors ≡ context.sectors → RunsSo checker context v ran
-    → JudgesSo (program_of checker context) v.at v.tears v.sets ran
-judges_so checker context v ran size so =
+pub judges_so : (checker : CheckerValue) (context : Context) (v : ImageValue) (outcome : Outcome) (looked : Looked) → v.at.log.sectors ≡ context.sectors
+    → RunsSo checker context v outcome looked → JudgesSo (program_of checker context) v.at v.tears v.sets outcome (looked_in context.sectors looked)
+judges_so checker context v outcome looked size so =
     let own : (length (sectors_in v) == context.sectors) ≡ true = eq-eqb (length (sectors_in v)) context.sectors (count_sectors v ∙ size) in
     record {
       ending = so.ending ∙ sym (ap (λ b. if b then judgement checker (sectors_in v) context else OutOfSteps) own);
-      split = subst (IsSplitAt v ran.split) (sym (ap (λ b. if b then looks checker context (sectors_in v) else []) own)) so.split;
+      sectors = ap (λ n. looked_in n looked) (sym size) ∙ so.sectors ∙ sym (ap (λ b. if b then looks checker context (sectors_in v) else []) own);
     }
 
 -- on any other
-pub judges_none : (checker : CheckerValue) (context : Context) (v : ImageValue) (ran : Ran) → (v.at.log.sectors ≡ context.sectors → ⊥) → ending_of ran.outcome ≡ OutOfSteps → ran.split ≡ None
-    → JudgesSo (program_of checker context) v.at v.tears v.sets ran
-judges_none checker context v ran apart ends none =
+pub judges_none : (checker : CheckerValue) (context : Context) (v : ImageValue) (outcome : Outcome) (looked : List ℕ) → (v.at.log.sectors ≡ context.sectors → ⊥)
+    → ending_of outcome ≡ OutOfSteps → looked ≡ [] → JudgesSo (program_of checker context) v.at v.tears v.sets outcome looked
+judges_none checker context v outcome looked apart ends none =
     let own : (length (sectors_in v) == context.sectors) ≡ false = ne_eqb (length (sectors_in v)) context.sectors (λ e. apart (sym (count_sectors v) ∙ e)) in
     record {
       ending = ends ∙ sym (ap (λ b. if b then judgement checker (sectors_in v) context else OutOfSteps) own);
-      split = subst (λ o. IsSplitAt v o (if length (sectors_in v) == context.sectors then looks checker context (sectors_in v) else [])) (sym none)
-          (ap (λ b. first_of v (if b then looks checker context (sectors_in v) else [])) own);
+      sectors = none ∙ sym (ap (λ b. if b then looks checker context (sectors_in v) else []) own);
     }
+
+-- at which sectors it looked
+
+pub looked_all : (count : ℕ) (looked : Looked) → looked.all ≡ true → range_with_len 0 count ≡ looked_in count looked
+looked_all count looked is = sym (ap (λ b. if b then range_with_len 0 count else looked.sectors.items) is)
+
+pub looked_kept : (count : ℕ) (looked : Looked) → looked.all ≡ false → looked.sectors.items ≡ looked_in count looked
+looked_kept count looked is = sym (ap (λ b. if b then range_with_len 0 count else looked.sectors.items) is)
+
+-- there was no room for its footprint
+pub run_long : (checker : CheckerValue) (context : Context) (v : ImageValue) (found : Option Outcome) (looked : Looked) → found ≡ None
+    → MatchOption found ((kept_footprint 16384 checker (sectors_in v) context).sectors ≡ None) (λ outcome. RunsSo checker context v outcome looked)
+    → (kept_footprint 16384 checker (sectors_in v) context).sectors ≡ None
+run_long checker context v found looked is told =
+    MatchOption-at_none ((kept_footprint 16384 checker (sectors_in v) context).sectors ≡ None) (λ outcome. RunsSo checker context v outcome looked) is told

@@ -1,11 +1,14 @@
 -- What is found at some cuts with some checkers.
-use Rattle.std.specs.Prelude.{ℕ, ◌≡◌, ◌+◌, ◌<◌, ◌≤◌, Bool, List, [], length, map, sum_by, slice_get, Some}
-use Rattle.logfmt.specs.Bounds.{LogValue}
+use Rattle.std.specs.Prelude.{ℕ, ◌≡◌, ◌+◌, ◌<◌, ◌≤◌, Bool, true, List, [], length, map, sum_by, slice_get, Some}
+use Rattle.logfmt.specs.Bounds.{LogValue, IsLog}
 use Rattle.epochs.specs.declared.part.By.{By}
 use Rattle.machine.specs.Outcome.{Ending}
 use Rattle.interp.specs.Ending.{ending_of}
 use Rattle.checker.specs.Checker.{CheckerValue}
+use Rattle.report.specs.Line.{fails}
+use Rattle.cases.specs.Choices.{Choice}
 use Rattle.cases.specs.Cases.{Case}
+use Rattle.cases.specs.Laws.{Includes}
 use Rattle.cases.specs.AtCut.{CutValue, parts_of, case_of}
 use Rattle.cases.specs.Search.{LeafValue, FoundCases, BegunCases}
 use Rattle.case_runs.specs.declared.found.Losses.{Losses}
@@ -15,7 +18,7 @@ use Rattle.case_runs.specs.declared.found.CasesFault.{CasesFault}
 use Rattle.case_runs.specs.declared.found.CasesFault.TheVariants as fault
 use Rattle.case_runs.specs.declared.leaves.FailingCase.{FailingCase}
 use Rattle.case_runs.specs.Leaves.{failing_value, failing_from}
-use Rattle.case_runs.specs.Laws.{subject_at}
+use Rattle.case_runs.specs.Laws.{subject_at, judged_at}
 
 -- At a cut with a checker: of exactly its leaves, in the order of the tree, those that fail, by their numbers, and how many leaves there
 -- are, and cases that were left out.
@@ -127,3 +130,12 @@ pub record FindingIsOne : Type 0 where
       → SameFound at asked.tears found other
   pub fewer : (asked : Losses) (at : CutValue) (checker : CheckerValue) (found : Found) (most : ℕ) → IsFoundAt asked at checker found → IsBegunAt asked at checker most
       → most ≤ found.cases
+
+-- on each image of a failing case that was found the checker ends as the case says, and so it fails there
+abbrev pub TheirImagesFail : Type 0
+TheirImagesFail = (asked : Losses) (log : LogValue) (way : By) (cuts : List ℕ) (checkers : List CheckerValue) (found : List CutFound)
+    → IsLog log → AreFoundIn asked log way cuts checkers found
+    → (i j n k : ℕ) (f : CutFound) (checker : CheckerValue) (own : Found) (it : FailingCase) (choice : Choice) → k ≤ length log.entries
+    → slice_get cuts i ≡ Some k → slice_get found i ≡ Some f → slice_get checkers j ≡ Some checker → slice_get f.programs.items j ≡ Some own → slice_get own.failing.items n ≡ Some it
+    → Includes choice (case_of asked.tears (parts_of (record { log = log; way = way; cut = k })) it.sets.items)
+    → (judged_at log way k checker choice ≡ ending_of it.outcome) × (fails (ending_of it.outcome) ≡ true)

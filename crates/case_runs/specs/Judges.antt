@@ -11,7 +11,8 @@ use Rattle.cases.specs.declared.split.Parted.{Parted}
 use Rattle.cases.specs.Cases.{first_split}
 use Rattle.cases.specs.Trees.{Program}
 use Rattle.cases.specs.AtCut.{CutValue, parts_of, case_of, image_of, split_at, IsFound}
-use Rattle.case_runs.specs.declared.runs.Ran.{Ran}
+use Rattle.case_runs.specs.declared.runs.Looked.{Looked}
+use Rattle.interp.specs.declared.outcome.Outcome.{Outcome}
 use Rattle.case_runs.specs.Images.{ImageValue, sectors_in}
 
 -- how many sectors of a footprint are kept: as many as a device has within the usual limits
@@ -36,15 +37,19 @@ program_of checker context = record {
 }
 
 -- the part that splits a case, of some sectors
-abbrev pub IsSplitAt : ImageValue → Option Parted → List ℕ → Type 0
-IsSplitAt v found sectors = IsFound (parts_of v.at) found (first_split v.at.log v.at.way v.at.cut (case_of v.tears (parts_of v.at) v.sets) sectors)
+abbrev pub IsSplitAt : CutValue → Bool → List ℕ → Option Parted → List ℕ → Type 0
+IsSplitAt at tears sets found sectors = IsFound (parts_of at) found (first_split at.log at.way at.cut (case_of tears (parts_of at) sets) sectors)
+
+-- at which sectors a checker looked: at these, or at all of a device of that many
+abbrev pub looked_in : ℕ → Looked → List ℕ
+looked_in count looked = if looked.all then range_with_len 0 count else looked.sectors.items
 
 -- a run of a checker on an image
-pub record RunsSo (checker : CheckerValue) (context : Context) (v : ImageValue) (ran : Ran) : Type 0 where
-  pub ending : ending_of ran.outcome ≡ judgement checker (sectors_in v) context
-  pub split : IsSplitAt v ran.split (looks checker context (sectors_in v))
+pub record RunsSo (checker : CheckerValue) (context : Context) (v : ImageValue) (outcome : Outcome) (looked : Looked) : Type 0 where
+  pub ending : ending_of outcome ≡ judgement checker (sectors_in v) context
+  pub sectors : looked_in v.at.log.sectors looked ≡ looks checker context (sectors_in v)
 
 -- a run of a program on the image of a case's representative
-pub record JudgesSo (program : Program) (at : CutValue) (tears : Bool) (sets : List ℕ) (ran : Ran) : Type 0 where
-  pub ending : ending_of ran.outcome ≡ program.ending (image_of at (case_of tears (parts_of at) sets))
-  pub split : IsFound (parts_of at) ran.split (split_at at program (case_of tears (parts_of at) sets))
+pub record JudgesSo (program : Program) (at : CutValue) (tears : Bool) (sets : List ℕ) (outcome : Outcome) (looked : List ℕ) : Type 0 where
+  pub ending : ending_of outcome ≡ program.ending (image_of at (case_of tears (parts_of at) sets))
+  pub sectors : looked ≡ program.footprint (image_of at (case_of tears (parts_of at) sets))

@@ -31,11 +31,12 @@ abbrev pub failing_from : ℕ → List LeafValue → List FailingValue
 failing_from n [] = []
 failing_from n (leaf ∷ leaves) = failing_if n leaf ++ failing_from (n + 1) leaves
 
--- a judge: a checker, the context of a cut, what its last run ended in, the leaves that it was told of, and those of them that fail
+-- a judge: a checker, the context of a cut, what its last run ended in, at which sectors it looked there, the leaves that it was told of, and those of them that fail
 pub record JudgeValue : Type 0 where
   pub checker : CheckerValue
   pub context : Context
   pub ending : Ending
+  pub looked : List ℕ
   pub leaves : List LeafValue
   pub failing : List FailingValue
 

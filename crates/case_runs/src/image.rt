@@ -6,7 +6,7 @@ ghost use Rattle.cases.specs.AtCut.{parts_of};
 ghost use Rattle.cases.specs.Lent.{IsTornOver};
 ghost use Rattle.case_runs.specs.Images.{sectors_in, formed_if, formed_over, formed_of, formed_in};
 
-use cases::{Cut, is_torn_first};
+use cases::{Cut, KnownRows, is_torn_first};
 use epochs::Part;
 use helpers::Device;
 use std::alloc::AllocError;
@@ -88,7 +88,7 @@ fn form(out: &mut Vec<Formed>, cut: &Cut<'_>, sets: &[u16]) -> Result<(), AllocE
 /// held before entry 0; those of torn parts may be formed, and are kept.
 #[derive(Drop)]
 pub struct CaseImage<'b, 'a> {
-    cut: &'b Cut<'a>,
+    rows: &'b KnownRows<'a>,
     tears: bool,
     sets: &'b [u16],
     formed: &'b [Formed],
@@ -99,45 +99,29 @@ impl<'b, 'a> Model for CaseImage<'b, 'a> {
 
     ghost Value = { ImageValue };
 
-    ghost view = { λ i. record { at = i.cut.now; tears = i.tears; sets = i.sets.now } };
+    ghost view = { λ i. record { at = i.rows.now; tears = i.tears; sets = i.sets.now } };
 
-    ghost invariant = { λ i. IsImage (record { at = i.cut.now; tears = i.tears; sets = i.sets.now }) i.formed.now };
+    ghost invariant = { λ i. IsImage (record { at = i.rows.now; tears = i.tears; sets = i.sets.now }) i.formed.now };
 }
 
 impl<'b, 'a> CaseImage<'b, 'a> {
     /// The image of a case. The list is for its formed sectors: it is let go at the next, so after the first images it takes no memory.
     pub(crate) fn new(
         formed: &'b mut Vec<Formed>,
-        cut: &'b Cut<'a>,
+        rows: &'b KnownRows<'a>,
         tears: bool,
         sets: &'b [u16],
     ) -> Result<CaseImage<'b, 'a>, AllocError>
-        requires { length sets.now ≡ length (parts_of cut.now) }
-        ensures { IfOk result (λ image. image ≡ record { at = cut.now; tears = tears; sets = sets.now }) }
+        requires { length sets.now ≡ length (parts_of rows.now) }
+        ensures { IfOk result (λ image. image ≡ record { at = rows.now; tears = tears; sets = sets.now }) }
     {
-        form(formed, cut, sets)?;
+        form(formed, rows.cut(), sets)?;
         Ok(CaseImage {
-            cut,
+            rows,
             tears,
             sets,
             formed: formed.as_slice(),
         })
-    }
-
-    /// The cut.
-    pub fn cut(&self) -> &'b Cut<'a>
-        ensures value { result.now ≡ self.now.at }
-        ensures each { length self.now.sets ≡ length (parts_of self.now.at) }
-    {
-        self.cut
-    }
-
-    /// The case, as a set for each part at risk.
-    pub fn sets(&self) -> &'b [u16]
-        ensures value { result.now ≡ self.now.sets }
-        ensures each { length self.now.sets ≡ length (parts_of self.now.at) }
-    {
-        self.sets
     }
 
     /// A sector of a torn part.
@@ -159,7 +143,7 @@ impl<'b, 'a> CaseImage<'b, 'a> {
         requires { number < self.now.at.log.sectors }
         ensures { slice_get (sectors_in self.now) number ≡ Some result.now }
     {
-        match self.cut.lent(self.sets, number) {
+        match self.rows.lent(self.sets, number) {
             Some(sector) => sector,
             None => self.kept(number),
         }
@@ -172,11 +156,11 @@ impl<'b, 'a> Device for CaseImage<'b, 'a> {
     ghost content = { λ i. sectors_in i };
 
     fn sectors(&self) -> u32 {
-        self.cut.sectors()
+        self.rows.sectors()
     }
 
     fn sector(&self, n: u32) -> Option<&[u8; 512]> {
-        if n < self.cut.sectors() {
+        if n < self.rows.sectors() {
             Some(self.find(n))
         } else {
             None

@@ -5,8 +5,8 @@ ghost use Rattle.case_runs.specs.Leaves.{failing_value, failing_from, IsFit};
 
 use crate::image::Formed;
 use crate::leaves::{FailingCase, Told, put_leaf};
-use crate::runs::run_on;
-use cases::{Cut, Judge, Parted};
+use crate::runs::{Looked, run_on, split_looked};
+use cases::{Cut, Judge, KnownRows, Parted};
 use checker::Checker;
 use helpers::Context;
 use interp::Outcome;
@@ -21,6 +21,8 @@ pub struct CaseJudge<'c, 'p> {
     context: Context,
     /// What its last run ended in.
     outcome: Outcome,
+    /// At which sectors it looked there.
+    looked: Looked,
     /// The formed sectors of the last image.
     formed: Vec<Formed>,
     /// A place for the sets of a leaf.
@@ -33,6 +35,7 @@ impl<'c, 'p> Model for CaseJudge<'c, 'p> {
     ghost use Rattle.std.specs.Prelude.{map};
     ghost use Rattle.interp.specs.Ending.{ending_of};
     ghost use Rattle.case_runs.specs.Leaves.{JudgeValue, IsJudge, leaf_of, failing_value};
+    ghost use Rattle.case_runs.specs.Judges.{looked_in};
 
     ghost Value = { JudgeValue };
 
@@ -40,6 +43,7 @@ impl<'c, 'p> Model for CaseJudge<'c, 'p> {
       checker = j.checker.now;
       context = j.context;
       ending = ending_of j.outcome;
+      looked = looked_in j.context.sectors j.looked;
       leaves = map leaf_of j.told.items;
       failing = map failing_value j.failing.items;
     } };
@@ -59,6 +63,10 @@ impl<'c, 'p> CaseJudge<'c, 'p> {
             checker,
             context,
             outcome: Outcome::OutOfSteps,
+            looked: Looked {
+                sectors: Vec::new(alloc),
+                all: false,
+            },
             formed: Vec::new(alloc),
             place: Vec::new(alloc),
             told: Vec::new(alloc),
@@ -88,24 +96,25 @@ impl<'c, 'p> Judge for CaseJudge<'c, 'p> {
 
     ghost ending = { λ j. j.ending };
 
+    ghost looked = { λ j. j.looked };
+
     ghost leaves = { λ j. j.leaves };
 
-    fn judge(
-        &mut self,
-        cut: &Cut<'_>,
-        tears: bool,
-        sets: &[u16],
-    ) -> Result<Option<Parted>, AllocError> {
-        let ran = run_on(
+    fn look(&mut self, rows: &KnownRows<'_>, tears: bool, sets: &[u16]) -> Result<(), AllocError> {
+        self.outcome = run_on(
             self.checker,
             &self.context,
             &mut self.formed,
-            cut,
+            &mut self.looked,
+            rows,
             tears,
             sets,
         )?;
-        self.outcome = ran.outcome;
-        Ok(ran.split)
+        Ok(())
+    }
+
+    fn split(&self, rows: &mut KnownRows<'_>, sets: &[u16]) -> Result<Option<Parted>, AllocError> {
+        split_looked(&self.looked, self.context.sectors, rows, sets)
     }
 
     fn tell(&mut self, _cut: &Cut<'_>, sets: &[u16]) -> Result<(), AllocError> {

@@ -1,6 +1,6 @@
 //! Laws of cases that checkers judge. The functions do nothing; each contract is a theorem.
 
-ghost use Rattle.case_runs.specs.Found.{FindingIsOne};
+ghost use Rattle.case_runs.specs.Found.{FindingIsOne, TheirImagesFail};
 ghost use Rattle.case_runs.specs.Laws.{CheckersTell, LossesAreJudged};
 
 use cases::{each_is_in_one, last_cuts_have_all, leaves_end_alike, tree_is_one};
@@ -29,4 +29,12 @@ pub fn finding_is_one()
     ensures { FindingIsOne }
 {
     tree_is_one();
+}
+
+/// On each image of a failing case that was found a checker ends as the case says, and so it fails there.
+pub fn their_images_fail()
+    ensures { TheirImagesFail }
+{
+    checkers_tell();
+    leaves_end_alike();
 }

@@ -17,16 +17,16 @@
 //! | `find_failing(alloc, plan, log, way, cuts, checkers, asked)` | at each cut, with each checker: the leaves that fail, each with its number among the leaves, what the checker ends in, and its sets; how many leaves there are; how many cases were left out |
 //! | `CaseJudge::new(alloc, checker, context)` | a checker as a `Judge` of `cases`, for one cut |
 //! | `CaseImage` | the image of a case's representative, as a `Device` |
-//! | `checkers_tell()`, `losses_are_judged()`, `finding_is_one()` | laws |
+//! | `checkers_tell()`, `losses_are_judged()`, `finding_is_one()`, `their_images_fail()` | laws |
 //!
 //! # How it runs
 //!
 //! A sector of the image is lent from the log, or from what the device held before entry 0, unless a torn part covers it. The sectors of
 //! torn parts are formed once for each case, in a list that the next case uses again. So a case takes no memory once the lists have
-//! grown, but for those that fail, which are kept. To look up a sector takes a walk over the entries from the cut down to the last one
-//! that reaches the device there, or to the first; there is no index yet. A torn part by write has all its sectors formed.
+//! grown, but for those that fail, which are kept. To look up a sector takes the few steps of its row, if that is known from the cases
+//! before (`KnownRows` of `cases`). Else it takes a walk over the entries from the cut down. A torn part by write has all its sectors formed.
 //!
-//! A run keeps its footprint in a room of 64 sectors. Where it looks at more, the checker is run again with a room of 1,024, and then of
+//! A run keeps its footprint in a room of 64 sectors, and the judge keeps it for the splits of the case. Where it looks at more, the checker is run again with a room of 1,024, and then of
 //! 16,384, which is as many as a device has within the usual limits. On a large device it may look at more still. Then it is taken to look at
 //! all sectors of the device, in their order (`looks` in `specs/Judges.antt`). That is a footprint too: it tells what the checker ends in.
 //!
@@ -43,6 +43,8 @@
 //! - `checkers_tell`: two devices that agree at these sectors are judged alike, so the laws of `cases` hold of each checker.
 //! - `losses_are_judged`: take an image of any cut, whatever was lost there, with as few torn parts as is asked. It is an image of a last
 //!   cut, is in a leaf there, and the checker ends on it as on the image of the leaf's representative. So it fails exactly where the leaf does.
+//!
+//! - `their_images_fail`: on each image of a failing case that was found the checker ends as the case says, and so it fails there.
 //!
 //! `find_failing` refuses where memory is wanting, or where there are more than 16,777,216 cases, and names the cut with which there are
 //! (`AreTooMany`). By the law `finding_is_one` it answers one thing, and doesn't refuse for the number of cases what it answers.
@@ -72,5 +74,5 @@ pub use cuts::explored_cuts;
 pub use found::{CasesFault, CutFound, Found, Losses, MOST_CASES, find_failing};
 pub use image::CaseImage;
 pub use judge::CaseJudge;
-pub use laws::{checkers_tell, finding_is_one, losses_are_judged};
+pub use laws::{checkers_tell, finding_is_one, losses_are_judged, their_images_fail};
 pub use leaves::FailingCase;

@@ -126,6 +126,20 @@ risky_more way es k n xs more lt so put = elim (slice_get_cases es n).1 [
       ∙ ap (λ m. filter (λ (p : Part). is_at_risk es k p.entry) (parts_before way es m)) (sym (add-one n))
 ]
 
+-- no part of an entry before the last flush entry is at risk
+pub none_risky : (way : By) (es : List Entry) (k n : ℕ) → k ≤ length es → n ≤ last_flush es k → [] ≡ filter (λ (p : Part). is_at_risk es k p.entry) (parts_before way es n)
+none_risky way es k zero le low = refl
+none_risky way es k (suc n) le low =
+    let most = Rattle.epochs.proofs.Runs.last_flush_le es k in
+    elim (slice_get_cases es n).1 [
+      | inr past ↦ let end = past.0 in absurd (omega (arith, end, most, low, le))
+      | inl a ↦
+          sym (ap (filter (λ (p : Part). is_at_risk es k p.entry)) (parts_before-next way es n a.0 a.2)
+          ∙ filter-append (λ (p : Part). is_at_risk es k p.entry) (parts_before way es n) (parts_of_entry way n a.0)
+          ∙ ap (λ ps. ps ++ filter (λ (p : Part). is_at_risk es k p.entry) (parts_of_entry way n a.0)) (sym (none_risky way es k n le (omega (arith, low))))
+          ∙ own_risky way es k n a.0 false (flushed es k n le (omega (arith, low))))
+    ]
+
 pub all_risky : (way : By) (es : List Entry) (k n : ℕ) (xs : List Part) → n ≡ k → xs ≡ filter (λ (p : Part). is_at_risk es k p.entry) (parts_before way es n)
     → xs ≡ parts_at_risk way es k
 unfolding parts_at_risk

@@ -9,7 +9,7 @@ use Rattle.cases.proofs.Cases.{AreKinds}
 use Rattle.cases.proofs.Numbered.{kept_fates, fates_first, kept_twice}
 
 -- two tests, in either order
-kept_turned : {A : Type 0} (p q : A → Bool) (xs : List A) → filter q (filter p xs) ≡ filter p (filter q xs)
+pub kept_turned : {A : Type 0} (p q : A → Bool) (xs : List A) → filter q (filter p xs) ≡ filter p (filter q xs)
 kept_turned p q [] = refl
 kept_turned p q (x ∷ xs) = by_tests (p x) (q x) refl refl (kept_turned p q xs)
   where

@@ -1,6 +1,6 @@
 -- Sectors of the image of a case's representative that are those of a unit.
 use Rattle.std.proofs.lemmas.Bool.Decides.{nat_tests}
-use Rattle.std.proofs.Common.{nat_lt, ℕ, zero, suc, ◌≡◌, ◌+◌, ◌-◌, ◌/◌, ◌<◌, ◌≤◌, ◌⊎◌, Bool, true, false, not, ◌&&◌, if◌then◌else◌, List, [], length, slice_get, slice_index, slice_index_or, Option, None, Some, refl, sym, subst, ◌∙◌, ap, arith, inl, inr}
+use Rattle.std.proofs.Common.{nat_lt, ℕ, zero, suc, ◌≡◌, ◌+◌, ◌-◌, ◌/◌, ◌<◌, ◌≤◌, ◌⊎◌, Bool, true, false, not, ◌&&◌, if◌then◌else◌, List, [], length, slice_get, slice_index, slice_index_or, Option, None, Some, refl, sym, subst, ◌∙◌, ap, arith, inl}
 use Rattle.std.specs.Option.{option_map_or}
 use Rattle.logfmt.specs.declared.entry.Entry.{Entry}
 use Rattle.logfmt.specs.Bounds.{LogValue}
@@ -20,9 +20,8 @@ use Rattle.cases.specs.Trees.{is_torn}
 use Rattle.cases.specs.Sets.{has, fate_at, fates_in}
 use Rattle.cases.specs.AtCut.{CutValue, parts_of, Apart, case_of, image_of}
 use Rattle.cases.specs.Table.{leaves_piece, IsNext}
-use Rattle.cases.specs.declared.lend.Reach.{Reach}
 use Rattle.cases.specs.declared.lend.Reach.TheVariants as reach
-use Rattle.cases.specs.Lent.{reach_with, LeavesEach, ReachesSo, IsTornOver}
+use Rattle.cases.specs.Lent.{reach_with, LeavesEach, ReachesSo}
 use Rattle.cases.proofs.Numbered.{none_has}
 use Rattle.cases.proofs.Chosen.{case_there}
 use Rattle.cases.proofs.Rows.{initial_long}

@@ -15,3 +15,6 @@ pub mod Runs
 pub mod Forming
 pub mod Lending
 pub mod Once
+pub mod Narrowing
+pub mod Keeping
+pub mod Alone

@@ -50,6 +50,16 @@ without_numbers bits other fits i within =
     tested (suc zero) (suc (suc b)) n small less is = absurd (omega (arith, less))
     tested (suc (suc a)) b n small less is = absurd (omega (arith, small))
 
+pub both_numbers : (bits other i : ℕ) → has (bit_and bits other) i ≡ (has bits i && has other i)
+both_numbers bits other i = has_bit (bit_and bits other) i _ (bit_at_and bits other i) ∙ tested (bit_at bits i) (bit_at other i) (bit_at-lt bits i) (bit_at-lt other i)
+  where
+    tested : (a b : ℕ) → a < 2 → b < 2 → (Rattle.std.proofs.Common.min a b == 1) ≡ ((a == 1) && (b == 1))
+    tested zero b small less = grind (arith, nat_tests)
+    tested (suc zero) zero small less = refl
+    tested (suc zero) (suc zero) small less = refl
+    tested (suc zero) (suc (suc b)) small less = absurd (omega (arith, less))
+    tested (suc (suc a)) b small less = absurd (omega (arith, small))
+
 -- numbers of a range that pass a test
 
 pub same_kept : (p q : ℕ → Bool) (a n : ℕ) → ((i : ℕ) → a ≤ i → i < a + n → p i ≡ q i) → filter p (range_with_len a n) ≡ filter q (range_with_len a n)

@@ -1,5 +1,5 @@
 -- The tree of a cut and a program is one.
-use Rattle.std.proofs.Common.{ℕ, ◌≡◌, ◌≤◌, Bool, true, false, List, [], ◌∷◌, ◌++◌, length, map, Option, None, Some, refl, sym, subst, ◌∙◌, ap, arith}
+use Rattle.std.proofs.Common.{◌≡◌, ◌≤◌, List, ◌∷◌, ◌++◌, length, map, None, Some, refl, sym, subst, ◌∙◌, ap, arith}
 use Rattle.std.proofs.lemmas.Bool.{false≢true}
 use Rattle.cases.specs.Cases.{Case, Split, with_part}
 use Rattle.cases.specs.Trees.{Subject, split_of, AreLeaves, no_case, is_beyond, is_leaf, is_split}

@@ -4,7 +4,7 @@ use Rattle.std.specs.List.{range_with_len}
 use Rattle.std.proofs.lemmas.Bool.Decides.{nat_tests}
 use Rattle.std.proofs.lemmas.List.{length-map, drop_all}
 use Rattle.std.proofs.Math.Seq.{drop-cons}
-use Rattle.std.proofs.lemmas.Option.{get_or_from_slice_get}
+use Rattle.std.proofs.lemmas.Option.{get_or_from_slice_get, MatchOption-at_some, MatchOption-at_none}
 use Rattle.logfmt.specs.Bounds.{LogValue}
 use Rattle.epochs.specs.declared.unit.Unit.{Unit as LogUnit}
 use Rattle.epochs.specs.declared.part.Part.{Part}
@@ -16,7 +16,7 @@ use Rattle.cases.specs.Risk.{is_at_risk}
 use Rattle.cases.specs.Rows.{row, part_with, shows}
 use Rattle.cases.specs.Cases.{Case, Split, show_alike, firsts, kinds, matters, split_or, split_in_row, first_split, or_else}
 use Rattle.cases.specs.Sets.{fates_in, pieces_in, numbers_in}
-use Rattle.cases.specs.AtCut.{CutValue, parts_of, Apart, case_of, split_by}
+use Rattle.cases.specs.AtCut.{CutValue, parts_of, Apart, case_of, split_by, IsFound}
 use Rattle.cases.specs.Table.{IsNext}
 use Rattle.epochs.specs.Laws.{last_flush}
 use Rattle.epochs.proofs.Runs.{last_flush_le}
@@ -27,7 +27,7 @@ use Rattle.cases.proofs.Chosen.{case_there}
 
 -- of no pieces no part tells anything
 
-one_kind : (alike : Option Fate → Option Fate → Bool) (fates : List (Option Fate)) → ((f g : Option Fate) → alike f g ≡ true) → nat_lt 1 (length (firsts alike fates)) ≡ false
+pub one_kind : (alike : Option Fate → Option Fate → Bool) (fates : List (Option Fate)) → ((f g : Option Fate) → alike f g ≡ true) → nat_lt 1 (length (firsts alike fates)) ≡ false
 one_kind alike [] all = refl
 one_kind alike (f ∷ fs) all = ap (λ (gs : List (Option Fate)). nat_lt 1 (suc (length gs))) (gone (firsts alike fs))
   where
@@ -67,14 +67,12 @@ parted below p u pieces fates groups is many =
     ap (λ b. if b then Some (record { part = p; groups = kinds alike fates }) else below (filter (λ i. not (shows (slice_index_or fates 0 None) p u i)) pieces)) two
     ∙ ap (λ gs. Some (record { part = p; groups = gs })) (sym is)
 
-pub not_parted : (below : List ℕ → Option Split) (p : Part) (u : LogUnit) (pieces : List ℕ) (fates : List (Option Fate)) (groups : List ℕ)
-    → map fates_in groups ≡ kinds (show_alike p u pieces) fates → length groups ≤ 1
-    → split_or below p u pieces fates ≡ below (filter (λ i. not (shows (slice_index_or fates 0 None) p u i)) pieces)
-not_parted below p u pieces fates groups is few =
-    let alike = show_alike p u pieces in
+-- of few groups it tells nothing
+pub few_kinds : (alike : Option Fate → Option Fate → Bool) (fates : List (Option Fate)) (groups : List ℕ) → map fates_in groups ≡ kinds alike fates → length groups ≤ 1
+    → nat_lt 1 (length (firsts alike fates)) ≡ false
+few_kinds alike fates groups is few =
     let long : length groups ≡ length (firsts alike fates) = sym (length-map groups fates_in) ∙ ap (λ (gs : List (List (Option Fate))). length gs) is ∙ length-map (firsts alike fates) (λ x. filter (alike x) fates) in
-    let one : nat_lt 1 (length (firsts alike fates)) ≡ false = grind (arith, nat_tests, long, few) in
-    ap (λ b. if b then Some (record { part = p; groups = kinds alike fates }) else below (filter (λ i. not (shows (slice_index_or fates 0 None) p u i)) pieces)) one
+    grind (arith, nat_tests, long, few)
 
 -- the row of a sector from a cut down, so far
 
@@ -176,25 +174,35 @@ row_found at s sets wanted cut u number pieces set part it long before unit own 
     )
 
 -- it doesn't, and the row goes on
+pub row_left : (at : CutValue) (s : ℕ) (sets : List ℕ) (wanted cut : ℕ) (u : LogUnit) (number pieces set next : ℕ) (part : Part)
+    → RowSo at s sets wanted cut → UnitSo at s sets wanted cut u number pieces → part ≡ part_with at.way at.log.entries u → set ≡ slice_index_or sets number 0
+    → nat_lt 1 (length (firsts (show_alike part u (pieces_in pieces)) (fates_in set))) ≡ false
+    → pieces_in next ≡ filter (λ i. not (shows (slice_index_or (fates_in set) 0 None) part u i)) (pieces_in pieces)
+    → last_flush at.log.entries at.cut ≤ u.entry → RowSo at s sets next u.entry
+row_left at s sets wanted cut u number pieces set next part before unit own held few hidden behind =
+    let p : Part = part_with at.way at.log.entries u in
+    let fates : List (Option Fate) = fates_in (slice_index_or sets number 0) in
+    let one : nat_lt 1 (length (firsts (show_alike p u (pieces_in pieces)) fates)) ≡ false =
+    sym (λ i. nat_lt 1 (length (firsts (show_alike (own i) u (pieces_in pieces)) (fates_in (held i))))) ∙ few in
+    let left : filter (λ i. not (shows (slice_index_or fates 0 None) p u i)) (pieces_in pieces) ≡ pieces_in next =
+    sym (hidden ∙ (λ j. filter (λ i. not (shows (slice_index_or (fates_in (held j)) 0 None) (own j) u i)) (pieces_in pieces))) in
+    record {
+      so = λ tears.
+          row_unit at s sets wanted cut u number pieces before unit tears
+          ∙ ap (λ b. if b then Some (record { part = p; groups = kinds (show_alike p u (pieces_in pieces)) fates })
+          else split_in_row at.log at.way at.cut s (case_of tears (parts_of at) sets) (row at.log.entries u.entry s) (filter (λ i. not (shows (slice_index_or fates 0 None) p u i)) (pieces_in pieces))) one
+          ∙ ap (split_in_row at.log at.way at.cut s (case_of tears (parts_of at) sets) (row at.log.entries u.entry s)) left;
+      low = let one = unit.next.before in let two = before.low in omega (arith, one, two);
+      high = behind;
+    }
+
 pub row_passed : (at : CutValue) (s : ℕ) (sets : List ℕ) (wanted cut : ℕ) (u : LogUnit) (number pieces set next : ℕ) (part : Part) (groups : List ℕ)
     → RowSo at s sets wanted cut → UnitSo at s sets wanted cut u number pieces → part ≡ part_with at.way at.log.entries u → set ≡ slice_index_or sets number 0
     → map fates_in groups ≡ kinds (show_alike part u (pieces_in pieces)) (fates_in set) → length groups ≤ 1
     → pieces_in next ≡ filter (λ i. not (shows (slice_index_or (fates_in set) 0 None) part u i)) (pieces_in pieces)
     → last_flush at.log.entries at.cut ≤ u.entry → RowSo at s sets next u.entry
 row_passed at s sets wanted cut u number pieces set next part groups before unit own held are few hidden behind =
-    let p : Part = part_with at.way at.log.entries u in
-    let fates : List (Option Fate) = fates_in (slice_index_or sets number 0) in
-    let kinds_are : map fates_in groups ≡ kinds (show_alike p u (pieces_in pieces)) fates = are ∙ (λ i. kinds (show_alike (own i) u (pieces_in pieces)) (fates_in (held i))) in
-    let left : filter (λ i. not (shows (slice_index_or fates 0 None) p u i)) (pieces_in pieces) ≡ pieces_in next =
-    sym (hidden ∙ (λ j. filter (λ i. not (shows (slice_index_or (fates_in (held j)) 0 None) (own j) u i)) (pieces_in pieces))) in
-    record {
-      so = λ tears.
-          row_unit at s sets wanted cut u number pieces before unit tears
-          ∙ not_parted (split_in_row at.log at.way at.cut s (case_of tears (parts_of at) sets) (row at.log.entries u.entry s)) p u (pieces_in pieces) fates groups kinds_are few
-          ∙ ap (split_in_row at.log at.way at.cut s (case_of tears (parts_of at) sets) (row at.log.entries u.entry s)) left;
-      low = let one = unit.next.before in let two = before.low in omega (arith, one, two);
-      high = behind;
-    }
+    row_left at s sets wanted cut u number pieces set next part before unit own held (few_kinds (show_alike part u (pieces_in pieces)) (fates_in set) groups are few) hidden behind
 
 -- of some sectors, one after the other
 
@@ -209,3 +217,12 @@ sectors_next at c sectors i s o within read is =
 
 pub sectors_end : (at : CutValue) (c : Case) (sectors : List ℕ) (i : ℕ) → length sectors ≤ i → first_split at.log at.way at.cut c (drop i sectors) ≡ None
 sectors_end at c sectors i past = ap (first_split at.log at.way at.cut c) (drop_all i sectors past)
+
+-- what was found of a split
+
+pub found_there : (parts : List Part) (split : Option Split) (found : Option Parted) (it : Parted) → found ≡ Some it → IsFound parts found split
+    → (it.part < length parts) × (split ≡ Some (split_by parts it))
+found_there parts split found it is told = MatchOption-at_some (split ≡ None) (λ (x : Parted). (x.part < length parts) × (split ≡ Some (split_by parts x))) it is told
+
+pub found_not : (parts : List Part) (split : Option Split) (found : Option Parted) → found ≡ None → IsFound parts found split → split ≡ None
+found_not parts split found is told = MatchOption-at_none (split ≡ None) (λ (x : Parted). (x.part < length parts) × (split ≡ Some (split_by parts x))) is told

@@ -11,3 +11,4 @@ pub mod Table
 pub mod Lent
 pub mod Search
 pub mod Once
+pub mod Known

@@ -1,5 +1,5 @@
 -- The tree of a cut and a program is one.
-use Rattle.std.specs.Prelude.{ℕ, ◌≡◌, ◌≤◌, List, length}
+use Rattle.std.specs.Prelude.{◌≡◌, ◌≤◌, List, length}
 use Rattle.cases.specs.Cases.{Case}
 use Rattle.cases.specs.Trees.{Subject, AreLeaves}
 use Rattle.cases.specs.Search.{LeadTo}

@@ -38,6 +38,14 @@ pub(crate) fn without(bits: u16, other: u16) -> u16
     bits & !other
 }
 
+/// What of a set is in another too.
+#[inline(always)]
+pub(crate) fn both(bits: u16, other: u16) -> u16
+    ensures { (i : ℕ) → has result i ≡ (has bits i && has other i) }
+{
+    bits & other
+}
+
 /// The least number of a set that isn't empty.
 #[inline(always)]
 pub(crate) fn least(bits: u16) -> u8

@@ -125,7 +125,7 @@ fn put_risky(
     Ok(())
 }
 
-/// The parts at risk at a cut, by entry and then by sector.
+/// The parts at risk at a cut, by entry and then by sector. No entry before the last flush entry has one.
 fn parts_at_risk(
     alloc: Global,
     log: &Log,
@@ -138,7 +138,7 @@ fn parts_at_risk(
     ensures { IfOk result (λ parts. parts.items ≡ parts_at_risk way log.now.entries cut) }
 {
     let mut parts = Vec::new(alloc);
-    for number in 0..cut {
+    for number in flush..cut {
         put_risky(&mut parts, log, way, cut, flush, number)?;
     }
     Ok(parts)

@@ -1,9 +1,11 @@
 //! What may become of a part, by number, and what that shows of a sector.
 
-ghost use Rattle.std.specs.Prelude.{◌≡◌, ◌<◌, ◌&&◌, ℕ, not, if◌then◌else◌, map, filter, slice_index_or, None};
+ghost use Rattle.std.specs.Prelude.{◌≡◌, ◌<◌, ◌&&◌, ℕ, nat_lt, not, false, if◌then◌else◌, length, map, filter, slice_index_or, None, IsTrue, MatchOption};
+ghost use Rattle.epochs.specs.declared.part.Part.{Part as LogPart};
+ghost use Rattle.epochs.specs.declared.unit.Unit.{Unit as LogUnit};
 ghost use Rattle.cases.specs.Sets.{has, fate_at, fates_in, pieces_in};
 ghost use Rattle.cases.specs.Rows.{shows};
-ghost use Rattle.cases.specs.Cases.{show_alike, kinds};
+ghost use Rattle.cases.specs.Cases.{show_alike, firsts, kinds};
 
 use crate::bits::{has, least, with_if, without};
 use arrayvec::ArrayVec;
@@ -116,6 +118,41 @@ pub(crate) fn groups_of(part: Part, unit: Unit, pieces: u16, set: u16) -> ArrayV
         rest = without(rest, group);
     }
     groups
+}
+
+/// Whether a set has one fate alone, or no piece is to tell any apart. It may answer `false` where that is so.
+#[inline(always)]
+fn is_told(pieces: u16, set: u16) -> bool
+    ensures { (part : LogPart) (unit : LogUnit) → IsTrue result → nat_lt 1 (length (firsts (show_alike part unit (pieces_in pieces)) (fates_in set))) ≡ false }
+{
+    pieces == 0 || (set == 1 || set == 2)
+}
+
+/// The groups of a set, if they are more than one.
+#[inline(always)]
+pub(crate) fn groups_if(part: Part, unit: Unit, pieces: u16, set: u16) -> Option<ArrayVec<u16, 16>>
+    ensures { MatchOption result (nat_lt 1 (length (firsts (show_alike part unit (pieces_in pieces)) (fates_in set))) ≡ false)
+        (λ groups. (map fates_in groups.items ≡ kinds (show_alike part unit (pieces_in pieces)) (fates_in set)) × (1 < length groups.items)) }
+{
+    if is_told(pieces, set) {
+        return None;
+    }
+    let groups = groups_of(part, unit, pieces, set);
+    if groups.len() > 1 { Some(groups) } else { None }
+}
+
+/// Those of some pieces that a part doesn't show with the first fate of a set, which may be whole or the drop.
+#[inline(always)]
+pub(crate) fn left_of(part: Part, unit: Unit, pieces: u16, set: u16) -> u16
+    ensures { pieces_in result ≡ filter (λ i. not (shows (slice_index_or (fates_in set) 0 None) part unit i)) (pieces_in pieces) }
+{
+    if set == 1 {
+        return 0;
+    }
+    if set == 2 {
+        return pieces;
+    }
+    hidden(part, unit, pieces, set)
 }
 
 /// Those of some pieces that a part doesn't show with the first fate of a set.

@@ -26,7 +26,7 @@ pub(crate) enum Reach {
 
 /// What reaches the device of a part with a fate, by the number of that.
 #[tactic(auto, using(crate::proofs::Lending::reach_whole, crate::proofs::Lending::reach_gone, crate::proofs::Lending::reach_torn))]
-fn reach_at(fate: u8) -> Reach
+pub(crate) fn reach_at(fate: u8) -> Reach
     ensures { result ≡ reach_with (fate_at fate) }
 {
     if fate == 0 {

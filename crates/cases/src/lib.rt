@@ -27,6 +27,7 @@
 //!   when a part by its number and the sets of its groups are the split of a case (`IsFound`).
 //! - `Search`: a search as a value, the cases that it has still to explore (`pending`), and when a judge was told of exactly the leaves
 //!   of a cut (`FoundCases`).
+//! - `Known`: a row as it is kept.
 //! - `Once`: that the tree is one.
 //!
 //! # The calls
@@ -43,23 +44,29 @@
 //! | `cut.sector(sets, number)` | a sector of the image of a case's representative, however many parts are lost or torn in it |
 //! | `cut.lent(sets, number)` | the same, borrowed, where the log has it as it is; none where a torn part covers it |
 //! | `cut.sectors()`, `cut.number()` | how many sectors the device has; the number of the cut |
+//! | `rows.first_split(sets, sectors)`, `rows.lent(sets, number)` | the same of a `KnownRows`, which keeps the rows of the sectors that were looked for. `rows.cut()` is its cut, `rows.sectors()` the size of the device |
 //! | `fate_at(number)` | the fate of a number, `None` for whole |
 //! | `is_torn_first(set)` | whether the representative tears a part with that set |
 //! | `first_of(set)` | the first fate of a set, which is that of the representative |
 //!
-//! A `Judge` is a program that is run on the image of a case's representative. It answers what `cut.first_split` says of the sectors at
-//! which the program looked, all of them, and it is told which cases are leaves. So verified programs and others can be judges.
+//! A `Judge` is a program that is run on the image of a case's representative (`look`). It answers what `first_split` says of the sectors
+//! at which the program looked, all of them (`split`), and it is told which cases are leaves. So verified programs and others can be judges.
 //!
 //! # How it searches
 //!
 //! A case is a set of fates for each part at risk. The search keeps one, and on a stack the part of each split that led to it, with the
 //! set of the part before, and the groups that weren't taken yet. From a case it goes down: the first group of a split becomes the case,
 //! until none splits it. Then it takes the next group of the last split that has one, and puts back the sets of those that have none. So
-//! a case needs no memory but a place on the stack for each split, which is kept for the next. No call but `Cut::new`, `Search::new` and
-//! the growth of that stack takes memory.
+//! a case needs no memory but a place on the stack for each split, which is kept for the next.
+//!
+//! The first group of a split has the same representative, so the same image. So the program isn't run again on the way down (`narrow`):
+//! its last footprint is gone on with, and there is one run for each leaf.
 //!
 //! `first_split` goes through the rows of the sectors, each from the last unit before the cut down. It finds the next unit by a walk over
-//! the entries, down to the last flush entry: what stands before that isn't at risk.
+//! the entries, down to the last flush entry: what stands before that isn't at risk. A search keeps each row that it has gone through
+//! (`KnownRows`): the units at risk, with the numbers of their parts and with the pieces that matter, and the unit below them. So a row is
+//! made once for a cut, and a case costs a few instructions for each unit. No call but `Cut::new`, `Search::new`, a new row and the
+//! growth of the stack takes memory.
 //!
 //! # What is proved
 //!
@@ -100,6 +107,7 @@ mod bits;
 mod cut;
 mod fates;
 mod form;
+mod known;
 mod laws;
 mod lend;
 mod row;
@@ -108,6 +116,7 @@ mod split;
 
 pub use cut::Cut;
 pub use fates::{fate_at, first_of};
+pub use known::KnownRows;
 pub use laws::{each_is_in_one, last_cuts_have_all, leaves_end_alike, tree_is_one};
 pub use lend::is_torn_first;
 pub use search::{Beyond, Judge, Search, find_cases};

@@ -175,7 +175,7 @@ fn part_of(log: &Log, way: By, unit: Unit) -> Part
 
 impl<'a> Cut<'a> {
     /// Those of some pieces of a unit that matter: in which the sector may hold something else below it.
-    fn matter(&self, unit: Unit, pieces: u16) -> u16
+    pub(crate) fn matter(&self, unit: Unit, pieces: u16) -> u16
         requires unit { IsUnit self.now.log unit }
         requires before { unit.entry < self.now.cut }
         ensures { pieces_in result ≡ filter (matters self.now.log self.now.cut unit.sector unit (row self.now.log.entries unit.entry unit.sector)) (pieces_in pieces) }
@@ -216,7 +216,7 @@ impl<'a> Cut<'a> {
     }
 
     /// The first part of a sector's row whose fates in a case show something different of it.
-    fn split_in_row(&self, sets: &[u16], sector: u32) -> Option<Parted>
+    pub(crate) fn split_in_row(&self, sets: &[u16], sector: u32) -> Option<Parted>
         requires { length sets.now ≡ length (parts_of self.now) }
         ensures { (tears : Bool) → IsFound (parts_of self.now) result (split_in_row self.now.log self.now.way self.now.cut sector (case_of tears (parts_of self.now) sets.now) (row self.now.log.entries self.now.cut sector) (range_with_len 0 8)) }
     {

@@ -5,15 +5,16 @@ ghost use Rattle.std.specs.Option.{option_map_or};
 ghost use Rattle.machine.specs.Outcome.{Ending};
 ghost use Rattle.epochs.specs.declared.part.Part.{Part as LogPart};
 ghost use Rattle.cases.specs.declared.search.Frame.{Frame as Framed};
-ghost use Rattle.cases.specs.Cases.{representative, whole_case};
+ghost use Rattle.cases.specs.Cases.{representative, whole_case, first_split};
 ghost use Rattle.cases.specs.Sets.{all_torn, all_lost, fates_in};
 ghost use Rattle.cases.specs.Choices.{all_fates};
 ghost use Rattle.cases.specs.Trees.{Program, ending_of};
-ghost use Rattle.cases.specs.AtCut.{parts_of, case_of, image_of, split_at, IsFound};
+ghost use Rattle.cases.specs.AtCut.{parts_of, case_of, image_of, IsFound};
 ghost use Rattle.cases.specs.Search.{case_in, others, pending, subject_of, SameSearch, OnlyCounts, Counted, Descends, Took, Went, LeafValue, Ran, FoundCases, BegunCases, count_torn, count_lost};
 
 use crate::bits::has;
 use crate::cut::Cut;
+use crate::known::KnownRows;
 use crate::split::Parted;
 use arrayvec::ArrayVec;
 use std::alloc::{AllocError, Global};
@@ -35,22 +36,25 @@ pub trait Judge {
     /// What its last run ended in.
     ghost ending: { Self → Ending };
 
+    /// At which sectors it looked in its last run, in their order.
+    ghost looked: { Self → List ℕ };
+
     /// The leaves that it was told of, in order.
     ghost leaves: { Self → List LeafValue };
 
-    /// Runs it on the image of the representative of a case, and answers which part splits the case: the first one of the sectors at
-    /// which the program looked, however many these are.
-    fn judge(
-        &mut self,
-        cut: &Cut<'_>,
-        tears: bool,
-        sets: &[u16],
-    ) -> Result<Option<Parted>, AllocError>
-        requires { length sets.now ≡ length (parts_of cut.now) }
+    /// Runs it on the image of the representative of a case.
+    fn look(&mut self, rows: &KnownRows<'_>, tears: bool, sets: &[u16]) -> Result<(), AllocError>
+        requires { length sets.now ≡ length (parts_of rows.now) }
         ensures same { program self.new ≡ program self.old }
         ensures kept { leaves self.new ≡ leaves self.old }
-        ensures ending { OnOk result (ending self.new ≡ (program self.old).ending (image_of cut.now (case_of tears (parts_of cut.now) sets.now))) }
-        ensures split { IfOk result (λ found. IsFound (parts_of cut.now) found (split_at cut.now (program self.old) (case_of tears (parts_of cut.now) sets.now))) };
+        ensures ending { OnOk result (ending self.new ≡ (program self.old).ending (image_of rows.now (case_of tears (parts_of rows.now) sets.now))) }
+        ensures looked { OnOk result (looked self.new ≡ (program self.old).footprint (image_of rows.now (case_of tears (parts_of rows.now) sets.now))) };
+
+    /// Which part splits a case: the first one of the sectors at which the program looked in its last run, however many these are.
+    fn split(&self, rows: &mut KnownRows<'_>, sets: &[u16]) -> Result<Option<Parted>, AllocError>
+        requires { length sets.now ≡ length (parts_of rows.old) }
+        ensures rows { rows.new ≡ rows.old }
+        ensures found { (tears : Bool) → IfOk result (λ found. IsFound (parts_of rows.old) found (first_split rows.old.log rows.old.way rows.old.cut (case_of tears (parts_of rows.old) sets.now) (looked self.now))) };
 
     /// Is told that a case is a leaf. Its last run was on the representative of it.
     fn tell(&mut self, cut: &Cut<'_>, sets: &[u16]) -> Result<(), AllocError>
@@ -161,27 +165,51 @@ fn count_lost(sets: &[u16]) -> usize
     count
 }
 
-/// Runs a program on a case, and on the first group of each split, until a case isn't split.
+/// Goes on from a case to the first group of each split, until a case isn't split. The first group has the same representative, so the
+/// judge's last run tells of all these cases.
+fn narrow<J: Judge>(
+    rows: &mut KnownRows<'_>,
+    tears: bool,
+    sets: &mut Vec<u16>,
+    frames: &mut Vec<Frame>,
+    judge: &J,
+) -> Result<(), AllocError>
+    requires sets { length sets.old.items ≡ length (parts_of rows.old) }
+    requires frames { All (λ (f : Framed). f.part < length sets.old.items) frames.old.items }
+    requires looked { J.looked judge.now ≡ (J.program judge.now).footprint (image_of rows.old (case_of tears (parts_of rows.old) sets.old.items)) }
+    ensures rows { rows.new ≡ rows.old }
+    ensures sets { length sets.new.items ≡ length sets.old.items }
+    ensures frames { All (λ (f : Framed). f.part < length sets.new.items) frames.new.items }
+    ensures image { OnOk result (image_of rows.old (case_of tears (parts_of rows.old) sets.new.items) ≡ image_of rows.old (case_of tears (parts_of rows.old) sets.old.items)) }
+    ensures leads { (torn : ℕ) (lost : Option ℕ) → OnOk result (Descends (record { at = rows.old; torn = torn; lost = lost }) (J.program judge.now) tears sets.old.items (reverse frames.old.items) sets.new.items (reverse frames.new.items)) }
+{
+    let _cut = rows.cut();
+    'deeper: while let Some(it) = judge.split(rows, sets.as_slice())? {
+        put_split(sets, frames, it)?;
+    }
+    Ok(())
+}
+
+/// Runs a program on a case, and goes down to a leaf.
 fn descend<J: Judge>(
-    cut: &Cut<'_>,
+    rows: &mut KnownRows<'_>,
     tears: bool,
     sets: &mut Vec<u16>,
     frames: &mut Vec<Frame>,
     judge: &mut J,
 ) -> Result<(), AllocError>
-    requires sets { length sets.old.items ≡ length (parts_of cut.now) }
+    requires sets { length sets.old.items ≡ length (parts_of rows.old) }
     requires frames { All (λ (f : Framed). f.part < length sets.old.items) frames.old.items }
+    ensures rows { rows.new ≡ rows.old }
     ensures sets { length sets.new.items ≡ length sets.old.items }
     ensures frames { All (λ (f : Framed). f.part < length sets.new.items) frames.new.items }
     ensures same { J.program judge.new ≡ J.program judge.old }
     ensures kept { J.leaves judge.new ≡ J.leaves judge.old }
-    ensures ending { OnOk result (J.ending judge.new ≡ (J.program judge.old).ending (image_of cut.now (case_of tears (parts_of cut.now) sets.new.items))) }
-    ensures leads { (torn : ℕ) (lost : Option ℕ) → OnOk result (Descends (record { at = cut.now; torn = torn; lost = lost }) (J.program judge.old) tears sets.old.items (reverse frames.old.items) sets.new.items (reverse frames.new.items)) }
+    ensures ending { OnOk result (J.ending judge.new ≡ (J.program judge.old).ending (image_of rows.old (case_of tears (parts_of rows.old) sets.new.items))) }
+    ensures leads { (torn : ℕ) (lost : Option ℕ) → OnOk result (Descends (record { at = rows.old; torn = torn; lost = lost }) (J.program judge.old) tears sets.old.items (reverse frames.old.items) sets.new.items (reverse frames.new.items)) }
 {
-    let _parts = cut.parts();
-    'deeper: while let Some(it) = judge.judge(cut, tears, sets.as_slice())? {
-        put_split(sets, frames, it)?;
-    }
+    judge.look(rows, tears, sets.as_slice())?;
+    narrow(rows, tears, sets, frames, judge)?;
     Ok(())
 }
 
@@ -193,7 +221,7 @@ fn descend<J: Judge>(
 /// takes no more memory.
 #[derive(Drop)]
 pub struct Search<'a> {
-    cut: &'a Cut<'a>,
+    rows: KnownRows<'a>,
     tears: bool,
     torn: u32,
     lost: Option<u32>,
@@ -210,7 +238,7 @@ impl<'a> Model for Search<'a> {
     ghost Value = { SearchValue };
 
     ghost view = { λ s. record {
-      asked = record { at = s.cut.now; torn = s.torn; lost = s.lost };
+      asked = record { at = s.rows; torn = s.torn; lost = s.lost };
       tears = s.tears;
       sets = s.sets.items;
       fresh = s.fresh;
@@ -219,7 +247,7 @@ impl<'a> Model for Search<'a> {
       lost_beyond = s.lost_beyond;
     } };
 
-    ghost invariant = { λ s. IsSearch s.cut.now s.sets.items s.frames.items };
+    ghost invariant = { λ s. IsSearch s.rows s.sets.items s.frames.items };
 }
 
 impl<'a> Search<'a> {
@@ -238,8 +266,9 @@ impl<'a> Search<'a> {
     {
         let sets = sets_of(alloc, cut.parts().len(), all_of(tears))?;
         let _log = cut.log();
+        let rows = KnownRows::new(alloc, cut);
         Ok(Search {
-            cut,
+            rows,
             tears,
             torn,
             lost,
@@ -348,7 +377,7 @@ impl<'a> Search<'a> {
             return Ok(false);
         }
         descend(
-            self.cut,
+            &mut self.rows,
             self.tears,
             &mut self.sets,
             &mut self.frames,
@@ -362,8 +391,9 @@ impl<'a> Search<'a> {
         ensures program { J.program judge.new ≡ J.program judge.old }
         ensures told { OnOk result (J.leaves judge.new ≡ J.leaves judge.old ++ record { sets = self.now.sets; ending = J.ending judge.old } ∷ []) }
     {
-        let _parts = self.cut.parts();
-        judge.tell(self.cut, self.sets.as_slice())
+        let cut = self.rows.cut();
+        let _parts = cut.parts();
+        judge.tell(cut, self.sets.as_slice())
     }
 
     /// Goes on from leaf to leaf, to at most `most` of them, and tells a judge of each. Answers `true` where there is no other leaf, and

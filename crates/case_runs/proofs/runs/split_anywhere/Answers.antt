@@ -1,20 +1,18 @@
-use Rattle.std.proofs.Common.{ℕ, ◌≡◌, ◌<◌, sym, subst, ◌∙◌, ap, arith}
-use Rattle.cases.specs.AtCut.{CutValue}
+use Rattle.std.proofs.Common.{ℕ, ◌≡◌, ◌<◌, arith}
+use Rattle.std.proofs.lemmas.Option.{MatchOption-at_none}
 use Rattle.case_runs.proofs.Running.{split_found, split_more, split_none}
 use Rattle.case_runs.proofs.runs.split_anywhere.Goals as goal
 
 pub returns-in-Some : goal.returns-in-Some
-returns-in-Some c =
-    let many = c.sectors-sector-end.ensures.value ∙ ap (λ (at : CutValue). at.log.sectors) c.cut.ensures.value in
-    let less : c.loop-sector.sector < c.args.image.now.at.log.sectors = let t = c.loop-sector-test.true in omega (arith, t, many) in
-    split_found c.args.image.now c.loop-sector.sector c.args.image.now.at.log.sectors c.in-Some.found less c.loop-sector.invariant c.in-Some.ensures
+returns-in-Some c = λ tears.
+    let less : c.loop-sector.sector < c.args.count = c.loop-sector-test.true in
+    split_found (record { at = c.args.cut.now; tears = tears; sets = c.args.sets.now }) c.loop-sector.sector c.args.count c.in-Some.found less (c.loop-sector.invariant tears) (c.in-Some.ensures tears)
 
 pub loop-sector-preserved : goal.loop-sector-preserved
-loop-sector-preserved c = split_more c.args.image.now c.loop-sector.sector c.loop-sector.invariant c.in_default.ensures
+loop-sector-preserved c = λ tears. split_more (record { at = c.args.cut.now; tears = tears; sets = c.args.sets.now }) c.loop-sector.sector (c.loop-sector.invariant tears) (c.in_default.ensures tears)
 
 pub returns : goal.returns
-returns c =
-    let many = c.sectors-sector-end.ensures.value ∙ ap (λ (at : CutValue). at.log.sectors) c.cut.ensures.value in
+returns c = λ tears.
     let low = c.loop-sector.auto.sector-end in
     let high = c.loop-sector-test.false in
-    split_none c.args.image.now c.loop-sector.sector c.args.image.now.at.log.sectors (omega (arith, low, many)) (omega (arith, high, many)) c.loop-sector.invariant
+    split_none (record { at = c.args.cut.now; tears = tears; sets = c.args.sets.now }) c.loop-sector.sector c.args.count (omega (arith, low)) (omega (arith, high)) (c.loop-sector.invariant tears)

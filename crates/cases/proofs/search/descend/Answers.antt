@@ -1,36 +1,18 @@
-use Rattle.std.proofs.Common.{◌∙◌}
-use Rattle.cases.proofs.Paths.{gone_more, gone_all, found_some, found_none}
+use Rattle.std.proofs.Common.{ℕ, List, reverse, sym, subst, ◌∙◌, ap}
+use Rattle.cases.specs.Trees.{Program}
+use Rattle.cases.specs.AtCut.{parts_of, case_of, image_of}
+use Rattle.cases.specs.Search.{Descends}
 use Rattle.cases.proofs.search.descend.Goals as goal
 
-pub deeper-smaller : goal.deeper-smaller
-deeper-smaller g c =
-    let at = c.args.cut.now in
+pub returns-clause-ending : goal.returns-clause-ending
+returns-clause-ending g c =
+    let at = c.args.rows.now in
     let program = g.J.Judge.program c.args.judge.now in
-    let found = found_some at program (g.J.Judge.program c.deeper.judge) c.args.tears c.deeper.sets.items c.as_slice.result.now c.in_ok-it.field-0 c.in-Some.it
-    c.deeper.invariant.same c.as_slice.ensures.value c.in-Some.is c.in_ok-it.ensures.split in
-    (gone_more at program c.args.tears c.args.sets.now.items c.args.frames.now.items c.deeper.sets.items c.deeper.frames.items c.in-Some.it c.put_split.new.sets.items
-    c.put_split.new.frames.items c.parts-parts.ensures.apart c.deeper.invariant.so found c.in_ok-put_split.ensures.sets c.in_ok-put_split.ensures.frames c.in_ok-put_split.ensures.first
-    (c.in_ok-put_split.ensures.split c.args.tears _)).1
-
-pub deeper-preserved : goal.deeper-preserved
-deeper-preserved g c =
-    let at = c.args.cut.now in
-    let program = g.J.Judge.program c.args.judge.now in
-    let found = found_some at program (g.J.Judge.program c.deeper.judge) c.args.tears c.deeper.sets.items c.as_slice.result.now c.in_ok-it.field-0 c.in-Some.it
-    c.deeper.invariant.same c.as_slice.ensures.value c.in-Some.is c.in_ok-it.ensures.split in
-    record {
-      same = c.in_ok-it.ensures.same ∙ c.deeper.invariant.same;
-      kept = c.in_ok-it.ensures.kept ∙ c.deeper.invariant.kept;
-      so =
-          (gone_more at program c.args.tears c.args.sets.now.items c.args.frames.now.items c.deeper.sets.items c.deeper.frames.items c.in-Some.it c.put_split.new.sets.items
-          c.put_split.new.frames.items c.parts-parts.ensures.apart c.deeper.invariant.so found c.in_ok-put_split.ensures.sets c.in_ok-put_split.ensures.frames c.in_ok-put_split.ensures.first
-          (c.in_ok-put_split.ensures.split c.args.tears _)).0;
-    }
+    c.in_ok-look.ensures.ending ∙ ap (λ (ss : List ℕ). program.ending (image_of at (case_of c.args.tears (parts_of at) ss))) c.as_slice.ensures.value
+    ∙ sym (ap program.ending c.in_ok-narrow.ensures.image)
 
 pub returns-clause-leads : goal.returns-clause-leads
 returns-clause-leads g c = λ torn lost.
-    let at = c.args.cut.now in
-    let program = g.J.Judge.program c.args.judge.now in
-    let none = found_none at program (g.J.Judge.program c.deeper.judge) c.args.tears c.deeper.sets.items c.as_slice.result.now c.in_ok-it.field-0
-    c.deeper.invariant.same c.as_slice.ensures.value c.in_default.is c.in_ok-it.ensures.split in
-    gone_all at program c.args.tears c.args.sets.now.items c.args.frames.now.items c.deeper.sets.items c.deeper.frames.items c.deeper.invariant.so none torn lost
+    subst
+    (λ (p : Program). Descends (record { at = c.args.rows.now; torn = torn; lost = lost }) p c.args.tears c.args.sets.now.items (reverse c.args.frames.now.items) c.narrow.new.sets.items (reverse c.narrow.new.frames.items))
+    c.in_ok-look.ensures.same (c.in_ok-narrow.ensures.leads torn lost)

@@ -6,7 +6,7 @@ use Rattle.case_runs.proofs.image.CaseImage.kept.Goals as goal
 
 pub returns-then-each-number : goal.returns-then-each-number
 returns-then-each-number c =
-    found_bytes (record { at = c.self.inside.cut.now; tears = c.self.inside.tears; sets = c.self.inside.sets.now }) c.args.self.now c.self.inside.formed.now _ c.loop-each.each-index c.args.number _ _ c.self.view_is c.self.invariant.all
+    found_bytes (record { at = c.self.inside.rows.now; tears = c.self.inside.tears; sets = c.self.inside.sets.now }) c.args.self.now c.self.inside.formed.now _ c.loop-each.each-index c.args.number _ _ c.self.view_is c.self.invariant.all
     (slice_get-get_or c.self.inside.formed.now c.loop-each.each-index _ c.loop-each-test.true) c.if-each-number.true refl
 
 pub unreachable-requires : goal.unreachable-requires

@@ -1,6 +1,6 @@
-use Rattle.std.proofs.Common.{◌≡◌, ◌⊎◌, length, [], sym, ◌∙◌, ap, refl, arith}
+use Rattle.std.proofs.Common.{◌≡◌, ◌⊎◌, length, [], ◌∙◌, ap, refl, arith}
 use Rattle.std.proofs.lemmas.Option.{MatchOption-at_none}
-use Rattle.logfmt.specs.Bounds.{LogValue, IsLog}
+use Rattle.logfmt.specs.Bounds.{LogValue}
 use Rattle.logfmt.specs.Initial.{initial_sector}
 use Rattle.epochs.specs.Units.{unit_content}
 use Rattle.epochs.proofs.Contents.{unit_is_sector}

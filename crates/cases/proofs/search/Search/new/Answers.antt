@@ -7,7 +7,7 @@ use Rattle.cases.proofs.search.Search.new.Goals as goal
 
 pub returns-clause-pending : goal.returns-clause-pending
 returns-clause-pending c =
-    let parts = parts_of c.args.cut.now in
+    let parts = parts_of c.new-rows.result in
     let own : case_of c.args.tears parts c.in_ok-sets.sets.items ≡ whole_case c.args.tears =
     ap (case_of c.args.tears parts) c.in_ok-sets.ensures ∙ (λ j p. new_case c.args.tears parts (length c.parts.result.now) c.all_of.result p c.all_of.ensures j) in
     λ i. own i ∷ others c.args.tears parts c.in_ok-sets.sets.items (reverse (c.new.ensures.items i))
