@@ -11,6 +11,9 @@ the turn sets anew. What the rest of a turn takes, measured by a loop of nothing
 the processor by `valgrind --tool=callgrind`, of two lengths of each loop, and hang on nothing else that the machine does. Times,
 with --time, are the least of five rounds, and do.
 
+Last come ten checkers of examples/, each on a device that passes, with the sectors of FILE.device: a whole run, its start and
+end too, by the steps that it makes.
+
 Where two programs print another answer for a loop, a line on standard error says so, and the status is 1.
 """
 import argparse
@@ -24,7 +27,18 @@ from math import exp, log
 from pathlib import Path
 
 sys.dont_write_bytecode = True
+TOP = Path(__file__).resolve().parent.parent
+sys.path.insert(0, str(TOP / "tests"))
+sys.path.insert(0, str(TOP / "tests/rows"))
+
+from checkers import DEVICES, EXAMPLES, device  # noqa: E402
+from machine_model import Ended, Machine  # noqa: E402
+
+# Where it may, a program that is timed has a processor of its own.
+ALONE = ["chrt", "-f", "10", "taskset", "-c", "3"]
 COPIES, SHORT, LONG, TIMED = 32, 20, 60, 2_000
+SECTOR, STEPS = 512, 200_000
+CHECKERS = "adler bitmap_popcount block_types crc_sector extents free_list inode_table sorted_keys super_block two_copies".split()
 OPERATORS = ["add", "sub", "mul", "div", "or", "and", "lsh", "rsh", "neg", "mod", "xor", "mov", "arsh"]
 CONDITIONS = {"eq": 1, "gt": 2, "ge": 3, "set": 4, "ne": 5, "sgt": 6, "sge": 7, "lt": 10, "le": 11, "slt": 12, "sle": 13}
 SIZES = {"w": 0x00, "h": 0x08, "b": 0x10, "dw": 0x18}
@@ -51,7 +65,9 @@ def arithmetic():
             yield f"movsx{distance}to{bits}", (lambda r, c=group | 0xB8, o=distance: slot(c, r, 5, o)), False
     for name, code, is_old in ("le", 0xD4, True), ("be", 0xDC, True), ("swap", 0xD7, False):
         for bits in 16, 32, 64:
-            yield f"{name}{bits}", (lambda r, c=code, n=bits: slot(c, r, 0, 0, n)), is_old
+            # DPDK's le16 and le32 leave the bits above them.
+            is_same = is_old and (name != "le" or bits == 64)
+            yield f"{name}{bits}", (lambda r, c=code, n=bits: slot(c, r, 0, 0, n)), is_same
 
 
 def jumps():
@@ -97,14 +113,14 @@ BEFORE = [
 
 
 def program(body, turns):
-    """The bytes of a loop over these slots, of so many turns. What registers 1 to 4 hold behind each goes into the answer."""
+    """The bytes of a loop over these slots, of that many turns. What registers 1 to 4 hold after each goes into the answer."""
     turn = b"".join(SETTING) + body + b"".join(slot(0x0F, 6, r) for r in (1, 2, 3, 4)) + slot(0x17, 9, 0, 0, 1)
     back = slot(0x55, 9, 0, -len(turn) // 8 - 1, 0)
     return b"".join(BEFORE) + slot(0xB7, 9, 0, 0, turns) + turn + back + slot(0xBF, 0, 6) + slot(0x95)
 
 
 def local_calls(turns):
-    """The same of calls of a local function, which stands behind the end."""
+    """The bytes of a loop with calls of a local function, which stands after the end."""
     turn = b"".join(SETTING) + COPIES * slot(0x85) + b"".join(slot(0x0F, 6, r) for r in (1, 2, 3, 4)) + slot(0x17, 9, 0, 0, 1)
     start = len(b"".join(BEFORE)) // 8 + 1 + len(SETTING)
     end = len(b"".join(BEFORE) + turn) // 8 + 4
@@ -115,10 +131,53 @@ def local_calls(turns):
 
 
 class Row:
-    """A loop with its name, the number of its copies a turn in steps, and whether DPDK has all its codes."""
+    """A loop with its name, the number of its copies a turn in steps, and whether DPDK has all its codes. Or a program that is run
+    as a whole, with the steps of a run and the sectors on which it runs."""
 
-    def __init__(self, name, made, steps, is_old):
-        self.name, self.made, self.steps, self.is_old = name, made, steps, is_old
+    def __init__(self, name, made, steps, is_old, sectors=None):
+        self.name, self.made, self.steps, self.is_old, self.sectors = name, made, steps, is_old, sectors
+        self.runs = 1 if sectors is None else max(1, STEPS // steps)
+
+    def cost(self, turn, nothing):
+        """What a step costs, of the cost of a turn and of a turn of nothing, or of a run."""
+        return (turn - nothing if self.sectors is None else turn) / self.steps
+
+
+class Held:
+    """The image on which a checker runs."""
+
+    def __init__(self, content):
+        self.content, self.run = content, self
+        self.sectors = len(content) // SECTOR
+
+    def sector(self, number):
+        return self.content[SECTOR * number : SECTOR * (number + 1)]
+
+    def epoch(self):
+        return 0
+
+    def marks(self):
+        return 1
+
+
+def steps_of(code, content):
+    """How many steps a program makes."""
+    machine, steps = Machine(code, Held(content)), 1
+    try:
+        while True:
+            machine.step(machine.instructions[machine.slot])
+            steps += 1
+    except Ended as end:
+        if not str(end).startswith("answer 0"):
+            sys.exit(f"a checker ended with {end}")
+        return steps
+
+
+def checkers():
+    """The rows of the checkers."""
+    for name in CHECKERS:
+        code, content = (EXAMPLES / f"checkers/{name}.bpf").read_bytes(), device(DEVICES[name][0][0])
+        yield Row(name, lambda turns, code=code: code, steps_of(code, content), True, content)
 
 
 def by_code(name, copy, is_old):
@@ -130,18 +189,18 @@ def by_code(name, copy, is_old):
 
 
 def drawn(known, count, seed):
-    """So many rows of five codes drawn at random, on registers drawn at random."""
-    chance = random.Random(seed)
+    """That many rows of five codes drawn at random of those that DPDK has, on registers drawn at random."""
+    chance, known = random.Random(seed), [it for it in known if it[2]]
     for number in range(count):
         five = [chance.choice(known) for _ in range(5)]
         body = b"".join(copy(chance.randint(1, 4)) for _ in range(6) for _, copy, _ in five)
         name = f"{number + 1}: " + ", ".join(it[0] for it in five)
-        yield Row(name, lambda turns, body=body: program(body, turns), 30, all(it[2] for it in five))
+        yield Row(name, lambda turns, body=body: program(body, turns), 30, True)
 
 
-def run(words, files, way):
-    """What a program prints for these files: nanoseconds and answer of each."""
-    said = subprocess.run([*words, *(it for file in files for it in (way, file, "1"))], capture_output=True, text=True, check=True)
+def run(words, files, way, runs):
+    """What a program prints for these files, each run so often: nanoseconds and answer of each."""
+    said = subprocess.run([*words, *(it for at, file in enumerate(files) for it in (way, file, str(runs[at])))], capture_output=True, text=True, check=True)
     return [(float(line.split()[2]), line.split()[3]) for line in said.stdout.splitlines()]
 
 
@@ -151,14 +210,15 @@ def counts(program, rows, way, folder, is_old):
     files = [str(folder / f"{at}.{name}") for at in (0, *(at + 1 for at in ran)) for name in ("short", "long")]
     named = "dpdk_runs*" if is_old else f"*{way}_runs*"
     # The start of the process counts with the first run.
-    run(["valgrind", "--tool=callgrind", f"--callgrind-out-file={folder}/cost", f"--dump-after={named}", program], [files[0], *files], way)
+    runs = [1, 1, 1, *(it for at in ran for it in ((1, 1) if rows[at].sectors is None else (SHORT, LONG)))]
+    run(["valgrind", "--tool=callgrind", f"--callgrind-out-file={folder}/cost", f"--dump-after={named}", program], [files[0], *files], way, runs)
     costs = []
     for at in range(2, len(files) + 2):
         text = (folder / f"cost.{at}").read_text(errors="replace")
         costs.append(int(re.search(r"^totals: (\d+)", text, re.M)[1]))
         (folder / f"cost.{at}").unlink()
-    turn = [(long - short) / (LONG - SHORT) for short, long in zip(costs[::2], costs[1::2])]
-    found = {at: (it - turn[0]) / rows[at].steps for at, it in zip(ran, turn[1:])}
+    turns = [(long - short) / (LONG - SHORT) for short, long in zip(costs[::2], costs[1::2])]
+    found = {at: rows[at].cost(it, turns[0]) for at, it in zip(ran, turns[1:])}
     return [found.get(at) for at in range(len(rows))]
 
 
@@ -166,10 +226,14 @@ def times(words, rows, way, folder, is_old):
     """Nanoseconds a step of each row, and its answer; None for what DPDK lacks, where only its rows are run."""
     ran = [at for at, row in enumerate(rows) if row.is_old or not is_old]
     files = [str(folder / f"{at}.time") for at in (0, *(at + 1 for at in ran))]
+    runs = [1, *(rows[at].runs for at in ran)]
     best = [(float("inf"), "")] * len(files)
     for _round in range(5):
-        best = [min(old, new) for old, new in zip(best, run(words, files, way))]
-    found = {at: ((time - best[0][0]) / TIMED / rows[at].steps, answer) for at, (time, answer) in zip(ran, best[1:])}
+        best = [min(old, new) for old, new in zip(best, run(words, files, way, runs))]
+    turn = best[0][0] / TIMED
+    found = {}
+    for at, (time, answer) in zip(ran, best[1:]):
+        found[at] = rows[at].cost(time / (TIMED if rows[at].sectors is None else rows[at].runs), turn), answer
     return [found.get(at, (None, None)) for at in range(len(rows))]
 
 
@@ -179,10 +243,12 @@ def mean(numbers):
 
 
 def write_files(rows, folder):
-    """Writes the programs of all rows, behind a loop of nothing."""
+    """Writes the programs of all rows, after a loop of nothing."""
     for at, row in enumerate([Row("nothing", lambda turns: program(b"", turns), 1, True), *rows]):
         for name, turns in ("short", SHORT), ("long", LONG), ("time", TIMED):
             (folder / f"{at}.{name}").write_bytes(row.made(turns))
+            if row.sectors is not None:
+                (folder / f"{at}.{name}.device").write_bytes(row.sectors)
 
 
 def lines(rows, columns):
@@ -205,8 +271,9 @@ def main():
     words.add_argument("--time", action="store_true")
     given = words.parse_args()
     known = [*arithmetic(), *jumps(), *accesses()]
-    rows = [*(by_code(*it) for it in [*known, *calls()]), *drawn(known, given.loops, given.seed)]
-    codes = len(known) + 2
+    codes, loops = [by_code(*it) for it in [*known, *calls()]], list(drawn(known, given.loops, given.seed))
+    rows = [*codes, *loops, *checkers()]
+    codes, loops = len(codes), len(codes) + len(loops)
     with tempfile.TemporaryDirectory() as room:
         folder = Path(room)
         write_files(rows, folder)
@@ -215,19 +282,21 @@ def main():
             if path:
                 columns[name] = counts(path, rows, given.way, folder, path == given.dpdk)
         if given.time:
+            alone = ALONE if subprocess.run([*ALONE, "true"], stderr=subprocess.DEVNULL).returncode == 0 else []
             for name, path in ("ns", given.program), ("ns before", given.before), ("ns DPDK", given.dpdk):
                 if path:
-                    columns[name], answers[name] = zip(*times([path], rows, given.way, folder, path == given.dpdk))
+                    columns[name], answers[name] = zip(*times([*alone, path], rows, given.way, folder, path == given.dpdk))
     text = "\n".join([*lines(rows, columns), ""])
     for name, it in columns.items():
         some = lambda part: mean([max(x, 0.01) for x in part if x is not None])
-        text += f"\n{name}: by code {some(it[:codes]):.2f}, random loops {some(it[codes:]):.2f}"
+        text += f"\n{name}: by code {some(it[:codes]):.2f}, random loops {some(it[codes:loops]):.2f}, checkers {some(it[loops:]):.2f}"
     if "ns DPDK" in columns:
         ratio = [theirs / max(ours, 0.01) if theirs is not None else None for ours, theirs in zip(columns["ns"], columns["ns DPDK"])]
         both = [(row.name, it) for row, it in zip(rows[:codes], ratio) if it is not None]
         least = min(both, key=lambda it: it[1])
         text += f"\nby DPDK: by code {mean([it for _, it in both]):.2f}, least {least[1]:.2f} ({least[0]})"
-        text += f", random loops {mean([it for it in ratio[codes:] if it is not None]):.2f}"
+        text += f", random loops {mean([it for it in ratio[codes:loops] if it is not None]):.2f}"
+        text += f", checkers {mean([it for it in ratio[loops:] if it is not None]):.2f}"
     print(text)
     if given.to:
         Path(given.to).write_text(text + "\n", encoding="utf-8")

@@ -55,7 +55,7 @@ impl LogBytes {
     }
 }
 
-/// So many writes of one sector each, spread over the first 64 sectors, in so many epochs.
+/// That many writes of one sector each, spread over the first 64 sectors, in that many epochs.
 fn epochs(writes: u64, epochs: u64) -> Vec<u8> {
     let mut log = LogBytes::new();
     for write in 0..writes {

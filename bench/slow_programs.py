@@ -19,7 +19,7 @@ KIND is one of
     heads     up to five numbers, and loops that share one body: each widens only where all loops before it have settled
 
 SLOTS is how many slots it has at most, NUMBERS how many numbers widen, and REFUSED is `no`, `first` for one that reads an
-unset register before the loop, or `last` for one that does behind it. FILE is written.
+unset register before the loop, or `last` for one that does after it. FILE is written.
 """
 import struct
 import sys
@@ -49,7 +49,7 @@ def place(number):
 
 
 def again(back):
-    """Ends a loop whose head lies so many slots in front."""
+    """Ends a loop whose head lies that many slots in front."""
     return [put(1, 1), slot(0x85, 0, 0, 0, 3), slot(0x55, 0, 0, -(back + 3))]
 
 
@@ -166,7 +166,7 @@ def backwards(room, added):
 
 
 def loop(numbers, room, filled):
-    """A loop of so many slots at most."""
+    """A loop of that many slots at most."""
     low, high = struct.unpack("<ii", struct.pack("<Q", LIMIT))
     body = [slot(0x18, 5, 0, 0, low), slot(0, 0, 0, 0, high), put(3, 0)]
     for number in range(numbers):

@@ -17,7 +17,8 @@ import sys
 from pathlib import Path
 
 TOP = Path(__file__).resolve().parent.parent
-CRATES = "base lanes bpf_isa helpers arithmetic intervals ranges bpf_shape verifier".split()
+# `limits` is a crate of older checkouts.
+CRATES = "base limits lanes bpf_isa helpers arithmetic intervals ranges bpf_shape verifier".split()
 RUSTC = ["rustc", "--edition", "2024", "-A", "warnings", "-C", "opt-level=3", "-C", "target-cpu=x86-64-v2", "-C", "codegen-units=1"]
 ALONE = ["chrt", "-f", "10", "taskset", "-c", "0"]
 TURNS = 1_048_576
@@ -26,7 +27,7 @@ ENVIRONMENT = {**os.environ, "RUSTC_BOOTSTRAP": "1"}
 
 
 def behind(text, start, opening, closing):
-    """Returns the place behind the bracket that closes the first one from a place on."""
+    """Returns the place after the bracket that closes the first one from a place on."""
     depth = 0
     for place in range(start, len(text)):
         depth += (text[place] == opening) - (text[place] == closing)
@@ -88,7 +89,7 @@ def built(top, to):
         made.append(name)
         return out
 
-    for name in ("shim", "byteorder"):
+    for name in ("shim", "byteorder", "arrayvec"):
         compiled(name, TOP / f"bench/plain/{name}.rs", "rlib")
     for name in CRATES:
         source = top / f"crates/{name}/src"

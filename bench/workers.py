@@ -13,7 +13,7 @@ part of the gate.
               The log has as many writes as it takes, so that an older program, for which a sector is torn in fewer ways,
               makes as many images
     uneven    65,536 images in 1,024 blocks, each sixteenth of which takes 100,000 steps an image and each other 1,000, by
-              1 and 4 workers
+              1 and 4 workers. The checker looks at a sector that the log writes
     cache     18,001 images, equal but for their choice, and a checker of some 20,500 steps that looks at all 64 sectors: with no
               cache and one of 65,536
 """
@@ -33,8 +33,11 @@ from notation import F, W, log  # noqa: E402
 ROUNDS = 3
 # Looks at sector 0, which all writes of the logs of lost and torn sectors touch. So no image is told by footprints.
 FIVE_STEPS = "mov64 r1, 0\ncall 5\nmov64 r2, 0\nmov64 r0, 0\nexit\n"
-# The images of a block have epochs that differ in their low six bits.
-UNEVEN_STEPS = """ldxdw r6, [r1+8]
+# Looks at sector 0, which the log writes. The images of a block have epochs that differ in their low six bits.
+UNEVEN_STEPS = """mov64 r7, r1
+mov64 r1, 0
+call 5
+ldxdw r6, [r7+8]
 rsh64 r6, 6
 and64 r6, 15
 jeq r6, 0, +5
@@ -71,7 +74,7 @@ exit
 LOGS = {
     "drops.log": lambda: [W(0, 1, 0x55)] * 2828,
     "equal.log": lambda: [W(sector % 64, 1, 0) for sector in range(1200)],
-    "flushes.log": lambda: [F] * 65535,
+    "flushes.log": lambda: [W(0, 1, 0x55), *[F] * 65534],
 }
 
 DROPS = "explore drops.log five --sectors 4096 --cuts flush --bound 2"
@@ -115,7 +118,7 @@ def torn_log(program, name, folder):
         images = int(subprocess.run(words, cwd=folder, capture_output=True, check=True).stdout.split()[-1])
         if images >= TORN_IMAGES:
             return images
-    sys.exit("no log has so many images")
+    sys.exit("no log has that many images")
 
 
 def main(words):

@@ -144,7 +144,7 @@ class Run:
         return f" base {joined}"
 
     def told(self):
-        """What is told of the cuts behind their kind: the flushes that were added, and the range."""
+        """What is told of the cuts after their kind: the flushes that were added, and the range."""
         flush = ",".join(str(it) for it in self.flush) or None
         words = (("flush", flush), ("from", self.first), ("to", self.last))
         return "".join(f" {word} {value}" for word, value in words if value is not None)
@@ -265,8 +265,10 @@ class Noted(Image):
 
 def is_blind(run, checker):
     """Whether a checker passes at each wanted cut, where nothing is lost or torn, and looks at no more than 32 sectors there, none of
-    which an entry covers."""
+    which an entry covers. Where many flushes and marks stand before the last wanted cut, nothing is found."""
     cuts = run.wanted_cuts()
+    if cuts and run.epoch(cuts[-1]) + run.marks(cuts[-1]) > max(1024, len(cuts) // 16):
+        return False
     for cut in cuts:
         image = Noted(0, cut, (), run)
         if checker.judge(image)[0] != 0 or len(image.looked) > 32 or any(run.parts_over(it) for it in image.looked):
@@ -281,7 +283,7 @@ def blind_notes(run, checkers):
 
 
 def is_lost_at(run, number, mark):
-    """Whether a write may still lose a sector at a mark: it isn't FUA, there is no flush behind it, and no FUA entry covers the sector
+    """Whether a write may still lose a sector at a mark: it isn't FUA, there is no flush after it, and no FUA entry covers the sector
     again."""
     entry = run.entries[number]
     if entry.flags & (FUA | DISCARD | MARK) or run.flushes(number + 1, mark + 1):
@@ -375,7 +377,7 @@ def failures_of(run, checkers):
 
 
 def with_flushes(run, places):
-    """The same run of the log with these flushes besides."""
+    """This run over the log with these flushes added."""
     flush = (*run.flush, *places)
     return Run(run.recorded, run.sectors, run.cuts, run.bound, run.tears, run.by, flush, run.first, run.last, run.base)
 

@@ -24,7 +24,7 @@ def looks_at(first, many=1):
 
 
 def by_epoch(image):
-    """Looks at sector 9 before the first flush, and at sector 0 behind it."""
+    """Looks at sector 9 before the first flush, and at sector 0 after it."""
     image.sector(9 if image.epoch() == 0 else 0)
     return 0, ()
 
@@ -36,9 +36,9 @@ PROGRAMS = {
     "a sector that is written": (f"{look(0)}; mov64 r0, 0; exit", 4, 4, looks_at(0)),
     "a sector that is discarded": (f"{look(5)}; mov64 r0, 0; exit", 4, 4, looks_at(5)),
     "the last sector of a write": (f"{look(3)}; mov64 r0, 0; exit", 4, 4, looks_at(3)),
-    "the sector behind a write": (f"{look(4)}; mov64 r0, 0; exit", 4, 4, looks_at(4)),
+    "the sector after a write": (f"{look(4)}; mov64 r0, 0; exit", 4, 4, looks_at(4)),
     "nothing, and fails": ("mov64 r0, 1; exit", 2, 2, lambda image: (1, ())),
-    "nothing, and fails behind a mark": ("ldxdw r0, [r1+16]; exit", 2, 2, lambda image: (image.marks(), ())),
+    "nothing, and fails after a mark": ("ldxdw r0, [r1+16]; exit", 2, 2, lambda image: (image.marks(), ())),
     "a written one from the first flush on": ("ldxdw r6, [r1+8]; mov64 r1, 9; jeq r6, 0, +1; mov64 r1, 0; call 5; mov64 r0, 0; exit", 7, 7, by_epoch),
     "32 sectors": ("; ".join([*map(look, range(8, 40)), "mov64 r0, 0", "exit"]), 66, 66, looks_at(8, 32)),
     "33 sectors": ("; ".join([*map(look, range(8, 41)), "mov64 r0, 0", "exit"]), 68, 68, looks_at(8, 33)),
@@ -48,7 +48,7 @@ MARKLESS = [W(1, 3, 1), F, W(1, 1, 4)]
 RUNS = {
     "all cuts": Run(ENTRIES, 64),
     "cuts before flushes": Run(ENTRIES, 64, "flush", 2),
-    "cuts behind marks": Run(ENTRIES, 64, "mark", 1, True),
+    "cuts after marks": Run(ENTRIES, 64, "mark", 1, True),
     "no cut": Run(MARKLESS, 64, "mark"),
     "cuts before the mark": Run(ENTRIES, 64, "all", 1, last=4),
     "bound 0": Run(ENTRIES, 64, "all", 0),
@@ -58,6 +58,19 @@ RUNS = {
     "an empty log": Run([], 64),
 }
 ALL = RUNS["all cuts"]
+# Flushes and marks: as many as are few, and one more. They are counted up to the last wanted cut. More are few beside many cuts.
+FEW = 1024
+MANY = {
+    "as many flushes as are few": Run([F] * FEW, 4, "flush", 0),
+    "a flush more": Run([F] * (FEW + 1), 4, "flush", 0),
+    "flushes, and a mark more": Run([*[F] * FEW, M("m")], 4, "all", 0),
+    "marks, and a flush more": Run([*[M("m")] * FEW, F], 4, "mark", 0),
+    "a flush more behind the last cut": Run([F] * (FEW + 1), 4, "all", 0, last=FEW),
+}
+WIDE = {
+    "a flush more, at sixteen times as many cuts": Run([*[F] * (FEW + 1), *[D(5, 1)] * (15 * (FEW + 1) - 1)], 8, "all", 0),
+    "a flush more, at one cut less": Run([*[F] * (FEW + 1), *[D(5, 1)] * (15 * (FEW + 1) - 2)], 8, "all", 0),
+}
 
 
 def made(names, checked):
@@ -105,11 +118,13 @@ def cure_of(run, programs, checkers):
     return Long(lambda: cured(run, checkers))
 
 
-NOTHING, WRITTEN, FAILS, AT_MARK = "nothing", "a sector that is written", "nothing, and fails", "nothing, and fails behind a mark"
-SOME = [NOTHING, WRITTEN, "a sector that no entry covers", FAILS, "the last sector of a write", AT_MARK, "the sector behind a write"]
+NOTHING, WRITTEN, FAILS, AT_MARK = "nothing", "a sector that is written", "nothing, and fails", "nothing, and fails after a mark"
+SOME = [NOTHING, WRITTEN, "a sector that no entry covers", FAILS, "the last sector of a write", AT_MARK, "the sector after a write"]
 ROWS = [
     *(noted("all cuts", ALL, [name]) for name in PROGRAMS),
     *(noted(name, run, SOME) for name, run in RUNS.items()),
+    *(noted(name, run, [NOTHING]) for name, run in MANY.items()),
+    *(noted(name, run, [NOTHING], out=anything, status=0) for name, run in WIDE.items()),
     *(noted("all cuts", ALL, SOME, more) for more in (" --first", " --workers 4", " --workers 3 --cache 64")),
     *(noted("all cuts, first", ALL, [NOTHING, name], " --first") for name in (WRITTEN, AT_MARK)),
     *(noted("all cuts", ALL, [name], checked=99) for name in (NOTHING, WRITTEN, FAILS, "32 sectors", "33 sectors")),

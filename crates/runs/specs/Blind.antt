@@ -1,5 +1,5 @@
 -- Programs that pass without looking at what a log writes (docs/CRASH-MODEL.md, A checker that looks at nothing).
-use Rattle.std.specs.Prelude.{ℕ, ◌≡◌, ◌+◌, ◌-◌, ◌==◌, ◌≤◌, Bool, true, false, not, nat_le, nat_lt, ◌&&◌, List, [], length, map, slice_get, Option, Some}
+use Rattle.std.specs.Prelude.{ℕ, ◌≡◌, ◌+◌, ◌-◌, ◌*◌, ◌==◌, ◌≤◌, Bool, true, false, not, nat_le, nat_lt, ◌&&◌, ◌||◌, List, [], length, map, slice_get, Option, Some}
 use Rattle.std.specs.List.{list_all}
 use Rattle.std.specs.Option.{option_map_or}
 use Rattle.logfmt.specs.declared.entry.Entry.{Entry}
@@ -49,6 +49,21 @@ is_blind_at checker log cut =
 unfoldable pub is_blind : PlanValue → CheckerValue → Bool
 is_blind plan checker = not (length (cuts_of plan.kind plan.log.entries) == 0) && list_all (is_blind_at checker plan.log) (cuts_of plan.kind plan.log.entries)
 
+-- how many flushes and marks stand before the last wanted cut
+abbrev pub changes : PlanValue → ℕ
+changes plan =
+    let es = plan.log.entries in
+    let cuts = cuts_of plan.kind es in
+    option_map_or (λ cut. epoch_at es cut + marks_at es cut) (slice_get cuts (length cuts - 1)) 0
+
+-- They are few: at most 1,024, or at most a sixteenth of the wanted cuts. Only there blind programs are looked for.
+unfoldable pub has_few_contexts : PlanValue → Bool
+has_few_contexts plan = nat_le (changes plan) 1024 || nat_le (16 * changes plan) (length (cuts_of plan.kind plan.log.entries))
+
+-- it is found of a program that it is blind
+abbrev pub is_noticed : PlanValue → CheckerValue → Bool
+is_noticed plan checker = has_few_contexts plan && is_blind plan checker
+
 -- two cuts have the same epoch and the same marks
 abbrev pub same_context : List Entry → ℕ → ℕ → Bool
 same_context es last cut = (epoch_at es last == epoch_at es cut) && (marks_at es last == marks_at es cut)
@@ -61,9 +76,9 @@ pub record IsLastContext (plan : PlanValue) (place last cut : ℕ) : Type 0 wher
   pub within : cut ≤ length plan.log.entries
   pub same : same_context plan.log.entries last cut ≡ true
 
--- of which programs it is found: of all, one after the other, where failing images are told
+-- of which programs it is found that they are blind: of all, one after the other, where failing images are told
 abbrev pub blind_found : Wanted → PlanValue → List CheckerValue → List Bool
-blind_found (wanted.Told t) plan checkers = map (is_blind plan) checkers
+blind_found (wanted.Told t) plan checkers = map (is_noticed plan) checkers
 blind_found wanted.Cured plan checkers = []
 blind_found (wanted.Cases l) plan checkers = []
 

@@ -1,6 +1,6 @@
 //! Programs that pass without looking at what a log writes (docs/CRASH-MODEL.md, A checker that looks at nothing).
 
-ghost use Rattle.std.specs.Prelude.{◌≡◌, ◌≤◌, ◌<◌, ◌&&◌, ℕ, not, [], length, map, IsTrue, IfOk, IfErr, OnOk, take, slice_get, Some, true, false};
+ghost use Rattle.std.specs.Prelude.{◌≡◌, ◌≤◌, ◌<◌, ◌+◌, ◌&&◌, ℕ, not, [], length, map, IsTrue, IfOk, IfErr, OnOk, take, slice_get, Some, true, false};
 ghost use Rattle.std.specs.List.{list_all};
 ghost use Rattle.std.specs.Option.{option_map_or};
 ghost use Rattle.base.specs.Refusals.{memory_refusal};
@@ -11,7 +11,7 @@ ghost use Rattle.helpers.specs.Footprint.{lists};
 ghost use Rattle.interp.specs.Ending.{ending_of};
 ghost use Rattle.checker.specs.Checker.{IsFor, AreFor};
 ghost use Rattle.report.specs.Line.{fails};
-ghost use Rattle.runs.specs.Blind.{covers, is_bare, ending_on, looks_on, whole_at, is_blind_at, is_blind, same_context, IsLastContext};
+ghost use Rattle.runs.specs.Blind.{covers, is_bare, ending_on, looks_on, whole_at, is_blind_at, is_blind, changes, has_few_contexts, is_noticed, same_context, IsLastContext};
 
 use crate::basis::Basis;
 use arrayvec::ArrayVec;
@@ -26,6 +26,9 @@ use std::alloc::{AllocError, Global};
 
 /// The most sectors of a footprint that is kept.
 const ROOM: usize = 32;
+
+/// So many flushes and marks are few, however many cuts are wanted.
+const MOST_CHANGES: u32 = 1024;
 
 /// How many sectors are kept of which it is known that no entry writes or discards them.
 const KEPT: usize = 64;
@@ -218,6 +221,38 @@ fn is_blind(alloc: Global, basis: &Basis<'_>, checker: &Checker<'_>) -> Result<b
     Ok(!cuts.is_empty())
 }
 
+/// How many flushes and marks stand before the last wanted cut.
+fn changes(plan: &Plan<'_>) -> u32
+    ensures value { result ≡ changes plan.now }
+    ensures few { result ≤ 131072 }
+{
+    match plan.cuts().last() {
+        Some(cut) => plan.epoch(*cut) + plan.marks(*cut),
+        None => 0,
+    }
+}
+
+/// Whether these are few: at most 1,024, or at most a sixteenth of the wanted cuts. Then the runs that find whether a program is blind
+/// are few beside those that judge images.
+#[tactic(auto, unfolding(crate::specs::Blind::has_few_contexts))]
+fn has_few_contexts(plan: &Plan<'_>) -> bool
+    ensures { result ≡ has_few_contexts plan.now }
+{
+    let changes = changes(plan);
+    changes <= MOST_CHANGES || 16 * changes as usize <= plan.cuts().len()
+}
+
+/// Whether it is found of a checker that it is blind.
+fn is_noticed(alloc: Global, basis: &Basis<'_>, checker: &Checker<'_>) -> Result<bool, AllocError>
+    requires { IsFor basis.now.task.now.log.now.sectors checker.now.verified }
+    ensures { IfOk result (λ noticed. noticed ≡ is_noticed basis.now.task.now.plan.now checker.now) }
+{
+    if !has_few_contexts(basis.task.plan) {
+        return Ok(false);
+    }
+    is_blind(alloc, basis, checker)
+}
+
 /// Appends of each checker of a run whether it is so.
 fn put_blind(
     alloc: Global,
@@ -227,17 +262,18 @@ fn put_blind(
     requires few { length basis.now.task.now.checkers.now ≤ 8 }
     requires device { AreFor basis.now.task.now.log.now.sectors basis.now.task.now.checkers.now }
     requires fresh { out.old.items ≡ [] }
-    ensures { OnOk result (out.new.items ≡ map (is_blind basis.now.task.now.plan.now) basis.now.task.now.checkers.now) }
+    ensures { OnOk result (out.new.items ≡ map (is_noticed basis.now.task.now.plan.now) basis.now.task.now.checkers.now) }
 {
     for checker in basis.task.checkers {
-        out.push(is_blind(alloc, basis, checker)?);
+        out.push(is_noticed(alloc, basis, checker)?);
     }
     Ok(())
 }
 
 /// Finds which programs of a run pass at each wanted cut, on the image in which nothing is lost or torn, without looking at a sector
 /// that an entry writes or discards. It makes a run of a program for each epoch and each number of marks at the cuts, up to the first
-/// cut at which it doesn't: no more runs than the images of the cuts need at least.
+/// cut at which it doesn't: no more runs than the images of the cuts need at least. Where more than 1,024 flushes and marks stand before
+/// the last wanted cut, and more than a sixteenth of the wanted cuts, it makes none and finds none.
 pub(crate) fn find_blind(
     alloc: Global,
     basis: &Basis<'_>,
@@ -246,7 +282,7 @@ pub(crate) fn find_blind(
     requires few { length basis.now.task.now.checkers.now ≤ 8 }
     requires verified { AreFor basis.now.task.now.options.now.sectors basis.now.task.now.checkers.now }
     requires fresh { found.old.items ≡ [] }
-    ensures found { OnOk result (found.new.items ≡ map (is_blind basis.now.task.now.plan.now) basis.now.task.now.checkers.now) }
+    ensures found { OnOk result (found.new.items ≡ map (is_noticed basis.now.task.now.plan.now) basis.now.task.now.checkers.now) }
     ensures refused { IfErr result (λ r. r ≡ memory_refusal) }
 {
     match put_blind(alloc, basis, found) {

@@ -14,7 +14,7 @@ ghost use Rattle.runs.specs.Judged.{takes, IsJudged};
 ghost use Rattle.runs.specs.declared.explore_command.Wanted.TheVariants as wants;
 ghost use Rattle.request.specs.declared.settings.Telling.TheVariants as tells;
 ghost use Rattle.runs.specs.Why.{with_first, first_asked, IsExplained, IsPaged};
-ghost use Rattle.runs.specs.Blind.{is_blind, FindsBlind};
+ghost use Rattle.runs.specs.Blind.{is_noticed, FindsBlind};
 ghost use Rattle.runs.specs.Cured.{IsAnswered};
 ghost use Rattle.runs.specs.Tasks.{lines_of, telling_in, TellsTask};
 ghost use Rattle.runs.specs.Found.{AreFound};
@@ -395,7 +395,7 @@ fn judge_task<'x, G: Gate + Sync, R: Threads + Wait + Sync>(
     requires verified { AreFor task.now.options.now.sectors task.now.checkers.now }
     requires fresh { blind.old.items ≡ [] }
     ensures bytes { IfOk result (λ e. TellsTask telling task.now e.bytes.items) }
-    ensures blind { IfOk result (λ _. blind.new.items ≡ map (is_blind task.now.plan.now) task.now.checkers.now) }
+    ensures blind { IfOk result (λ _. blind.new.items ≡ map (is_noticed task.now.plan.now) task.now.checkers.now) }
     ensures failing { IfOk result (λ e. IsTrue e.failing ↔ (lines_of task.now ≢ [])) }
     ensures refused { IfErr result (RefusesPlan task.now.options.now task.now.log.now) }
 {

@@ -59,6 +59,18 @@
 //! A run has one program to eight, one worker to 64, and a cache of up to 65,536 outcomes. The bytes and
 //! the refusals are the same for every number of workers and every size of the cache.
 //!
+//! # How it is proved
+//!
+//! - A loop that tells of rounds, of which nobody knows how many come, keeps 'with whatever is told from here on, all is told' (`LeadsOn`
+//!   in `runs/specs/Trials.antt`). A round puts its part in front of what is to come, and the end hands over the last part. All facts
+//!   between two rounds are one record over plain variables (`Trying` in `runs/proofs/Leading.antt`).
+//! - **What is noticed is a test that computes** (`is_blind` in `specs/Blind.antt`). Then the clause is one equation, a `map` over the
+//!   checkers, and a body that finds too little is refused as well as one that finds too much. It looks at no failing line: the run on
+//!   the image in which nothing departs says whether a program fails, and a law leads from there to each image. So nothing hangs on
+//!   `--first`, on the part, or on memory for the lines.
+//! - A test that is asked again at each cut may keep what it knows, as a list of which each element passes (`is_bare_by` in `blind.rt`).
+//!   The invariant is one equation with `list_all`, and where the list is full the test is made again.
+//!
 //! # Example
 //!
 //! ```

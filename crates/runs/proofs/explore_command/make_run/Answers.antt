@@ -4,7 +4,7 @@ use Rattle.std.proofs.lemmas.Result.{err_from_is_err_and}
 use Rattle.epochs.specs.Plan.{PlanValue}
 use Rattle.request.specs.Source.{for_plan}
 use Rattle.runs.specs.declared.explore_command.Wanted.TheVariants as wanted
-use Rattle.runs.specs.Blind.{is_blind}
+use Rattle.runs.specs.Blind.{is_noticed}
 use Rattle.runs.specs.Cured.{TellsCure}
 use Rattle.runs.specs.Why.{Tells}
 use Rattle.runs.specs.Explore.{for_count, for_source, for_program, no_list_memory, for_rest}
@@ -117,7 +117,7 @@ returns-in-Told-clause-blind g c =
     (checkers_decoded _ _ _ c.as_slice.result.now _ _ c.as_slice.ensures.value c.in_ok-decoded.ensures.decoded c.in_default.not-Some
     c.in_ok-checkers.ensures.made c.in_ok-checkers.ensures.all)
     c.as_slice-made.ensures.value
-    (blind ∙ ap (λ (p : PlanValue). map (is_blind p) c.as_slice-made.result.now) c.in_ok-plan.ensures.plan)))
+    (blind ∙ ap (λ (p : PlanValue). map (is_noticed p) c.as_slice-made.result.now) c.in_ok-plan.ensures.plan)))
 
 pub returns-in-Told-clause-refused : goal.returns-in-Told-clause-refused
 returns-in-Told-clause-refused g c =
