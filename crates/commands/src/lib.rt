@@ -57,6 +57,21 @@
 //! bytes, or says how many were written before the writer failed. What a run reports, and what the other commands show, stands on
 //! the pages of `runs` and `inspect`.
 //!
+//! # How it is proved
+//!
+//! - Bytes in a constant against what a definition computes: one `refl` with an `unfolding` line of all that computes
+//!   (`commands/proofs/OwnRun.antt`).
+//! - That a program ends in words is an induction over its steps, with one record of a machine (`HoldsWords` in
+//!   `commands/proofs/Holding.antt`). Each instruction is looked at by its effect alone, without its checks, but for the one of a local
+//!   call, which bounds the frames. That an operator makes a word of words follows from the ranges of `intervals` over spans of one
+//!   number, so no operator is opened (`Computed.antt`).
+//! - `_` doesn't stand for what a definition takes apart, as the list of checks or the effect inside a step. Cure: the cases in a lemma
+//!   about the effect alone (`effect_goes` in `Ending.antt`), and one lemma above it that names both.
+//! - Which images are meant changes the text of a run and nothing else of it. Each such fact is a `refl` with an `unfolding` line
+//!   (`run_meant`, `part_text_is` in `PartsJoined.antt`), so all parts are those of one `RunValue`.
+//! - That a join has a line exactly where the run has one is told image by image (`IsQuiet` in `PartsJoined.antt`), and not along the
+//!   row. So no part's place counts.
+//!
 //! # Example
 //!
 //! ```

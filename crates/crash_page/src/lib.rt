@@ -26,6 +26,20 @@
 //! `lacking` the flushes that are missing, in the row and in words, `strip` the cells of cuts between entries, `share` their colours,
 //! `cut` and `group` what stands after a click on a cut.
 //!
+//! # How it is proved
+//!
+//! - **A text with much that is fixed**: one enum of its fixed parts, one `unfoldable` definition of their texts, and one function that
+//!   appends a part (`crash_page/src/pieces.rt`). Then each definition is a list of closed words and numbers, and each function that
+//!   appends them a list of calls with `?`, proved without a file. Fixed parts of more than some 15 letters between calls leave goals
+//!   open, since they are compared letter by letter.
+//! - **A text made of the characters of another** is `flat_map f (chars text)`. The loop over `text.chars()` has the invariant `out ≡ old
+//!   ++ flat_map f l.yielded`, and its one answer is `YieldsList-end` with `map_self` (`crash_page/proofs/html/put_mark_chars`). Where
+//!   the bytes may be no UTF-8 the definition tests `is_utf8`, and two lemmas lead to it from the clause of `from_utf8`
+//!   (`crash_page/proofs/Labels.antt`).
+//! - **A list text whose elements hand something on** (a place, how many may still be shown) is a recursion. The loop's invariant is
+//!   'what is written, and then the text of what is to come, is the whole': `out ++ strip_from .. from (drop n cs) ≡ start ++ strip_from
+//!   .. 0 cs` (`crash_page/proofs/Rows.antt`). With a lemma for one more and one for the end in `using`, the loop needs no answer.
+//!
 //! # Example
 //!
 //! ```

@@ -58,6 +58,12 @@
 //! `specs/Trace.antt`), all of it by the definition of the machine; `failing` is whether the program rejects the image. It is refused for
 //! the size of the image, for the first fault of the program's bytes, for what the verifier says, or for want of memory.
 //!
+//! # How it is proved
+//!
+//! - 'This one and no other' needs no law that a text is that of one value. Where the reader says that no other names have the text, its
+//!   caller answers a value with `IsOnly`, and none with `NoneIs` (`inspect/specs/Which.antt`), both over any predicate. Lemmas over
+//!   `MatchOption found A B` take the arm's equation `found ≡ Some x` (`at_some`, `at_none` in `inspect/proofs/Printed.antt`).
+//!
 //! # Example
 //!
 //! ```

@@ -50,6 +50,15 @@
 //! `reading` reads all lines of a part, and `part` a whole text. `row` puts parts into their order, and `joining` joins them. Files are
 //! borrowed: what is kept of one are slices of its bytes.
 //!
+//! # How it is proved
+//!
+//! - A reader of words needs to say only what it finds where the text is a printed one (`ReadsHead`). The comparison after it settles the
+//!   rest, and what it finds of other texts has no clause.
+//! - What a line may say beside its head is a test that computes (`has_program_and_cut`, `are_names_of_run`), over the head that was read
+//!   before the lines. A head that is printed alike has the same answers (`line_moved`), so the law needs no second reading of the head.
+//! - A line of the report that changes is read in `ending` and `line`, and in `read_failing` of `tests/parts_model.py`, which is written
+//!   from the documents.
+//!
 //! # Example
 //!
 //! ```

@@ -102,6 +102,12 @@
 //! holds no flush entry, so `add_missing` leaves fewer entries that are no flush entries: rounds come to an end. Each `put_`
 //! appends exactly its part of the text (`specs/CureText.antt`), and `uncured_line` the very line that the report prints.
 //!
+//! # How it is proved
+//!
+//! - What `xs[i]` of a vector of numbers tells has the value itself as default, `get_or xs i value`. Inside the list the default makes no
+//!   difference (`at_any_default` in `losses/proofs/GroupCounting.antt`).
+//! - The index of a slice of arrays has the default `[]` at once, so no `get_or_default`. `n % 2 ^ 64 % 16 ≡ n % 16` is `omega arith`.
+//!
 //! # Example
 //!
 //! Groups of failing choices:

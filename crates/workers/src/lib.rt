@@ -94,6 +94,43 @@
 //! least failing image. `exploring` puts all together; there a
 //! run gets its name, a type parameter that only contracts read, so that its shards are its own.
 //!
+//! # How it is proved
+//!
+//! - A table that is filled in any order: one record over plain variables (`AreRows` in `workers/specs/Table.antt`) says each row by how
+//!   often its block came. Two lemmas say what one more piece does (`put_more`, `put_new`).
+//! - A law 'sound, complete, in order' over `flat_map` and `filter_map` of ranges: carry `Each P` and `Ordered` by cases through both
+//!   (`of_image`, `of_images` in `workers/proofs/Sets.antt`). Find a member by `in_options` and `in_lists`.
+//! - Where several threads have a share of one result, state what one hands over as a record over lists (`HandsOver` in
+//!   `workers/specs/Taking.antt`). It wants a lemma for one more piece, one for a step that changes nothing of it, and one that joins two
+//!   shares (`both`). The whole is then an induction over the workers, and only the last step (`whole_run`) looks at the board.
+//! - Where what a structure gave out is to be known when its users are back, its rule has a right to know the whole, in parts
+//!   (`DequeRule` in `shares`). Each port has a part, one that ends gives it back (`absorb`), and a port without a part has got nothing.
+//!   Who has every part has all in its own view.
+//! - `thread::map_vec` with a closure that repeats what the called function requires, and a word for what it ensures (`IsDone`), needs no
+//!   answer. Nor does a function that locks a shard, looks, runs and puts (`outcome_of`).
+//! - **Where `X: Send` of a `map_vec` isn't found**, prove `IsSend T.the_row` as closed lemmas, one for each type from the inside out
+//!   (`Part-send`, `Seat-send`, `Piece-send`, `Done-send` in `proofs/Crossing.antt` of `report`, `shares`, `workers`). Then answer
+//!   `search (Done-send, sendable) depth 40`. A search in the answer tries hundreds of fields of `c`; a closed lemma has none, and its
+//!   message names the type that stops it. The `Send` of a type of a library with a lemma of its own is
+//!   `Rattle.LIB.proofs.MOD.Type.TheSendSync.{the_send}`. Where the type has a parameter, a search in the answer comes to its limit, and
+//!   the answer is a term: `param_send 2 _ (arg_send _ no _ (Done-send _ g.H.Deal c.type_bounds.send-H))`. The goal's row is `arg`, with
+//!   the layout and `denote.Exit.no`, of the type's own row. `Done-send` takes the row of `H`, its ghosts and its `Send`.
+//! - **What is known by footprints.** A worker's `Local` has a `Reuse` beside its changes: for each checker the `Entries` of the cut at
+//!   hand, their place, and the picks with which the next image begins. An entry has a revealed choice by its picks, what the checker
+//!   ends in there, and the numbers of the volatile parts that cover a sector of the footprint, rising; or 'all'. What is proved of it is
+//!   `IsKnown`: it holds of every choice of its cut that has its picks and no told part beside them. So `judge_image` and `judge_block`
+//!   keep their contracts.
+//! - Entries are appended, at most 1,024, and their parts stand in one list of about 65,536 numbers. An index of 4,096 places finds an
+//!   entry by a hash of its picks. What it finds is compared, so nothing is said of the index, and it is never cleared. At another cut
+//!   two lengths become 0.
+//! - A Mutex is `Unit` in contracts. Make the list of unlocked values in a function of its own with an exact clause, and lock them in a
+//!   second loop. `impl Run for Brand` stands beside the trait; a test picks by `ghosts-F g a = record { plan = a.plan.now; checkers =
+//!   a.checkers.now }`.
+//! - What changes goes beside a record of parts that go together, as a parameter of its own. A record with a Model that is passed as
+//!   `&mut` and promises `new ≡ old` costs a `rw` in every caller's proof (`Worker` in `workers`). It may be generic, with a `pub ghost`
+//!   clause over its type parameter. In a method take a field that is a reference out first, `let input = self.input;`, where a call
+//!   borrows through it.
+//!
 //! # Example
 //!
 //! ```
