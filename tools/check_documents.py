@@ -9,7 +9,8 @@ folders.
 
 - A link leads to a file that exists and, with #, to a heading in it.
 - A document that is named by its file, as docs/MAP.md or MAP.md, exists, and one that is named with a section, as
-  MACHINE.md, 'Helpers', has it. This is asked of the crates' sources and definitions too.
+  MACHINE.md, 'Helpers', has it. This is asked of the crates' sources and definitions too. There, and in scripts, so is a section
+  that is named without quotes after docs/MACHINE.md and a comma, with a capital letter.
 - Each run of table rows begins with a head and a line of dashes, so no blank line cuts a table in two.
 - README.md has at most 130 lines of at most 100 characters, and at most 1,300 words with code and tables.
 - The documents at the top and in docs/ and examples/ have no more long sentences than LONG allows. With --long they are
@@ -44,7 +45,8 @@ what tools/statement.py writes of the sources.
 
 docs/MAP.md has a row for each crate of crates.txt in its table of layers, and for no other. Its lists of what to touch for a
 new opcode, a new helper and a new fate name each file of code, definitions and lemmas that tells all forms of the enum in TOLD_APART
-apart, in a row of its crate. Tests are left out.
+apart, in a row of its crate. Tests are left out. They, and those for a new cause and a new option, name each file in which such a
+thing's neighbour is named (tools/plant_dummy.py).
 
 tests/gate_edits.txt names edits of crates/*/wrong/. These and those of must-fail/ are at most EDITS, and no crate has more than
 OF_CRATE in must-fail/.
@@ -64,6 +66,7 @@ sys.dont_write_bytecode = True
 
 import completions
 import ledger
+import plant_dummy
 import statement
 
 # The most lines of README.md, the most characters of each, and its most words.
@@ -104,6 +107,12 @@ def sources(top):
         yield from (Path(folder) / name for name in sorted(files) if name.endswith((".rt", ".antt")))
 
 
+def scripts(top):
+    """Returns the scripts and C sources of tests/, tools/, bench/ and examples/."""
+    for folder in ("tests", "tools", "bench", "examples"):
+        yield from (it for it in sorted((top / folder).rglob("*")) if it.suffix in (".py", ".sh", ".c", ".h") and "out" not in it.parts)
+
+
 def prose(text):
     """Returns the lines of a document, with those of code blocks empty."""
     fenced, lines = False, []
@@ -119,6 +128,12 @@ def headings(path):
     """Returns the anchors of a document's headings."""
     found = (re.match(r"#+ (.*)", line) for line in prose(path.read_text()))
     return {re.sub(r"[^\w\- ]", "", it[1].lower()).replace(" ", "-") for it in found if it}
+
+
+@cache
+def titles(path):
+    """Returns the headings of a document, without backticks."""
+    return [it[1].replace("`", "") for it in (re.match(r"#+ (.*)", line) for line in prose(path.read_text())) if it]
 
 
 def bad_links(path, line):
@@ -146,6 +161,18 @@ def unknown_sections(top, line):
         files = [it for it in (top / folder / name for folder in ("", "docs", "bench")) if it.exists()]
         if files and re.sub(r"[^\w\- ]", "", title.lower()).replace(" ", "-") not in headings(files[0]):
             yield f"{name} has no section '{title}'"
+
+
+def unknown_places(top, text):
+    """Returns the sections that a text names without quotes, as docs/MACHINE.md, Helpers, and that aren't there, with their lines.
+
+    A line may end within the name of a section. What follows the name is the sentence's own.
+    """
+    for found in re.finditer(r"docs/([A-Z][A-Z-]+\.md),\s+(?:(?://[/!]?|--|#)\s*)?([A-Z])", text):
+        path, said = top / "docs" / found[1], text[found.start(2) : found.start(2) + 120]
+        said = re.sub(r"\s+", " ", re.sub(r"\n\s*(//[/!]?|--|#)?\s*", " ", said)).replace("`", "")
+        if path.exists() and not any(said.startswith(it) and not said[len(it) :][:1].isalnum() for it in titles(path)):
+            yield text.count("\n", 0, found.start()) + 1, f"{found[1]} has no section '{said[:40]}..'"
 
 
 def cut_tables(lines):
@@ -392,9 +419,12 @@ def findings(top):
     for file, text in zip(files, texts):
         for number, line in enumerate(text.splitlines(), 1):
             yield from ((file, number, it) for it in [*unknown_documents(top, line), *unknown_sections(top, line)])
+    for path in [*files, *scripts(top)]:
+        yield from ((path, number, it) for number, it in unknown_places(top, path.read_text(errors="replace")))
     yield from ((top / "tests/gate_edits.txt", 1, it) for it in wrong_edits(top))
     repository = Repository(top)
-    yield from ((top / "docs/MAP.md", 1, it) for it in unlisted(repository, (top / "docs/MAP.md").read_text()))
+    page = (top / "docs/MAP.md").read_text()
+    yield from ((top / "docs/MAP.md", 1, it) for it in [*unlisted(repository, page), *plant_dummy.findings(top, page)])
     for limit, allowed in LONG.items():
         count = sum(1 for path in documents(top) for _ in long_sentences(prose(path.read_text()), limit))
         if count > allowed:
