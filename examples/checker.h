@@ -121,7 +121,7 @@ HELPER_(7, u64, same, u64 a, u64 b);
 #endif
 
 /*
- * The same with a statement in place of the label: TURN(8, return TURNS_SPENT).
+ * AT_MOST with a statement in place of the label: TURN(8, return TURNS_SPENT).
  * Like each `otherwise` below, the statement has to leave the place: it is a
  * return, goto, break or continue. Let it answer an error. Where turns run short
  * and the loop ends as if it had seen all, errors are overlooked.

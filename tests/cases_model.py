@@ -24,7 +24,7 @@ from dataclasses import dataclass, field
 sys.dont_write_bytecode = True
 
 from model import HEADS, TAILS, Checker, Image, Run, kept
-from notation import DISCARD, FLUSH, FUA, MARK, SECTOR, Entry
+from notation import FLUSH, FUA, MARK, SECTOR, random_entry
 
 PIECES, PIECE = 8, SECTOR // 8
 LOST = ["whole", "drop"]
@@ -322,21 +322,12 @@ MOST = 3_000
 
 def some_entry(chance, sectors, values):
     """An entry of a device of that many sectors, mostly a write of which each piece has one of a few values."""
-    kind = chance.random()
-    if kind < 0.10:
-        return Entry(flags=MARK, text=b"m")
-    if kind < 0.18:
-        return Entry(flags=FLUSH)
-    count = min(sectors, chance.choice([1, 1, 1, 2, 3]))
-    at = chance.randrange(sectors - count + 1)
-    flags = (chance.random() < 0.2) * FUA | (chance.random() < 0.1) * FLUSH
-    if kind < 0.25:
-        return Entry(at, count, DISCARD | flags)
-    data = b""
-    for _ in range(count):
+
+    def sector():
         mostly, rarely = chance.choice(values), chance.choice(values)
-        data += b"".join(bytes([chance.choice([mostly, mostly, mostly, rarely])]) * PIECE for _ in range(PIECES))
-    return Entry(at, count, flags, data=data)
+        return b"".join(bytes([chance.choice([mostly, mostly, mostly, rarely])]) * PIECE for _ in range(PIECES))
+
+    return random_entry(chance, sectors, (0.10, 0.18, 0.25), [1, 1, 1, 2, 3], ((0.2, FUA), (0.1, FLUSH)), sector)
 
 
 def some_checker(chance, sectors):

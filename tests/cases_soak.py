@@ -23,7 +23,7 @@ from pathlib import Path
 sys.dont_write_bytecode = True
 
 from cases_model import Losses, cases, some_entry, status
-from footprint_soak import look
+from footprint_soak import end_of_checker, look
 from machine_model import judged
 from model import Checker, Run
 from notation import log
@@ -57,12 +57,7 @@ def some_checker(chance, sectors, by_number):
         text += f"mul64 r6, {chance.choice([1, 3, 7])}\nadd64 r6, r0\n"
         if chance.random() < 0.6:
             text += f"mov64 r0, r6\nmod64 r0, {chance.randint(2, 5)}\njne r0, {chance.randint(0, 2)}, +2\nmov64 r0, 0\nexit\n"
-    if chance.random() < 0.3:
-        text += "mov64 r1, r6\ncall 4\n"
-    if by_number and chance.random() < 0.3:
-        text += f"mov64 r0, r6\nmod64 r0, 5\njne r0, 0, +1\n{chance.choice(['ldxb r0, [r0+0]', 'stb [r7+0], 1', 'mov64 r10, 1'])}\n"
-    good = chance.choice([2, 3, 3, 50])
-    return text + f"mov64 r0, r6\nmod64 r0, {good}\njne r0, 0, +2\nmov64 r0, {chance.choice([1, 9, -1])}\nexit\nmov64 r0, 0\nexit\n"
+    return text + end_of_checker(chance, 0.3 * by_number, ["ldxb r0, [r0+0]", "stb [r7+0], 1", "mov64 r10, 1"], [2, 3, 3, 50])
 
 
 def some_run(chance):

@@ -6,7 +6,7 @@
 PROGRAM is as in run.py. The documents are those at the top, in docs/ and in examples/, or the ones that are named.
 
 A block of commands is indented by four spaces, or fenced as `sh` or `python`. Each document has a copy of the repository, in
-which its blocks are run one after the other by one shell. One that is indented sets variables for those behind it. What stands
+which its blocks are run one after the other by one shell. One that is indented sets variables for those after it. What stands
 below a block in a fence without a language, before the next heading, is a part of what it prints; `...` there stands for any lines.
 
 For each block a line says the document, its line, and with which status it ended, or why it wasn't run. It failed where the
@@ -35,7 +35,7 @@ NOT_RUN = {
     r"\brt (ci|run|try)\b|\.ci/run": "it needs the kit",
     r"\$DATA|dmsetup": "it needs root and a device",
     r"qemu|examples/recording/(guest|in_flight)\b|formatting/|crashbpf-record --fuse": "it needs QEMU; tests/record.py runs what it can",
-    r"crashbpf-record|recorded/": "it needs strace and sqlite3; tests/record.py records other programs",
+    r"crashbpf-record|recorded/|named/": "it needs strace and sqlite3; tests/record.py records other programs",
     r"log writes\.log 55 120": "it needs a log that QEMU recorded",
     r"sbatch|parallel|try_slurm|join_all run >": "it needs Slurm or several machines; tests/many_machines.py runs parts as processes",
     r"crashbpf-each .*e2fsck": "tests/each.py runs it on an ext2",
@@ -89,7 +89,7 @@ def blocks(lines):
 
 
 def first_missing(printed, shown):
-    """Returns the first line that is shown and wasn't printed behind the one before it, or none."""
+    """Returns the first line that is shown and wasn't printed after the one before it, or none."""
     at, anywhere = 0, True
     for line in shown:
         if line != "...":

@@ -31,7 +31,7 @@ MOST_IMAGES = 400
 
 
 def entry(chance, sectors):
-    """Any entry of a device of so many sectors."""
+    """Any entry of a device of that many sectors."""
     kind = chance.random()
     if kind < 0.15:
         return Entry(flags=MARK, text=chance.choice([b"", b"commit 1", b"<&>\xff"]))

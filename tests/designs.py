@@ -35,7 +35,7 @@ RECORDS = {1: record(1, 0xEAD00ACB7ED645A2), 2: record(2, 0xD5A01596FDAC8B43), 3
 
 
 def count(records):
-    """The header of a journal of so many records."""
+    """The header of a journal of that many records."""
     return struct.pack("<Q", records) + bytes(504)
 
 

@@ -13,7 +13,8 @@ sys.dont_write_bytecode = True
 TOP = Path(__file__).resolve().parent.parent
 sys.path.insert(0, str(TOP / "tools"))
 
-from check_documents import Repository, strays, unknown_sections, unlisted
+import plant_dummy
+from check_documents import Repository, strays, unknown_places, unknown_sections, unlisted
 from statement import Sources, followed
 
 # A word that no file has: not even this one, in one piece.
@@ -24,10 +25,10 @@ ROWS = [
     ("docs/MAP.md", ["`tools/kit.py`, `plain/src/state.rt`, `specs/Step.antt`, `two_slots/wrong`, `/dev/sda`, `crates/NAME/wrong/`"], []),
     ("docs/MAP.md", ["`tools/kit.rs`"], ["no file tools/kit.rs"]),
     ("docs/MAP.md", ["`plain/src/staying.rt` and `specs/Stepping.antt`"], ["no file plain/src/staying.rt", "no file specs/Stepping.antt"]),
-    ("docs/CRATES.md", ["## shares", "`proofs/Moves.antt`"], []),
-    ("docs/CRATES.md", ["## workers", "`proofs/Moves.antt`"], ["no file proofs/Moves.antt"]),
-    ("docs/CRATES.md", ["## Texts: losses and shares", "`proofs/Moves.antt`"], []),
-    ("docs/CRATES.md", ["## workers", "what `shares` has in `proofs/Moves.antt`"], []),
+    ("docs/PROVING.md", ["## shares", "`proofs/Moves.antt`"], []),
+    ("docs/PROVING.md", ["## workers", "`proofs/Moves.antt`"], ["no file proofs/Moves.antt"]),
+    ("docs/PROVING.md", ["## Texts: losses and shares", "`proofs/Moves.antt`"], []),
+    ("docs/PROVING.md", ["## workers", "what `shares` has in `proofs/Moves.antt`"], []),
     ("docs/MAP.md", ["`frames.rt` stands in some crate"], []),
     ("docs/MAP.md", ["`framing.rt`"], ["no file framing.rt"]),
     ("docs/MAP.md", ["| `interp` | `frames.rt` |", "| `interp`, `plain` | `frames.rt` |"], []),
@@ -39,7 +40,7 @@ ROWS = [
     ("docs/MAP.md", ["`put_known` in `known.rt`, `put_known` of `notes`, `known.rt` of `notes`"], []),
     ("docs/MAP.md", ["`put_known` in `listing.rt`"], ["listing.rt doesn't have put_known of put_known"]),
     ("docs/MAP.md", ["`known.rt` of `interp`"], ["no file known.rt in interp"]),
-    ("docs/CRATES.md", ["## commands", "`decode_all` in `commands/proofs`"], ["commands/proofs doesn't have decode_all of decode_all"]),
+    ("docs/PROVING.md", ["## commands", "`decode_all` in `commands/proofs`"], ["commands/proofs doesn't have decode_all of decode_all"]),
 ]
 
 
@@ -50,6 +51,29 @@ LEADS = [
     (("machine.specs.Outcome", "outcome"), {"step", "checks", "arithmetic"}, {"guarded_outcome"}),
     (("verifier.specs.Verdicts", "IsAccepted"), set(), {"IsGood", "rules"}),
 ]
+
+
+# A file of the list of a kind, and the path that the list then lacks.
+NEIGHBOURS = [
+    ("opcode", "`Names.antt`", "bpf_asm/proofs/Names.antt"),
+    ("helper", "`proofs/Calls.antt`", "soundness/proofs/Calls.antt"),
+    ("fate", "`Numbered.antt`", "cases/proofs/Numbered.antt"),
+    ("cause", "`cures.rt`", "notes/src/cures.rt"),
+    ("option", "`RunOf.antt`", "commands/proofs/RunOf.antt"),
+]
+# An enum with a match on it, and what becomes of both.
+ENUM = "pub enum Kind {\n    One,\n}\n"
+MATCH = "    match kind {\n        Kind::One => 1,\n    }\n"
+PLANTED = """pub enum Kind {
+    One,
+    /// A dummy.
+    Dummy,
+}
+    match kind {
+        Kind::One => 1,
+    _ => loop {},
+}
+"""
 
 
 def leads(sources, module, name):
@@ -67,6 +91,17 @@ def main():
     tests.append((["the lists without a file"], list(unlisted(repository, lost)), ["'For a new opcode' lacks soundness/proofs/LooseSteps.antt"]))
     line = "MACHINE.md, 'Footprint', VERIFIER.md, 'Good tables' and CRASH-MODEL.md, 'What a clean report doesn't say'"
     tests.append(([line], list(unknown_sections(TOP, line)), ["VERIFIER.md has no section 'Good tables'"]))
+    texts = plant_dummy.texts_of(TOP)
+    for name, file, path in NEIGHBOURS:
+        kind = plant_dummy.KINDS[name]
+        named = plant_dummy.naming(texts, kind)
+        found = [list(plant_dummy.lacking(it, kind, named)) for it in (page, page.replace(file, "it"))]
+        tests.append(([f"the list for a new {name}, and without {file}"], found, [[], [f"'{kind.title}' lacks {path}"]]))
+    asked = plant_dummy.with_arm(plant_dummy.with_variant(ENUM, "Kind") + MATCH, 6, 5)
+    tests.append((["a dummy with its arm"], [asked], [PLANTED]))
+    named = "docs/MACHINE" + ".md,"
+    text = f"/// As {named} Helpers says,\n/// and {named} State and\n/// start, but not {named} Good helpers.\n"
+    tests.append(([text], list(unknown_places(TOP, text)), [(3, "MACHINE.md has no section 'Good helpers. ..'")]))
     sources = Sources(TOP)
     for start, wanted, unwanted in LEADS:
         found = leads(sources, *start)

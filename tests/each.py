@@ -193,7 +193,7 @@ def gives_ext2(folder):
     wanted = report(run, ["e2fsck", "-fn", "{}"], text_of)
     for way in ([], ["--read-only"]):
         found += ended(f"e2fsck {way}", each(folder, [*way, *words], ["e2fsck", "-fn", "{}"]), 1, wanted)
-    # Before and behind each step all is well; a step that lost a part of itself left something to repair.
+    # Before and after each step all is well; a step that lost a part of itself left something to repair.
     whole = [statuses[of.number] for image, of in firsts(run) if not image.departures]
     return found + differs("the statuses where nothing departs", whole, [0] * len(whole))
 
@@ -401,7 +401,7 @@ def refuses_cut_exports(folder):
             found.append(f"an export is taken: {other[-60:]!r}")
         except faults.Refusal:
             pass
-    # The same from a process, which may end otherwise than its text says.
+    # Exports that a process prints, which may end otherwise than its text says.
     words = put(folder, run)
     Path(folder, "text").write_bytes(text)
     for tail, status, says in (("head -c 700 text", 0, "what crashbpf export printed is cut off"), ("cat text", 3, r"crashbpf export ended with 3: no memory"), ("head -c 700 text", 2, r"what crashbpf export printed is cut off.*; it ended with 2: no memory"), ("cat text; kill -9 $$", 0, "crashbpf export ended with -9")):

@@ -26,7 +26,7 @@ PROGRAM = ["sh", "-c", 'set -- $(cksum < "$1"); set -- $((($1 + $CRASH_MARKS) % 
 
 
 def some_entry(chance, sectors):
-    """Any entry of a device of so many sectors, of few bytes, so that many images are the same."""
+    """Any entry of a device of that many sectors, of few bytes, so that many images are the same."""
     kind, at = chance.random(), chance.randrange(sectors)
     if kind < 0.3:
         return Entry(flags=MARK, text=b"commit") if kind < 0.15 else Entry(flags=FLUSH)

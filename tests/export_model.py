@@ -14,7 +14,7 @@ import struct
 import sys
 
 from model import Run
-from notation import DISCARD, FLUSH, FUA, MARK, SECTOR, Entry, S
+from notation import FLUSH, FUA, SECTOR, random_entry
 
 # A record: the number of a sector, and its bytes.
 NUMBER = 8
@@ -99,17 +99,8 @@ def faults(run, text, first=0, last=None):
 
 def some_entry(chance, sectors):
     """Any entry of a device with that number of sectors. Few bytes come up, so that many images are the same."""
-    kind = chance.random()
-    if kind < 0.15:
-        return Entry(flags=MARK, text=b"commit")
-    if kind < 0.3:
-        return Entry(flags=FLUSH)
-    count = min(sectors, chance.choice([0, 1, 1, 2, 3]))
-    at = chance.randrange(sectors - count + 1)
-    flags = (chance.random() < 0.1) * FLUSH | (chance.random() < 0.2) * FUA
-    if kind < 0.4:
-        return Entry(at, count, DISCARD | flags)
-    return S(at, b"".join(bytes([chance.choice([0, 1, 1, 2])]) * SECTOR for _ in range(count)), flags)
+    odds, flags = (0.15, 0.3, 0.4), ((0.1, FLUSH), (0.2, FUA))
+    return random_entry(chance, sectors, odds, [0, 1, 1, 2, 3], flags, lambda: bytes([chance.choice([0, 1, 1, 2])]) * SECTOR, b"commit")
 
 
 def some_run(chance, most=7):

@@ -28,7 +28,7 @@ LIMIT = 120
 
 
 def entry(chance, sectors, values):
-    """An entry of a device of so many sectors, mostly a write of one of a few values."""
+    """An entry of a device of that many sectors, mostly a write of one of a few values."""
     kind = chance.random()
     if kind < 0.03:
         return Entry(flags=MARK, text=b"m")
@@ -72,11 +72,15 @@ def checker(chance, sectors, by_number):
         text += look(chance, sectors, by_number) + f"mul64 r6, {chance.choice([1, 3, 7])}\nadd64 r6, r0\n"
         if chance.random() < 0.5:
             text += f"mov64 r0, r6\nmod64 r0, {chance.randint(2, 9)}\njne r0, {chance.randint(0, 2)}, +2\nmov64 r0, 0\nexit\n"
-    if chance.random() < 0.3:
-        text += "mov64 r1, r6\ncall 4\n"
-    if by_number and chance.random() < 0.2:
-        text += f"mov64 r0, r6\nmod64 r0, 5\njne r0, 0, +1\n{chance.choice(['ja -2', 'ldxb r0, [r0+0]', 'mov64 r0, r5'])}\n"
-    good = chance.choice([2, 3, 50, 1000])
+    return text + end_of_checker(chance, 0.2 * by_number, ["ja -2", "ldxb r0, [r0+0]", "mov64 r0, r5"], [2, 3, 50, 1000])
+
+
+def end_of_checker(chance, often, faults, divisors):
+    """The end of a checker: at times a code, as often as that one of these faults, and an answer by what was found."""
+    text = "mov64 r1, r6\ncall 4\n" if chance.random() < 0.3 else ""
+    if often and chance.random() < often:
+        text += f"mov64 r0, r6\nmod64 r0, 5\njne r0, 0, +1\n{chance.choice(faults)}\n"
+    good = chance.choice(divisors)
     return text + f"mov64 r0, r6\nmod64 r0, {good}\njne r0, 0, +2\nmov64 r0, {chance.choice([1, 9, -1])}\nexit\nmov64 r0, 0\nexit\n"
 
 

@@ -138,7 +138,7 @@ class JoinSoak(Soak):
         return self.called(["join", *["--part"] * some, *(f"t{number}" for number in range(len(texts)))])
 
     def make(self, chance):
-        """Writes a log and programs, and returns the words of the run behind `explore`, and those of `images`."""
+        """Writes a log and programs, and returns the words of the run after `explore`, and those of `images`."""
         sectors = chance.choice([3, 8, 16, 64])
         values = chance.sample(range(256), chance.choice([2, 3, 8]))
         entries = [entry(chance, sectors, values) for _ in range(chance.choice([3, 8, 12, 16]))]

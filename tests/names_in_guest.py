@@ -152,7 +152,7 @@ def files_by_debugfs(image, name):
 
 
 def files_by_mount(image, machine):
-    """The same of another file system, which a machine mounts."""
+    """The files of a program on another file system, which a machine mounts."""
     done = run([TOP / "examples/mounted/mounted", "test", machine, image])
     if done.returncode:
         raise ValueError(f"mounted: status {done.returncode}, {done.stdout}")

@@ -60,6 +60,24 @@ def M(text, flags=0):
     return Entry(flags=MARK | flags, text=text.encode())
 
 
+def random_entry(chance, sectors, odds, counts, flags, content, text=b"m"):
+    """An entry of a device of that many sectors: below each of the odds a mark, a flush or a discard, else a write of `content()` a sector.
+
+    `flags` has pairs of how often and which flag of what has sectors.
+    """
+    kind = chance.random()
+    if kind < odds[0]:
+        return Entry(flags=MARK, text=text)
+    if kind < odds[1]:
+        return Entry(flags=FLUSH)
+    count = min(sectors, chance.choice(counts))
+    at = chance.randrange(sectors - count + 1)
+    set_flags = sum((chance.random() < often) * flag for often, flag in flags)
+    if kind < odds[2]:
+        return Entry(at, count, DISCARD | set_flags)
+    return S(at, b"".join(content() for _ in range(count)), set_flags)
+
+
 def header(sector=0, count=0, flags=0, data_len=0, text=b"", unused=b"\0"):
     """A header sector of any fields."""
     return (struct.pack("<QQQQ", sector, count, flags, data_len) + text).ljust(SECTOR, unused)
@@ -139,7 +157,7 @@ class Locked:
 
 @dataclass(frozen=True)
 class Hole:
-    """Stands for a file of so many zeros that take no room on a disk, `end` after them, and `begun` before them."""
+    """Stands for a file of that many zeros that take no room on a disk, `end` after them, and `begun` before them."""
 
     zeros: int
     end: bytes = b""
@@ -179,7 +197,7 @@ class Row:
     """One run of the program.
 
     name    what the row is about; no two rows have the same
-    words   the words behind the program's name, separated by spaces; within a word the pictures of control characters stand
+    words   the words after the program's name, separated by spaces; within a word the pictures of control characters stand
             for these (`␛`, `␊`, `␡`), and `␣` for a space
     files   the files that lie in the folder of the run, by name: bytes, a text, an Assembly, a Folder, a Link, a Locked, a Hole, a
             Long

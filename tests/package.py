@@ -246,7 +246,7 @@ def runs(path, install, prefix, folder):
     return found + not_begun(call(words, **{"root.bpf": "/home/check.bpf"}).stdout.splitlines(), printed)
 
 
-# What bash completes behind words, the last of which is begun; as the help of the commands has it.
+# What bash completes after words, the last of which is begun; as the help of the commands has it.
 COMPLETED = {
     ("crashbpf", "expl"): "explore",
     ("crashbpf", "help", "ver"): "verify",

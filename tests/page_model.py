@@ -116,7 +116,7 @@ class Cut:
         return f"<a tabindex='-1' class='{classes}' href='#p{program}c{self.number}' title='{title}'></a>\n"
 
     def text(self, program, left, is_open):
-        """What is said of it, where so many groups may be shown, and how many are."""
+        """What is said of it, where that many groups may be shown, and how many are."""
         found = folded_groups(self.failing)
         some = found[: min(OF_CUT, left)]
         run, number = self.run, self.number

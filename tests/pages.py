@@ -163,7 +163,7 @@ def type_all(rt, libraries, modules):
         for name, text in [("lib", root_of(modules, over)), *((f"page_{name}", text) for name, text in modules.items())]:
             with open(f"{room}/src/{name}.rt", "w", encoding="utf-8") as file:
                 file.write(text)
-        # No function has this name, so the check ends behind types and before any proof.
+        # No function has this name, so the check ends after types and before any proof.
         words = ["check", "--crate-name", "pages", "src/lib.rt", *words_over(rt, over), "--jobs", "1", "--start", "no function"]
         ran = subprocess.run([rt.rtlib.RATTLE, *words], cwd=room, stdout=subprocess.PIPE, stderr=subprocess.STDOUT, text=True, errors="replace")
         return ran.stdout.replace(f"{room}/", "")

@@ -56,7 +56,7 @@ def fates_of(run):
 
 
 def departing(parts, count, fates):
-    """In how many ways so many of so many parts depart."""
+    """In how many ways that many of that many parts depart."""
     return comb(parts, count) * fates**count
 
 
@@ -132,7 +132,7 @@ def survey(run, parts=None):
 
 
 def layout(total, parts):
-    """So many images in so many parts, or fewer: their lengths differ by at most one, and the longer ones come first."""
+    """That many images in that many parts, or fewer: their lengths differ by at most one, and the longer ones come first."""
     parts = max(min(parts, total), 1)
     each, rest = divmod(total, parts)
     ends = list(accumulate([each + 1] * rest + [each] * (parts - rest)))
@@ -170,7 +170,7 @@ def inputs_of(run, programs):
 
 
 def shuffled(name, parts):
-    """The same parts in another order, the same at each run of the tests."""
+    """These parts in another order, which is the same at each run of the tests."""
     order = list(parts)
     random.Random(name).shuffle(order)
     return order

@@ -37,11 +37,11 @@ SPIN = "mov64 r1, {turns}\ncall 3\njeq r0, 0, +1\nja -4\nmov64 r0, 0\nexit\n"
 
 
 def reading(sectors, turns):
-    """A program that reads a byte of each of those sectors, makes so many turns, and answers 0."""
+    """A program that reads a byte of each of those sectors, makes that many turns, and answers 0."""
     return "".join(f"mov64 r1, {it}\ncall 1\njeq r0, 0, +1\nldxb r6, [r0+0]\n" for it in sectors) + SPIN.format(turns=turns)
 
 
-# Two epochs of so many writes of sectors of their own: some thousand images with two of them lost.
+# Two epochs of that many writes of sectors of their own: some thousand images with two of them lost.
 UNITS, READ, JUDGED_TURNS = 48, 8, 20000
 LOG = [*(W(it, 1, 1 + it) for it in range(UNITS)), F, *(W(it, 1, 101 + it) for it in range(UNITS))]
 EXPLORE = f"--sectors {UNITS} --cuts flush --bound 2"
@@ -82,7 +82,7 @@ class Runs:
 
     def ratio(self, first, second, most):
         """How many times as long the first run takes as the second one, at least, of some turns: no more than tell that it is at
-        most so many."""
+        most that many."""
         least = math.inf
         for _turn in range(TURNS):
             took = self.took(first)

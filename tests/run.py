@@ -7,9 +7,9 @@ PROGRAM is crates/crashbpf/out/crashbpf below the top of the repository where it
 builds it. It is what the proofs don't reach: what the process itself prints, with which status it ends, what it makes of
 files and words. It needs Python 3.9 or later, nothing but its own library, and `sh`; no Rattle kit, and no prover is run.
 
-A row is one run of the program: the words behind its name, the files that lie in its folder (a fresh one for each row),
+A row is one run of the program: the words after its name, the files that lie in its folder (a fresh one for each row),
 and what is expected: standard output byte by byte, the status, and standard error, which is either empty or the one line
-of a refusal, with notes behind it, and before it what `--progress` says. A row fails where one of these differs, or where
+of a refusal, with notes after it, and before it what `--progress` says. A row fails where one of these differs, or where
 the run takes too long (`seconds` of notation.py). Rows run side by side.
 
 A pair is two runs that differ in one option, and the places where what they print has to differ.
@@ -42,7 +42,7 @@ Where the rows stand
     rows/answers.py     what programs answer: arithmetic, memory, helpers, faults
     rows/arithmetic.py  each operation and each test on many operands
     rows/refusals.py    what the verifier accepts and refuses
-    rows/notes.py       the notes behind each refusal, and beside answers
+    rows/notes.py       the notes after each refusal, and beside answers
     rows/blind.py       the note of checkers that look at nothing of what the log writes, against the model
     rows/promises.py    the notes of marks that promise what nothing made durable, and of FUA, against the model
     rows/tables.py      logs as tables, and listings with slots

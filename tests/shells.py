@@ -28,7 +28,7 @@ def tried(row):
 
 def try_all(words, rows, at_a_time=1):
     """Tries rows, each a name and a check, with the program that the words name in the path. Prints what failed, and returns the status."""
-    # A process that was started by nohup, or behind a shell's &, ignores some signals, and so would what it starts.
+    # A process that was started by nohup, or after a shell's &, ignores some signals, and so would what it starts.
     for number in (signal.SIGHUP, signal.SIGINT, signal.SIGTERM):
         signal.signal(number, signal.SIG_DFL)
     program = Path(words[0] if words else TOP / "crates/crashbpf/out/crashbpf").resolve()

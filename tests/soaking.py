@@ -33,7 +33,7 @@ def options(description, runs):
 
 
 def run_all(given, name, make):
-    """Makes runs until so many are judged as were asked for, prints what isn't as expected, and returns the exit status.
+    """Makes runs until that many are judged as were asked for, prints what isn't as expected, and returns the exit status.
 
     `make(program, folder)` makes the soak. The folder is named `name` and stays where one run is made again.
     """

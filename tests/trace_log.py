@@ -57,7 +57,7 @@ FILES = {
     "../outside": DATA,
 }
 
-# Links, what stands behind each, and files with so many zeros behind some bytes.
+# Links, what stands after each, and files with that many zeros after some bytes.
 LINKS = {"within": "inner/deep", "inner/up": "../data", "around": "../at/data", "out": "../outside", "out.log": "/dev/zero", "loop": "loop", "round": ".."}
 HOLES = {
     "huge": (b"", 1 << 40),
@@ -90,7 +90,7 @@ MADE = [
     ("64 MiB but a sector", "write 0 16384 fill 1\n" * 7 + "write 0 16375 fill 2", [W(0, 16384, 1)] * 7 + [W(0, 16375, 2)]),
 ]
 
-# The trace, and what is said of it behind its name.
+# The trace, and what is said of it after its name.
 REFUSED = [
     ("writes 0 1 fill 1", "1: no line begins with writes"),
     ("flush\n\n# and\nwrite", "4: it wants SECTOR COUNT"),
@@ -164,7 +164,7 @@ REFUSED = [
     ("\n" * 1048577, "1048577: a trace has at most 67108864 bytes and 1048576 lines"),
 ]
 
-# The same with --outside.
+# Traces that are refused with --outside.
 REFUSED_OUTSIDE = [
     ("write 0 1 data /dev/zero", "1: /dev/zero is no regular file"),
     ("log /dev/zero", "1: /dev/zero is no regular file"),
@@ -173,7 +173,7 @@ REFUSED_OUTSIDE = [
     ("write 0 1 data ..", "1: .. is no regular file"),
 ]
 
-# The same on the largest device.
+# Traces that are refused on the largest device.
 REFUSED_LARGE = [
     ("discard 0 16384\n" * 16 + "discard 0 1\n", "17: a log has at most 262144 sectors written or discarded"),
     ("write 0 16384 fill 1\n" * 7 + "write 0 16376 fill 2\n", "8: a log has at most 67108864 bytes"),
@@ -342,7 +342,7 @@ WORDS += [*FILES, *LINKS, *HOLES, "pipe", "/dev/zero", "..", ".", "", "\t", "\r"
 
 
 def is_log(content, sectors):
-    """Whether bytes are a log by the rules of docs/LOG-FORMAT.md, with nothing behind its last entry."""
+    """Whether bytes are a log by the rules of docs/LOG-FORMAT.md, with nothing after its last entry."""
     magic, version, entries, size = struct.unpack_from("<8sQQI", content)
     at, units = SECTOR, 0
     for _ in range(entries):
@@ -383,7 +383,7 @@ def fuzzed(folder, seed, count):
 
 
 def main(words):
-    # A process that was started by nohup, or behind a shell's &, ignores some signals, and so would what it starts.
+    # A process that was started by nohup, or after a shell's &, ignores some signals, and so would what it starts.
     for number in (signal.SIGHUP, signal.SIGINT, signal.SIGTERM):
         signal.signal(number, signal.SIG_DFL)
     resource.setrlimit(resource.RLIMIT_AS, (MEMORY, MEMORY))

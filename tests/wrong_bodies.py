@@ -49,7 +49,7 @@ pub fn four_times(n: u32) -> u32
     twice(twice(n))
 }
 
-/// The number behind another.
+/// The number after another.
 pub fn next(n: u32) -> u32
     requires { n < 1000 }
     ensures { result ≡ n + 1 }

@@ -1,4 +1,4 @@
-/* The same as bitmap_count.c, with the count that the compiler has. */
+/* The bitmap of bitmap_count.c, counted by what the compiler has for it. */
 #include "../checker.h"
 
 u64 check(const struct context *context)

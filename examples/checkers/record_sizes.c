@@ -1,4 +1,4 @@
-/* A sector of records of one type: so many of the type's size have to fit behind the header. */
+/* A sector of records of one type: that many of the type's size have to fit after the header. */
 #include "../checker.h"
 
 INLINED u64 size_of_type(u64 type)

@@ -9,7 +9,7 @@
  * In front of all else of the source, it takes the place of ../checker.h. The checker
  * is the function `check`, or NAME with -DCHECKER=NAME. A file is a device, sector
  * after sector (`-` is standard input); --marks N and --epoch N, 0 where they aren't
- * given, hold for the files behind them. For each file a line is printed, with the
+ * given, hold for the files after them. For each file a line is printed, with the
  * answer and the codes as a line of a report has them. The status is 0 where all
  * answers are 0, and 1 where one isn't.
  *
@@ -208,7 +208,7 @@ static u8 *new_sector_(void)
 	return bytes + MARGIN_;
 }
 
-/* Reads a device from a file; what lies behind its last whole sector is a fault. */
+/* Reads a device from a file; what lies after its last whole sector is a fault. */
 static void read_device_(const char *name)
 {
 	FILE *file = strcmp(name, "-") == 0 ? stdin : fopen(name, "rb");

@@ -1,7 +1,7 @@
 """Where files lie on the device of a log, the log itself, and the map of both.
 
 Each file has a range of sectors of its own, as long as the largest size that it gets. A range begins at a multiple of eight
-sectors, and behind each file at least one sector is free, which nobody writes: it is zeros in each image.
+sectors, and after each file at least one sector is free, which nobody writes: it is zeros in each image.
 
 Three files say where: `files.txt`, which crashbpf-files reads, `files.h` for checkers in C, and what is printed.
 """

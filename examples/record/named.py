@@ -93,22 +93,16 @@ class NamedTracing(Tracing):
         self.refresh()
         return file
 
-    def end_mkdir(self, call, _process, flight):
-        if call.failed():
-            return
-        at = call.name == "mkdirat"
-        name = self.name(self.path(call, 0 if at else None, 1 if at else 0))
-        if name is not None:
-            slot = self.slot(call, name)
-            self.renamed(call, flight, slot)
-            self.tree.make_folder(slot)
-            self.refresh()
+    def made_folder(self, call, name, flight):
+        slot = self.slot(call, name)
+        self.renamed(call, flight, slot)
+        self.tree.make_folder(slot)
+        self.refresh()
 
     def end_unlink(self, call, _process, flight):
         if call.failed():
             return
-        at = call.name == "unlinkat"
-        name = self.name(self.path(call, 0 if at else None, 1 if at else 0))
+        name = self.name(self.own_path(call, "unlinkat"))
         if name is not None:
             slot = self.held(call, name)
             self.renamed(call, flight, slot)
@@ -125,7 +119,7 @@ class NamedTracing(Tracing):
     def end_rename(self, call, _process, flight):
         if call.failed():
             return
-        paths = [self.path(call, *it) for it in (((None, 0), (None, 1)) if call.name == "rename" else ((0, 1), (2, 3)))]
+        paths = self.both_paths(call, "rename")
         names, flags = [self.name(it) for it in paths], call.word(4) if call.name == "renameat2" else "0"
         if self.folder in paths:
             raise Refused(f"{call}: the folder itself is renamed")
@@ -148,7 +142,7 @@ class NamedTracing(Tracing):
             return
         if call.name not in ("link", "linkat"):
             return super().end_link(call, process, flight)
-        paths = [self.path(call, None, 0), self.path(call, None, 1)] if call.name == "link" else [self.path(call, 0, 1), self.path(call, 2, 3)]
+        paths = self.both_paths(call, "link")
         names = [self.name(it) for it in paths]
         if names == [None, None]:
             return None

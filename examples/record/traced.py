@@ -143,8 +143,8 @@ def follow(calls, files, before, skipped, at, marks=None):
 
 
 def follow_names(calls, files, before, folders, skipped, at, marks, table):
-    """The same of calls whose names and sizes count, by a table. Which names a rename ties together is known only at the end, so
-    the calls are followed twice where the table asks for it."""
+    """Follows the calls of a recording whose names and sizes count, by a table. Which names a rename ties together is known only at
+    the end, so the calls are followed twice where the table asks for it."""
     joined = None
     for _ in range(2 if table == "strict" else 1):
         with open(calls, "rb") as stream:
@@ -199,7 +199,7 @@ def recorded(tracing, folder):
 
 
 def recorded_names(tracing, folder):
-    """The same of a recording whose names and sizes count."""
+    """Writes the log and what goes with it of a recording whose names and sizes count."""
     laid = named_layout.Laid(tracing.tree)
     if not any(it.count for it in tracing.disk.entries):
         raise Refused("the program changed no file of its folder, $FILES, so nothing was recorded")

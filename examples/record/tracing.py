@@ -170,7 +170,7 @@ class Tracing:
             raise Refused(f"{call}: no call was seen that unlinked {shown(os.fsdecode(name))}")
 
     def agree_at_end(self, call, process):
-        """The same of what a call answered. One that answers a descriptor of a recorded file isn't followed."""
+        """Compares the descriptors that a call answered with those that are known. A call that answers one of a recorded file isn't followed."""
         answer = call.text.rpartition(") = ")[2]
         if self.mentioned in answer or re.search(r"cmsg_data=\[[^\]]*" + re.escape(f"<{self.mentioned}"), call.text) and "recv" in call.name:
             for number, path, _ in named(answer) + named(call.text):
@@ -544,11 +544,14 @@ class Tracing:
 
     # Names
 
+    def own_path(self, call, from_folder):
+        """The path of a call on one name. The one named `from_folder` takes the descriptor of a folder before it."""
+        return self.path(call, 0, 1) if call.name == from_folder else self.path(call, None, 0)
+
     def end_unlink(self, call, _process, _flight):
         if call.failed():
             return
-        at = call.name in ("unlinkat",)
-        name = self.name(self.path(call, 0 if at else None, 1 if at else 0))
+        name = self.name(self.own_path(call, "unlinkat"))
         file = self.files.get(name)
         if file is not None and not file.unlinked:
             file.unlinked = True
@@ -558,16 +561,17 @@ class Tracing:
     def end_rename(self, call, _process, _flight):
         if call.failed():
             return
-        places = ((None, 0), (None, 1)) if call.name == "rename" else ((0, 1), (2, 3))
-        self.refuse_names(call, [self.path(call, *it) for it in places], "is renamed")
+        self.refuse_names(call, self.both_paths(call, "rename"), "is renamed")
+
+    def both_paths(self, call, plain):
+        """The two paths of a call that ties a name to another. The one named `plain` takes no descriptors of folders."""
+        return [self.path(call, *it) for it in (((None, 0), (None, 1)) if call.name == plain else ((0, 1), (2, 3)))]
 
     def end_link(self, call, _process, _flight):
         if call.failed():
             return
-        if call.name == "link":
-            paths = [self.path(call, None, 0), self.path(call, None, 1)]
-        elif call.name == "linkat":
-            paths = [self.path(call, 0, 1), self.path(call, 2, 3)]
+        if call.name in ("link", "linkat"):
+            paths = self.both_paths(call, "link")
         else:
             at = call.name == "symlinkat"
             made = self.path(call, 1 if at else None, 2 if at else 1)
@@ -581,10 +585,13 @@ class Tracing:
             if inner or name is not None and name not in self.folders or path == self.folder:
                 raise Refused(f"{call}: {shown(os.fsdecode(name or path))} {what}, and names are left out; record it in a guest")
 
-    def end_mkdir(self, call, _process, _flight):
+    def end_mkdir(self, call, _process, flight):
         if call.failed():
             return
-        at = call.name == "mkdirat"
-        name = self.name(self.path(call, 0 if at else None, 1 if at else 0))
+        name = self.name(self.own_path(call, "mkdirat"))
         if name is not None:
-            self.folders.add(name)
+            self.made_folder(call, name, flight)
+
+    def made_folder(self, _call, name, _flight):
+        """A folder was made."""
+        self.folders.add(name)

@@ -41,7 +41,7 @@ class Client:
         self.take(10)                                                    # the size, and what the export can do
 
     def take(self, count):
-        """Takes so many bytes from the server."""
+        """Takes that many bytes from the server."""
         taken = b""
         while len(taken) < count:
             more = self.socket.recv(count - len(taken))
@@ -61,7 +61,7 @@ class Client:
         self.socket.sendall(struct.pack(">IHHQQI", 0x25609513, 0, kind, handle, place, len(data)) + data)
 
     def wait(self, count):
-        """Waits for so many answers."""
+        """Waits for that many answers."""
         for _ in range(count):
             _magic, error, handle = struct.unpack(">IIQ", self.take(16))
             self.say(f"{self.sent[handle]} is answered{' with an error' if error else ''}")
@@ -105,7 +105,7 @@ def main():
         print(f"entry {number}", "flush" if flags & 1 else f"write sector {sector} count {count}")
     flush = next(number for number, (_sector, _count, flags) in enumerate(entries) if flags & 1)
     before = any(sector == 1 and count for sector, count, _flags in entries[:flush])
-    print("sector 1", "before" if before else "behind", "the flush")
+    print("sector 1", "before" if before else "after", "the flush")
     return 1 if before else 0
 
 

@@ -1,6 +1,6 @@
 /*
  * Pieces of C as people write them first, each with the number by which it is refused,
- * and its cure behind it. What each is about stands in docs/CHECKERS.md, 'Refusals'.
+ * and its cure after it. What each is about stands in docs/CHECKERS.md, 'Refusals'.
  *
  *     examples/cc/crashbpf-cc examples/refused/refused.c NAME NAME.bpf --turns 0
  *
@@ -27,7 +27,7 @@ u64 nowhere_cured(const struct context *context)
 	}
 }
 
-/* 41: the last call never returns, as the compiler was told, and nothing stands behind it. */
+/* 41: the last call never returns, as the compiler was told, and nothing stands after it. */
 u64 no_end(const struct context *context)
 {
 	report(context->marks);

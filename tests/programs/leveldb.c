@@ -1,11 +1,11 @@
 /* A LevelDB of tests/real_programs.py: `write FOLDER sync|loose COUNT..` makes commits of these numbers, each of two keys and
  * acknowledged by a mark; `read FOLDER` says which is the last. */
-#include <fcntl.h>
 #include <leveldb/c.h>
 #include <stdio.h>
 #include <stdlib.h>
 #include <string.h>
-#include <unistd.h>
+
+#include "mark.h"
 
 static char *wrong;
 
@@ -15,22 +15,6 @@ static void or_fail(const char *what)
 		printf("%s: %s\n", what, wrong);
 		exit(1);
 	}
-}
-
-static void mark(int number)
-{
-	char path[4096], line[64];
-	const char *recording = getenv("RECORDING");
-	int file;
-
-	if (!recording)
-		return;
-	snprintf(path, sizeof path, "%s/marks", recording);
-	file = open(path, O_WRONLY | O_APPEND);
-	snprintf(line, sizeof line, "0 commit-%d\n", number);
-	if (write(file, line, strlen(line)) != (ssize_t)strlen(line))
-		exit(1);
-	close(file);
 }
 
 static leveldb_t *opened(const char *folder, int made)

@@ -1,11 +1,11 @@
 /* An LMDB of tests/real_programs.py: `write FOLDER FLAGS COUNT` makes commits, each acknowledged by a mark; `read FOLDER` says
  * what is there. */
-#include <fcntl.h>
 #include <lmdb.h>
 #include <stdio.h>
 #include <stdlib.h>
 #include <string.h>
-#include <unistd.h>
+
+#include "mark.h"
 
 #define OR_FAIL(call) do { int status_ = (call); if (status_) { printf("%s: %s\n", #call, mdb_strerror(status_)); exit(1); } } while (0)
 
@@ -24,22 +24,6 @@ static MDB_txn *begun(const char *folder, unsigned flags, unsigned txn_flags)
 	OR_FAIL(mdb_txn_begin(env, NULL, txn_flags, &txn));
 	OR_FAIL(mdb_dbi_open(txn, NULL, 0, &dbi));
 	return txn;
-}
-
-static void mark(int number)
-{
-	char path[4096], line[64];
-	const char *recording = getenv("RECORDING");
-	int file;
-
-	if (!recording)
-		return;
-	snprintf(path, sizeof path, "%s/marks", recording);
-	file = open(path, O_WRONLY | O_APPEND);
-	snprintf(line, sizeof line, "0 commit-%d\n", number);
-	if (write(file, line, strlen(line)) != (ssize_t)strlen(line))
-		exit(1);
-	close(file);
 }
 
 static unsigned flags_of(const char *text)

@@ -27,7 +27,7 @@ ARITHMETIC = {
     "mov64 r0, 0x12345678; swap32 r0": 2018915346,
 }
 
-# The same of jumps, loads and stores.
+# What programs with jumps, loads and stores answer.
 MEMORY = {
     "stb [r10-1], 7; ldxb r0, [r10-1]": 7,
     "stdw [r10-8], -1; ldxsw r0, [r10-6]": 2**64 - 1,
@@ -60,7 +60,7 @@ MEMORY = {
     "lddw r2, 0x300000c00; ldxdw r0, [r2+504]": 0,
 }
 
-# The same of helpers, on four sectors of zeros.
+# What programs with helpers answer on four sectors of zeros.
 HELPERS = {
     "mov64 r1, 4; call 1": 0,
     "mov64 r1, 3; call 1": 0x300000C00,
@@ -83,7 +83,7 @@ HELPERS = {
     "mov64 r1, 1048576; call 3": 1,
 }
 
-# The same of faults: the number, and the slot.
+# Where programs fault: the number, and the slot.
 FAULTS = {
     "ldxb r0, [r10-1]": "82 slot 0",
     "ldxb r0, [r10+0]": "83 slot 0",
@@ -170,7 +170,7 @@ LIMITS = [
     ("lddw r0, 5; exit", 1, "out of steps"),
     ("lddw r0, 5", 1, "fault 80 slot 0"),
     ("lddw r0, 4294967296", 10, "fault 80 slot 0"),
-    # no instruction behind the last step is a fault, and not out of steps; of no step nothing is seen
+    # no instruction after the last step is a fault, and not out of steps; of no step nothing is seen
     ("mov64 r0, 1", 10, "fault 80 slot 0"),
     ("mov64 r0, 1", 1, "fault 80 slot 0"),
     ("mov64 r0, 1", 0, "out of steps"),
@@ -244,9 +244,9 @@ CALLS = [
     ("callf -2; exit", 10, "fault 80 slot 0"),
     ("callf +2147483647; exit", 10, "fault 80 slot 0"),
     ("callf +1; lddw r0, 0; exit", 10, "fault 80 slot 0"),
-    # 80 at the EXIT: no instruction begins behind the call
+    # 80 at the EXIT: no instruction begins after the call
     ("ja +2; mov64 r0, 1; exit; callf -3", 10, "fault 80 slot 2"),
-    # registers: 1 to 5 are the function's, and gone behind it; 6 to 10 are the caller's
+    # registers: 1 to 5 are the function's, and gone after it; 6 to 10 are the caller's
     ("mov64 r1, 5; callf +2; mov64 r0, r1; exit; mov64 r0, 0; exit", 10, "fault 81 slot 2"),
     ("mov64 r5, 5; callf +2; mov64 r0, r5; exit; mov64 r0, 0; exit", 10, "fault 81 slot 2"),
     ("mov64 r5, 5; callf +1; exit; mov64 r0, r5; exit", 10, "answer 5 codes -"),

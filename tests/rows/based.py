@@ -16,7 +16,7 @@ LENGTHS = [1, 200, SECTOR - 1, SECTOR, SECTOR + 1, 3 * SECTOR // 2]
 
 
 def with_base(row, run, name="based"):
-    """The same row over the initial content of its run."""
+    """A row over the initial content of its run."""
     held = f"{len(run.base)} bytes{'' if any(run.base) else ' of zeros'}"
     return replace(row, name=f"{name}: {row.name}, {held}", files={**row.files, "base": run.base})
 
@@ -45,7 +45,7 @@ ALL = list(runs())
 
 
 def worked(run, workers, cache):
-    """The same report by several workers, with a cache."""
+    """A report that several workers make, with a cache."""
     options = f"{run.options()} --workers {workers} --cache {cache}"
     row = explore(f"{options}", options, run.recorded, PROGRAMS, Long(lambda: explored(run, CHECKERS)), 1)
     return with_base(row, run, "based, by workers")
@@ -83,8 +83,8 @@ REFUSED = [
     refused("based: a byte more than the device has", "explore log p0 --sectors 4 --base base", held(bytes(4 * SECTOR + 1)), "refused 13 at 14"),
     refused("based: far more than the device has", "images log --sectors 1 --base base", held(bytes(2**20)), "refused 13 at 14"),
     refused("based: too long, before the log", "images log --sectors 1 --base base", {"log": b"", "base": bytes(SECTOR + 1)}, "refused 13 at 14"),
-    refused("based: no file, behind a program", "explore log p0 --sectors 4 --base other", ONE, "refused 14 at 2"),
-    refused("based: no file, behind two programs", "why log p0 p0 --sectors 4 --base other", ONE, "refused 14 at 3"),
+    refused("based: no file, after a program", "explore log p0 --sectors 4 --base other", ONE, "refused 14 at 2"),
+    refused("based: no file, after two programs", "why log p0 p0 --sectors 4 --base other", ONE, "refused 14 at 3"),
     refused("based: a folder", "image log 0 --sectors 4 --base base", held(Folder()), "refused 14 at 1"),
     refused("based: no program, before no base", "explore log p1 --sectors 4 --base other", ONE, "refused 14 at 1"),
     refused("based: no log, before no base", "show other 0 --sectors 4 --base none", ONE, "refused 14 at 0"),

@@ -20,7 +20,7 @@ MARKS = [W(0, 1, 1), M("gr\u00fc\u00dfe, \u65e5\u672c\u8a9e \\ \u202e\x85\x00<")
 OFTEN = [W(number % 2, 1, number + 1) for number in range(40)]
 
 
-# Each so many of the runs are looked at.
+# Every few runs one is looked at.
 STEP = 7
 
 

@@ -412,7 +412,7 @@ DEVICES = {
     ],
 }
 
-# The same for functions of examples/refused whose cure is an address that is tested.
+# Devices, with their answers, for functions of examples/refused whose cure is an address that is tested.
 CURED_DEVICES = {
     "inner_loop": [
         ({512: u64(6, 1, 2, 3), 992: u64(2**64 - 1, 0, 2**64 - 2, 1)},),

@@ -19,7 +19,7 @@ COMMANDS = [
     Row("no word at all: the stored run", "", {}, STORED_RUN),
     Row("the stored run reads no file", "", {"log": b"", "program": b""}, STORED_RUN),
     Row("options before files", "images --sectors 4 --bound 0 log", files([]), ONE_IMAGE),
-    Row("the number of an image behind options", "image log --sectors 1 0", files([]), bytes(512)),
+    Row("the number of an image after options", "image log --sectors 1 0", files([]), bytes(512)),
     explore(
         "programs are numbered as on the command line",
         "--sectors 4 --bound 0",

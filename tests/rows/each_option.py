@@ -24,7 +24,7 @@ FILES = {
     "told": program("ldxdw r0, [r1+8]; ldxdw r1, [r1+16]; lsh64 r1, 8; add64 r0, r1; exit"),
     "base": BASE,
     "long": BASE + b"\0",
-    # an entry right behind the largest device without --large, and more images than a run may have without --images
+    # an entry right after the largest device without --large, and more images than a run may have without --images
     "far": log([W(16384, 1, 0x11)]),
     "raw": raw(SECTOR, [(16384, 1, 0, bytes(SECTOR))]),
     "wide": log([D(0, 3000)]),

@@ -140,14 +140,14 @@ def written(which, run=None, first=False, stored=None):
 
 
 def by_file(which):
-    """The same run of the log's file."""
+    """This run, of the log's file."""
     status = 0 if which.endswith("right") else 1
     options, folder = DESIGNS[which].options(), folder_of(which)
     return design(f"{which}, by its file", f"{which}.log", f"{folder}/checker.bpf", options, f"{which}.report", status)
 
 
 def in_c(which):
-    """The same run by the checker in C."""
+    """This run, by the checker in C."""
     about = JUDGES[folder_of(which)][0].encode()
     report = data(EXAMPLES / f"{which}.report").replace(about, IN_C[folder_of(which)].encode())
     status = 0 if which.endswith("right") else 1

@@ -86,9 +86,9 @@ ENDS = {
     "a mark alone": [W(0, 1, 1), M("kept")],
     "a mark, and entries without sectors": [W(0, 1, 1), Entry(), M("kept"), Entry(flags=FUA), Entry(flags=DISCARD)],
     "a mark before other writes": [W(0, 1, 1), M("kept"), W(1, 1, 2), W(1, 1, 3)],
-    "a forced write behind": [W(0, 1, 1), W(1, 1, 2, FUA), M("kept")],
+    "a forced write after": [W(0, 1, 1), W(1, 1, 2, FUA), M("kept")],
     "a forced write itself": [W(0, 1, 1, FUA), M("kept")],
-    "a discard behind": [W(0, 1, 1), D(1, 1), M("kept")],
+    "a discard after": [W(0, 1, 1), D(1, 1), M("kept")],
     "a discard that is lost": [W(0, 1, 2), W(0, 1, 1), D(0, 2), W(0, 2, 1), M("kept")],
     "a flush with the write": [W(0, 1, 1, FLUSH), M("kept"), W(0, 1, 1, FLUSH), M("kept")],
     "two marks": [M("none"), W(0, 1, 1), M("kept"), F, W(0, 1, 2), W(0, 1, 1), M("kept")],
@@ -195,7 +195,7 @@ REFUSED_LATER = [
     ),
 ]
 
-# docs/CRASH-MODEL.md, no_window: an image without a window that a flush takes out of a run which begins behind the cut that
+# docs/CRASH-MODEL.md, no_window: an image without a window that a flush takes out of a run which begins after the cut that
 # leaves its like. With all cuts that one fails.
 
 

@@ -107,7 +107,7 @@ def no_answer(row, what, name, content, error):
 
 
 def filled(begun, length):
-    """A file of so many bytes that begins with these, zeros behind them."""
+    """A file of that many bytes that begins with these, zeros after them."""
     return Hole(length - len(begun), b"", begun)
 
 
@@ -119,7 +119,7 @@ NO_LOG = {**NO_LOG, "an image": "refused 2 at 0", "an object file": "refused 2 a
 
 
 def large(row):
-    """The same with --large, and another name."""
+    """A row with --large, under another name."""
     return replace(row, words=f"{row.words} --large")
 
 
@@ -142,7 +142,7 @@ AS_LOG += [
 ]
 
 
-# Programs: those of a run, behind its log, and the program of a command that has no log
+# Programs: those of a run, after its log, and the program of a command that has no log
 
 MOVE, EXIT = ZERO[:8], ZERO[8:]
 LONGEST = MOVE * (MOST_PROGRAM // 8 - 1) + EXIT
@@ -167,7 +167,7 @@ assert len(PART) % 8 and KINDS["a log"][:2] == b"rh" and KINDS["an object file"]
 
 
 def as_program(row, name, place, of):
-    """The runs of a row whose program is no good: the place of a file that can't be read, and what stands behind other refusals."""
+    """The runs of a row whose program is no good: the place of a file that can't be read, and what stands after other refusals."""
     return [
         *unreadable(row, name, f"refused 14 at {place}"),
         *of_kinds(row, name, {it: f"refused {number} at {at}{of}" for it, (number, at) in NO_PROGRAM.items()}),
@@ -203,7 +203,7 @@ AS_IMAGE = Run(RUN.recorded, 4, base=KINDS["a program"])
 
 
 def behind(row):
-    """The number of a command's other files, which is the place of the one behind --base."""
+    """The number of a command's other files, which is the place of the file of --base."""
     return sum(it in row.files and it != "base" for it in row.words.split()[1:])
 
 
@@ -242,7 +242,7 @@ AS_PART = [
 # Assembly texts
 
 def text_of(length):
-    """A text of so many bytes, of which the last line but one is the program, and the last one a comment."""
+    """A text of that many bytes, of which the last line but one is the program, and the last one a comment."""
     said = "mov64 r0, 0\nexit\n;"
     return Long(lambda: said + "x" * (length - len(said)))
 
@@ -268,7 +268,7 @@ AS_TEXT = [
 ]
 
 
-# Raw logs: what is behind the last entry, and behind 192 MiB, changes no answer
+# Raw logs: what is after the last entry, and after 192 MiB, changes no answer
 
 RAW = raw(4096, [(0, 1, 0, bytes([0x11]) * 4096)])
 IMPORT = Row("import", "import raw", {"raw": RAW}, log([W(0, 8, 0x11)]))

@@ -177,8 +177,8 @@ BROKEN = {
     "cut off within a line": MIDDLE[: MIDDLE.index(FAILING[2].encode()) + 9],
     "cut off within its head": MIDDLE[:40],
     "a byte before it": b" " + MIDDLE,
-    "a byte behind it": MIDDLE + b" ",
-    "a line behind it": MIDDLE + b"\n",
+    "a byte after it": MIDDLE + b" ",
+    "a line after it": MIDDLE + b"\n",
     "a text twice": MIDDLE * 2,
     "two texts in one": MIDDLE + THIRDS[2],
     "a whole report": report(RUN, CHECKERS),
@@ -204,11 +204,11 @@ BROKEN = {
     "with tears that are neither": with_words(OPTIONS, "tears yes", "tears maybe"),
     "with sectors that are no number": with_words(OPTIONS, "sectors 4", "sectors four"),
     "with sectors and a zero before": with_words(OPTIONS, "sectors 4", "sectors 04"),
-    "with a blank behind its options": with_line(OPTIONS, OPTIONS + " "),
+    "with a blank after its options": with_line(OPTIONS, OPTIONS + " "),
     "with options in another order": with_words(OPTIONS, "tears yes first no", "first no tears yes"),
     "with flushes that are none": with_line(OPTIONS, OPTIONS + " flush "),
-    "with flushes and a comma behind": with_line(OPTIONS, OPTIONS + " flush 1,"),
-    "with the first cut behind the last": with_line(OPTIONS, OPTIONS + " to 3 from 2"),
+    "with flushes and a comma after": with_line(OPTIONS, OPTIONS + " flush 1,"),
+    "with the first cut after the last": with_line(OPTIONS, OPTIONS + " to 3 from 2"),
     "without programs": changed(MIDDLE, "".join(f"{it}\n" for it in LINES[3:6]), ""),
     "without its first program": changed(MIDDLE, LINES[3] + "\n", ""),
     "with programs in another order": changed(MIDDLE, f"{LINES[3]}\n{LINES[4]}\n", f"{LINES[4]}\n{LINES[3]}\n"),
@@ -225,14 +225,14 @@ BROKEN = {
     "with an answer and a zero before": with_words(FAILING[0], " answer ", " answer 0"),
     "with an answer of 2^64": with_line(FAILING[0], FAILING[0].split(" answer ")[0] + f" answer {2**64} codes - choice -"),
     "with 17 codes": with_line(FAILING[0], FAILING[0].split(" answer ")[0] + f" answer 1 codes {','.join('0' * 17)} choice -"),
-    "with a comma behind its codes": with_line(FAILING[0], FAILING[0].split(" answer ")[0] + " answer 1 codes 1, choice -"),
+    "with a comma after its codes": with_line(FAILING[0], FAILING[0].split(" answer ")[0] + " answer 1 codes 1, choice -"),
     "with a fault that no machine has": with_line(FAILING[0], FAILING[0].split(" answer ")[0] + " fault 89 slot 0 choice -"),
     "with a fault and no slot": with_line(FAILING[0], FAILING[0].split(" answer ")[0] + " fault 80 choice -"),
     "with other words for steps": with_line(FAILING[0], FAILING[0].split(" answer ")[0] + " out of step choice -"),
     "with another word": with_words(FAILING[0], " choice ", " chance "),
     "with a blank more": with_words(FAILING[0], " cut ", "  cut "),
     "with a tab": with_words(FAILING[0], " cut ", "\tcut "),
-    "with a blank behind a line": with_line(FAILING[0], FAILING[0] + " "),
+    "with a blank after a line": with_line(FAILING[0], FAILING[0] + " "),
     "with no choice": with_line(FAILING[0], FAILING[0].rsplit(" ", 1)[0] + " "),
     "with a fate that isn't": with_line(FAILING[0], FAILING[0].rsplit(" ", 1)[0] + " 0.0:drip"),
     "with an eighth past the last": with_line(FAILING[0], FAILING[0].rsplit(" ", 1)[0] + " 0.0:head8"),
@@ -292,7 +292,7 @@ UNPRINTED = {
     "with guards beside a limit": with_line(LINES[3], LINES[3].replace("budget", "limit") + " guards 0"),
 }
 
-# The same of a part that has its first failing image alone.
+# Texts that are no part: those of a part with its first failing image alone, changed.
 FIRST_LINES = FIRSTS[1].decode().split("\n")
 FIRST_FAILING = "".join(f"{it}\n" for it in FIRST_LINES if it.startswith("image "))
 FIRST_LAST = FIRST_LINES[-2]
@@ -304,7 +304,7 @@ FIRST_BROKEN = {
     "of first, with the last line of all": changed(FIRSTS[1], FIRST_LAST, FIRST_LAST.split(" first ")[0] + " failing 1 lines 1"),
 }
 
-# The same run but for one option, its log and one program, of each the middle part.
+# The middle part of runs that differ in one option, in the log or in one program.
 STRANGE = {
     "other tears": middle_of(Run(RUN.recorded, 4, "all", 2, False)),
     "another bound": with_words(OPTIONS, "bound 2", "bound 3"),
@@ -389,7 +389,7 @@ FILES = [
     unread("a file that isn't there", {"t0": THIRDS[0]}, "t0 t1", "refused 14 at 1"),
     unread("no file is there", {}, "t0 t1", "refused 14 at 0"),
     unread("a file that isn't there before one that is no part", {"t1": b""}, "t0 t1", "refused 14 at 0"),
-    unread("a file that isn't there behind one that is no part", {"t0": b""}, "t0 t1", "refused 14 at 1"),
+    unread("a file that isn't there after one that is no part", {"t0": b""}, "t0 t1", "refused 14 at 1"),
     unread("a file that isn't there, of too many", {"t": THIRDS[0]}, " ".join(["t"] * MOST_JOINED + ["u"]), f"refused 65 at {MOST_JOINED}"),
     unread("one file under two names", {"t": MIDDLE}, "t ./t", "refused 64 at 1"),
     unread("no files", {}, "", Something()),
@@ -472,7 +472,7 @@ EXPLORES = [
 ]
 
 
-# Words behind `--images`
+# Words after `--images`
 
 
 def bad(name, images, error, options=None, content=None, words="explore log p0"):
@@ -497,7 +497,7 @@ NO_RANGE = {
     "a zero in front of the last": "1..02",
     "two zeros": "00..1",
     "a blank before": "␣1..2",
-    "a blank behind": "1..2␣",
+    "a blank after": "1..2␣",
     "a blank between": "1␣..2",
     "a blank alone": "␣",
     "hexadecimal digits": "0x1..2",
@@ -516,13 +516,13 @@ BAD_IMAGES = [
     bad("none, where there are some", "0..0", "refused 13 at 17"),
     bad("as many as below the first", "1..1", "refused 13 at 17"),
     bad("the last before the first", "2..1", "refused 13 at 17"),
-    bad("behind all", f"{TOTAL}..{TOTAL + 1}", "refused 13 at 17"),
+    bad("after all", f"{TOTAL}..{TOTAL + 1}", "refused 13 at 17"),
     bad("one more than there are", f"0..{TOTAL + 1}", "refused 13 at 17"),
-    bad("far behind all", f"{2**63 - 2}..{2**63 - 1}", "refused 13 at 17"),
+    bad("far after all", f"{2**63 - 2}..{2**63 - 1}", "refused 13 at 17"),
     bad("at the end of 64 bits", f"{2**64 - 2}..{2**64 - 1}", "refused 13 at 17"),
     bad("more than one process judges", f"0..{MOST_JUDGED + 1}", "refused 13 at 17"),
     bad("all of 64 bits", f"0..{2**64 - 1}", "refused 13 at 17"),
-    bad("as many as one process judges, where there aren't so many", f"0..{MOST_JUDGED}", "refused 13 at 17"),
+    bad("as many as one process judges, where there are fewer", f"0..{MOST_JUDGED}", "refused 13 at 17"),
     bad("some, where there are none", "0..1", "refused 13 at 17", NO_IMAGES.options(), files(NO_IMAGES.recorded, ONE)),
     # The order of refusals.
     bad("no kind of cuts first", "x", "refused 13 at 7", "--sectors 4 --cuts some"),
@@ -535,7 +535,7 @@ BAD_IMAGES = [
     bad("files before images that there aren't", "0..9999", "refused 14 at 0", content={}),
     bad("the log before images that there aren't", "0..9999", "refused 1 at 0", content={"log": b"", "p0": ONE}),
     bad("images that there aren't before programs", "0..9999", "refused 13 at 17", content=files(RUN.recorded, b"")),
-    bad("programs behind images that there are", "0..1", "refused 21 at 0 of program 0", content=files(RUN.recorded, b"")),
+    bad("programs after images that there are", "0..1", "refused 21 at 0 of program 0", content=files(RUN.recorded, b"")),
     *(
         Row(f"no images: {command} takes none", f"{command} log p0 {RUN.options()} --images 0..1", files(RUN.recorded, ONE), status=2, error=Something())
         for command in ("why", "cure", "page")
@@ -569,12 +569,12 @@ LIMIT = 2**63
 
 
 def ways(sectors):
-    """How many images a cut has at which so many sectors are on their way, with bound 3 and tears."""
+    """How many images a cut has at which that many sectors are on their way, with bound 3 and tears."""
     return sum(comb(sectors, lost) * 15**lost for lost in range(4))
 
 
 def discards(sectors):
-    """Entries that discard so many sectors in all."""
+    """Entries that discard that many sectors in all."""
     return [D(0, min(DEVICE, sectors - begun)) for begun in range(0, sectors, DEVICE)]
 
 
@@ -639,7 +639,7 @@ def too_many(run):
 
 
 def beyond(run):
-    """What is refused behind the last image of a run."""
+    """What is refused after the last image of a run."""
     content, total = files(run.recorded, ONE), count(run)
     options = f"{run.options()} --images"
     return [
@@ -708,7 +708,7 @@ NEAR_LIMIT = [
         Long(lambda: part(near_limit(), ANSWERS, ways(MOST_SECTORS) - 70, ways(MOST_SECTORS), inputs_of(near_limit(), [ONE, ZERO]))),
         1,
     ),
-    refused("wide: close to 2^63, no image behind all", f"image log {ways(MOST_SECTORS)} {NEAR} --images", files(discards(MOST_SECTORS)), "refused 13 at 9"),
+    refused("wide: close to 2^63, no image after all", f"image log {ways(MOST_SECTORS)} {NEAR} --images", files(discards(MOST_SECTORS)), "refused 13 at 9"),
     refused("wide: close to 2^63, no layout", f"images log {NEAR} --images --parts {MOST_PARTS}", files(discards(MOST_SECTORS)), "refused 13 at 18"),
     *(
         refused(f"wide: past 2^63 at the only cut: {words}", f"{words} {NEAR}", files(discards(MOST_SECTORS + 1), ONE), f"refused 12 at {len(discards(MOST_SECTORS + 1))}")

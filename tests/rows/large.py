@@ -11,7 +11,7 @@ from rows.refusals import SECTORS_AS_INDEX
 # The largest device, and the largest without `--large`.
 MOST, USUAL = 1 << 20, 1 << 14
 
-# Sectors at the ends of the pages in which the product keeps what is written, at the ends of both devices, and behind them.
+# Sectors at the ends of the pages in which the product keeps what is written, at the ends of both devices, and after them.
 PLACES = [0, 1, 62, 63, 64, 65, 127, 128, USUAL - 1, USUAL, USUAL + 1, MOST // 2, MOST - 65, MOST - 64, MOST - 1, MOST]
 
 # Answers the sum of the mixes of these sectors.
@@ -91,7 +91,7 @@ def whole(run, number):
     return replace(row, files={**row.files, "base": run.base})
 
 
-# 262,144 units of data behind two headers: a log of 128 MiB, of which each image but the first has 1 in its first byte.
+# 262,144 units of data after two headers: a log of 128 MiB, of which each image but the first has 1 in its first byte.
 HALF = 1 << 17
 LONG_LOG = Long(lambda: log([W(0, HALF, 1), W(0, HALF, 2)]))
 LAST = program(f"mov64 r1, {HALF - 1}; call 5; exit")
@@ -180,7 +180,7 @@ AN_IMAGE = "with --large an image has 1 to 1048576 whole sectors of 512 bytes (d
 
 
 def checked(name, image, sectors, answer):
-    """A run on an image of so many sectors, in whose last sector a byte is no zero."""
+    """A run on an image of that many sectors, in whose last sector a byte is no zero."""
     steps = f"""
     crash check 1
     sectors {sectors} epoch 0 marks 0

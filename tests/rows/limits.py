@@ -59,7 +59,7 @@ SECTORS_OF_64_MIB = 64 * 2048
 
 
 def rest(sectors):
-    """How many sectors the eighth write has in a log of so many sectors, with nine of them for headers."""
+    """How many sectors the eighth write has in a log of that many sectors, with nine of them for headers."""
     return sectors - 9 - 7 * DEVICE
 
 
@@ -297,7 +297,7 @@ MANY_IMAGES = [
 ]
 
 
-# 16,777,216 images: stretches of so many volatile units, each ended by a flush; two units may depart, torn or dropped
+# 16,777,216 images: stretches of that many volatile units, each ended by a flush; two units may depart, torn or dropped
 
 STRETCHES = [386, 22, 2, *[1] * 14, *[0] * 13]
 MOST_IMAGES = 16777216
@@ -317,7 +317,7 @@ def stretched_survey():
     return text + survey_line(len(STRETCHED), len(STRETCHES), 0, 0, 1) + f"total {MOST_IMAGES}\n"
 
 
-# The same with a mark behind the write of the last stretch that has one, and a program that wants the write to be there behind
+# Such a run with a mark after the write of the last stretch that has one, and a program that wants the write to be there after
 # the mark: it isn't where it was dropped, or only a tail of it arrived.
 MARK_PLACE = 2 * sum(1 for units in STRETCHES if units) - 1
 MARKED_STRETCHES = [*STRETCHED[: MARK_PLACE - 1], W(0, 1, 0xAA), M("there"), *STRETCHED[MARK_PLACE:]]
@@ -380,7 +380,7 @@ MOST = [
 
 
 def counted(turns, moves):
-    """A loop of so many turns, so many moves behind it, and an exit: a longest path of moves + 4 slots."""
+    """A loop of that many turns, that many moves after it, and an exit: a longest path of moves + 4 slots."""
     return program(f"mov64 r1, {turns}; call 3; jne r0, 0, -3; {'mov64 r0, 0; ' * moves}exit")
 
 
@@ -486,7 +486,7 @@ LAST_SECTOR = [
     at_the_end("the next one", "mov64 r1, 16384; call 1; exit", 0),
     at_the_end("zero", "mov64 r1, 16383; call 5; exit", 0),
     at_the_end("zero before it", "mov64 r1, 16382; call 5; exit", 1),
-    at_the_end("zero behind it", "mov64 r1, 16384; call 5; exit", 2),
+    at_the_end("zero after it", "mov64 r1, 16384; call 5; exit", 2),
     at_the_end("same", "mov64 r1, 16383; mov64 r2, 0; call 7; exit", 0),
     at_the_end("copied", COPIED.format(at=8388600, then="ldxdw r0, [r10-8]; "), 0x1111111111111111),
     at_the_end("copied, all there", COPIED.format(at=8388600, then=""), 0),

@@ -73,7 +73,7 @@ TWO_EPOCHS_CUT = [
     (3071, "5 at 2"),
 ]
 
-# a forced write of two sectors, a discard, a mark, a flush that writes: six headers and data sectors behind the super block
+# a forced write of two sectors, a discard, a mark, a flush that writes: six headers and data sectors after the super block
 MIXED = [W(0, 2, 0x11, FUA), D(1, 3), M("seven letters"), W(3, 1, 0x22, FLUSH)]
 MIXED_SURVEY = survey(NOTHING, NOTHING, (0, 0, 3), (0, 1, 3), (1, 1, 1))
 

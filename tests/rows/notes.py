@@ -1,4 +1,4 @@
-"""The notes: what stands on standard error behind each refusal, and beside an answer (docs/REFUSALS.md, Notes)."""
+"""The notes: what stands on standard error after each refusal, and beside an answer (docs/REFUSALS.md, Notes)."""
 from math import comb
 
 from notation import FUA, MARK, D, Entry, F, Folder, M, Row, Something, W, code, files, lines, log, program, report, super_block
@@ -463,7 +463,7 @@ WEAKENED = ["50 at 3", "50 at 4", "56 at 0", "56 at 1"]
 
 
 def of_guards(error, note=GUARDS):
-    """The note of guards, where there is one behind a refusal."""
+    """The note of guards, where there is one after a refusal."""
     return [note] if 51 <= int(error.split()[0]) <= 55 or error in WEAKENED else []
 
 
@@ -663,7 +663,7 @@ GIB = 2**30
 
 
 def lengthy(name, command, images, programs=1, more=""):
-    """A row of a run of so many images, none of which fails, with what is said of its report before the line of progress."""
+    """A row of a run of that many images, none of which fails, with what is said of its report before the line of progress."""
     names = " ".join(f"p{number}" for number in range(programs))
     most = images * programs * 528 if command == "explore" and "--first" not in more else 0
     said = [f"the report may have up to {-(-most // GIB)} GiB; 'crashbpf why' says why images fail in few lines, and --first reports the first alone"] if most > GIB else []

@@ -63,7 +63,7 @@ def no_text(what, content):
 NO_TEXTS = [
     no_text("one byte", b"\xff"),
     no_text("in a comment", b"exit ;\xff"),
-    no_text("behind a fault", b"foo\n\xff"),
+    no_text("after a fault", b"foo\n\xff"),
     no_text("a character cut short", b"exit ; \xc3"),
     no_text("a character in too many bytes", b"exit ; \xc0\xaf\n"),
     no_text("half of a pair", b"exit ; \xed\xa0\x80\n"),
@@ -100,7 +100,7 @@ WHOLE_PART = part(SMALL, [Checker("slots 2 budget 2", one)], 0, sum(1 for _image
 
 
 def unwritten(what, words, content):
-    """The same run with each kind of standard output that takes nothing."""
+    """A run with each kind of standard output that takes nothing."""
     return [
         Row(f"standard output {to}: {what}", words, content, status=2, error=UNWRITABLE, to=to)
         for to in ["closed", "full", "unread"]
@@ -141,7 +141,7 @@ def lacking(commands):
     return [f"{it.name} has no run in rows/process.py whose output can't be written" for it in commands if it.name not in {*run, "help"}]
 
 
-# A file that takes so many bytes and no more holds exactly the first bytes of the report.
+# A file that takes that many bytes and no more holds exactly the first bytes of the report.
 FIRST_BYTES = Long(lambda: LONG_REPORT.make()[:LIMITED])
 
 PARTLY_WRITTEN = [
@@ -184,7 +184,7 @@ ESCAPED = [
     escaped("an option with a value", "explore log p0 --fi␊rst=4", r"'--fi\x{a}rst'"),
     escaped("a short option", "explore log p0 -␛", "error: unexpected argument '-"),
     escaped("a number", "explore log p0 --sectors 4␊", r"error: invalid value '4\x{a}' for '--sectors <N>'"),
-    escaped("a number behind a sign", "explore log p0 --sectors=4␛", r"error: invalid value '4\x{1b}' for '--sectors <N>'"),
+    escaped("a number after a sign", "explore log p0 --sectors=4␛", r"error: invalid value '4\x{1b}' for '--sectors <N>'"),
     escaped("a file too many", "images log p␊0 --sectors 4", r"'p\x{a}0'"),
     escaped("a value of a flag", "explore log p0 --sectors 4 --first=␛", "error: "),
     escaped("nothing to escape", "frob", "error: unrecognized subcommand 'frob'"),

@@ -61,11 +61,11 @@ def imported(name, text, log):
 IMPORTED = [
     imported("no entries", raw(LARGE, []), raw(SECTOR, [])),
     imported("each kind of entry", raw(LARGE, ALL), small(ALL)),
-    imported("what stands behind the entries is ignored", raw(LARGE, ALL) + b"\xab" * 9999, small(ALL)),
+    imported("what stands after the entries is ignored", raw(LARGE, ALL) + b"\xab" * 9999, small(ALL)),
     imported("an entry that isn't counted", raw(LARGE, ALL, count=3), small(ALL[:3])),
     imported("a log of the profile", raw(SECTOR, [(1, 1, 0, b"\x11" * 512), (0, 0, FLUSH, b"")]), raw(SECTOR, [(1, 1, 0, b"\x11" * 512), (0, 0, FLUSH, b"")])),
     imported("unused bytes become zeros", raw(LARGE, [raw_header(LARGE, 1, 0, FLUSH, unused=b"\x77")]), small([(1, 0, FLUSH, b"")])),
-    imported("a log device with other bytes behind the log", raw(LARGE, ALL) + b"\x72" * (3 * MIB), small(ALL)),
+    imported("a log device with other bytes after the log", raw(LARGE, ALL) + b"\x72" * (3 * MIB), small(ALL)),
 ]
 
 REFUSED = [
@@ -86,7 +86,7 @@ REFUSED = [
     ("a mark that is a flush", raw(LARGE, [(0, 0, MARK | FLUSH, b"")]), "8 at 0"),
     ("a mark with 481 bytes", raw(LARGE, [(0, 0, MARK, b"m" * 481)]), "8 at 0"),
     ("a mark with sectors", raw(LARGE, [(0, 1, MARK, b"")]), "8 at 0"),
-    ("a write behind the device", raw(LARGE, [(2048, 1, 0, content(1))]), "9 at 0"),
+    ("a write after the device", raw(LARGE, [(2048, 1, 0, content(1))]), "9 at 0"),
     ("a write over the end of the device", raw(LARGE, [(2047, 2, 0, content(2))]), "9 at 0"),
     ("a sum that would wrap", raw(LARGE, [(2**61 - 1, 1, 0, content(1))]), "9 at 0"),
     ("a count that would wrap", raw(LARGE, [(0, 2**61, DISCARD, b"")]), "9 at 0"),
@@ -97,11 +97,11 @@ REFUSED = [
 # A whole log device as a pipe, in 200 MB.
 PIPED = [
     Row("import: a pipe", "import pipe", {"whole": raw(LARGE, ALL)}, small(ALL), to="piped"),
-    Row("import: a pipe with other bytes behind the log", "import pipe", {"whole": raw(LARGE, ALL) + bytes(MIB)}, small(ALL), to="piped"),
+    Row("import: a pipe with other bytes after the log", "import pipe", {"whole": raw(LARGE, ALL) + bytes(MIB)}, small(ALL), to="piped"),
     Row("import: a pipe that ends early", "import pipe", {"whole": raw(LARGE, ALL)[:-1]}, status=2, error="refused 5 at 7", to="piped"),
 ]
 
-# At 192 MiB: a raw log of empty writes, whose headers are zeros, has one header for each sector behind the super block.
+# At 192 MiB: a raw log of empty writes, whose headers are zeros, has one header for each sector after the super block.
 MOST = 192 * MIB // LARGE - 1
 
 
@@ -133,7 +133,7 @@ LONG = [(0, 2048, 0, bytes(8 * MIB))] * 8
 WITHIN = [
     Row("import: on a large device", "import raw --large", {"raw": BEHIND}, small([(2048, 1, 0, content(1)), (131071, 1, FLUSH, content(1, 5)), (131000, 72, DISCARD, b"")])),
     refused("import: on a large device, without --large", "import raw", {"raw": BEHIND}, "refused 9 at 0"),
-    refused("import: behind a large device", "import raw --large", {"raw": raw(LARGE, [(131071, 2, DISCARD, b"")])}, "refused 9 at 0"),
+    refused("import: after a large device", "import raw --large", {"raw": raw(LARGE, [(131071, 2, DISCARD, b"")])}, "refused 9 at 0"),
     Row("import: a long log", "import raw --large", {"raw": Long(lambda: raw(LARGE, LONG))}, Long(lambda: small(LONG))),
     refused("import: a long log, without --large", "import raw", {"raw": Long(lambda: raw(LARGE, LONG))}, "refused 10 at 7"),
     Row("import: with --large as without", "import raw --large", {"raw": raw(LARGE, ALL)}, small(ALL)),
@@ -156,7 +156,7 @@ DEVICE = 16
 
 
 def last_image(entries):
-    """The device behind all entries, by the raw log."""
+    """The device after all entries, by the raw log."""
     device = bytearray(DEVICE * LARGE)
     for sector, count, flags, data in entries:
         if not flags & MARK:

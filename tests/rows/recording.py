@@ -111,7 +111,7 @@ BUDGET = 669_291
 
 def ext4_pieces(block=1024, table=5, **changes):
     """The super block, the descriptor and the root inode of an ext4, with its sums; a change is bytes of super block or
-    descriptor that are put in behind the sums."""
+    descriptor that are put in after the sums."""
     name = bytes(range(16))
     superblock = bytearray(1020)
     for at, field in [(24, u32(0)), (56, u16(0xEF53)), (88, u16(256)), (104, name), (254, u16(64))]:
@@ -177,7 +177,7 @@ def recorded(name, entries, status, **options):
 
 
 REPORTS = [
-    recorded("marked behind its last flush", ENTRIES, 0, cuts="mark", by="write"),
+    recorded("marked after its last flush", ENTRIES, 0, cuts="mark", by="write"),
     recorded("marked too early", EARLY, 1, cuts="mark", by="write"),
     recorded("marked too early, torn sectors", EARLY, 1, cuts="mark", tears=True),
     recorded("each cut, nothing lost", ENTRIES, 0, bound=0),

@@ -73,7 +73,7 @@ AGAIN = {
     "mov64 r1, r2; call 3; jeq r0, 0, +0; exit": "refused 43 at 1",
     "lddw r1, 1; call 3; jeq r0, 0, +0; exit": "refused 43 at 2",
     "mov64 r1, 1; mov64 r2, 0; call 3; jeq r0, 0, +0; exit": "refused 43 at 2",
-    # no test of r0 against 0 right behind
+    # no test of r0 against 0 right after
     "mov64 r1, 1; call 3; exit": "refused 43 at 1",
     "mov64 r1, 1; call 3; mov64 r2, r0; jeq r0, 0, +0; exit": "refused 43 at 1",
     "mov64 r1, 1; call 3; jgt r0, 0, +0; exit": "refused 43 at 1",
@@ -447,7 +447,7 @@ SIGNED = {
         "lddw r6, 9223372036854775807; ldxdw r7, [r1+8]; add64 r7, 1; mov64 r1, 0; call 1; jeq r0, 0, +4; add64 r6, r7; "
         "jslt r6, 0, +2; add64 r0, r6; ldxb r0, [r0+0]; mov64 r0, 0; exit"
     ): "accepted budget 12",
-    # no number is left behind an edge, and so no rule is broken there
+    # no number is left after an edge, and so no rule is broken there
     "ldxdw r6, [r1+8]; jsge r6, 0, +1; ldxb r0, [r6+0]; mov64 r0, 0; exit": "accepted budget 5",
 }
 

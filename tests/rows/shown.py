@@ -4,7 +4,7 @@ from model import Run, shown
 from notation import FLUSH, M, Row, S, W, files, refused
 from rows.modelled import COMMITS, DISCARDED, MARKED, PAGED, TORN_OVER_TORN, noise
 
-# More than 32 parts on their way, and a first flush far behind.
+# More than 32 parts on their way, and a first flush far after.
 MANY = [S(0, noise(1), FLUSH), S(0, noise(2, 40)), M("behind")]
 
 RUNS = [
@@ -21,7 +21,7 @@ RUNS = [
 
 
 def some(run):
-    """Some of the images of a run: the first ones, and then each so many."""
+    """Some of the images of a run: the first ones, and then every few."""
     images = list(run.images())
     return images[:3] + images[3 :: max(len(images) // 12, 1)]
 
@@ -70,7 +70,7 @@ REFUSED = [
     *no_choice("a number with a zero in front", "--cut 2 --choice 01.0:drop"),
     *no_choice("no fate", "--cut 2 --choice 1.0"),
     *no_choice("an eighth past the last", "--tears --cut 2 --choice 1.0:head8"),
-    *no_choice("a comma behind", "--cut 2 --choice 1.0:drop,"),
+    *no_choice("a comma after", "--cut 2 --choice 1.0:drop,"),
     *no_choice("a text longer than any choice's", f"--cut 2 --choice {'1' * 200}"),
     refused("show: a number that no image has", "show log --sectors 4 99", LOG, "refused 13 at 9"),
     refused("show: the log before the choice", "show log --sectors 4 --cut 1 --choice x", {"log": b""}, "refused 1 at 0"),

@@ -137,7 +137,7 @@ def all_images(name, entries, bound, tears, total, worked):
 
 
 # What cuts leave open: the entries of a log, how many volatile units, which epoch and how many marks each cut has, the cuts
-# before a flush, the cuts behind a mark, and the volatile units of the last cut as entry.sector.
+# before a flush, the cuts after a mark, and the volatile units of the last cut as entry.sector.
 CUTS = {
     "no entries": ([], [(0, 0, 0)], [0], [], []),
     "two_epochs": ([W(0, 1, 0), F, W(0, 1, 0)], [(0, 0, 0), (1, 0, 0), (0, 1, 0), (1, 1, 0)], [1, 3], [], ["2.0"]),
@@ -157,7 +157,7 @@ CUTS = {
         [],
         [],
     ),
-    "discard, behind a forced write": (
+    "discard, after a forced write": (
         [W(0, 1, 0), W(3, 1, 0, FUA), Entry(1, 2, DISCARD)],
         [(0, 0, 0), (1, 0, 0), (1, 0, 0), (3, 0, 0)],
         [3],

@@ -76,7 +76,7 @@ REFUSED = [
 
 LISTINGS = [
     Row("list --slots", "list --slots p", {"p": program("mov64 r0, 1; exit")}, "0: mov64 r0, 1\n1: exit\n"),
-    Row("list --slots behind the file", "list p --slots", {"p": program("exit")}, "0: exit\n"),
+    Row("list --slots after the file", "list p --slots", {"p": program("exit")}, "0: exit\n"),
     Row(
         "list --slots counts a 64-bit immediate twice",
         "list p --slots",

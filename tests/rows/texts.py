@@ -114,7 +114,7 @@ REFUSED = {
     "exit\n# no comment": "30 at 2",
     "exit\n\u00a0": "30 at 2",
     "exit\n\x0b": "30 at 2",
-    # 31: not the operands of the instruction, or parts behind a label
+    # 31: not the operands of the instruction, or parts after a label
     "add64 r1": "31 at 1",
     "add64": "31 at 1",
     "add64 r1,": "31 at 1",
@@ -257,7 +257,7 @@ LENGTHS = [
     refused("text: an instruction more", "asm s", {"s": MANY + "end:\nexit\n"}, "refused 32 at 8194"),
     refused("text: the 4,097th instruction", "asm s", {"s": "exit\n" * 4097}, "refused 32 at 4097"),
     refused("text: the first of many too much", "asm s", {"s": "exit\n" * 9000}, "refused 32 at 4097"),
-    refused("text: a fault behind too much", "asm s", {"s": "exit\n" * 4097 + "foo\n"}, "refused 32 at 4097"),
+    refused("text: a fault after too much", "asm s", {"s": "exit\n" * 4097 + "foo\n"}, "refused 32 at 4097"),
     refused("text: a fault before too much", "asm s", {"s": "foo\n" + "exit\n" * 4097}, "refused 30 at 1"),
     Row("text: 2,048 wide instructions", "asm s", {"s": WIDE}, code(WIDE_DIGITS)),
     refused("text: 2,049 wide instructions", "asm s", {"s": WIDE + "lddw r0, 1\n"}, "refused 32 at 2049"),

@@ -24,7 +24,7 @@ def tried(name, text, options, out, status, image=ZEROS):
 
 
 def ended(name, text, options, head, steps, end, image=ZEROS):
-    """The same without lines of steps; `head` is how the second and the third line end."""
+    """A row of a program without lines of steps; `head` is how the second and the third line end."""
     about, size = head
     status = 0 if end.startswith("answer 0 ") else 1
     out = f"sectors {len(image) // SECTOR} {about}\nprogram slots {size}\nsteps {steps}\n{end}\n"
@@ -65,7 +65,7 @@ ANSWERS = [
         "answer 9 codes -",
         bytes(LARGEST - 1) + b"\x09",
     ),
-    ended("no sector behind the last", "mov64 r1, 4; call 1; jne r0, 0, +2; mov64 r0, 3; exit; ldxb r0, [r0+0]; exit", "", FIRST_BYTE, 5, "answer 3 codes -"),
+    ended("no sector after the last", "mov64 r1, 4; call 1; jne r0, 0, +2; mov64 r0, 3; exit; ldxb r0, [r0+0]; exit", "", FIRST_BYTE, 5, "answer 3 codes -"),
     # two codes; then 16 of 17
     ended(
         "codes",
@@ -87,7 +87,7 @@ ANSWERS = [
     ended("the greatest answer", "mov64 r0, -1; exit", "", (NONE_PASSED, "2 budget 2"), 2, f"answer {2**64 - 1} codes -"),
 ]
 
-# Each turn takes three steps, and the call answers 0 behind the last of them: 3 * (turns + 1) + 1 steps.
+# Each turn takes three steps, and the call answers 0 after the last of them: 3 * (turns + 1) + 1 steps.
 TURNS = "mov64 r1, 1000; call 3; jne r0, 0, -3; exit"
 
 LIMITS = [
@@ -101,7 +101,7 @@ LIMITS = [
     ended("turns, a step short", TURNS, "--checked 3003", (NONE_PASSED, "4 limit 3003"), 3003, "out of steps"),
     ended("a loop without end", "ja -1", "--checked 1000", (NONE_PASSED, "1 limit 1000"), 1000, "out of steps"),
     ended("what the verifier refuses", UNSAFE, "--checked 5", (NONE_PASSED, "1 limit 5"), 1, "fault 81 slot 0"),
-    ended("a fault behind a step", "mov64 r0, 1; ja +1", "--checked 5", (NONE_PASSED, "2 limit 5"), 2, "fault 80 slot 1"),
+    ended("a fault after a step", "mov64 r0, 1; ja +1", "--checked 5", (NONE_PASSED, "2 limit 5"), 2, "fault 80 slot 1"),
     ended("no code is told of a fault", "mov64 r1, 5; call 4; stb [r10+0], 1", "--checked 5", (NONE_PASSED, "3 limit 5"), 3, "fault 83 slot 2"),
 ]
 
@@ -131,7 +131,7 @@ WORDS = {
     2**64 - 1: "18446744073709551615",
 }
 
-# The same with `--large`, where a device has more sectors
+# Words with `--large`, where a device has more sectors
 LARGE_WORDS = {
     3 * 2**32 + 1024 * 16384: "sector 16384+0",
     3 * 2**32 + 1024 * 2**20 - 1: "sector 1048575+1023",

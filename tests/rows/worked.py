@@ -484,7 +484,7 @@ NINE_ARE_GOOD = "images 48 failing 39 lines 39"
 
 
 def overwritten_image(number, *parts, bound=1):
-    """An image of overwritten_sector: its sector 0 has so many bytes of each of these."""
+    """An image of overwritten_sector: its sector 0 has that many bytes of each of these."""
     sector = b"".join(bytes([byte]) * size for size, byte in parts)
     assert len(sector) == 512
     return Row(
@@ -778,7 +778,7 @@ VERIFIED = [
     verified("a fifth frame", FIVE_FRAMES, "refused 44 at 6"),
     verified("recursion", RECURSION, "refused 44 at 0"),
     verified("the stack of a caller", STACK_OF_CALLER, "refused 50 at 3"),
-    verified("registers behind a call", REGISTERS_OF_CALL, "refused 50 at 2"),
+    verified("registers after a call", REGISTERS_OF_CALL, "refused 50 at 2"),
     verified("registers of a caller", REGISTERS_OF_CALLER, "refused 50 at 3"),
     verified("bytes of a caller", BYTES_OF_CALLER, "refused 51 at 3"),
     unexplored("recursion, explored", "--sectors 4", [], RECURSION, "refused 44 at 0 of program 0"),
@@ -875,7 +875,7 @@ BY_WRITE = "--sectors 4 --tears --by write"
 
 
 def wide_image(number, *parts):
-    """An image of wide_write: its sectors have so many bytes of each of these."""
+    """An image of wide_write: its sectors have that many bytes of each of these."""
     content = b"".join(bytes([byte]) * count for count, byte in parts)
     return Row(f"wide_write, image {number}", f"image log {number} {BY_WRITE}", files(WIDE), content)
 

@@ -1,7 +1,7 @@
 """Runs by many workers, with and without a cache: the same bytes for any of them.
 
 Each run is made by every number of workers with every size of the cache, and the report is the model's, or that of the
-worked example. One run fails in its last block alone, one only behind many blocks, and two end in time only by the cache.
+worked example. One run fails in its last block alone, one only after many blocks, and two end in time only by the cache.
 Runs that say how far they are say nothing else otherwise.
 """
 import functools

@@ -63,7 +63,7 @@ u64 check(const struct context *context)
 	if (seen != free)
 		return 8;
 
-	/* The schema: a leaf or an inner page, whose cells lie behind its array of pointers. */
+	/* The schema: a leaf or an inner page, whose cells lie after its array of pointers. */
 	const u8 *schema = first + 100;
 	if (schema[0] != 13 && schema[0] != 5)
 		return 10;

@@ -1,4 +1,4 @@
-/* A zip archive: the end record is looked for from behind, then the central directory is walked, and each local header has to
+/* A zip archive: the end record is looked for from the end, then the central directory is walked, and each local header has to
  * agree with its entry. */
 #include "checker.h"
 
