@@ -121,14 +121,14 @@ impl AsmCause {
 
 /// The form of `again`. (It stands apart, since a word in it would make its attribute look like that of a unit test.)
 const AGAIN_FORM: &str =
-    "call 3 stands behind mov64 r1, K, with K from 1 to 1048576, and before a test of r0 against 0, and no jump or local call leads between them (docs/VERIFIER.md, The form of `again`)";
+    "call 3 stands after mov64 r1, K, with K from 1 to 1048576, and before a test of r0 against 0, and no jump or local call leads between them (docs/VERIFIER.md, The form of `again`)";
 
 /// Why a program is refused by the verifier (docs/VERIFIER.md, Refusals).
 #[derive(Clone, Copy, Debug, PartialEq, Eq, Error)]
 pub enum VerifierCause {
     #[error("the jump leads to no slot in which an instruction begins (docs/VERIFIER.md, Shape rules)")]
     Target = 40,
-    #[error("the program ends behind this instruction, without an exit (docs/VERIFIER.md, Shape rules)")]
+    #[error("the program ends after this instruction, without an exit (docs/VERIFIER.md, Shape rules)")]
     End = 41,
     #[error("a loop has a way round without a call of again, helper 3 (docs/VERIFIER.md, Shape rules)")]
     Loop = 42,

@@ -54,6 +54,13 @@
 //! let sectors = Limits::Usual.sectors();
 //! // bytes is 67_108_864, and sectors is 16_384
 //! ```
+//!
+//! # Choices
+//!
+//! - The type of a refusal, `Refusal`, stands in `base`: any layer can answer a refusal, and one that does needn't
+//!   stand on the board of blocks for that.
+//! - The limits are an enum of two, `Limits`, in the module `limits` of `base`: a test can't be given a limit that no
+//!   option has.
 #![tactic(auto)]
 
 pub mod bytes;

@@ -243,7 +243,7 @@ two_read first second t u x y p q =
 pub three_read : {A B C : Type 0} (first : Reading A) (second : Reading B) (third : Reading C) (t u v : List ℕ) (x : A) (y : B) (z : C) → Prints first t x → Prints second u y → Prints third v z
     → three first second third (parts (operand_list (t ∷ u ∷ v ∷ []))) ≡ Some (x, y, z)
 three_read first second third t u v x y z p q r =
-    let behind = u ++ 44 ∷ 32 ∷ (v ++ []) in
+    let beyond = u ++ 44 ∷ 32 ∷ (v ++ []) in
     let flat : operand_list (t ∷ u ∷ v ∷ []) ≡ 32 ∷ (t ++ 44 ∷ 32 ∷ (u ++ 44 ∷ 32 ∷ (v ++ []))) = simp append_assoc refl in
     let one : with_comma (first (parts (t ++ 44 ∷ 32 ∷ (u ++ 44 ∷ 32 ∷ (v ++ []))))) ≡ Some (x, parts (u ++ 44 ∷ 32 ∷ (v ++ []))) =
     comma_there x (u ++ 44 ∷ 32 ∷ (v ++ [])) (first (parts (t ++ 44 ∷ 32 ∷ (u ++ 44 ∷ 32 ∷ (v ++ []))))) (p.read (44 ∷ 32 ∷ (u ++ 44 ∷ 32 ∷ (v ++ []))) (ends_at_comma (32 ∷ (u ++ 44 ∷ 32 ∷ (v ++ []))))) in

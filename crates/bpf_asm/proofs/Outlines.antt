@@ -269,26 +269,26 @@ breaks_with line next o (Err f) read e = elim e [
 -- Lines of a text and what they say.
 
 -- the first line of what is left, and the rest
-pub record FirstOf (text first : List ℕ) (behind : Option (Bor (List ℕ))) : Type 0 where
-  pub split : lines text ≡ first ∷ lines_left behind
-  pub shorter : length_left behind < length text + 1
+pub record FirstOf (text first : List ℕ) (beyond : Option (Bor (List ℕ))) : Type 0 where
+  pub split : lines text ≡ first ∷ lines_left beyond
+  pub shorter : length_left beyond < length text + 1
 
 -- a text cut at a line's end, as its lines
-pub first_of : (text first : List ℕ) (behind : Option (Bor (List ℕ))) → IfNone behind (lines text ≡ first ∷ []) → IfSome behind (λ rest. lines text ≡ first ∷ lines rest.now)
-    → IfSome behind (λ rest. length rest.now < length text) → FirstOf text first behind
+pub first_of : (text first : List ℕ) (beyond : Option (Bor (List ℕ))) → IfNone beyond (lines text ≡ first ∷ []) → IfSome beyond (λ rest. lines text ≡ first ∷ lines rest.now)
+    → IfSome beyond (λ rest. length rest.now < length text) → FirstOf text first beyond
 first_of text first None alone more shorter = record { split = alone; shorter = omega arith }
 first_of text first (Some rest) alone more shorter = record { split = more; shorter = omega arith }
 
 -- one line more
-pub one_line : (text : List ℕ) (left : Bor (List ℕ)) (line : ℕ) (old new : code.Outline) (first : List ℕ) (behind : Option (Bor (List ℕ)))
-    → (h : SoFar text (Some left) line old) → FirstOf left.now first behind → Adds first old new h.said → SoFar text behind (line + 1) new
-one_line text left line old new first behind h f a =
+pub one_line : (text : List ℕ) (left : Bor (List ℕ)) (line : ℕ) (old new : code.Outline) (first : List ℕ) (beyond : Option (Bor (List ℕ)))
+    → (h : SoFar text (Some left) line old) → FirstOf left.now first beyond → Adds first old new h.said → SoFar text beyond (line + 1) new
+one_line text left line old new first beyond h f a =
     let counted = h.counted in
     let shorter = f.shorter in
     record {
       done = h.done ++ first ∷ [];
       said = h.said ++ a.next ∷ [];
-      split = h.split ∙ ap (λ (x : List (List ℕ)). h.done ++ x) f.split ∙ sym (append_assoc h.done (first ∷ []) (lines_left behind));
+      split = h.split ∙ ap (λ (x : List (List ℕ)). h.done ++ x) f.split ∙ sym (append_assoc h.done (first ∷ []) (lines_left beyond));
       read = map-append statement_of h.done (first ∷ []) ∙ rw (h.read, a.read) (sym (map-append Some h.said (a.next ∷ [])));
       outline = a.outline;
       counted = omega arith;
@@ -342,15 +342,15 @@ all_placed_take at slot (d ∷ ds) is e = by_first (instr_at at slot d) refl (λ
     by_first (Some i) p ih = by_rest i p ih (all_placed at (slot + slots_in d) ds) refl (rw p at e)
 
 -- a line that breaks what stands before it breaks the text
-pub breaks_text : (text : List ℕ) (left : Bor (List ℕ)) (line : ℕ) (o : code.Outline) (first : List ℕ) (behind : Option (Bor (List ℕ)))
-    → (h : SoFar text (Some left) line o) → FirstOf left.now first behind → Breaks first h.said → IsUnread text
-breaks_text text left line o first behind h f b said read = by_cause b
+pub breaks_text : (text : List ℕ) (left : Bor (List ℕ)) (line : ℕ) (o : code.Outline) (first : List ℕ) (beyond : Option (Bor (List ℕ)))
+    → (h : SoFar text (Some left) line o) → FirstOf left.now first beyond → Breaks first h.said → IsUnread text
+breaks_text text left line o first beyond h f b said read = by_cause b
   where
-    whole : map statement_of (h.done ++ first ∷ lines_left behind) ≡ map Some said
+    whole : map statement_of (h.done ++ first ∷ lines_left beyond) ≡ map Some said
     whole = ap (map statement_of) (sym (h.split ∙ ap (λ (x : List (List ℕ)). h.done ++ x) f.split)) ∙ read
 
     begins : Begins h.said said first
-    begins = begins_with h.done first (lines_left behind) h.said said h.read whole
+    begins = begins_with h.done first (lines_left beyond) h.said said h.read whole
 
     regrouped : said ≡ (h.said ++ begins.next ∷ []) ++ begins.more
     regrouped = begins.split ∙ sym (append_assoc h.said (begins.next ∷ []) begins.more)

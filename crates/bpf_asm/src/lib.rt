@@ -52,6 +52,37 @@
 //! let text = list(alloc, &program)?;                      // "mov64 r0, 7\nja -2\n"
 //! let fault = assemble(alloc, "exit\nja x\n").err();      // unknown label, line 2
 //! ```
+//!
+//! # More that is promised
+//!
+//! - **An assembly text** is accepted only for the program that it says. A listing says its program, so it assembles
+//!   to it. A refusal's number and line are tested, but for a text without instructions: `one_program`.
+//!
+//! # Choices
+//!
+//! - Parts are words and each of `,` `[` `]` `+` `-` `:`. Spaces and tabs may stand between any two, and none is
+//!   needed where two parts can be told apart (`ja+1` is accepted, `call3` isn't): one rule for where a part ends.
+//! - Only the newline ends a line, and a carriage return is no space, so text with CRLF ends is refused: the rule for
+//!   what stands between parts names spaces and tabs alone.
+//! - Hexadecimal digits in either case, prefix `0x` only, leading zeros are decimal; `+5` is no immediate; `-0` is 0
+//!   where a minus is allowed; `lddw` takes no minus: numbers are decimal or hexadecimal alone, and the one sign is
+//!   the minus.
+//! - The target of `ja32` and `callf` has the range of the immediate, that of other jumps the range of the offset; a
+//!   label is always in range: as the instruction has it in its fields.
+//! - A label may have the name of an instruction or a register; `name: exit` on one line is refused: a word is a
+//!   label where a line has it before `:` and nothing else, so no instruction can be meant.
+//! - A label after the last instruction stands for the number of slots: it is a slot number like the others, and
+//!   whether it may be jumped to is tested by the verifier.
+//! - 32 at 0, for a text without instructions, comes only after all lines were tested: the line at fault is the
+//!   better answer, and place 0 is that of the whole text.
+//! - Which number and line a refused text gets is shown by tests: only that texts are accepted exactly is promised.
+//!
+//! # How it is proved
+//!
+//! - A reader that answers `Option<(X, &[u8])>` with a clause by cases against a `do` chain of the definition is
+//!   mostly auto (`bpf_asm/src/operand.rt`).
+//! - Read back what was printed with a record that says 'is read as x, whatever follows that ends the word', one for
+//!   each kind of operand (`bpf_asm/proofs/Printed.antt`). Each instruction is then one `rw`.
 #![tactic(auto)]
 
 mod assembler;

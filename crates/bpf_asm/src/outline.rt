@@ -120,10 +120,10 @@ pub(crate) fn read_outline(alloc: Global, text: &[u8]) -> Result<Outline<'_>, As
     let mut left = Some(text);
     let mut line = 0;
     while let Some(text) = left {
-        let (first, behind) = split_line(text);
+        let (first, beyond) = split_line(text);
         line += 1;
         outline.add_line(first, line)?;
-        left = behind;
+        left = beyond;
     }
     Ok(outline)
 }

@@ -49,9 +49,9 @@ reads_fields f rest h =
     rw (dst, src, offset, immediate) refl
 
 -- the fields of a slot are those at the head of what begins with it
-pub fields_behind : (bytes : List ℕ) (n : ℕ) → fields_at bytes n ≡ fields_at (drop (8 * n) bytes) 0
+pub fields_after : (bytes : List ℕ) (n : ℕ) → fields_at bytes n ≡ fields_at (drop (8 * n) bytes) 0
 unfolding fields_at number_at
-fields_behind bytes n =
+fields_after bytes n =
     let rest = drop (8 * n) bytes in
     let offset : drop 2 rest ≡ drop (8 * n + 2) bytes = drop-drop 2 (8 * n) bytes in
     let immediate : drop 4 rest ≡ drop (8 * n + 4) bytes = drop-drop 4 (8 * n) bytes in
@@ -66,4 +66,4 @@ next_slot bytes n are long =
     let rest = drop (8 * n) bytes in
     let fits : AreBytes rest = record { fits = λ i. let P : ℕ → Type 0 = λ x. Fits w8 x in subst P (sym (get_or-drop (8 * n) bytes i 0)) (are.fits (8 * n + i)) } in
     let eight : field_bytes (fields_at rest 0) ≡ take 8 rest = first_bytes rest (omega (arith, length-drop (8 * n) bytes)) fits in
-    rw (take-add (8 * n) 8 bytes, fields_behind bytes n, eight) refl
+    rw (take-add (8 * n) 8 bytes, fields_after bytes n, eight) refl

@@ -32,7 +32,7 @@ use Rattle.base.specs.declared.causes.CodeCause.{CodeCause}
 use Rattle.bpf_isa.specs.Decoding.{Follows, memory_fault}
 use Rattle.bpf_isa.specs.declared.program.CodeFault.{CodeFault}
 use Rattle.base.specs.Numbers.{number_bytes}
-use Rattle.bpf_isa.proofs.Bytes.{AreFields, reads_fields, fields_behind}
+use Rattle.bpf_isa.proofs.Bytes.{AreFields, reads_fields, fields_after}
 use Rattle.bpf_isa.proofs.Forms.{shape_told, passes}
 
 -- The fields of an instruction in range are in range.
@@ -139,30 +139,30 @@ size_back bits.Bits16 = refl
 size_back _ = refl
 
 -- the fields of the second slot, as far as they are read
-pub is_behind : Instr → Fields → Type 0
-is_behind (instr.LoadImmediate dst value) t = t.immediate ≡ value / 2 ^ 32
-is_behind _ t = Unit {0}
+pub is_after : Instr → Fields → Type 0
+is_after (instr.LoadImmediate dst value) t = t.immediate ≡ value / 2 ^ 32
+is_after _ t = Unit {0}
 
-read_back : (i : Instr) (t : Fields) → IsInRange i → is_behind i t → read (shape i) (fields_of i) t ≡ i
-unfolding fields_of IsInRange read is_behind
-read_back (instr.Arithmetic w o dst (source.Immediate n)) t range behind = rw (operator_back o, to_z-of_z range.1) refl
-read_back (instr.Arithmetic w o dst (source.Register src)) t range behind = register_back o w dst src _
-read_back (instr.Negate w dst) t range behind = refl
-read_back (instr.SignExtend e dst src) t range behind = extension_back e dst src _
-read_back (instr.ByteOrder o size dst) t range behind = rw (size_back size) refl
-read_back (instr.Jump offset) t range behind = rw (to_z-of_z range) refl
-read_back (instr.LongJump offset) t range behind = rw (to_z-of_z range) refl
-read_back (instr.Branch w c dst (source.Immediate n) offset) t range behind = rw (to_z-of_z range.1, to_z-of_z range.2) refl
-read_back (instr.Branch w c dst (source.Register src) offset) t range behind = rw (to_z-of_z range.2) refl
-read_back (instr.CallHelper number) t range behind = rw (to_z-of_z range) refl
-read_back (instr.CallLocal distance) t range behind = rw (to_z-of_z range) refl
-read_back instr.Exit t range behind = refl
-read_back (instr.Load size dst base offset) t range behind = rw (to_z-of_z range.2) refl
-read_back (instr.LoadSigned size dst base offset) t range behind = rw (to_z-of_z range.2) refl
-read_back (instr.StoreImmediate size base offset n) t range behind = rw (to_z-of_z range.1, to_z-of_z range.2) refl
-read_back (instr.Store size base offset src) t range behind = rw (to_z-of_z range.1) refl
-read_back (instr.LoadImmediate dst value) t range behind =
-    let whole : t.immediate * 2 ^ 32 + value % 2 ^ 32 ≡ value = omega (arith, behind) in
+read_back : (i : Instr) (t : Fields) → IsInRange i → is_after i t → read (shape i) (fields_of i) t ≡ i
+unfolding fields_of IsInRange read is_after
+read_back (instr.Arithmetic w o dst (source.Immediate n)) t range beyond = rw (operator_back o, to_z-of_z range.1) refl
+read_back (instr.Arithmetic w o dst (source.Register src)) t range beyond = register_back o w dst src _
+read_back (instr.Negate w dst) t range beyond = refl
+read_back (instr.SignExtend e dst src) t range beyond = extension_back e dst src _
+read_back (instr.ByteOrder o size dst) t range beyond = rw (size_back size) refl
+read_back (instr.Jump offset) t range beyond = rw (to_z-of_z range) refl
+read_back (instr.LongJump offset) t range beyond = rw (to_z-of_z range) refl
+read_back (instr.Branch w c dst (source.Immediate n) offset) t range beyond = rw (to_z-of_z range.1, to_z-of_z range.2) refl
+read_back (instr.Branch w c dst (source.Register src) offset) t range beyond = rw (to_z-of_z range.2) refl
+read_back (instr.CallHelper number) t range beyond = rw (to_z-of_z range) refl
+read_back (instr.CallLocal distance) t range beyond = rw (to_z-of_z range) refl
+read_back instr.Exit t range beyond = refl
+read_back (instr.Load size dst base offset) t range beyond = rw (to_z-of_z range.2) refl
+read_back (instr.LoadSigned size dst base offset) t range beyond = rw (to_z-of_z range.2) refl
+read_back (instr.StoreImmediate size base offset n) t range beyond = rw (to_z-of_z range.1, to_z-of_z range.2) refl
+read_back (instr.Store size base offset src) t range beyond = rw (to_z-of_z range.1) refl
+read_back (instr.LoadImmediate dst value) t range beyond =
+    let whole : t.immediate * 2 ^ 32 + value % 2 ^ 32 ≡ value = omega (arith, beyond) in
     rw whole refl
 
 -- Lists of bytes that begin with an instruction.
@@ -179,34 +179,34 @@ unfolding field_bytes number_bytes
 drop_fields f rest = refl
 
 -- the bytes of an instruction: those of its fields, and what follows these
-behind : Instr → List ℕ → List ℕ
-behind i rest = flat_map field_bytes (second_of i) ++ rest
+beyond : Instr → List ℕ → List ℕ
+beyond i rest = flat_map field_bytes (second_of i) ++ rest
 
-spelling_is : (i : Instr) (rest : List ℕ) → spelling i ++ rest ≡ field_bytes (fields_of i) ++ behind i rest
-unfolding behind
+spelling_is : (i : Instr) (rest : List ℕ) → spelling i ++ rest ≡ field_bytes (fields_of i) ++ beyond i rest
+unfolding beyond
 spelling_is i rest = append_assoc (field_bytes (fields_of i)) (flat_map field_bytes (second_of i)) rest
 
 second_range : (dst value : ℕ) → IsInRange (instr.LoadImmediate dst value) → AreFields (fields 0 0 0 0 (value / 2 ^ 32))
 unfolding IsInRange
 second_range dst value range = record { dst = lit< tt; src = lit< tt; offset = lit< tt; immediate = omega (arith, range.1) }
 
-reads_second : (dst value : ℕ) (rest : List ℕ) → IsInRange (instr.LoadImmediate dst value) → fields_at (behind (instr.LoadImmediate dst value) rest) 0 ≡ fields 0 0 0 0 (value / 2 ^ 32)
-unfolding behind
+reads_second : (dst value : ℕ) (rest : List ℕ) → IsInRange (instr.LoadImmediate dst value) → fields_at (beyond (instr.LoadImmediate dst value) rest) 0 ≡ fields 0 0 0 0 (value / 2 ^ 32)
+unfolding beyond
 reads_second dst value rest range =
     let second = fields 0 0 0 0 (value / 2 ^ 32) in
     rw (append-nil (field_bytes second)) (reads_fields second rest (second_range dst value range))
 
-reads_behind : (i : Instr) (rest : List ℕ) → IsInRange i → is_behind i (fields_at (behind i rest) 0)
-unfolding is_behind
-reads_behind (instr.LoadImmediate dst value) rest range = ap (λ (f : Fields). f.immediate) (reads_second dst value rest range)
-reads_behind _ rest range = tt
+reads_after : (i : Instr) (rest : List ℕ) → IsInRange i → is_after i (fields_at (beyond i rest) 0)
+unfolding is_after
+reads_after (instr.LoadImmediate dst value) rest range = ap (λ (f : Fields). f.immediate) (reads_second dst value rest range)
+reads_after _ rest range = tt
 
 first_is : (i : Instr) (rest : List ℕ) → IsInRange i → first_in (spelling i ++ rest) ≡ Some i
 unfolding first_in
 first_is i rest range =
-    let here : fields_at (field_bytes (fields_of i) ++ behind i rest) 0 ≡ fields_of i = reads_fields (fields_of i) (behind i rest) (in_range i range) in
-    let next : next_of (field_bytes (fields_of i) ++ behind i rest) ≡ fields_at (behind i rest) 0 = ap (λ (x : List ℕ). fields_at x 0) (drop_fields (fields_of i) (behind i rest)) in
-    rw (spelling_is i rest, here, next, shape_told i, read_back i (fields_at (behind i rest) 0) range (reads_behind i rest range)) refl
+    let here : fields_at (field_bytes (fields_of i) ++ beyond i rest) 0 ≡ fields_of i = reads_fields (fields_of i) (beyond i rest) (in_range i range) in
+    let next : next_of (field_bytes (fields_of i) ++ beyond i rest) ≡ fields_at (beyond i rest) 0 = ap (λ (x : List ℕ). fields_at x 0) (drop_fields (fields_of i) (beyond i rest)) in
+    rw (spelling_is i rest, here, next, shape_told i, read_back i (fields_at (beyond i rest) 0) range (reads_after i rest range)) refl
 
 -- bytes begin with one instruction at most
 heads_same : (i j : Instr) (xs ys : List ℕ) → IsInRange i → IsInRange j → spelling i ++ xs ≡ spelling j ++ ys → i ≡ j
@@ -294,16 +294,16 @@ follows (instr.LoadImmediate dst value) bytes n rest range e =
     let long : length (drop (8 * n) bytes) ≡ 16 + length rest = ap length e ∙ length-append (spelling i) rest ∙ ap (λ (k : ℕ). k + length rest) (spelling_length i) in
     let there : n + 1 < length bytes / 8 = omega (arith, long, length-drop (8 * n) bytes) in
     let place : 8 * n + 8 ≡ 8 * (n + 1) = omega arith in
-    let next : drop (8 * (n + 1)) bytes ≡ behind i rest =
+    let next : drop (8 * (n + 1)) bytes ≡ beyond i rest =
     ap (λ (k : ℕ). drop k bytes) (sym place) ∙ sym (drop-drop 8 (8 * n) bytes)
-    ∙ ap (drop 8) (e ∙ spelling_is i rest) ∙ drop_fields (fields_of i) (behind i rest) in
-    rw (lt-ltb (n + 1) (length bytes / 8) there, fields_behind bytes (n + 1), next, reads_second dst value rest range) refl
+    ∙ ap (drop 8) (e ∙ spelling_is i rest) ∙ drop_fields (fields_of i) (beyond i rest) in
+    rw (lt-ltb (n + 1) (length bytes / 8) there, fields_after bytes (n + 1), next, reads_second dst value rest range) refl
 follows _ bytes n rest range e = tt
 
 spelled_passes : (i : Instr) (bytes : List ℕ) (n : ℕ) (rest : List ℕ) → IsInRange i → drop (8 * n) bytes ≡ spelling i ++ rest → first_failing (checks_at bytes n) ≡ None
 spelled_passes i bytes n rest range e =
     let here : fields_at bytes n ≡ fields_of i =
-    fields_behind bytes n ∙ ap (λ (x : List ℕ). fields_at x 0) (e ∙ spelling_is i rest) ∙ reads_fields (fields_of i) (behind i rest) (in_range i range) in
+    fields_after bytes n ∙ ap (λ (x : List ℕ). fields_at x 0) (e ∙ spelling_is i rest) ∙ reads_fields (fields_of i) (beyond i rest) (in_range i range) in
     rw (here, shape_told i) (passes i (slot_at bytes (n + 1)) range (follows i bytes n rest range e))
 
 at_most_all : (bytes : List ℕ) (n : ℕ) → n < length bytes / 8 → drop (8 * n) bytes ≡ [] → ⊥

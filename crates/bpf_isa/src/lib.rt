@@ -53,6 +53,21 @@
 //! let fault = decode(alloc, &[0xb7, 11, 0, 0, 0, 0, 0, 0]).err();
 //! // there is no register 11: CodeCause::Register, slot 0
 //! ```
+//!
+//! # More that is promised
+//!
+//! - **Checkers are decoded by RFC 9669,** in one way, or refused with their first fault. What is encoded is decoded
+//!   to the same program: `no_fault_in_spelled`, `one_fault`, `one_table`.
+//!
+//! # How it is proved
+//!
+//! - A first fault is best a relation over what stands before it (`FirstFault` in `bpf_isa/specs/Program.antt`: after
+//!   slots that are spelled, a test fails). The loop meets it easily; that there is only one (`one_fault`) costs a
+//!   lemma, since two readings of the slots before have to be compared.
+//! - A claim over all 256 bytes is one `refl`: a recursion to `Bool` over the numbers, with every word of the table
+//!   in `unfolding` (`table` in `bpf_isa/proofs/Table.antt`). A lemma takes one number out of it.
+//! - `Vec<Instr>::push` outside `bpf_isa` mostly fails, and `extend_from_slice(&[instr])` proves; `?` on a type with
+//!   a `Register` and a reference is refused, and `let Some(..) = .. else { return None; }` is not.
 #![tactic(auto)]
 
 pub mod codec;

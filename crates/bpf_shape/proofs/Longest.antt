@@ -9,7 +9,7 @@ use Rattle.bpf_shape.specs.declared.edges.Edges.{Edges}
 use Rattle.bpf_shape.specs.Paths.{Leads, IsWalk, end_of, LeadsTo, OnCycle}
 use Rattle.bpf_shape.specs.Search.{EdgesFit, Has}
 use Rattle.bpf_shape.specs.Weights.{path_weight}
-use Rattle.bpf_shape.specs.Lengths.{weight_at, length_of, behind_edge, length_from, ArePartial, AreSettled}
+use Rattle.bpf_shape.specs.Lengths.{weight_at, length_of, after_edge, length_from, ArePartial, AreSettled}
 use Rattle.bpf_shape.proofs.Walks.{leads_first}
 use Rattle.bpf_shape.proofs.Partial.{Comes, comes}
 
@@ -19,8 +19,8 @@ nothing = tt
 
 -- After an edge stands a length that is smaller by the weight.
 smaller : (w : ℕ) (v : List (Option ℕ)) (e : Edges) (k t : ℕ) → Comes w v e k → Leads e t → (j : ℕ) × ((length_of v t ≡ Some j) × (w + j ≤ k))
-smaller w v e k t c (inl h) = (c.next, (let there : behind_edge v (Some t) ≡ Some c.next = rw h at c.next_is in there, omega (arith, c.sum)))
-smaller w v e k t c (inr h) = (c.target, (let there : behind_edge v (Some t) ≡ Some c.target = rw h at c.target_is in there, omega (arith, c.sum)))
+smaller w v e k t c (inl h) = (c.next, (let there : after_edge v (Some t) ≡ Some c.next = rw h at c.next_is in there, omega (arith, c.sum)))
+smaller w v e k t c (inr h) = (c.target, (let there : after_edge v (Some t) ≡ Some c.target = rw h at c.target_is in there, omega (arith, c.sum)))
 
 module _ (next : ℕ → Edges) (n : ℕ) (ws : List ℕ) (v : List (Option ℕ)) (part : ArePartial next n ws v) where
   come : (s k : ℕ) → length_of v s ≡ Some k → Comes (weight_at ws s) v (next s) k
@@ -105,11 +105,11 @@ attained next n ws v (suc fuel) s k few part is =
     ]
 
 -- A slot without a length has an edge to another.
-not_known : (v : List (Option ℕ)) (o : Option ℕ) → behind_edge v o ≡ None → (t : ℕ) × ((o ≡ Some t) × (length_of v t ≡ None))
+not_known : (v : List (Option ℕ)) (o : Option ℕ) → after_edge v o ≡ None → (t : ℕ) × ((o ≡ Some t) × (length_of v t ≡ None))
 not_known v None h = absurd (let bad : Some 0 ≡ None = h in cc)
 not_known v (Some t) h = (t, (refl, h))
 
-step_by : (w : ℕ) (v : List (Option ℕ)) (e : Edges) (a b : Option ℕ) → behind_edge v e.next ≡ a → behind_edge v e.target ≡ b → length_from w v e ≡ None
+step_by : (w : ℕ) (v : List (Option ℕ)) (e : Edges) (a b : Option ℕ) → after_edge v e.next ≡ a → after_edge v e.target ≡ b → length_from w v e ≡ None
     → (t : ℕ) × (Leads e t × (length_of v t ≡ None))
 unfolding length_from
 step_by w v e None b x y h = let found = not_known v e.next x in (found.0, (inl found.1.0, found.1.1))
@@ -128,7 +128,7 @@ pub wander : (next : ℕ → Edges) (n : ℕ) (ws : List ℕ) (v : List (Option 
 wander next n ws v zero s fit settled inside none =
     record { slots = []; walk = tt; long = refl; fits = λ q h. elim h [ inl e ↦ rw e inside | inr bad ↦ absurd bad ] }
 wander next n ws v (suc k) s fit settled inside none =
-    let found = step_by (weight_at ws s) v (next s) (behind_edge v (next s).next) (behind_edge v (next s).target) refl refl (settled.stuck s inside none) in
+    let found = step_by (weight_at ws s) v (next s) (after_edge v (next s).next) (after_edge v (next s).target) refl refl (settled.stuck s inside none) in
     let rest = wander next n ws v k found.0 fit settled (fit s found.0 found.1.0) found.1.1 in
     record {
       slots = found.0 ∷ rest.slots;

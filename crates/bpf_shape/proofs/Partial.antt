@@ -5,7 +5,7 @@ use Rattle.std.proofs.lemmas.List.{get_or-set_same, get_or-set_other, length-set
 use Rattle.std.proofs.lemmas.List.Sums.{sum_by-set, count_by-le-length}
 use Rattle.std.proofs.Math.Nat.{mul-le-mul}
 use Rattle.bpf_shape.specs.declared.edges.Edges.{Edges}
-use Rattle.bpf_shape.specs.Lengths.{weight_at, heaviest, length_of, behind_edge, length_from, known_count, AreHeavy, ArePartial, IsStuck}
+use Rattle.bpf_shape.specs.Lengths.{weight_at, heaviest, length_of, after_edge, length_from, known_count, AreHeavy, ArePartial, IsStuck}
 
 -- a slot weighs no more than the heaviest,
 pub le_heaviest : (ws : List ℕ) (s : ℕ) → s < length ws → weight_at ws s ≤ heaviest ws
@@ -32,11 +32,11 @@ one_more_times a h =
 pub record Comes (weight : ℕ) (lengths : List (Option ℕ)) (e : Edges) (k : ℕ) : Type 0 where
   pub next : ℕ
   pub target : ℕ
-  pub next_is : behind_edge lengths e.next ≡ Some next
-  pub target_is : behind_edge lengths e.target ≡ Some target
+  pub next_is : after_edge lengths e.next ≡ Some next
+  pub target_is : after_edge lengths e.target ≡ Some target
   pub sum : k ≡ weight + max next target
 
-comes_by : (a b : Option ℕ) (weight : ℕ) (lengths : List (Option ℕ)) (e : Edges) (k : ℕ) → behind_edge lengths e.next ≡ a → behind_edge lengths e.target ≡ b
+comes_by : (a b : Option ℕ) (weight : ℕ) (lengths : List (Option ℕ)) (e : Edges) (k : ℕ) → after_edge lengths e.next ≡ a → after_edge lengths e.target ≡ b
     → length_from weight lengths e ≡ Some k → Comes weight lengths e k
 unfolding length_from
 comes_by None b weight lengths e k x y h = absurd (let bad : None ≡ Some k = rw x at h in cc)
@@ -47,7 +47,7 @@ comes_by (Some a) (Some b) weight lengths e k x y h =
 
 -- a length is the weight and the greatest after the edges
 pub comes : (weight : ℕ) (lengths : List (Option ℕ)) (e : Edges) (k : ℕ) → length_from weight lengths e ≡ Some k → Comes weight lengths e k
-comes weight lengths e k h = comes_by (behind_edge lengths e.next) (behind_edge lengths e.target) weight lengths e k refl refl h
+comes weight lengths e k h = comes_by (after_edge lengths e.next) (after_edge lengths e.target) weight lengths e k refl refl h
 
 -- and such a length is computed
 pub comes_back : (weight : ℕ) (lengths : List (Option ℕ)) (e : Edges) (k : ℕ) → Comes weight lengths e k → length_from weight lengths e ≡ Some k
@@ -62,7 +62,7 @@ kept_length v s k t j none is =
       | inr other ↦ get_or-set_other v s t (Some k) None other ∙ is
     ]
 
-kept_edge : (v : List (Option ℕ)) (s k j : ℕ) (o : Option ℕ) → length_of v s ≡ None → behind_edge v o ≡ Some j → behind_edge (set v s (Some k)) o ≡ Some j
+kept_edge : (v : List (Option ℕ)) (s k j : ℕ) (o : Option ℕ) → length_of v s ≡ None → after_edge v o ≡ Some j → after_edge (set v s (Some k)) o ≡ Some j
 kept_edge v s k j None none is = is
 kept_edge v s k j (Some t) none is = kept_length v s k t j none is
 
@@ -86,7 +86,7 @@ one_more v s k inside none =
     let before : (if is_some (get_or v s None) then 1 else 0) ≡ nought = rw none refl in
     omega (arith, change, before)
 
-edge_bound : (v : List (Option ℕ)) (o : Option ℕ) (j n : ℕ) → ((s k : ℕ) → length_of v s ≡ Some k → k ≤ n) → behind_edge v o ≡ Some j → j ≤ n
+edge_bound : (v : List (Option ℕ)) (o : Option ℕ) (j n : ℕ) → ((s k : ℕ) → length_of v s ≡ Some k → k ≤ n) → after_edge v o ≡ Some j → j ≤ n
 edge_bound v None j n bound is = let e : 0 ≡ j = cc in omega (arith, e)
 edge_bound v (Some t) j n bound is = bound t j is
 

@@ -32,14 +32,14 @@ abbrev pub length_of : List (Option ℕ) → ℕ → Option ℕ
 length_of lengths slot = get_or lengths slot None
 
 -- the length after an edge; 0 where there is no edge
-abbrev pub behind_edge : List (Option ℕ) → Option ℕ → Option ℕ
-behind_edge lengths None = Some 0
-behind_edge lengths (Some slot) = length_of lengths slot
+abbrev pub after_edge : List (Option ℕ) → Option ℕ → Option ℕ
+after_edge lengths None = Some 0
+after_edge lengths (Some slot) = length_of lengths slot
 
 -- a weight and the greater of the lengths after two edges, where both are known
 unfoldable pub length_from : ℕ → List (Option ℕ) → Edges → Option ℕ
 length_from weight lengths e =
-    option_and_then (λ a. option_map (λ b. weight + max a b) (behind_edge lengths e.target)) (behind_edge lengths e.next)
+    option_and_then (λ a. option_map (λ b. weight + max a b) (after_edge lengths e.target)) (after_edge lengths e.next)
 
 -- how many slots have a length
 abbrev pub known_count : List (Option ℕ) → ℕ

@@ -3,7 +3,7 @@
 ghost use Rattle.std.specs.Prelude.{◌≡◌, ◌<◌, ◌≤◌, ℕ, IsTrue, IsFalse, OnOk, IfOk, Some, length};
 ghost use Rattle.bpf_isa.specs.Program.{IsProgram};
 ghost use Rattle.bpf_shape.specs.Again.{plain};
-ghost use Rattle.bpf_shape.specs.Lengths.{weight_at, heaviest, length_of, behind_edge, length_from, known_count, AreHeavy, ArePartial, AreSettled, IsStuck};
+ghost use Rattle.bpf_shape.specs.Lengths.{weight_at, heaviest, length_of, after_edge, length_from, known_count, AreHeavy, ArePartial, AreSettled, IsStuck};
 
 use crate::again::plain;
 use crate::edges::Edges;
@@ -19,8 +19,8 @@ fn weight_at(weights: &Vec<u64>, slot: usize) -> u64
 }
 
 /// The length after an edge; 0 where there is no edge.
-fn behind_edge(lengths: &Vec<Option<u64>>, slot: Option<usize>) -> Option<u64>
-    ensures { result ≡ behind_edge lengths.now.items slot }
+fn after_edge(lengths: &Vec<Option<u64>>, slot: Option<usize>) -> Option<u64>
+    ensures { result ≡ after_edge lengths.now.items slot }
 {
     match slot {
         Some(slot) => {
@@ -41,8 +41,8 @@ fn length_from(weight: u64, lengths: &Vec<Option<u64>>, edges: Edges) -> Option<
     requires lengths { (s k : ℕ) → length_of lengths.now.items s ≡ Some k → k ≤ 562949953421312 }
     ensures { result ≡ length_from weight lengths.now.items edges }
 {
-    let next = behind_edge(lengths, edges.next)?;
-    let target = behind_edge(lengths, edges.target)?;
+    let next = after_edge(lengths, edges.next)?;
+    let target = after_edge(lengths, edges.target)?;
     Some(weight + next.max(target))
 }
 

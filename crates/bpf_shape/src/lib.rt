@@ -72,6 +72,29 @@
 //! // `other` is mov64 r0, 0; ja -2
 //! let fault = shape(alloc, &other).err();     // a loop without again, slot 0
 //! ```
+//!
+//! # More that is promised
+//!
+//! - **Shape.** Where Ok, every shape rule holds, and the budget is that of VERIFIER.md. Else it is the first broken
+//!   rule with its lowest slot, or memory ran out: `one_fault`, `no_fault_in_shaped`, `calls_are_nested`.
+//!
+//! # Choices
+//!
+//! - That an instruction has a next slot (41) is tested as 'an instruction begins at its next slot': in a program the
+//!   two are the same, since no second half stands after an instruction of one slot; and the second is what the
+//!   layers above use.
+//!
+//! # How it is proved
+//!
+//! - Longest paths need no order of search. Values that meet 'one more than the greatest after my edges' are the
+//!   longest paths, both ways, and a slot that gets no value leads to a cycle (`bpf_shape/proofs/Longest.antt`).
+//! - Weights that depend on longest paths, which depend on weights: a relation by depth over weights as functions on
+//!   slots (`AreWeights program (suc depth) weight` has the weights of one less, `inner`). Then uniqueness, the
+//!   code's rounds and the end of runs are each an induction on the depth, and a law says from which depth on nothing
+//!   changes. A list that the code keeps is such a function by `get_or weights slot 1`.
+//! - What is reached through calls is a walk along one more edge for each call (`entering`), so one search serves it.
+//!   A search that begins at any set of slots has the predicate of its starts as a parameter (`AreMarks next n starts
+//!   marks`). The loop itself is stated for the slots that were marked at its begin (`spread`).
 #![tactic(auto)]
 
 mod again;

@@ -63,7 +63,7 @@ pub(crate) fn greatest_from(
     Ok(greatest(lengths, &marks))
 }
 
-/// The same, which is kept for the next call with that entry.
+/// The greatest number from an entry on, which is kept for the next call with that entry.
 fn known_greatest(
     alloc: Global,
     program: &Program,

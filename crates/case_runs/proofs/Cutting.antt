@@ -1,19 +1,19 @@
 -- The cuts that are explored.
-use Rattle.std.proofs.Common.{ℕ, zero, suc, ◌≡◌, ◌+◌, ◌-◌, ◌<◌, ◌≤◌, Bool, true, false, if◌then◌else◌, List, All, length, [], ◌∷◌, ◌++◌, filter, refl, sym, subst, ◌∙◌, ap, arith}
+use Rattle.std.proofs.Common.{ℕ, zero, suc, ◌≡◌, ◌+◌, ◌-◌, ◌<◌, ◌≤◌, Bool, true, false, if◌then◌else◌, List, All, length, [], ◌∷◌, ◌++◌, filter, sym, subst, ◌∙◌, ap, arith}
 use Rattle.std.specs.List.{range_with_len, AllByRecursion}
 use Rattle.std.proofs.lemmas.List.Elements.{filter-append, All-from_recursion}
 use Rattle.base.proofs.Lists.{range_with_len-more}
 use Rattle.logfmt.specs.declared.entry.Entry.{Entry}
 use Rattle.epochs.specs.Units.{is_forced}
-use Rattle.cases.specs.Risk.{is_behind_forced}
+use Rattle.cases.specs.Risk.{is_after_forced}
 use Rattle.case_runs.specs.Cuts.{is_explored, explored_cuts}
 
-pub behind_none : (es : List Entry) (n : ℕ) → n ≡ 0 → is_behind_forced es n ≡ false
-behind_none es n is = ap (is_behind_forced es) is
+pub after_none : (es : List Entry) (n : ℕ) → n ≡ 0 → is_after_forced es n ≡ false
+after_none es n is = ap (is_after_forced es) is
 
-pub behind_one : (es : List Entry) (n : ℕ) → 1 ≤ n → is_behind_forced es n ≡ is_forced es (n - 1)
-behind_one es zero low = absurd (omega (arith, low))
-behind_one es (suc n) low = ap (is_forced es) (let e : n ≡ suc n - 1 = omega arith in e)
+pub after_one : (es : List Entry) (n : ℕ) → 1 ≤ n → is_after_forced es n ≡ is_forced es (n - 1)
+after_one es zero low = absurd (omega (arith, low))
+after_one es (suc n) low = ap (is_forced es) (let e : n ≡ suc n - 1 = omega arith in e)
 
 pub kept_more : (p : ℕ → Bool) (a n m : ℕ) (old new : List ℕ) → m ≡ a + n → old ≡ filter p (range_with_len a n) → new ≡ old ++ filter p (m ∷ []) → new ≡ filter p (range_with_len a (n + 1))
 kept_more p a n m old new at was is =

@@ -1,11 +1,10 @@
 -- The images of the failing cases that were found.
-use Rattle.std.proofs.Common.{ℕ, zero, suc, ◌≡◌, ◌+◌, ◌==◌, Bool, true, false, if◌then◌else◌, List, [], ◌∷◌, ◌++◌, length, map, get_or, slice_get, Option, None, Some, refl, sym, subst, ◌∙◌, ap, arith}
+use Rattle.std.proofs.Common.{ℕ, zero, suc, ◌≡◌, ◌+◌, Bool, true, false, if◌then◌else◌, List, [], ◌∷◌, ◌++◌, length, map, slice_get, Option, None, Some, refl, sym, subst, ◌∙◌, ap, arith}
 use Rattle.std.proofs.lemmas.Bool.{eq-eqb}
 use Rattle.std.proofs.lemmas.List.Elements.{All-get_or}
 use Rattle.std.specs.Option.{option_map}
 use Rattle.std.proofs.lemmas.Option.{same_Some, slice_get_past, slice_get_within, slice_get-map, get_or_from_slice_get}
-use Rattle.machine.specs.Outcome.{Ending, OutOfSteps}
-use Rattle.interp.specs.Ending.{ending_of}
+use Rattle.machine.specs.Outcome.{OutOfSteps}
 use Rattle.report.specs.Line.{fails}
 use Rattle.checker.specs.Checker.{judgement}
 use Rattle.images.specs.Views.{context_at}
@@ -15,7 +14,6 @@ use Rattle.cases.specs.Trees.{Subject, ending_of as ending_at}
 use Rattle.cases.specs.Laws.{Includes, LeavesEndAlike}
 use Rattle.cases.specs.AtCut.{CutValue, parts_of, case_of}
 use Rattle.cases.specs.Search.{LeafValue, leaf_case, EndsSo}
-use Rattle.case_runs.specs.declared.leaves.FailingCase.{FailingCase}
 use Rattle.case_runs.specs.Leaves.{FailingValue, failing_value, failing_from}
 use Rattle.case_runs.specs.Laws.{CheckersTell, subject_at}
 use Rattle.case_runs.specs.Found.{IsFoundAt, TheirImagesFail}

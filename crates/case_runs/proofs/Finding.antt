@@ -1,8 +1,8 @@
 -- What is found with each checker, and at each cut.
-use Rattle.std.proofs.Common.{ℕ, ◌≡◌, ◌+◌, ◌<◌, ◌≤◌, List, [], ◌∷◌, ◌++◌, length, slice_get, None, Some, refl, sym, subst, ◌∙◌, ap, arith, inl, inr}
+use Rattle.std.proofs.Common.{ℕ, ◌≡◌, ◌+◌, ◌≤◌, List, [], ◌∷◌, ◌++◌, length, slice_get, None, Some, refl, sym, subst, ◌∙◌, ap, arith, inl, inr}
 use Rattle.std.proofs.Math.ListN.{length-append}
 use Rattle.std.proofs.lemmas.List.Sums.{sum_by_push}
-use Rattle.std.proofs.lemmas.Option.{same_Some, slice_get_within}
+use Rattle.std.proofs.lemmas.Option.{same_Some}
 use Rattle.base.proofs.Lists.{slice_get_of_push}
 use Rattle.logfmt.specs.Bounds.{LogValue}
 use Rattle.epochs.specs.declared.part.By.{By}
@@ -20,7 +20,7 @@ use Rattle.case_runs.specs.declared.found.CutFound.{CutFound}
 use Rattle.case_runs.specs.Leaves.{IsFit}
 use Rattle.case_runs.specs.declared.found.CasesFault.{CasesFault}
 use Rattle.case_runs.specs.declared.found.CasesFault.TheVariants as fault
-use Rattle.case_runs.specs.Found.{IsFoundAt, IsBegunAt, AreFoundAt, AreFoundIn, AreFirstAt, AreFirstIn, cases_at, cases_in, most_cases, IsPastAt, AreTooMany, StopsAtOne, StopsAt, StopsIn}
+use Rattle.case_runs.specs.Found.{IsFoundAt, IsBegunAt, AreFoundAt, AreFoundIn, AreFirstAt, AreFirstIn, cases_at, cases_in, most_cases, AreTooMany, StopsAtOne, StopsAt, StopsIn}
 
 pub found_none : (asked : Losses) (at : CutValue) (checkers : List CheckerValue) → AreFirstAt asked at checkers 0 []
 found_none asked at checkers = record { count = refl; each = λ i c f one two. absurd (let bad : None ≡ Some f = two in cc) }
@@ -96,7 +96,7 @@ counted_cut first was now found next f so took put =
 
 -- of a search that has ended all leaves are told
 
-led : (s : Subject) (cs leaves left : List Case) → AreLeaves s cs leaves left → LeadTo s [] cs leaves left
+pub led : (s : Subject) (cs leaves left : List Case) → AreLeaves s cs leaves left → LeadTo s [] cs leaves left
 led s cs leaves left no_case = are_there
 led s cs leaves left (is_beyond c xs ls more out rest) = past_beyond c xs ls more out (led s xs ls more rest)
 led s cs leaves left (is_leaf c xs ls more within none rest) = past_leaf c xs ls more within none (led s xs ls more rest)

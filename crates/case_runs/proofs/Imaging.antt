@@ -2,13 +2,13 @@
 use Rattle.std.proofs.Common.{ℕ, zero, suc, ◌≡◌, ◌+◌, ◌<◌, ◌≤◌, ◌==◌, nat_lt, Bool, true, false, ◌||◌, if◌then◌else◌, List, [], ◌∷◌, ◌++◌, length, slice_get, slice_index_or, take, Option, None, Some, refl, sym, subst, ◌∙◌, ap, arith, inl, inr}
 use Rattle.std.specs.List.{flat_map, list_any, range_with_len, AllByRecursion}
 use Rattle.std.proofs.lemmas.Bool.Decides.{eqb_tells, nat_tests}
-use Rattle.std.proofs.lemmas.Option.{slice_get_cases, slice_get_within, slice_get_past, same_Some, get_or_from_slice_get, slice_get-get_or}
+use Rattle.std.proofs.lemmas.Option.{slice_get_within, slice_get_past, same_Some, get_or_from_slice_get, slice_get-get_or}
 use Rattle.std.proofs.lemmas.Grind.{flat_map-append}
 use Rattle.std.proofs.lemmas.List.{append_assoc}
 use Rattle.base.proofs.Lists.{range_with_len-more}
 use Rattle.epochs.specs.declared.part.Part.{Part}
 use Rattle.choices.specs.Choices.{nowhere}
-use Rattle.cases.specs.AtCut.{CutValue, parts_of}
+use Rattle.cases.specs.AtCut.{parts_of}
 use Rattle.cases.specs.Lent.{is_torn_first, IsTornOver}
 use Rattle.case_runs.specs.declared.image.Formed.{Formed}
 use Rattle.case_runs.specs.Images.{ImageValue, sectors_in, formed_if, formed_over, formed_of, formed_in, IsImage, count_sectors}

@@ -1,29 +1,27 @@
 -- What the cases of a cut tell of a checker.
-use Rattle.std.proofs.Common.{ℕ, zero, suc, ◌≡◌, ◌+◌, ◌<◌, ◌≤◌, ◌==◌, ◌⊎◌, Bool, true, false, if◌then◌else◌, List, [], ◌∷◌, ◌++◌, length, count_by, slice_get, Option, None, Some, refl, sym, subst, ◌∙◌, ap, arith, inl, inr}
+use Rattle.std.proofs.Common.{ℕ, zero, suc, ◌≡◌, ◌+◌, ◌<◌, ◌≤◌, ◌==◌, Bool, true, false, if◌then◌else◌, List, [], ◌∷◌, ◌++◌, length, slice_get, Option, None, Some, refl, sym, subst, ◌∙◌, ap, arith, inl, inr}
 use Rattle.std.specs.List.{range_with_len, AllByRecursion}
 use Rattle.std.proofs.lemmas.Bool.{eq-eqb}
 use Rattle.std.proofs.lemmas.Bool.Decides.{eqb_tells}
 use Rattle.std.proofs.lemmas.List.Elements.{All-from_recursion}
 use Rattle.std.proofs.lemmas.Option.{slice_get_past, slice_get_cases}
 use Rattle.base.proofs.Lists.{same_by_place}
-use Rattle.logfmt.specs.Bounds.{LogValue, IsLog}
-use Rattle.epochs.specs.declared.part.Part.{Part}
+use Rattle.logfmt.specs.Bounds.{LogValue}
 use Rattle.epochs.specs.declared.part.By.{By}
-use Rattle.epochs.specs.Units.{epoch_at, marks_at}
 use Rattle.helpers.specs.declared.device.Context.{Context}
 use Rattle.machine.specs.Outcome.{Ending, OutOfSteps}
-use Rattle.machine.specs.Footprint.{AreAlike, HaveSame}
+use Rattle.machine.specs.Footprint.{HaveSame}
 use Rattle.checker.specs.Checker.{CheckerValue, judgement}
 use Rattle.checker.specs.Footprints.{kept_footprint, AgreeingAreJudgedAlike}
 use Rattle.images.specs.Views.{sectors_of, context_at}
 use Rattle.images.specs.Whole.{length_view}
 use Rattle.cases.specs.Risk.{parts_at_risk}
 use Rattle.cases.specs.Choices.{Choice, departures, image_at}
-use Rattle.cases.specs.Cases.{Case, representative}
-use Rattle.cases.specs.Trees.{Subject, ending_of, is_torn}
-use Rattle.cases.specs.Laws.{Includes, OfOne, OfNone, IsChoice, IsAsked, AreCases, EachIsInOne, LeavesEndAlike, LastCutsHaveAll, IsOfCut, FootprintTellsEnding}
-use Rattle.case_runs.specs.Judges.{most_looks, or_all, looks, program_of}
-use Rattle.case_runs.specs.Laws.{CheckersTell, subject_at, judged_at, IsInLeaf, IsJudged, LossesAreJudged}
+use Rattle.cases.specs.Cases.{Case}
+use Rattle.cases.specs.Trees.{Subject, ending_of}
+use Rattle.cases.specs.Laws.{Includes, OfOne, OfNone, IsAsked, AreCases, EachIsInOne, LeavesEndAlike, LastCutsHaveAll, IsOfCut}
+use Rattle.case_runs.specs.Judges.{most_looks, or_all, looks}
+use Rattle.case_runs.specs.Laws.{CheckersTell, subject_at, judged_at, IsInLeaf, LossesAreJudged}
 
 -- what holds of a range holds of each number in it
 in_range : (P : ℕ → Type 0) (a n i : ℕ) → AllByRecursion P (range_with_len a n) → a ≤ i → i < a + n → P i

@@ -5,4 +5,6 @@ pub mod Judged
 pub mod Finding
 pub mod Cutting
 pub mod Once
+pub mod Seeking
+pub mod FirstOnce
 pub mod Failing

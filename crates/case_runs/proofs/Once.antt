@@ -1,5 +1,5 @@
 -- What is found is one.
-use Rattle.std.proofs.Common.{ℕ, zero, suc, ◌≡◌, ◌+◌, ◌≤◌, Bool, true, false, not, if◌then◌else◌, List, [], ◌∷◌, ◌++◌, length, map, count_by, refl, sym, subst, ◌∙◌, ap, arith}
+use Rattle.std.proofs.Common.{ℕ, ◌≡◌, ◌+◌, ◌≤◌, Bool, true, false, not, if◌then◌else◌, List, [], ◌∷◌, ◌++◌, length, map, count_by, refl, sym, ◌∙◌, ap, arith}
 use Rattle.std.specs.List.{All}
 use Rattle.std.proofs.lemmas.List.{map-append, length-map}
 use Rattle.std.proofs.lemmas.List.Elements.{All-head, All-tail}
@@ -19,23 +19,23 @@ use Rattle.case_runs.specs.Laws.{subject_at}
 use Rattle.case_runs.specs.Found.{IsFoundAt, IsBegunAt, KnownCase, known_case, SameFound, FindingIsOne}
 
 -- a failing leaf by what it says of each part
-abbrev known_value : CutValue → Bool → FailingValue → KnownCase
+abbrev pub known_value : CutValue → Bool → FailingValue → KnownCase
 known_value at tears f = record { number = f.number; ending = f.ending; is = case_of tears (parts_of at) f.sets }
 
-known_items : (at : CutValue) (tears : Bool) (items : List FailingCase) → map (known_case at tears) items ≡ map (known_value at tears) (map failing_value items)
+pub known_items : (at : CutValue) (tears : Bool) (items : List FailingCase) → map (known_case at tears) items ≡ map (known_value at tears) (map failing_value items)
 known_items at tears [] = refl
 known_items at tears (f ∷ items) = ap (λ (ks : List KnownCase). known_case at tears f ∷ ks) (known_items at tears items)
 
 -- those of some leaves, by their cases and by what the program ends in there
-known_if : ℕ → Case → Ending → List KnownCase
+unfoldable pub known_if : ℕ → Case → Ending → List KnownCase
 known_if n c e = if fails e then record { number = n; ending = e; is = c } ∷ [] else []
 
-known_from : ℕ → List Case → List Ending → List KnownCase
+unfoldable pub known_from : ℕ → List Case → List Ending → List KnownCase
 known_from n [] es = []
 known_from n (c ∷ cs) [] = []
 known_from n (c ∷ cs) (e ∷ es) = known_if n c e ++ known_from (n + 1) cs es
 
-abbrev ending_in : LeafValue → Ending
+abbrev pub ending_in : LeafValue → Ending
 ending_in leaf = leaf.ending
 
 known_one : (at : CutValue) (tears : Bool) (n : ℕ) (leaf : LeafValue) → map (known_value at tears) (failing_if n leaf) ≡ known_if n (leaf_case tears at leaf) leaf.ending
@@ -47,7 +47,7 @@ known_one at tears n leaf = by_test (fails leaf.ending)
     by_test true = refl
     by_test false = refl
 
-known_all : (at : CutValue) (tears : Bool) (n : ℕ) (leaves : List LeafValue) → map (known_value at tears) (failing_from n leaves) ≡ known_from n (map (leaf_case tears at) leaves) (map ending_in leaves)
+pub known_all : (at : CutValue) (tears : Bool) (n : ℕ) (leaves : List LeafValue) → map (known_value at tears) (failing_from n leaves) ≡ known_from n (map (leaf_case tears at) leaves) (map ending_in leaves)
 unfolding known_from
 known_all at tears n [] = refl
 known_all at tears n (leaf ∷ leaves) =
@@ -55,7 +55,7 @@ known_all at tears n (leaf ∷ leaves) =
     ∙ (λ i. known_one at tears n leaf i ++ known_all at tears (n + 1) leaves i)
 
 -- what the program ends in is said by the cases
-endings_told : (s : Subject) (tears : Bool) (at : CutValue) (leaves : List LeafValue) → All (EndsSo s tears at) leaves
+pub endings_told : (s : Subject) (tears : Bool) (at : CutValue) (leaves : List LeafValue) → All (EndsSo s tears at) leaves
     → map ending_in leaves ≡ map (λ (c : Case). ending_of s (representative c)) (map (leaf_case tears at) leaves)
 endings_told s tears at [] all = refl
 endings_told s tears at (leaf ∷ leaves) all =

@@ -1,21 +1,19 @@
 -- Runs of a checker on the images of cases.
-use Rattle.std.proofs.Common.{ℕ, zero, suc, ◌≡◌, ◌+◌, ◌-◌, ◌<◌, ◌≤◌, ◌==◌, nat_lt, Bool, true, false, if◌then◌else◌, List, [], ◌∷◌, ◌++◌, length, slice_get, Option, None, Some, MatchOption, refl, sym, subst, ◌∙◌, ap, arith}
-use Rattle.std.specs.List.{range_with_len, AllByRecursion}
-use Rattle.std.specs.Option.{option_and_then}
-use Rattle.std.proofs.lemmas.Bool.Decides.{eqb_tells, nat_tests}
+use Rattle.std.proofs.Common.{ℕ, suc, ◌≡◌, ◌+◌, ◌-◌, ◌<◌, ◌≤◌, ◌==◌, nat_lt, Bool, true, false, if◌then◌else◌, List, [], ◌∷◌, ◌++◌, length, Option, None, Some, MatchOption, refl, sym, ◌∙◌, ap, arith}
+use Rattle.std.specs.List.{range_with_len}
+use Rattle.std.proofs.lemmas.Bool.Decides.{nat_tests}
 use Rattle.std.proofs.lemmas.Bool.{eq-eqb, ne_eqb}
 use Rattle.std.proofs.lemmas.Option.{MatchOption-at_none}
 use Rattle.base.proofs.Lists.{range_with_len-more, range_with_len-append}
 use Rattle.logfmt.specs.Bounds.{IsLog}
 use Rattle.helpers.specs.declared.device.Context.{Context}
-use Rattle.helpers.specs.Footprint.{FootprintValue, lists, unread, footprint_with, footprint_after}
-use Rattle.machine.specs.Outcome.{Ending, OutOfSteps}
+use Rattle.helpers.specs.Footprint.{FootprintValue, lists, footprint_with, footprint_after}
+use Rattle.machine.specs.Outcome.{OutOfSteps}
 use Rattle.interp.specs.Ending.{ending_of}
-use Rattle.soundness.specs.Accepted.{IsImage}
 use Rattle.checker.specs.Checker.{CheckerValue, Suits, judgement}
 use Rattle.checker.specs.Footprints.{footprint_of, kept_footprint}
 use Rattle.checker.proofs.Suiting.{suits_image}
-use Rattle.images.specs.Views.{sectors_of, context_at}
+use Rattle.images.specs.Views.{sectors_of}
 use Rattle.images.proofs.Devices.{images_are_devices}
 use Rattle.cases.specs.declared.split.Parted.{Parted}
 use Rattle.cases.specs.Choices.{departures}
@@ -26,7 +24,7 @@ use Rattle.cases.specs.AtCut.{parts_of, case_of}
 use Rattle.interp.specs.declared.outcome.Outcome.{Outcome}
 use Rattle.case_runs.specs.declared.runs.Looked.{Looked}
 use Rattle.case_runs.specs.Images.{ImageValue, sectors_in, count_sectors}
-use Rattle.case_runs.specs.Judges.{most_looks, or_all, looks, program_of, looked_in, IsSplitAt, RunsSo, JudgesSo}
+use Rattle.case_runs.specs.Judges.{or_all, looks, program_of, looked_in, IsSplitAt, RunsSo, JudgesSo}
 use Rattle.case_runs.specs.Leaves.{IsFit}
 
 -- the part that splits a case, of some sectors

@@ -1,5 +1,5 @@
 -- The leaves of which a judge was told.
-use Rattle.std.proofs.Common.{ℕ, zero, suc, ◌≡◌, ◌+◌, List, [], ◌∷◌, ◌++◌, length, map, refl, sym, subst, ◌∙◌, ap, arith}
+use Rattle.std.proofs.Common.{ℕ, suc, ◌≡◌, ◌+◌, List, [], ◌∷◌, ◌++◌, length, map, refl, sym, ◌∙◌, ap, arith}
 use Rattle.std.proofs.lemmas.List.{append_assoc}
 use Rattle.helpers.specs.declared.device.Context.{Context}
 use Rattle.checker.specs.Checker.{CheckerValue}
@@ -11,7 +11,7 @@ append_none : {A : Type 0} (xs : List A) → xs ++ [] ≡ xs
 append_none [] = refl
 append_none (x ∷ xs) = ap (λ ys. x ∷ ys) (append_none xs)
 
-failing_push : (n : ℕ) (leaves : List LeafValue) (leaf : LeafValue) → failing_from n (leaves ++ leaf ∷ []) ≡ failing_from n leaves ++ failing_if (n + length leaves) leaf
+pub failing_push : (n : ℕ) (leaves : List LeafValue) (leaf : LeafValue) → failing_from n (leaves ++ leaf ∷ []) ≡ failing_from n leaves ++ failing_if (n + length leaves) leaf
 failing_push n [] leaf = append_none (failing_if n leaf) ∙ ap (λ m. failing_if m leaf) (let e : n ≡ n + 0 = omega arith in e)
 failing_push n (first ∷ leaves) leaf =
     ap (λ fs. failing_if n first ++ fs) (failing_push (n + 1) leaves leaf)

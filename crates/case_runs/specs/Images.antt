@@ -1,7 +1,6 @@
 -- The image of a case's representative as a device, and those of its sectors that are formed.
 use Rattle.std.specs.Prelude.{ℕ, ◌≡◌, nat_lt, Bool, if◌then◌else◌, List, [], ◌∷◌, length, slice_index_or, slice_get, Some}
 use Rattle.std.specs.List.{flat_map, range_with_len}
-use Rattle.std.proofs.Common.{sym, ◌∙◌, ap}
 use Rattle.epochs.specs.declared.part.Part.{Part}
 use Rattle.choices.specs.Choices.{nowhere}
 use Rattle.images.specs.Views.{sectors_of}

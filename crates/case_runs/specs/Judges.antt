@@ -2,15 +2,14 @@
 use Rattle.std.specs.Prelude.{ℕ, ◌≡◌, ◌==◌, Bool, if◌then◌else◌, List, [], length, Option, None, Some}
 use Rattle.std.specs.List.{range_with_len}
 use Rattle.helpers.specs.declared.device.Context.{Context}
-use Rattle.helpers.specs.Footprint.{FootprintValue}
-use Rattle.machine.specs.Outcome.{Ending, OutOfSteps}
+use Rattle.machine.specs.Outcome.{OutOfSteps}
 use Rattle.interp.specs.Ending.{ending_of}
 use Rattle.checker.specs.Checker.{CheckerValue, judgement}
 use Rattle.checker.specs.Footprints.{kept_footprint}
 use Rattle.cases.specs.declared.split.Parted.{Parted}
 use Rattle.cases.specs.Cases.{first_split}
 use Rattle.cases.specs.Trees.{Program}
-use Rattle.cases.specs.AtCut.{CutValue, parts_of, case_of, image_of, split_at, IsFound}
+use Rattle.cases.specs.AtCut.{CutValue, parts_of, case_of, image_of, IsFound}
 use Rattle.case_runs.specs.declared.runs.Looked.{Looked}
 use Rattle.interp.specs.declared.outcome.Outcome.{Outcome}
 use Rattle.case_runs.specs.Images.{ImageValue, sectors_in}

@@ -1,5 +1,5 @@
 -- The leaves of which a judge was told, and those that fail.
-use Rattle.std.specs.Prelude.{ℕ, ◌≡◌, ◌+◌, ◌≤◌, if◌then◌else◌, List, [], ◌∷◌, ◌++◌, map}
+use Rattle.std.specs.Prelude.{ℕ, ◌≡◌, ◌+◌, ◌≤◌, if◌then◌else◌, List, [], ◌∷◌, ◌++◌}
 use Rattle.helpers.specs.declared.device.Context.{Context}
 use Rattle.machine.specs.Outcome.{Ending}
 use Rattle.interp.specs.Ending.{ending_of}

@@ -4,4 +4,5 @@ pub mod Judges
 pub mod Leaves
 pub mod Laws
 pub mod Found
+pub mod First
 pub mod Cuts

@@ -1,7 +1,7 @@
 //! The cuts that are explored.
 
 ghost use Rattle.std.specs.Prelude.{◌≡◌, ◌≤◌, ◌++◌, ◌∷◌, [], length, filter, All, IfOk, OnOk};
-ghost use Rattle.cases.specs.Risk.{ends_here, is_behind_forced, is_last_cut};
+ghost use Rattle.cases.specs.Risk.{ends_here, is_after_forced, is_last_cut};
 ghost use Rattle.case_runs.specs.Cuts.{is_explored, explored_cuts};
 
 use logfmt::{Entry, Log};
@@ -18,9 +18,9 @@ fn ends_here(entries: &[Entry], cut: u32) -> bool
 }
 
 /// Whether the entry before a cut is forced to the device with its data.
-#[tactic(auto, using(crate::proofs::Cutting::behind_none, crate::proofs::Cutting::behind_one))]
-fn is_behind_forced(entries: &[Entry], cut: u32) -> bool
-    ensures { result ≡ is_behind_forced entries.now cut }
+#[tactic(auto, using(crate::proofs::Cutting::after_none, crate::proofs::Cutting::after_one))]
+fn is_after_forced(entries: &[Entry], cut: u32) -> bool
+    ensures { result ≡ is_after_forced entries.now cut }
 {
     if cut == 0 {
         return false;
@@ -36,8 +36,8 @@ fn is_last_cut(entries: &[Entry], cut: u32) -> bool
     ensures { result ≡ is_last_cut entries.now cut }
 {
     let ends = ends_here(entries, cut);
-    let behind = is_behind_forced(entries, cut);
-    cut as usize == entries.len() || (ends || behind)
+    let beyond = is_after_forced(entries, cut);
+    cut as usize == entries.len() || (ends || beyond)
 }
 
 /// Appends a cut, if it is explored.

@@ -6,6 +6,7 @@ ghost use Rattle.checker.specs.Checker.{AreFor};
 ghost use Rattle.case_runs.specs.Leaves.{IsFit};
 ghost use Rattle.case_runs.specs.Found.{IsFoundAt, IsBegunAt, AreFoundAt, AreFoundIn, cases_at, cases_in, most_cases, StopsAtOne, StopsAt, StopsIn};
 
+use crate::gate::{CaseGate, Watched};
 use crate::judge::CaseJudge;
 use crate::leaves::FailingCase;
 use cases::{Cut, find_cases};
@@ -76,8 +77,9 @@ impl<T: Drop> From<AllocFailed<T>> for CasesFault {
 }
 
 /// The cases of a cut with a checker, if they are fewer than that many.
-fn find_at(
+fn find_at<G: CaseGate>(
     alloc: Global,
+    gate: &G,
     cut: &Cut<'_>,
     context: Context,
     checker: &Checker<'_>,
@@ -88,7 +90,7 @@ fn find_at(
     requires fit { IsFit checker.now context }
     ensures { IfOk result (λ found. MatchOption found (IsBegunAt asked cut.now checker.now most) (IsFoundAt asked cut.now checker.now)) }
 {
-    let mut judge = CaseJudge::new(alloc, checker, context);
+    let mut judge = Watched::new(CaseJudge::new(alloc, checker, context), gate);
     let beyond = find_cases(
         alloc,
         cut,
@@ -101,7 +103,7 @@ fn find_at(
     let Some(beyond) = beyond else {
         return Ok(None);
     };
-    let cases = judge.cases();
+    let cases = judge.judge().cases();
     Ok(Some(Found {
         cases,
         torn_beyond: beyond.torn,
@@ -110,9 +112,10 @@ fn find_at(
     }))
 }
 
-/// The same, and takes the cases from those that may still be met.
-fn find_within(
+/// The cases of a cut, taken from those that may still be met.
+fn find_within<G: CaseGate>(
     alloc: Global,
+    gate: &G,
     cut: &Cut<'_>,
     context: Context,
     checker: &Checker<'_>,
@@ -127,7 +130,7 @@ fn find_within(
     ensures many { IfErr result (StopsAtOne asked cut.now checker.now left.old) }
 {
     let number = cut.number();
-    let Some(found) = find_at(alloc, cut, context, checker, asked, *left + 1)? else {
+    let Some(found) = find_at(alloc, gate, cut, context, checker, asked, *left + 1)? else {
         return Err(CasesFault::TooMany(number));
     };
     if found.cases > *left as usize {
@@ -138,8 +141,9 @@ fn find_within(
 }
 
 /// The cases of a cut with each of some checkers.
-fn find_each(
+fn find_each<G: CaseGate>(
     alloc: Global,
+    gate: &G,
     cut: &Cut<'_>,
     context: Context,
     checkers: &[Checker<'_>],
@@ -156,14 +160,15 @@ fn find_each(
 {
     let mut out = Vec::new(alloc);
     for checker in checkers {
-        out.push(find_within(alloc, cut, context, checker, asked, left)?)?;
+        out.push(find_within(alloc, gate, cut, context, checker, asked, left)?)?;
     }
     Ok(out)
 }
 
 /// The cases of a cut of a plan.
-fn find_in(
+fn find_in<G: CaseGate>(
     alloc: Global,
+    gate: &G,
     plan: &Plan<'_>,
     log: &Log,
     way: By,
@@ -187,20 +192,22 @@ fn find_in(
         epoch: plan.epoch(number),
         marks: plan.marks(number),
     };
-    let programs = find_each(alloc, &cut, context, checkers, asked, left)?;
+    let programs = find_each(alloc, gate, &cut, context, checkers, asked, left)?;
     Ok(CutFound {
         cut: number,
         programs,
     })
 }
 
-/// The failing cases of some cuts of a log, with each of some checkers, by cut and then by checker.
+/// The failing cases of some cuts of a log, with each of some checkers, by cut and then by checker. The gate is told of each run and of
+/// each case.
 ///
 /// # Errors
 ///
 /// Memory was refused, or there were more than `MOST_CASES` cases.
-pub fn find_failing(
+pub fn find_failing<G: CaseGate>(
     alloc: Global,
+    gate: &G,
     plan: &Plan<'_>,
     log: &Log,
     way: By,
@@ -218,7 +225,9 @@ pub fn find_failing(
     let mut out = Vec::new(alloc);
     let mut left = MOST_CASES;
     for cut in cuts {
-        out.push(find_in(alloc, plan, log, way, *cut, checkers, asked, &mut left)?)?;
+        out.push(find_in(
+            alloc, gate, plan, log, way, *cut, checkers, asked, &mut left,
+        )?)?;
     }
     Ok(out)
 }

@@ -1,6 +1,7 @@
 //! A checker as a judge of cases.
 
 ghost use Rattle.std.specs.Prelude.{◌≡◌, [], map, length, IfOk};
+ghost use Rattle.interp.specs.Ending.{ending_of};
 ghost use Rattle.case_runs.specs.Leaves.{failing_value, failing_from, IsFit};
 
 use crate::image::Formed;
@@ -79,6 +80,13 @@ impl<'c, 'p> CaseJudge<'c, 'p> {
         ensures { result ≡ length self.now.leaves }
     {
         self.told.len()
+    }
+
+    /// What its last run ended in.
+    pub(crate) fn outcome(&self) -> &Outcome
+        ensures { ending_of result.now ≡ self.now.ending }
+    {
+        &self.outcome
     }
 
     /// The leaves that fail, in order.

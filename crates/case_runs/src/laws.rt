@@ -1,5 +1,6 @@
 //! Laws of cases that checkers judge. The functions do nothing; each contract is a theorem.
 
+ghost use Rattle.case_runs.specs.First.{FirstIsOne};
 ghost use Rattle.case_runs.specs.Found.{FindingIsOne, TheirImagesFail};
 ghost use Rattle.case_runs.specs.Laws.{CheckersTell, LossesAreJudged};
 
@@ -27,6 +28,13 @@ pub fn losses_are_judged()
 /// At a cut with a checker one thing is found. Where a search stops on its way, there are as many cases as it told of.
 pub fn finding_is_one()
     ensures { FindingIsOne }
+{
+    tree_is_one();
+}
+
+/// At a cut with a checker one case fails first: it is the first of those that fail there, and none of some leaves that pass.
+pub fn first_is_one()
+    ensures { FirstIsOne }
 {
     tree_is_one();
 }

@@ -50,7 +50,7 @@ fn copy_sets(alloc: Global, sets: &[u16]) -> Result<Vec<u16>, AllocError>
 }
 
 /// Appends a leaf, if the checker fails there.
-fn put_failing(
+pub(crate) fn put_failing(
     failing: &mut Vec<FailingCase>,
     number: usize,
     outcome: &Outcome,

@@ -14,10 +14,12 @@
 //! | Call | Answer |
 //! |---|---|
 //! | `explored_cuts(alloc, log, from, to)` | the last cuts of a range, and its end |
-//! | `find_failing(alloc, plan, log, way, cuts, checkers, asked)` | at each cut, with each checker: the leaves that fail, each with its number among the leaves, what the checker ends in, and its sets; how many leaves there are; how many cases were left out |
+//! | `find_failing(alloc, gate, plan, log, way, cuts, checkers, asked)` | at each cut, with each checker: the leaves that fail, each with its number among the leaves, what the checker ends in, and its sets; how many leaves there are; how many cases were left out |
+//! | `find_first(alloc, gate, plan, log, way, cuts, checkers, asked)` | the first leaf that fails, by cut, by checker and in the order of the tree; or what `find_failing` answers, where none does |
+//! | `CaseGate` | is told of each run of a checker and of each leaf, for the line of progress |
 //! | `CaseJudge::new(alloc, checker, context)` | a checker as a `Judge` of `cases`, for one cut |
 //! | `CaseImage` | the image of a case's representative, as a `Device` |
-//! | `checkers_tell()`, `losses_are_judged()`, `finding_is_one()`, `their_images_fail()` | laws |
+//! | `checkers_tell()`, `losses_are_judged()`, `finding_is_one()`, `first_is_one()`, `their_images_fail()` | laws |
 //!
 //! # How it runs
 //!
@@ -44,6 +46,11 @@
 //! - `losses_are_judged`: take an image of any cut, whatever was lost there, with as few torn parts as is asked. It is an image of a last
 //!   cut, is in a leaf there, and the checker ends on it as on the image of the leaf's representative. So it fails exactly where the leaf does.
 //!
+//! - `find_first` answers the first of these leaves that fails, if it is one of the first 16,777,216 leaves: at the cuts before its own,
+//!   with the checkers before its own, and at the leaves before it none fails (`IsFirstFailing`, `specs/First.antt`). It looks at no leaf
+//!   after it. Where none fails it answers all that was found (`AllPass`). It refuses where memory is wanting, or where the first
+//!   16,777,216 leaves pass and there is one more (`PassesMostIn`). By the law `first_is_one` it is the first of those that `find_failing`
+//!   finds at its cut.
 //! - `their_images_fail`: on each image of a failing case that was found the checker ends as the case says, and so it fails there.
 //!
 //! `find_failing` refuses where memory is wanting, or where there are more than 16,777,216 cases, and names the cut with which there are
@@ -57,13 +64,15 @@
 //!
 //! let asked = Losses { tears: false, torn: 0, lost: None };
 //! let cuts = explored_cuts(alloc, &log, 0, log.entries().len() as u32)?;
-//! let found = find_failing(alloc, &plan, &log, By::Write, cuts.as_slice(), checkers, asked)?;
+//! let found = find_failing(alloc, &gate, &plan, &log, By::Write, cuts.as_slice(), checkers, asked)?;
 //! // found[i].programs[j].failing: the cases of cuts[i] on which checker j fails
 //! ```
 #![tactic(auto)]
 
 mod cuts;
+mod first;
 mod found;
+mod gate;
 mod image;
 mod judge;
 mod laws;
@@ -71,8 +80,10 @@ mod leaves;
 mod runs;
 
 pub use cuts::explored_cuts;
+pub use first::{FirstCase, Sought, find_first};
 pub use found::{CasesFault, CutFound, Found, Losses, MOST_CASES, find_failing};
+pub use gate::CaseGate;
 pub use image::CaseImage;
 pub use judge::CaseJudge;
-pub use laws::{checkers_tell, finding_is_one, losses_are_judged, their_images_fail};
+pub use laws::{checkers_tell, finding_is_one, first_is_one, losses_are_judged, their_images_fail};
 pub use leaves::FailingCase;

@@ -95,7 +95,7 @@ pub(crate) fn run_on(
     run(checker, context, &image, looked)
 }
 
-/// The part that splits a case, of all sectors of a device of so many. It makes no row known.
+/// The part that splits a case, by all sectors of a device of `count`. It makes no row known.
 fn split_anywhere(cut: &Cut<'_>, sets: &[u16], count: u32) -> Option<Parted>
     requires { length sets.now ≡ length (parts_of cut.now) }
     ensures { (tears : Bool) → IsSplitAt cut.now tears sets.now result (range_with_len 0 count) }

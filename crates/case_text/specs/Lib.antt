@@ -3,5 +3,6 @@ pub mod Known
 pub mod Collected
 pub mod Window
 pub mod Text
+pub mod First
 pub mod Counts
 pub mod Laws

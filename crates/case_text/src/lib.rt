@@ -32,18 +32,22 @@
 //! | Call | Answer |
 //! |---|---|
 //! | `write_cases(alloc, head, log, plan, asked, found)` | the bytes of the text |
+//! | `write_first(alloc, head, log, plan, asked, first)` | the bytes of the text of the first failing case alone |
 //! | `is_any_failing(found)` | whether a program fails on some case |
+//! | `left_out(found)` | how many cases were left out |
 //!
 //! # The definitions
 //!
 //! - `Known`: what a case says of a part at risk, and of all (`known_of`).
 //! - `Window`: which entries stand on each image of a cut, and where a flush takes a case away (`case_window`).
 //! - `Text`: the bytes (`cases_bytes`).
+//! - `First`: the bytes of the text of the first failing case alone (`first_bytes`).
 //!
 //! # What is proved
 //!
 //! - `write_cases` gives exactly `cases_bytes` of the head, of what was asked, of the log and of what was found, byte by byte. Its one
 //!   error is want of memory.
+//! - `write_first` gives exactly `first_bytes`: the text up to and with its first line of a case, and a last line that names that case.
 //! - `flush_takes_case_away`: take a choice of a case with a window, and a log with a flush before an entry of the window, and with any
 //!   others. What that choice loses and tears is lost by no choice at its cut there. Nor is what it loses and tears up to the end of the
 //!   window by one right after that.
@@ -64,13 +68,14 @@
 //!
 //! let asked = Losses { tears: false, torn: 0, lost: None };
 //! let cuts = explored_cuts(alloc, &log, 0, log.entries().len() as u32)?;
-//! let found = find_failing(alloc, &plan, &log, By::Write, cuts.as_slice(), checkers, asked)?;
+//! let found = find_failing(alloc, &gate, &plan, &log, By::Write, cuts.as_slice(), checkers, asked)?;
 //! let bytes = write_cases(alloc, &head, &log, &plan, asked, found.as_slice())?;
 //! let failing = is_any_failing(found.as_slice());
 //! ```
 #![tactic(auto)]
 
 mod fates;
+mod first;
 mod head;
 mod known;
 mod laws;
@@ -80,6 +85,7 @@ mod site;
 mod totals;
 mod writer;
 
+pub use first::write_first;
 pub use laws::{flush_takes_case_away, window_is_told};
-pub use totals::is_any_failing;
+pub use totals::{is_any_failing, left_out};
 pub use writer::write_cases;

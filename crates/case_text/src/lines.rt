@@ -30,7 +30,7 @@ fn put_number(out: &mut String, program: usize, number: usize) -> Result<(), All
 }
 
 /// Appends a failing case of a program.
-fn put_case(
+pub(crate) fn put_case(
     out: &mut String,
     known: &mut Known,
     site: &Site<'_>,

@@ -96,6 +96,15 @@ pub(crate) fn put_totals(out: &mut String, found: &[CutFound]) -> Result<(), All
     Ok(())
 }
 
+/// How many cases were left out at some cuts: since more parts are torn in them than is asked, and others since more are lost.
+pub fn left_out(found: &[CutFound]) -> (u64, u64)
+    ensures torn { result.0 ≡ count_torn_beyond found.now }
+    ensures lost { result.1 ≡ count_lost_beyond found.now }
+{
+    let all = totals_of(found);
+    (all.torn_beyond, all.lost_beyond)
+}
+
 /// Whether some case of a cut fails.
 fn fails_at(found: &[Found]) -> bool
     ensures { result ≡ fails_at found.now }

@@ -21,7 +21,7 @@ use Rattle.epochs.specs.Units.{unit_of, units_of_entry, units_before, unit_conte
 use Rattle.epochs.proofs.Growth.{parts_before-next, units_before-next}
 use Rattle.choices.specs.declared.fate.Fate.TheVariants as fate
 use Rattle.images.specs.Images.{writes, byte_after, sector_after, device_after}
-use Rattle.cases.specs.Risk.{is_at_risk, parts_at_risk, ends_here, is_behind_forced, is_last_cut}
+use Rattle.cases.specs.Risk.{is_at_risk, parts_at_risk, ends_here, is_after_forced, is_last_cut}
 use Rattle.cases.specs.Choices.{Choice, all_fates, departures, image_at}
 use Rattle.cases.specs.Rows.{part_with}
 use Rattle.cases.specs.Trees.{is_torn}
@@ -69,7 +69,7 @@ pub record IsCalm (es : List Entry) (k : ℕ) : Type 0 where
   pub there : slice_get es k ≡ Some entry
   pub flush : entry.flags.flush ≡ false
   pub mark : entry.flags.mark ≡ false
-  pub before : is_behind_forced es k ≡ false
+  pub before : is_after_forced es k ≡ false
 
 or_parts : (a b : Bool) → (a || b) ≡ false → (a ≡ false) × (b ≡ false)
 or_parts true b is = let bad : true ≡ false = is in cc
@@ -77,8 +77,8 @@ or_parts false b is = (refl, is)
 
 calm : (es : List Entry) (k : ℕ) → k ≤ length es → is_last_cut es k ≡ false → IsCalm es k
 calm es k le is =
-    let both = or_parts (k == length es) (ends_here es k || is_behind_forced es k) is in
-    let rest = or_parts (ends_here es k) (is_behind_forced es k) both.1 in
+    let both = or_parts (k == length es) (ends_here es k || is_after_forced es k) is in
+    let rest = or_parts (ends_here es k) (is_after_forced es k) both.1 in
     let not_end = both.0 in
     elim (slice_get_cases es k).1 [
       | inr past ↦
@@ -130,7 +130,7 @@ risk_before es k e is lt =
     ∙ ap (λ b. (not (is_forced es e) || false) && not b) flushed
     ∙ ap (λ b. b && not (is_flush_between es e k)) (by_next k lt is.before)
   where
-    by_next : (n : ℕ) → e < n → is_behind_forced es n ≡ false → (not (is_forced es e) || false) ≡ (not (is_forced es e) || (e + 1 == n))
+    by_next : (n : ℕ) → e < n → is_after_forced es n ≡ false → (not (is_forced es e) || false) ≡ (not (is_forced es e) || (e + 1 == n))
     by_next zero less before = absurd (omega (arith, less))
     by_next (suc n) less before = elim (eqb_tells e n) [
       | inl same ↦
@@ -322,7 +322,7 @@ of_next log way tears cut choice le is found =
     )
 
 last_of_log : (es : List Entry) (cut : ℕ) → cut ≡ length es → is_last_cut es cut ≡ true
-last_of_log es cut is = let end : (cut == length es) ≡ true = grind (arith, nat_tests, is) in ap (λ b. b || (ends_here es cut || is_behind_forced es cut)) end
+last_of_log es cut is = let end : (cut == length es) ≡ true = grind (arith, nat_tests, is) in ap (λ b. b || (ends_here es cut || is_after_forced es cut)) end
 
 from_here : (log : LogValue) (way : By) (tears : Bool) (left cut : ℕ) (choice : Choice) → cut + left ≡ length log.entries → IsChoice tears choice
     → (last : ℕ) × IsOfCut log way tears cut last choice

@@ -96,8 +96,8 @@ over_unit at s sets wanted cut pieces o own apart long both =
       left = wanted_left wanted o.pieces pieces (matters at.log at.cut o.unit.sector o.unit (row at.log.entries o.unit.entry o.unit.sector)) both own.pieces;
     }
 
-behind_flush : (at : CutValue) (u : LogUnit) → at.cut ≤ length at.log.entries → is_at_risk at.log.entries at.cut u.entry ≡ true → last_flush at.log.entries at.cut ≤ u.entry
-behind_flush at u le risk = elim (cases_lt u.entry (last_flush at.log.entries at.cut)) [
+beyond_flush : (at : CutValue) (u : LogUnit) → at.cut ≤ length at.log.entries → is_at_risk at.log.entries at.cut u.entry ≡ true → last_flush at.log.entries at.cut ≤ u.entry
+beyond_flush at u le risk = elim (cases_lt u.entry (last_flush at.log.entries at.cut)) [
   | inl less ↦ absurd (let bad : true ≡ false = sym risk ∙ flushed at.log.entries at.cut u.entry le less in cc)
   | inr more ↦ omega (arith, more)
 ]
@@ -127,7 +127,7 @@ over_passed at r sets wanted cut i pieces set more part o le long apart before t
     record {
       row =
           row_left at r.sector sets wanted cut o.unit o.part pieces set more part before.row (over_unit at r.sector sets wanted cut pieces o next.0 apart long both) one held few hidden
-          (behind_flush at o.unit le next.0.risk);
+          (beyond_flush at o.unit le next.0.risk);
       over = next.1;
     }
 

@@ -179,7 +179,7 @@ pub row_left : (at : CutValue) (s : ℕ) (sets : List ℕ) (wanted cut : ℕ) (u
     → nat_lt 1 (length (firsts (show_alike part u (pieces_in pieces)) (fates_in set))) ≡ false
     → pieces_in next ≡ filter (λ i. not (shows (slice_index_or (fates_in set) 0 None) part u i)) (pieces_in pieces)
     → last_flush at.log.entries at.cut ≤ u.entry → RowSo at s sets next u.entry
-row_left at s sets wanted cut u number pieces set next part before unit own held few hidden behind =
+row_left at s sets wanted cut u number pieces set next part before unit own held few hidden beyond =
     let p : Part = part_with at.way at.log.entries u in
     let fates : List (Option Fate) = fates_in (slice_index_or sets number 0) in
     let one : nat_lt 1 (length (firsts (show_alike p u (pieces_in pieces)) fates)) ≡ false =
@@ -193,7 +193,7 @@ row_left at s sets wanted cut u number pieces set next part before unit own held
           else split_in_row at.log at.way at.cut s (case_of tears (parts_of at) sets) (row at.log.entries u.entry s) (filter (λ i. not (shows (slice_index_or fates 0 None) p u i)) (pieces_in pieces))) one
           ∙ ap (split_in_row at.log at.way at.cut s (case_of tears (parts_of at) sets) (row at.log.entries u.entry s)) left;
       low = let one = unit.next.before in let two = before.low in omega (arith, one, two);
-      high = behind;
+      high = beyond;
     }
 
 pub row_passed : (at : CutValue) (s : ℕ) (sets : List ℕ) (wanted cut : ℕ) (u : LogUnit) (number pieces set next : ℕ) (part : Part) (groups : List ℕ)
@@ -201,8 +201,8 @@ pub row_passed : (at : CutValue) (s : ℕ) (sets : List ℕ) (wanted cut : ℕ) 
     → map fates_in groups ≡ kinds (show_alike part u (pieces_in pieces)) (fates_in set) → length groups ≤ 1
     → pieces_in next ≡ filter (λ i. not (shows (slice_index_or (fates_in set) 0 None) part u i)) (pieces_in pieces)
     → last_flush at.log.entries at.cut ≤ u.entry → RowSo at s sets next u.entry
-row_passed at s sets wanted cut u number pieces set next part groups before unit own held are few hidden behind =
-    row_left at s sets wanted cut u number pieces set next part before unit own held (few_kinds (show_alike part u (pieces_in pieces)) (fates_in set) groups are few) hidden behind
+row_passed at s sets wanted cut u number pieces set next part groups before unit own held are few hidden beyond =
+    row_left at s sets wanted cut u number pieces set next part before unit own held (few_kinds (show_alike part u (pieces_in pieces)) (fates_in set) groups are few) hidden beyond
 
 -- of some sectors, one after the other
 

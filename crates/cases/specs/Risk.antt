@@ -21,11 +21,11 @@ abbrev pub ends_here : List Entry → ℕ → Bool
 ends_here es k = option_map_or (λ (entry : Entry). entry.flags.flush || entry.flags.mark) (slice_get es k) false
 
 -- the entry before cut k is forced to the device with its data
-abbrev pub is_behind_forced : List Entry → ℕ → Bool
-is_behind_forced es zero = false
-is_behind_forced es (suc e) = is_forced es e
+abbrev pub is_after_forced : List Entry → ℕ → Bool
+is_after_forced es zero = false
+is_after_forced es (suc e) = is_forced es e
 
 -- A last cut: the end of the log, a cut before a flush entry or a mark, or one after an entry that is forced to the device. No later
 -- cut has its images.
 abbrev pub is_last_cut : List Entry → ℕ → Bool
-is_last_cut es k = (k == length es) || (ends_here es k || is_behind_forced es k)
+is_last_cut es k = (k == length es) || (ends_here es k || is_after_forced es k)

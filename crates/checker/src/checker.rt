@@ -182,7 +182,8 @@ impl<'p> Checker<'p> {
         self.judge_noted::<D, 0>(context, device).outcome
     }
 
-    /// The same, with the footprint of the run (docs/MACHINE.md, Footprint) in so much room.
+    /// Runs the program on an image as `judge` does, and answers the footprint of the run too (docs/MACHINE.md, Footprint), in
+    /// that much room.
     #[inline(always)]
     #[tactic(auto, unfolding(crate::specs::Checker::judgement, crate::specs::Footprints::footprint_of))]
     pub fn judge_noted<D: Device, const ROOM: usize>(
@@ -204,7 +205,7 @@ impl<'p> Checker<'p> {
         }
     }
 
-    /// The same of a checker without guards.
+    /// Runs the program of a checker without guards on an image.
     #[inline(always)]
     fn judge_unguarded<D: Device, const ROOM: usize>(
         &self,

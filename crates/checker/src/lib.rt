@@ -45,6 +45,14 @@
 //! let outcome = Checker::verified(alloc, &verified)?.judge(&context, &Filled::new(4, 0));
 //! // a verdict with the answer 0 and no codes
 //! ```
+//!
+//! # Choices
+//!
+//! - `Checker` is a crate of its own, `checker`, and no longer stands on `interp`'s public surface: nothing else of
+//!   `interp` knew of the verifier or its soundness, and a crate can't show again what stands above it. So the
+//!   interpreter, the failing lines and the report are proved beside the verifier and not after it.
+//! - A checker keeps a verified program, its budget and the size, and not the table: a table takes up to 10 MB, and
+//!   nothing asks for it once it was found good.
 #![tactic(auto)]
 
 mod checker;

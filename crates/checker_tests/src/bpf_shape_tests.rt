@@ -50,7 +50,7 @@ const SUM_WORDS: [Slot; 22] = [
     EXIT, // 21: exit
 ];
 
-/// The same slot at both edges of the test.
+/// One slot at both edges of the test.
 const BOTH_EDGES: [Slot; 4] = [
     (0xb7, 1, 0, 1), // 0: mov64 r1, 1
     (0x85, 0, 0, 3), // 1: call 3

@@ -1,12 +1,12 @@
 //! Programs of docs/VERIFIER.md that go straight on, each with the instruction at which a rule is
-//! broken and its number there, the edges of a null test, and what a local call passes on. The same with guards, and what is
+//! broken and its number there, the edges of a null test, and what a local call passes on. And with guards: the first breach, and what is
 //! guarded.
 
 use bpf_isa::instr::{Condition, Instr, Operator, Size, Source, Width};
 use bpf_isa::register::Register;
 use intervals::{Bounds, Range, SignedRange, reduce};
 use ranges::{
-    SectorOffsets, StackOffset, State, Value, after, branch, broken_rule, check, effect_behind,
+    SectorOffsets, StackOffset, State, Value, after, branch, broken_rule, check, effect_after,
     entry, is_guarded, lead,
 };
 use std::test::Fail;
@@ -87,9 +87,9 @@ fn number(range: Range) -> Value {
 }
 
 /// The state after an instruction, on 4 sectors; the one before it, if there is none.
-fn behind(instr: &Instr, state: &State) -> State {
+fn beyond(instr: &Instr, state: &State) -> State {
     match after(instr, state, 4) {
-        Some(behind) => behind,
+        Some(beyond) => beyond,
         None => *state,
     }
 }
@@ -111,7 +111,7 @@ fn refused(program: &[Instr]) -> (usize, u8) {
         if number != 0 {
             return (place, number);
         }
-        state = behind(instr, &state);
+        state = beyond(instr, &state);
     }
     (program.len(), 0)
 }
@@ -230,7 +230,7 @@ fn arguments(rt: HostRuntime) {
 
 /// The state after `mov64 r1, 0; call 1`.
 fn answered() -> State {
-    behind(&call(1), &behind(&put(1, 0), &State::start()))
+    beyond(&call(1), &beyond(&put(1, 0), &State::start()))
 }
 
 /// What r0 holds, if there is a state.
@@ -273,7 +273,7 @@ const JUMP: Instr = Instr::Branch {
 
 #[test]
 fn numbers(rt: HostRuntime) {
-    let state = behind(&load(Size::Double, 0, 1, 8), &State::start());
+    let state = beyond(&load(Size::Double, 0, 1, 8), &State::start());
     assert_eq!(rt;
         answer(branch(&JUMP, false, &state)),
         number(Range::up_to(63))
@@ -285,14 +285,14 @@ fn numbers(rt: HostRuntime) {
             high: 65536
         })
     );
-    let small = behind(&put(0, 3), &State::start());
+    let small = beyond(&put(0, 3), &State::start());
     assert!(rt; branch(&JUMP, true, &small).is_none());
 }
 
 #[test]
 fn joined(rt: HostRuntime) {
-    let first = behind(&put(0, 3), &State::start());
-    let other = behind(&put(0, 6), &store_byte());
+    let first = beyond(&put(0, 3), &State::start());
+    let other = beyond(&put(0, 6), &store_byte());
     let both = first.join(&other);
     assert_eq!(rt; both.values[0], number(Range { low: 3, high: 6 }));
     // the byte is written on one way only
@@ -306,19 +306,19 @@ fn joined(rt: HostRuntime) {
 
 /// The state after `stdw [r10-8], 7`.
 fn store_byte() -> State {
-    behind(&store_number(10, -8), &State::start())
+    beyond(&store_number(10, -8), &State::start())
 }
 
 /// What is known before a call of a local function: r1 is the context, r6 is 7, and r2 is 3.
 fn before_call() -> State {
-    behind(&put(2, 3), &behind(&put(6, 7), &store_byte()))
+    beyond(&put(2, 3), &beyond(&put(6, 7), &store_byte()))
 }
 
 #[test]
-fn behind_local_calls(rt: HostRuntime) {
+fn after_local_calls(rt: HostRuntime) {
     let (call, before) = (Instr::CallLocal { offset: 1 }, before_call());
     assert_eq!(rt; broken(&call, &before), 0);
-    let kept = behind(&call, &before);
+    let kept = beyond(&call, &before);
     assert_eq!(rt; kept.values[0], number(Range::full()));
     assert_eq!(rt; kept.values[1], Value::Unset);
     assert_eq!(rt; kept.values[2], Value::Unset);
@@ -341,7 +341,7 @@ fn inside_local_calls(rt: HostRuntime) {
 fn known(program: &[Instr]) -> State {
     let mut state = State::start();
     for instr in program {
-        state = behind(instr, &state);
+        state = beyond(instr, &state);
     }
     state
 }
@@ -404,9 +404,9 @@ fn spills_joined(rt: HostRuntime) {
     // numbers join as in registers, and so they are rounded
     let spilled = with_spill();
     let both = spilled.join(&known(&[put(2, 9), store(10, -8, 2)]));
-    let joined = behind(&read_back(), &both).values[0];
+    let joined = beyond(&read_back(), &both).values[0];
     assert_eq!(rt; joined, number(Range { low: 7, high: 9 }));
-    let rounded = behind(&read_back(), &both.round()).values[0];
+    let rounded = beyond(&read_back(), &both.round()).values[0];
     assert_eq!(rt; rounded, number(Range { low: 4, high: 15 }));
     assert!(rt; both.contains(&spilled) && !spilled.contains(&both));
 }
@@ -417,7 +417,7 @@ fn spills_beside_bytes(rt: HostRuntime) {
     let spilled = with_spill();
     let written = known(&[store_number(10, -8), store_small(-8)]);
     assert!(rt; written.contains(&spilled) && !spilled.contains(&written));
-    let joined = behind(&read_back(), &written.join(&spilled)).values[0];
+    let joined = beyond(&read_back(), &written.join(&spilled)).values[0];
     assert_eq!(rt; joined, number(Range::full()));
 }
 
@@ -473,7 +473,7 @@ fn signed_numbers(rt: HostRuntime) {
     assert_eq!(rt; few.values[0], number(Range::up_to(4)));
     assert!(rt; branch(&jump_below(0), true, &few).is_none());
     // a sum keeps its signed ends, and a range that is rounded both
-    let moved = behind(&add(0, -5), &few);
+    let moved = beyond(&add(0, -5), &few);
     assert_eq!(rt; moved.values[0], bounds(0, u64::MAX, -5, -1));
     assert_eq!(rt; moved.round().values[0], bounds(0, u64::MAX, -8, -1));
 }
@@ -487,13 +487,13 @@ fn answered_by(state: Option<State>) -> State {
 }
 
 /// The state after an instruction with guards, on 4 sectors.
-fn behind_with_guards(instr: &Instr, state: &State) -> State {
+fn after_with_guards(instr: &Instr, state: &State) -> State {
     if check(instr, state).is_err() {
         let mut next = *state;
-        lead(&effect_behind(true, instr, state, 4), &mut next);
+        lead(&effect_after(true, instr, state, 4), &mut next);
         next
     } else {
-        behind(instr, state)
+        beyond(instr, state)
     }
 }
 
@@ -508,7 +508,7 @@ fn guarded_from(state: &State, program: &[Instr]) -> (usize, u8, Option<usize>) 
         if is_guarded(instr, &state) {
             guarded = Some(place);
         }
-        state = behind_with_guards(instr, &state);
+        state = after_with_guards(instr, &state);
     }
     (program.len(), 0, guarded)
 }
@@ -562,7 +562,7 @@ fn refused_with_guards(rt: HostRuntime) {
 fn left_with_guards(program: &[Instr]) -> Value {
     let mut state = State::start();
     for instr in program {
-        state = behind_with_guards(instr, &state);
+        state = after_with_guards(instr, &state);
     }
     state.values[0]
 }

@@ -10,7 +10,7 @@ use Rattle.choices.specs.declared.pick.Pick.{Pick}
 use Rattle.choices.specs.Picks.{beginning, ranked_picks, fewer, ArePicks}
 use Rattle.choices.specs.Steps.{first_picks, next_picks, after_rest, following, or_else, one_more, following_below}
 use Rattle.choices.proofs.Rows.{below_more}
-use Rattle.choices.proofs.Ranks.{behind, length-beginning, at_beginning}
+use Rattle.choices.proofs.Ranks.{beyond, length-beginning, at_beginning}
 
 -- an element of the rows: its fate, its place in the row, and the rest after its first departure
 pub record OfRow (a t j : ℕ) (rests : List (List Pick)) (n : ℕ) (ds : List Pick) : Type 0 where
@@ -20,13 +20,13 @@ pub record OfRow (a t j : ℕ) (rests : List (List Pick)) (n : ℕ) (ds : List P
   pub fate : x < j
   pub place : n ≡ x * length rests + y
   pub there : slice_get rests y ≡ Some rest
-  pub is : ds ≡ behind a (t + x) rest
+  pub is : ds ≡ beyond a (t + x) rest
 
-first_row : (a t j : ℕ) (rests : List (List Pick)) (n : ℕ) (ds : List Pick) → slice_get (map (behind a t) rests) n ≡ Some ds → OfRow a t (suc j) rests n ds
+first_row : (a t j : ℕ) (rests : List (List Pick)) (n : ℕ) (ds : List Pick) → slice_get (map (beyond a t) rests) n ≡ Some ds → OfRow a t (suc j) rests n ds
 first_row a t j rests n ds h = elim (slice_get_cases rests n).1 [
   | inl it ↦
       let same : t ≡ t + 0 = omega arith in
-      let one : Some (behind a t it.0) ≡ Some ds = ap (option_map (behind a t)) (sym it.2) ∙ sym (slice_get-map (behind a t) rests n) ∙ h in
+      let one : Some (beyond a t it.0) ≡ Some ds = ap (option_map (beyond a t)) (sym it.2) ∙ sym (slice_get-map (beyond a t) rests n) ∙ h in
       record {
         x = 0;
         y = n;
@@ -34,23 +34,23 @@ first_row a t j rests n ds h = elim (slice_get_cases rests n).1 [
         fate = omega arith;
         place = omega arith;
         there = it.2;
-        is = same_Some ds (behind a t it.0) (sym one) ∙ ap (λ s. behind a s it.0) same;
+        is = same_Some ds (beyond a t it.0) (sym one) ∙ ap (λ s. beyond a s it.0) same;
       }
   | inr past ↦
-      let none : None ≡ Some ds = ap (option_map (behind a t)) (sym past.1) ∙ sym (slice_get-map (behind a t) rests n) ∙ h in
+      let none : None ≡ Some ds = ap (option_map (beyond a t)) (sym past.1) ∙ sym (slice_get-map (beyond a t) rests n) ∙ h in
       absurd (let bad : None ≡ Some ds = none in cc)
 ]
 
 -- each element of the rows comes from one of them
 pub of_beginning : (a t j : ℕ) (rests : List (List Pick)) (n : ℕ) (ds : List Pick) → slice_get (beginning a t j rests) n ≡ Some ds → OfRow a t j rests n ds
 of_beginning a t zero rests n ds h = absurd (let bad : None ≡ Some ds = h in cc)
-of_beginning a t (suc j) rests n ds h = elim (slice_get_of_append (map (behind a t) rests) (beginning a (t + 1) j rests) n ds h) [
+of_beginning a t (suc j) rests n ds h = elim (slice_get_of_append (map (beyond a t) rests) (beginning a (t + 1) j rests) n ds h) [
   | inl first ↦ first_row a t j rests n ds first.1
   | inr more ↦
-      let long : length (map (behind a t) rests) ≡ length rests = length-map rests (behind a t) in
-      let it = of_beginning a (t + 1) j rests (n - length (map (behind a t) rests)) ds more.1 in
-      let place : n - length (map (behind a t) rests) ≡ it.x * length rests + it.y = it.place in
-      let low : length (map (behind a t) rests) ≤ n = more.0 in
+      let long : length (map (beyond a t) rests) ≡ length rests = length-map rests (beyond a t) in
+      let it = of_beginning a (t + 1) j rests (n - length (map (beyond a t) rests)) ds more.1 in
+      let place : n - length (map (beyond a t) rests) ≡ it.x * length rests + it.y = it.place in
+      let low : length (map (beyond a t) rests) ≤ n = more.0 in
       let fate : it.x < j = it.fate in
       let same : t + 1 + it.x ≡ t + suc it.x = omega arith in
       record {
@@ -60,7 +60,7 @@ of_beginning a t (suc j) rests n ds h = elim (slice_get_of_append (map (behind a
         fate = omega (arith, fate);
         place = omega (arith, place, low, long);
         there = it.there;
-        is = it.is ∙ ap (λ s. behind a s it.rest) same;
+        is = it.is ∙ ap (λ s. beyond a s it.rest) same;
       }
 ]
 
@@ -90,7 +90,7 @@ head_some m (suc i) a (suc k) some h =
     let here : 0 ≡ 0 * length rests + 0 = omega arith in
     let at = at_beginning a 0 m rests 0 0 (omega (arith, some)) lt in
     let first : slice_get (beginning a 0 m rests) 0 ≡ Some (first_picks (suc i) a) =
-    ap (slice_get (beginning a 0 m rests)) here ∙ at ∙ ap (option_map (behind a 0)) inner in
+    ap (slice_get (beginning a 0 m rests)) here ∙ at ∙ ap (option_map (beyond a 0)) inner in
     slice_get-append_left (beginning a 0 m rests) (ranked_picks m (suc i) (a + 1) k) 0 (slice_get_within (beginning a 0 m rests) 0 (first_picks (suc i) a) first) ∙ first
 
 -- the step of a first departure
@@ -122,8 +122,8 @@ at_end xs n lt h = elim (slice_get_cases xs (suc n)).1 [
 ]
 
 -- at the end of the first list stands the first of the second, and what is in front keeps its place
-pub behind_end : {X : Type 0} (xs ys : List X) (n : ℕ) → length xs ≡ n → slice_get (xs ++ ys) n ≡ slice_get ys 0
-behind_end xs ys n h =
+pub after_end : {X : Type 0} (xs ys : List X) (n : ℕ) → length xs ≡ n → slice_get (xs ++ ys) n ≡ slice_get ys 0
+after_end xs ys n h =
     let at : n ≡ length xs + 0 = omega (arith, h) in
     ap (slice_get (xs ++ ys)) at ∙ slice_get-append_right xs ys 0
 
@@ -163,35 +163,35 @@ next_part m i a k x some le last = elim (cases_lt i k) [
 ]
 
 -- after a choice that begins with part a and fate x
-behind_row : (m i a k x y n : ℕ) → 1 ≤ m → x < m → n ≡ x * length (ranked_picks m i (a + 1) k) + y → y < length (ranked_picks m i (a + 1) k) → i ≤ k
+after_row : (m i a k x y n : ℕ) → 1 ≤ m → x < m → n ≡ x * length (ranked_picks m i (a + 1) k) + y → y < length (ranked_picks m i (a + 1) k) → i ≤ k
     → (o : Option (List Pick)) → slice_get (ranked_picks m i (a + 1) k) (suc y) ≡ o
     → slice_get (beginning a 0 m (ranked_picks m i (a + 1) k) ++ ranked_picks m (suc i) (a + 1) k) (suc n)
     ≡ after_rest (record { part = a; fate = x }) o (next_picks m (a + suc k) (record { part = a; fate = x }) i)
-behind_row m i a k x y n some fate at lt le (Some r) h =
+after_row m i a k x y n some fate at lt le (Some r) h =
     let rests : List (List Pick) = ranked_picks m i (a + 1) k in
     let here : suc n ≡ x * length rests + suc y = omega (arith, at) in
     let within : suc y < length rests = slice_get_within rests (suc y) r h in
     let zero_x : 0 + x ≡ x = omega arith in
-    let found : slice_get (beginning a 0 m rests) (suc n) ≡ Some (behind a x r) =
-    ap (slice_get (beginning a 0 m rests)) here ∙ at_beginning a 0 m rests x (suc y) fate within ∙ ap (option_map (behind a (0 + x))) h
-    ∙ ap (λ s. Some (behind a s r)) zero_x in
-    in_front (beginning a 0 m rests) (ranked_picks m (suc i) (a + 1) k) (suc n) (behind a x r) found
-behind_row m i a k x y n some fate at lt le None h =
+    let found : slice_get (beginning a 0 m rests) (suc n) ≡ Some (beyond a x r) =
+    ap (slice_get (beginning a 0 m rests)) here ∙ at_beginning a 0 m rests x (suc y) fate within ∙ ap (option_map (beyond a (0 + x))) h
+    ∙ ap (λ s. Some (beyond a s r)) zero_x in
+    in_front (beginning a 0 m rests) (ranked_picks m (suc i) (a + 1) k) (suc n) (beyond a x r) found
+after_row m i a k x y n some fate at lt le None h =
     let rests : List (List Pick) = ranked_picks m i (a + 1) k in
     let width : length rests ≡ suc y = at_end rests y lt h in
     elim (cases_lt (x + 1) m) [
       | inl less ↦
           let here : suc n ≡ suc x * length rests + 0 = omega (arith, at, width) in
           let zero_x : 0 + suc x ≡ x + 1 = omega arith in
-          let found : slice_get (beginning a 0 m rests) (suc n) ≡ Some (behind a (x + 1) (first_picks i (a + 1))) =
+          let found : slice_get (beginning a 0 m rests) (suc n) ≡ Some (beyond a (x + 1) (first_picks i (a + 1))) =
           ap (slice_get (beginning a 0 m rests)) here ∙ at_beginning a 0 m rests (suc x) 0 (omega (arith, less)) (omega (arith, lt))
-          ∙ ap (option_map (behind a (0 + suc x))) (head_some m i (a + 1) k some le) ∙ ap (λ s. Some (behind a s (first_picks i (a + 1)))) zero_x in
-          in_front (beginning a 0 m rests) (ranked_picks m (suc i) (a + 1) k) (suc n) (behind a (x + 1) (first_picks i (a + 1))) found
+          ∙ ap (option_map (beyond a (0 + suc x))) (head_some m i (a + 1) k some le) ∙ ap (λ s. Some (beyond a s (first_picks i (a + 1)))) zero_x in
+          in_front (beginning a 0 m rests) (ranked_picks m (suc i) (a + 1) k) (suc n) (beyond a (x + 1) (first_picks i (a + 1))) found
           ∙ sym (stepped_fate m (a + suc k) (record { part = a; fate = x }) i less)
       | inr more ↦
           let whole : x + 1 ≡ m = omega (arith, more, fate) in
           let long : length (beginning a 0 m rests) ≡ suc n = length-beginning a 0 m rests ∙ ap (λ j. j * length rests) (sym whole) ∙ omega (arith, at, width) in
-          behind_end (beginning a 0 m rests) (ranked_picks m (suc i) (a + 1) k) (suc n) long ∙ next_part m i a k x some le more
+          after_end (beginning a 0 m rests) (ranked_picks m (suc i) (a + 1) k) (suc n) long ∙ next_part m i a k x some le more
     ]
 
 -- the choice after another, among those of one number of departures
@@ -212,9 +212,9 @@ follows m (suc i) a (suc k) some n ds h =
           let inner : slice_get rests (suc in_row.y) ≡ o =
           follows m i (a + 1) k some in_row.y in_row.rest in_row.there ∙ ap (λ e. following m e in_row.rest) end in
           let zero_x : 0 + in_row.x ≡ in_row.x = omega arith in
-          let is : ds ≡ behind a in_row.x in_row.rest = in_row.is ∙ ap (λ s. behind a s in_row.rest) zero_x in
+          let is : ds ≡ beyond a in_row.x in_row.rest = in_row.is ∙ ap (λ s. beyond a s in_row.rest) zero_x in
           let size : length in_row.rest ≡ i = member_length m i (a + 1) k in_row.y in_row.rest in_row.there in
-          behind_row m i a k in_row.x in_row.y n some in_row.fate in_row.place
+          after_row m i a k in_row.x in_row.y n some in_row.fate in_row.place
           (slice_get_within rests in_row.y in_row.rest in_row.there) (room m i (a + 1) k in_row.y in_row.rest in_row.there) o inner
           ∙ ap (λ s. after_rest (record { part = a; fate = in_row.x }) o (next_picks m (a + suc k) (record { part = a; fate = in_row.x }) s)) (sym size)
           ∙ ap (following m (a + suc k)) (sym is)
@@ -262,7 +262,7 @@ next_size : (m s v n : ℕ) (ds : List Pick) → 1 ≤ m → n < length (fewer m
 next_size m s v n ds some lt short h = elim (cases_lt (length ds) v) [
   | inr few ↦
       let last : length (fewer m s v) ≡ suc n = at_end (fewer m s v) n lt (h ∙ more_few s v (length ds) few) in
-      behind_end (fewer m s v) (ranked_picks m s 0 v) (suc n) last
+      after_end (fewer m s v) (ranked_picks m s 0 v) (suc n) last
       ∙ ap (λ xs. slice_get xs 0) (head_none m s 0 v (omega (arith, few, short)))
       ∙ sym (more_few (suc s) v (length ds) few)
   | inl room ↦ elim (cases_lt (length ds + 1) s) [
@@ -272,18 +272,18 @@ next_size m s v n ds some lt short h = elim (cases_lt (length ds) v) [
     | inr top ↦
         let same : s ≡ length ds + 1 = omega (arith, top, short) in
         let last : length (fewer m s v) ≡ suc n = at_end (fewer m s v) n lt (h ∙ more_short s v (length ds) top) in
-        behind_end (fewer m s v) (ranked_picks m s 0 v) (suc n) last
+        after_end (fewer m s v) (ranked_picks m s 0 v) (suc n) last
         ∙ head_some m s 0 v some (omega (arith, same, room))
         ∙ ap (λ i. Some (first_picks i 0)) same
         ∙ sym (more_yes (suc s) v (length ds) (omega (arith, same)) room)
   ]
 ]
 
-behind_fewer : (m s v n : ℕ) (ds : List Pick) → 1 ≤ m → n < length (fewer m s v) → length ds < s
+after_fewer : (m s v n : ℕ) (ds : List Pick) → 1 ≤ m → n < length (fewer m s v) → length ds < s
     → (o : Option (List Pick)) → slice_get (fewer m s v) (suc n) ≡ or_else o (one_more s v (length ds))
     → slice_get (fewer m s v ++ ranked_picks m s 0 v) (suc n) ≡ or_else o (one_more (suc s) v (length ds))
-behind_fewer m s v n ds some lt short (Some r) h = in_front (fewer m s v) (ranked_picks m s 0 v) (suc n) r h
-behind_fewer m s v n ds some lt short None h = next_size m s v n ds some lt short h
+after_fewer m s v n ds some lt short (Some r) h = in_front (fewer m s v) (ranked_picks m s 0 v) (suc n) r h
+after_fewer m s v n ds some lt short None h = next_size m s v n ds some lt short h
 
 -- the steps of the code
 pub goes_up : (m bound e size : ℕ) (old now cleared put : List Pick) → following m e old ≡ None → now ≡ old → size ≡ length now
@@ -310,7 +310,7 @@ unfolding fewer following_below
 follows_below m zero v some n ds h = absurd (let bad : None ≡ Some ds = h in cc)
 follows_below m (suc s) v some n ds h = elim (slice_get_of_append (fewer m s v) (ranked_picks m s 0 v) n ds h) [
   | inl it ↦
-      behind_fewer m s v n ds some it.0 (fewer_length m s v n ds it.1) (following m v ds) (follows_below m s v some n ds it.1)
+      after_fewer m s v n ds some it.0 (fewer_length m s v n ds it.1) (following m v ds) (follows_below m s v some n ds it.1)
   | inr it ↦
       let at : suc n ≡ length (fewer m s v) + suc (n - length (fewer m s v)) = omega (arith, it.0) in
       let end : 0 + v ≡ v = omega arith in

@@ -17,7 +17,7 @@ use Rattle.choices.specs.Ways.{ways_within}
 use Rattle.choices.specs.Steps.{following_below}
 use Rattle.choices.specs.Choices.{ChoiceValue, departure_of, choice_of, choices_at, choices_over, ranked_choices, ranked_before, ranked_at, IsFirstPastOf, InCut}
 use Rattle.choices.proofs.Ranks.{length-fewer}
-use Rattle.choices.proofs.Following.{follows_below, fewer_picks, at_end, behind_end, in_front}
+use Rattle.choices.proofs.Following.{follows_below, fewer_picks, at_end, after_end, in_front}
 
 -- there is at least one fate, and no more than there are with tears
 pub fates_low : (tears : Bool) → 1 ≤ fates_of tears
@@ -179,7 +179,7 @@ leaves way es m b p c cuts n lt (Some picks) h =
     (slice_get-map (choice_of way es p c) (picks_within m b (length (volatile_parts way es c))) (suc n) ∙ ap (option_map (choice_of way es p c)) h)
 leaves way es m b p c cuts n lt None h =
     let whole : length (picks_within m b (length (volatile_parts way es c))) ≡ suc n = at_end (picks_within m b (length (volatile_parts way es c))) n lt h in
-    behind_end (choices_at way es m b p c) (choices_over way es m b (p + 1) cuts) (suc n)
+    after_end (choices_at way es m b p c) (choices_over way es m b (p + 1) cuts) (suc n)
     (length-map (picks_within m b (length (volatile_parts way es c))) (choice_of way es p c) ∙ whole)
     ∙ over_head way es m b (p + 1) cuts
 

@@ -12,33 +12,33 @@ use Rattle.choices.specs.Ways.{ways, ways_below}
 use Rattle.choices.specs.Seeks.{Begins, Reaches}
 
 -- a rest after its first departure
-abbrev pub behind : ℕ → ℕ → List Pick → List Pick
-behind a t rest = record { part = a; fate = t } ∷ rest
+abbrev pub beyond : ℕ → ℕ → List Pick → List Pick
+beyond a t rest = record { part = a; fate = t } ∷ rest
 
 -- how many elements the rows have
 pub length-beginning : (a t j : ℕ) (rests : List (List Pick)) → length (beginning a t j rests) ≡ j * length rests
 length-beginning a t zero rests = omega arith
 length-beginning a t (suc j) rests =
-    omega (arith, length-append (map (behind a t) rests) (beginning a (t + 1) j rests), length-map rests (behind a t), length-beginning a (t + 1) j rests)
+    omega (arith, length-append (map (beyond a t) rests) (beginning a (t + 1) j rests), length-map rests (beyond a t), length-beginning a (t + 1) j rests)
 
 -- element y of row x
 pub at_beginning : (a t j : ℕ) (rests : List (List Pick)) (x y : ℕ) → x < j → y < length rests
-    → slice_get (beginning a t j rests) (x * length rests + y) ≡ option_map (behind a (t + x)) (slice_get rests y)
+    → slice_get (beginning a t j rests) (x * length rests + y) ≡ option_map (beyond a (t + x)) (slice_get rests y)
 at_beginning a t zero rests x y lt h = absurd (omega (arith, lt))
 at_beginning a t (suc j) rests zero y lt h =
     let here : zero * length rests + y ≡ y = omega arith in
     let same : t ≡ t + zero = omega arith in
     ap (slice_get (beginning a t (suc j) rests)) here
-    ∙ slice_get-append_left (map (behind a t) rests) (beginning a (t + 1) j rests) y (omega (arith, length-map rests (behind a t), h))
-    ∙ slice_get-map (behind a t) rests y
-    ∙ ap (λ s. option_map (behind a s) (slice_get rests y)) same
+    ∙ slice_get-append_left (map (beyond a t) rests) (beginning a (t + 1) j rests) y (omega (arith, length-map rests (beyond a t), h))
+    ∙ slice_get-map (beyond a t) rests y
+    ∙ ap (λ s. option_map (beyond a s) (slice_get rests y)) same
 at_beginning a t (suc j) rests (suc x) y lt h =
-    let here : suc x * length rests + y ≡ length (map (behind a t) rests) + (x * length rests + y) = omega (arith, length-map rests (behind a t)) in
+    let here : suc x * length rests + y ≡ length (map (beyond a t) rests) + (x * length rests + y) = omega (arith, length-map rests (beyond a t)) in
     let same : t + 1 + x ≡ t + suc x = omega arith in
     ap (slice_get (beginning a t (suc j) rests)) here
-    ∙ slice_get-append_right (map (behind a t) rests) (beginning a (t + 1) j rests) (x * length rests + y)
+    ∙ slice_get-append_right (map (beyond a t) rests) (beginning a (t + 1) j rests) (x * length rests + y)
     ∙ at_beginning a (t + 1) j rests x y (omega (arith, lt)) h
-    ∙ ap (λ s. option_map (behind a s) (slice_get rests y)) same
+    ∙ ap (λ s. option_map (beyond a s) (slice_get rests y)) same
 
 -- how many choices of i departures there are
 pub length-chosen : (m i a k : ℕ) → length (ranked_picks m i a k) ≡ ways m i k
@@ -91,7 +91,7 @@ later m i a r (suc u) left h =
 
 -- a choice among those that begin with the first part: a row for each fate
 row : (m i a r q : ℕ) → q < m * ways m i r
-    → (slice_get (ranked_picks m (suc i) a (suc r)) q ≡ option_map (behind a (q / ways m i r)) (slice_get (ranked_picks m i (a + 1) r) (q % ways m i r)))
+    → (slice_get (ranked_picks m (suc i) a (suc r)) q ≡ option_map (beyond a (q / ways m i r)) (slice_get (ranked_picks m i (a + 1) r) (q % ways m i r)))
     × (q / ways m i r < m) × (q % ways m i r < ways m i r)
 unfolding ranked_picks
 row m i a r q lt =
@@ -115,7 +115,7 @@ row m i a r q lt =
       slice_get-append_left (beginning a 0 m rests) (ranked_picks m (suc i) (a + 1) r) q (omega (arith, long, lt))
           ∙ ap (slice_get (beginning a 0 m rests)) at
           ∙ at_beginning a 0 m rests x y in_rows (omega (arith, width, in_row))
-          ∙ ap (λ s. option_map (behind a s) (slice_get rests y)) fate,
+          ∙ ap (λ s. option_map (beyond a s) (slice_get rests y)) fate,
       in_rows,
       in_row,
     )
@@ -144,7 +144,7 @@ begins_inside m i r left so =
 begins_at : (m i begin u r number : ℕ) → number < ways m (suc i) (u + suc r)
     → Reaches m (suc i) (ways m (suc i) (u + suc r) - number) (suc r) → (left : ℕ) → left ≡ ways m (suc i) (u + suc r) - number
     → (slice_get (ranked_picks m (suc i) begin (u + suc r)) number
-    ≡ option_map (behind (begin + u) ((ways m (suc i) (suc r) - left) / ways m i r)) (slice_get (ranked_picks m i (begin + u + 1) r) ((ways m (suc i) (suc r) - left) % ways m i r)))
+    ≡ option_map (beyond (begin + u) ((ways m (suc i) (suc r) - left) / ways m i r)) (slice_get (ranked_picks m i (begin + u + 1) r) ((ways m (suc i) (suc r) - left) % ways m i r)))
     × ((ways m (suc i) (suc r) - left) / ways m i r < m)
     × ((ways m (suc i) (suc r) - left) % ways m i r < ways m i r)
 begins_at m i begin u r number lt so left is =

@@ -39,43 +39,43 @@ unfolding following
 following_cons m e d ds h = ap (λ o. after_rest d o (next_picks m e d (length ds))) h
 
 -- after the last departure nothing goes on
-pub none_behind : (m e : ℕ) (ds : List Pick) (n : ℕ) → length ds ≤ n → following m e (drop n ds) ≡ None
+pub none_following : (m e : ℕ) (ds : List Pick) (n : ℕ) → length ds ≤ n → following m e (drop n ds) ≡ None
 unfolding following
-none_behind m e [] zero h = refl
-none_behind m e [] (suc n) h = refl
-none_behind m e (d ∷ ds) zero h = absurd (omega (arith, h))
-none_behind m e (d ∷ ds) (suc n) h = none_behind m e ds n (omega (arith, h))
+none_following m e [] zero h = refl
+none_following m e [] (suc n) h = refl
+none_following m e (d ∷ ds) zero h = absurd (omega (arith, h))
+none_following m e (d ∷ ds) (suc n) h = none_following m e ds n (omega (arith, h))
 
--- the step of the departure with `behind` others after it, which have none
-pub step_at : (m e : ℕ) (ds : List Pick) (place behind : ℕ) (d : Pick) → place ≡ length ds - 1 - behind → behind < length ds
-    → following m e (drop (length ds - behind) ds) ≡ None
-    → following m e (drop place ds) ≡ next_picks m e (slice_index_or ds place d) behind
-step_at m e ds place behind d at lt none =
-    let next : suc place ≡ length ds - behind = omega (arith, at, lt) in
+-- the step of the departure with `beyond` others after it, which have none
+pub step_at : (m e : ℕ) (ds : List Pick) (place beyond : ℕ) (d : Pick) → place ≡ length ds - 1 - beyond → beyond < length ds
+    → following m e (drop (length ds - beyond) ds) ≡ None
+    → following m e (drop place ds) ≡ next_picks m e (slice_index_or ds place d) beyond
+step_at m e ds place beyond d at lt none =
+    let next : suc place ≡ length ds - beyond = omega (arith, at, lt) in
     let split : drop place ds ≡ slice_index_or ds place d ∷ drop (suc place) ds = drop-cons ds place d (omega (arith, at, lt)) in
     let last : following m e (drop (suc place) ds) ≡ None = rw next none in
-    let size : length (drop (suc place) ds) ≡ behind = length-drop (suc place) ds ∙ omega (arith, at, lt) in
+    let size : length (drop (suc place) ds) ≡ beyond = length-drop (suc place) ds ∙ omega (arith, at, lt) in
     ap (following m e) split ∙ following_cons m e (slice_index_or ds place d) (drop (suc place) ds) last
     ∙ ap (next_picks m e (slice_index_or ds place d)) size
 
 -- the search from the end: the last departure that has a next one, and one that has none
-pub step_found : (m e : ℕ) (ds : List Pick) (place behind : ℕ) (d next : Pick) → place ≡ length ds - 1 - behind → behind < length ds
-    → following m e (drop (length ds - behind) ds) ≡ None
-    → option_map (λ (p : Pick). p ∷ first_picks behind (p.part + 1)) (Some next) ≡ next_picks m e (slice_index_or ds place d) behind
+pub step_found : (m e : ℕ) (ds : List Pick) (place beyond : ℕ) (d next : Pick) → place ≡ length ds - 1 - beyond → beyond < length ds
+    → following m e (drop (length ds - beyond) ds) ≡ None
+    → option_map (λ (p : Pick). p ∷ first_picks beyond (p.part + 1)) (Some next) ≡ next_picks m e (slice_index_or ds place d) beyond
     → following m e ds ≡ Some (take place ds ++ next ∷ first_picks (length ds - place - 1) (next.part + 1))
-step_found m e ds place behind d next at lt none found =
-    let others : length ds - place - 1 ≡ behind = omega (arith, at, lt) in
+step_found m e ds place beyond d next at lt none found =
+    let others : length ds - place - 1 ≡ beyond = omega (arith, at, lt) in
     ap (following m e) (sym (take-append-drop place ds))
-    ∙ following_front m e (take place ds) (drop place ds) (next ∷ first_picks behind (next.part + 1)) (step_at m e ds place behind d at lt none ∙ sym found)
+    ∙ following_front m e (take place ds) (drop place ds) (next ∷ first_picks beyond (next.part + 1)) (step_at m e ds place beyond d at lt none ∙ sym found)
     ∙ ap (λ b. Some (take place ds ++ next ∷ first_picks b (next.part + 1))) (sym others)
 
 -- where one place can't step, the search goes on one place before it
-pub step_missed : (m e : ℕ) (ds : List Pick) (place behind : ℕ) (d : Pick) → place ≡ length ds - 1 - behind → behind < length ds
-    → following m e (drop (length ds - behind) ds) ≡ None → None ≡ next_picks m e (slice_index_or ds place d) behind
-    → following m e (drop (length ds - (behind + 1)) ds) ≡ None
-step_missed m e ds place behind d at lt none missed =
-    let here : length ds - (behind + 1) ≡ place = omega (arith, at, lt) in
-    ap (λ n. following m e (drop n ds)) here ∙ step_at m e ds place behind d at lt none ∙ sym missed
+pub step_missed : (m e : ℕ) (ds : List Pick) (place beyond : ℕ) (d : Pick) → place ≡ length ds - 1 - beyond → beyond < length ds
+    → following m e (drop (length ds - beyond) ds) ≡ None → None ≡ next_picks m e (slice_index_or ds place d) beyond
+    → following m e (drop (length ds - (beyond + 1)) ds) ≡ None
+step_missed m e ds place beyond d at lt none missed =
+    let here : length ds - (beyond + 1) ≡ place = omega (arith, at, lt) in
+    ap (λ n. following m e (drop n ds)) here ∙ step_at m e ds place beyond d at lt none ∙ sym missed
 
 -- the following choice: as many departures, one more, or none
 pub below_moved : (m s e : ℕ) (ds new : List Pick) → following m e ds ≡ Some new → following_below m s e ds ≡ Some new

@@ -8,7 +8,7 @@ use Rattle.base.proofs.Lists.{slice_get-append_right, slice_get_of_append}
 use Rattle.choices.specs.declared.pick.Pick.{Pick}
 use Rattle.choices.specs.Picks.{beginning, ranked_picks, fewer}
 use Rattle.choices.specs.Laws.{AreRising, Before, Precedes, ListIsSet}
-use Rattle.choices.proofs.Ranks.{behind, at_beginning}
+use Rattle.choices.proofs.Ranks.{beyond, at_beginning}
 use Rattle.choices.proofs.Following.{OfRow, of_beginning, in_front, member_length, fewer_length}
 
 rising_lower : (m a e : ℕ) (ds : List Pick) → AreRising m (a + 1) e ds → AreRising m a e ds
@@ -29,7 +29,7 @@ rising_member m (suc i) a (suc k) n ds h =
           let fate : it.x < m = it.fate in
           let P : ℕ → Type 0 = λ e. AreRising m (a + 1) e it.rest in
           let rest : AreRising m (a + 1) (a + suc k) it.rest = subst P end (rising_member m i (a + 1) k it.y it.rest it.there) in
-          let whole : AreRising m a (a + suc k) (behind a (0 + it.x) it.rest) = (omega arith, omega arith, omega (arith, fate), rest) in
+          let whole : AreRising m a (a + suc k) (beyond a (0 + it.x) it.rest) = (omega arith, omega arith, omega (arith, fate), rest) in
           let Q : List Pick → Type 0 = λ xs. AreRising m a (a + suc k) xs in
           subst Q (sym it.is) whole
       | inr more ↦
@@ -56,10 +56,10 @@ member_of m (suc i) a (suc k) (d ∷ ds) long h =
           let inner = member_of m i (a + 1) k ds (omega (arith, long)) (subst Q end (subst P next h.3)) in
           let lt : inner.0 < length rests = slice_get_within rests inner.0 ds inner.1 in
           let zero_fate : 0 + d.fate ≡ d.fate = omega arith in
-          let same : behind a d.fate ds ≡ d ∷ ds = λ i. record { part = sym part i; fate = d.fate } ∷ ds in
+          let same : beyond a d.fate ds ≡ d ∷ ds = λ i. record { part = sym part i; fate = d.fate } ∷ ds in
           let found : slice_get (beginning a 0 m rests) (d.fate * length rests + inner.0) ≡ Some (d ∷ ds) =
-          at_beginning a 0 m rests d.fate inner.0 h.2 lt ∙ ap (option_map (behind a (0 + d.fate))) inner.1
-          ∙ ap (λ f. Some (behind a f ds)) zero_fate ∙ ap (λ xs. Some xs) same in
+          at_beginning a 0 m rests d.fate inner.0 h.2 lt ∙ ap (option_map (beyond a (0 + d.fate))) inner.1
+          ∙ ap (λ f. Some (beyond a f ds)) zero_fate ∙ ap (λ xs. Some xs) same in
           (d.fate * length rests + inner.0, in_front (beginning a 0 m rests) (ranked_picks m (suc i) (a + 1) k) (d.fate * length rests + inner.0) (d ∷ ds) found)
       | inl more ↦
           let up : a + 1 ≤ d.part = omega (arith, more) in
@@ -79,7 +79,7 @@ rows_before m i a k p q cs ds rests lt c d =
     let first_place : p ≡ c.x * width + c.y = c.place in
     let second_place : q ≡ d.x * width + d.y = d.place in
     let second_lt : d.y < width = slice_get_within (ranked_picks m i (a + 1) k) d.y d.rest d.there in
-    let before : Before (behind a (0 + c.x) c.rest) (behind a (0 + d.x) d.rest) =
+    let before : Before (beyond a (0 + c.x) c.rest) (beyond a (0 + d.x) d.rest) =
     elim (cases_lt c.x d.x) [
       | inl less ↦ inr (refl, inl (omega (arith, less)))
       | inr more ↦ elim (cases_lt d.x c.x) [
@@ -92,10 +92,10 @@ rows_before m i a k p q cs ds rests lt c d =
             inr (refl, inr (ap (λ x. 0 + x) same, rests c.y d.y c.rest d.rest inner c.there d.there))
       ]
     ] in
-    subst (λ xs. P xs ds) (sym c.is) (subst (λ ys. P (behind a (0 + c.x) c.rest) ys) (sym d.is) before)
+    subst (λ xs. P xs ds) (sym c.is) (subst (λ ys. P (beyond a (0 + c.x) c.rest) ys) (sym d.is) before)
 
 -- a choice that begins with part a is before one that begins after it
-part_before : (m a e x : ℕ) (rest ds : List Pick) (i : ℕ) → length ds ≡ suc i → AreRising m (a + 1) e ds → Before (behind a x rest) ds
+part_before : (m a e x : ℕ) (rest ds : List Pick) (i : ℕ) → length ds ≡ suc i → AreRising m (a + 1) e ds → Before (beyond a x rest) ds
 part_before m a e x rest [] i long h = absurd (omega (arith, long))
 part_before m a e x rest (d ∷ ds) i long h = inl (omega (arith, h.0))
 

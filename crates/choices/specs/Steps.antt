@@ -8,11 +8,11 @@ first_picks zero a = []
 first_picks (suc i) a = record { part = a; fate = 0 } ∷ first_picks i (a + 1)
 
 -- the next choice whose first departure is after d: the next fate, or else the next part, if there is
--- one with `behind` parts after it below e
+-- one with `beyond` parts after it below e
 unfoldable pub next_picks : ℕ → ℕ → Pick → ℕ → Option (List Pick)
-next_picks m e d behind =
-    if nat_lt (d.fate + 1) m then Some (record { part = d.part; fate = d.fate + 1 } ∷ first_picks behind (d.part + 1))
-    else if nat_lt (d.part + 1 + behind) e then Some (record { part = d.part + 1; fate = 0 } ∷ first_picks behind (d.part + 1 + 1))
+next_picks m e d beyond =
+    if nat_lt (d.fate + 1) m then Some (record { part = d.part; fate = d.fate + 1 } ∷ first_picks beyond (d.part + 1))
+    else if nat_lt (d.part + 1 + beyond) e then Some (record { part = d.part + 1; fate = 0 } ∷ first_picks beyond (d.part + 1 + 1))
     else None
 
 -- the rest goes on, or else what the first departure does

@@ -78,7 +78,7 @@ impl Choice {
         self.departures.as_slice()
     }
 
-    /// The same departures, as a list that borrows nothing of the choice.
+    /// The departures as a list of their own, which borrows nothing of the choice.
     pub fn departures_owned(&self) -> ArrayVec<Departure, 3>
         ensures { result.items ≡ self.now.departures }
     {

@@ -85,6 +85,29 @@
 //! let moved = next(&plan, 2, true, &mut choice);
 //! // of the second part now only the first eighth arrives; `moved` is true
 //! ```
+//!
+//! # Choices
+//!
+//! - A choice keeps what is lost or torn by number too, beside units and fates, and the place of its cut among the
+//!   wanted cuts: `next` needs no search but that of a unit.
+//! - `nth` walks the wanted cuts up to its own; a `Starts` finds the cut by a search by halves: `nth` takes no
+//!   memory, and a table of the counts does: 4 bytes for each wanted cut, made once a run.
+//!
+//! # How it is proved
+//!
+//! - A search by halves is no harder than a linear loop: with `left = total - number` find the least r with `left ≤
+//!   ways r`. The invariant `ways low < left ≤ ways high` needs no monotony, and one lemma drops the first units
+//!   (`later`, `choices/proofs/Ranks.antt`).
+//! - State `next` as an equation of options: `slice_get xs n ≡ Some d → slice_get xs (suc n) ≡ following d`, where
+//!   none is the end. It composes over sizes and cuts with three lemmas (`in_front`, `at_end`, `after_end`).
+//! - A law 'sound, complete, ordered' over `slice_get` works with `slice_get_of_append` and a record for the elements
+//!   of a row (`OfRow`).
+//! - Facts of a listed value: prove the record at `choice_of ..` with plain variables, then `subst` along the
+//!   equation. `rw` inside builds motives that are ill typed, since the hypothesis names the value.
+//! - `while rest >= own` with a lemma 'not past the end' avoids an answer that can't be reached after a `for`.
+//! - **A search's answer is a record, and so is its failure** (`NoneNamed`, `NoPickOf` in
+//!   `choices/specs/Seeking.antt`), each lemma over the very facts in scope. Then `using(..)` proves the search
+//!   without a file. That a search from left to right misses nothing wants places compared, and no uniqueness.
 #![tactic(auto)]
 
 mod choice;

@@ -32,7 +32,7 @@ impl Model for Picked {
     ghost view = { λ p. record { place = p.place; cut = p.cut; picks = p.picks.items } };
 }
 
-/// The same numbers.
+/// A copy of the picks.
 #[inline(always)]
 fn copied(picks: &[Pick]) -> ArrayVec<Pick, 3>
     requires { length picks.now ≤ 3 }
@@ -163,7 +163,7 @@ impl Picked {
     {
         let picks = self.picks.as_slice();
         let front = picks.len() - 1;
-        let next = behind(picks[front], fates_of(tears), count);
+        let next = beyond(picks[front], fates_of(tears), count);
         self.picks.truncate(front);
         self.picks.push(next);
     }
@@ -171,7 +171,7 @@ impl Picked {
 
 /// The single departure that is that many after another.
 #[inline(always)]
-fn behind(pick: Pick, fates: u8, count: u64) -> Pick
+fn beyond(pick: Pick, fates: u8, count: u64) -> Pick
     requires some { 1 ≤ fates }
     requires parts { pick.part * fates + pick.fate + count < 262144 * fates }
     ensures { result ≡ pick_after fates count pick }

@@ -68,10 +68,10 @@ pub(crate) fn nth_of_size(fates: u8, size: u8, parts: u32, number: u64) -> Array
     let mut begin = 0;
     let mut rest = number;
     for taken in 0..size {
-        let (pick, behind) = first_pick(fates, size - taken, begin, parts, rest);
+        let (pick, beyond) = first_pick(fates, size - taken, begin, parts, rest);
         picks.push(pick);
         begin = pick.part + 1;
-        rest = behind;
+        rest = beyond;
     }
     picks
 }

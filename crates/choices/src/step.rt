@@ -23,15 +23,15 @@ fn put_row(picks: &mut ArrayVec<Pick, 3>, count: usize, first: u32)
     }
 }
 
-/// The next departure in place of one that `behind` others follow: its next fate, or else the next
+/// The next departure in place of one that `beyond` others follow: its next fate, or else the next
 /// part, if the others find room after it.
 #[tactic(auto, unfolding(crate::specs::Steps::next_picks))]
-fn next_pick(fates: u8, parts: u32, pick: Pick, behind: usize) -> Option<Pick>
+fn next_pick(fates: u8, parts: u32, pick: Pick, beyond: usize) -> Option<Pick>
     requires some { 1 ≤ fates }
     requires parts { parts ≤ 262144 }
     requires below { pick.part < parts }
-    requires behind { behind ≤ 3 }
-    ensures value { option_map (λ next. next ∷ first_picks behind (next.part + 1)) result ≡ next_picks fates parts pick behind }
+    requires beyond { beyond ≤ 3 }
+    ensures value { option_map (λ next. next ∷ first_picks beyond (next.part + 1)) result ≡ next_picks fates parts pick beyond }
     ensures below { IfSome result (λ next. next.part < parts) }
 {
     if pick.fate < fates - 1 {
@@ -39,7 +39,7 @@ fn next_pick(fates: u8, parts: u32, pick: Pick, behind: usize) -> Option<Pick>
             part: pick.part,
             fate: pick.fate + 1,
         })
-    } else if pick.part + 1 + (behind as u32) < parts {
+    } else if pick.part + 1 + (beyond as u32) < parts {
         Some(Pick {
             part: pick.part + 1,
             fate: 0,
@@ -61,9 +61,9 @@ fn last_step(fates: u8, parts: u32, picks: &[Pick]) -> Option<(usize, Pick)>
         ≡ Some (take found.0 picks.now ++ found.1 ∷ first_picks (length picks.now - found.0 - 1) (found.1.part + 1))) }
     ensures none { IfNone result (following fates parts picks.now ≡ None) }
 {
-    for behind in 0..picks.len() {
-        let place = picks.len() - 1 - behind;
-        if let Some(next) = next_pick(fates, parts, picks[place], behind) {
+    for beyond in 0..picks.len() {
+        let place = picks.len() - 1 - beyond;
+        if let Some(next) = next_pick(fates, parts, picks[place], beyond) {
             return Some((place, next));
         }
     }

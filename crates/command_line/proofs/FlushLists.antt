@@ -13,7 +13,7 @@ cut_is text None split =
     λ h. omega (arith, none, h)
 cut_is text (Some x) split =
     let (inside, front, back) = split_once_first 44 text (Some x) split (omega arith) in
-    record { comma = inside; before = front; behind = back }
+    record { comma = inside; before = front; beyond = back }
 
 -- a text without a comma that is no entry
 pub bad_word : (left : ℕ) (text : List ℕ) → (HasComma text → ⊥) → NoNumber 32 text → NoFlushList left text
@@ -31,13 +31,13 @@ bad_first left text word rest cut none (e ∷ f ∷ es) l h = none e (subst (λ 
 pub bad_rest : (left : ℕ) (text word rest : List ℕ) → IsCut text word rest → NoFlushList (left - 1) rest → NoFlushList left text
 bad_rest left text word rest cut none [] l h = h
 bad_rest left text word rest cut none (e ∷ []) l h = h.0 cut.comma
-bad_rest left text word rest cut none (e ∷ f ∷ es) l h = none (f ∷ es) (omega arith) (subst (λ w. IsFlushList w (f ∷ es)) (sym cut.behind) h.2)
+bad_rest left text word rest cut none (e ∷ f ∷ es) l h = none (f ∷ es) (omega arith) (subst (λ w. IsFlushList w (f ∷ es)) (sym cut.beyond) h.2)
 
 -- one before the comma, and others after it
 more : (text word rest : List ℕ) (e : ℕ) (es : List ℕ) → IsCut text word rest → IsNumber 32 word e → IsFlushList rest es → IsFlushList text (e ∷ es)
 more text word rest e [] cut first others = absurd others
 more text word rest e (f ∷ es) cut first others =
-    (cut.comma, subst (λ w. IsNumber 32 w e) cut.before first, subst (λ w. IsFlushList w (f ∷ es)) cut.behind others)
+    (cut.comma, subst (λ w. IsNumber 32 w e) cut.before first, subst (λ w. IsFlushList w (f ∷ es)) cut.beyond others)
 
 -- the flushes that are read after the comma, after one before it and those of before
 pub go_on : (left : ℕ) (text word rest before with_one : List ℕ) (e : ℕ) (r : Option Flushes)

@@ -4,4 +4,4 @@ use Rattle.command_line.specs.Extents.{IsCutAtPoint, NoRange}
 
 -- no second point stands after the first
 pub no_second : (text word rest : List ℕ) → IsCutAtPoint text word rest → ((last : List ℕ) → rest ≢ 46 ∷ last) → NoRange text
-no_second text word rest cut none from to r = none r.rest (cut.behind ∙ r.second)
+no_second text word rest cut none from to r = none r.rest (cut.beyond ∙ r.second)

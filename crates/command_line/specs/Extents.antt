@@ -14,7 +14,7 @@ HasPoint text = position_or_len is_point text < length text
 pub record IsCutAtPoint (text word rest : List ℕ) : Type 0 where
   pub point : HasPoint text
   pub before : word ≡ before_first is_point text
-  pub behind : rest ≡ after_first is_point text
+  pub beyond : rest ≡ after_first is_point text
 
 -- a text is the images from one number to below another
 pub record IsRange (text : List ℕ) (from to : ℕ) : Type 0 where

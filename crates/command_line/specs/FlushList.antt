@@ -14,7 +14,7 @@ HasComma text = position_or_len is_comma text < length text
 pub record IsCut (text word rest : List ℕ) : Type 0 where
   pub comma : HasComma text
   pub before : word ≡ before_first is_comma text
-  pub behind : rest ≡ after_first is_comma text
+  pub beyond : rest ≡ after_first is_comma text
 
 -- a text is the list of these entries: one number, or one before the first comma and the list of the others after it
 abbrev pub IsFlushList : List ℕ → List ℕ → Type 0

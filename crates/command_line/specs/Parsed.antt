@@ -147,9 +147,23 @@ abbrev pub IsWhich : Parsed → Which → Type 0
 IsWhich p (which.Number number) = (p.cut ≡ None) × (number ≡ unwrap_or p.number 0)
 IsWhich p (which.Printed cut choice) = (p.cut ≡ Some cut) × MatchOption choice (96 < length (choice_named p)) (λ text. text.bytes ≡ choice_named p)
 
+-- what `image` asks for with a bound, or `show`, which tells the image in words
+abbrev pub AsksBounded : Parsed → Bool → Request → Type 0
+AsksBounded p in_words r = (options : OptionWords) × (meant : Which) × AreOptions p options × IsWhich p meant
+    × (r ≡ (if in_words then asks.Show options meant else asks.Image options meant))
+
+-- the same with --cut or without, and with `any` after --bound or without: with both any number of parts may be lost
+abbrev pub AsksAny : Parsed → Bool → Option ℕ → Bool → Request → Type 0
+AsksAny p in_words (Some cut) true r = (options : OptionWords) × AreOptionsWith 0 p options × (r ≡ asks.AnyImage options cut in_words)
+AsksAny p in_words (Some cut) false r = AsksBounded p in_words r
+AsksAny p in_words None any r = AsksBounded p in_words r
+
+abbrev pub AsksImage : Parsed → Bool → Request → Type 0
+AsksImage p in_words r = AsksAny p in_words p.cut p.any r
+
 -- what is asked of a run on one image, each number that isn't written by its default
 abbrev pub trial_asked : Parsed → TrialWords
-trial_asked p = record { limits = limits_named p.large; epoch = unwrap_or p.epoch 0; marks = unwrap_or p.marks 0; checked = p.checked; trace = unwrap_or p.trace 0 }
+trial_asked p = record { limits = limits_named p.large; epoch = unwrap_or p.epoch 0; marks = unwrap_or p.marks 0; checked = p.checked; guards = p.guards; trace = unwrap_or p.trace 0 }
 
 -- what a command asks for: its options, and the image that it means
 abbrev pub Asks : Parsed → Option Verb → Request → Type 0
@@ -159,8 +173,8 @@ Asks p (Some verb.Cure) r = (options : OptionWords) × AreOptions p options × (
 Asks p (Some verb.Page) r = (options : OptionWords) × AreOptions p options × (r ≡ asks.Page options)
 Asks p (Some verb.Images) r = (options : OptionWords) × AreOptions p options × (r ≡ asks.Images options p.parts)
 Asks p (Some verb.Export) r = (options : OptionWords) × AreOptions p options × (r ≡ asks.Export options)
-Asks p (Some verb.Image) r = (options : OptionWords) × (meant : Which) × AreOptions p options × IsWhich p meant × (r ≡ asks.Image options meant)
-Asks p (Some verb.Show) r = (options : OptionWords) × (meant : Which) × AreOptions p options × IsWhich p meant × (r ≡ asks.Show options meant)
+Asks p (Some verb.Image) r = AsksImage p false r
+Asks p (Some verb.Show) r = AsksImage p true r
 Asks p (Some verb.Log) r = (options : OptionWords) × AreOptions p options × (r ≡ asks.Log options)
 Asks p (Some verb.Verify) r = (options : OptionWords) × AreOptions p options × (r ≡ asks.Verify options p.list)
 Asks p (Some verb.Import) r = r ≡ asks.Import (limits_named p.large)

@@ -9,13 +9,15 @@ use Rattle.clap.specs.declared.parser.matches.ArgMatches.{ArgMatches}
 use Rattle.request.specs.declared.command.Request.{Request}
 use Rattle.request.specs.declared.command.Request.TheVariants as asks
 use Rattle.command_line.specs.declared.parsed.Parsed.{Parsed}
-use Rattle.command_line.specs.Parsed.{Asks, command_named, files_named, word_bytes, IsRead}
+use Rattle.command_line.specs.Parsed.{Asks, choice_named, command_named, files_named, word_bytes, IsRead}
 
--- the request, the names of its files in order and of that after --base, and whether it is to be said how far an exploration is
+-- the request, the names of its files in order and of that after --base, the text after --choice, and whether it is to be said how far an
+-- exploration is
 pub record WordsValue : Type 0 where
   pub request : Request
   pub files : List (List ℕ)
   pub base : Option (List ℕ)
+  pub choice : List ℕ
   pub progress : Bool
 
 -- the number of sectors of the device that is asked for; 0 where the command takes none
@@ -31,6 +33,7 @@ sectors_asked (asks.Export w) = w.sectors
 sectors_asked (asks.Log w) = w.sectors
 sectors_asked (asks.Image w which) = w.sectors
 sectors_asked (asks.Show w which) = w.sectors
+sectors_asked (asks.AnyImage w cut in_words) = w.sectors
 sectors_asked (asks.Verify w listed) = w.sectors
 sectors_asked (asks.Import limits) = 0
 sectors_asked (asks.Check w) = 0
@@ -51,6 +54,7 @@ limits_asked (asks.Export w) = w.limits
 limits_asked (asks.Log w) = w.limits
 limits_asked (asks.Image w which) = w.limits
 limits_asked (asks.Show w which) = w.limits
+limits_asked (asks.AnyImage w cut in_words) = w.limits
 limits_asked (asks.Verify w listed) = w.limits
 limits_asked (asks.Import large) = large
 limits_asked (asks.Check w) = w.limits
@@ -60,27 +64,28 @@ limits_asked (asks.Join part) = limits.Usual
 
 -- without a command the stored run is asked for
 abbrev pub stored_run : WordsValue
-stored_run = record { request = asks.StoredRun; files = []; base = None; progress = false }
+stored_run = record { request = asks.StoredRun; files = []; base = None; choice = []; progress = false }
 
 -- what was read of the words asks for this
 pub record AreAsked (p : Parsed) (w : WordsValue) : Type 0 where
   pub request : Asks p (command_named p.command.now) w.request
   pub files : w.files ≡ files_named p
   pub base : w.base ≡ word_bytes p.base
+  pub choice : w.choice ≡ choice_named p
   pub progress : w.progress ≡ p.progress
 
 -- what `clap` found after the name of a command, each word and option under its own name, asks for this
-pub record AreFoundBehind (matches : ArgMatches) (w : WordsValue) : Type 0 where
-  pub behind : ArgMatches
+pub record AreFoundAfter (matches : ArgMatches) (w : WordsValue) : Type 0 where
+  pub beyond : ArgMatches
   pub parsed : Parsed
   pub command : subcommand_name_of matches ≡ Some parsed.command.now
-  pub rows : option_map (λ row. row.1) (subcommand_rows_of matches) ≡ Some (rows_of (found_of behind))
-  pub read : IsRead (found_of behind) parsed
+  pub rows : option_map (λ row. row.1) (subcommand_rows_of matches) ≡ Some (rows_of (found_of beyond))
+  pub read : IsRead (found_of beyond) parsed
   pub asked : AreAsked parsed w
 
 -- what `clap` found asks for this; without a command for the stored run
 abbrev pub AreFound : ArgMatches → WordsValue → Type 0
-AreFound matches w = AreFoundBehind matches w ⊎ ((subcommand_name_of matches ≡ None) × (w ≡ stored_run))
+AreFound matches w = AreFoundAfter matches w ⊎ ((subcommand_name_of matches ≡ None) × (w ≡ stored_run))
 
 -- `clap` takes the words by some command, and what it found asks for this
 pub record AreTaken (words : List (List ℕ)) (w : WordsValue) : Type 0 where

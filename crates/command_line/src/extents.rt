@@ -18,8 +18,8 @@ fn cut(text: &str) -> Option<(&str, &str)>
 pub(crate) fn extent_in(text: &str) -> Option<Extent>
     ensures { MatchOption result (NoRange text.now) (λ images. (from : ℕ) × (to : ℕ) × IsRange text.now from to × (images ≡ extent.Part from to)) }
 {
-    let (first, behind) = cut(text)?;
-    let last = behind.strip_prefix('.')?;
+    let (first, beyond) = cut(text)?;
+    let last = beyond.strip_prefix('.')?;
     let from = number_in(first)?;
     let to = number_in(last)?;
     Some(Extent::Part { from, to })

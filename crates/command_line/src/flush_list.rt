@@ -26,10 +26,10 @@ fn read_on(found: &Flushes, left: u8, text: &str) -> Option<Flushes>
     if left == 0 {
         return None;
     }
-    let Some((first, behind)) = cut(text) else {
+    let Some((first, beyond)) = cut(text) else {
         return Some(found.with(small_number_in(text)?));
     };
-    read_on(&found.with(small_number_in(first)?), left - 1, behind)
+    read_on(&found.with(small_number_in(first)?), left - 1, beyond)
 }
 
 /// The flushes of the list that a text is: 1 to 64 numbers with commas between.

@@ -12,13 +12,14 @@
 //! | `Words::of(alloc, words)` | the command line that these words after the program's name are |
 //! | `words.files()` | the names of its files: the log, source or program, then the programs of a run |
 //! | `words.request()` | what it asks for |
+//! | `words.choice()` | the text of the choice of an image |
 //! | `words.progress()` | whether it is to be said how far an exploration is |
 //!
 //! Without a word, the run that the program holds itself is asked for. A word that names no kind of cut or part, or that is no
 //! list of entries or no range of images, is kept as none, and the text of a choice that is longer than any choice's likewise:
 //! these are refusals of the command, with a number and notes, and no faults of the command line. A word in the place of a number
 //! that has a sign or a zero in front is such a fault: `clap` takes it, and `Words::of` doesn't. `--bound` takes `any` too. That asks
-//! for any number of losses of `explore`, and of other commands for a bound that is too great.
+//! for any number of losses of `explore`, and of `image` and `show` with `--cut`, and else for a bound that is too great.
 //!
 //! The texts of the help stand in `words.rt`. `tools/man_page.py` makes `docs/crashbpf.1` of what the built program prints of
 //! them.
@@ -42,6 +43,25 @@
 //! let request = words.request();      // Request::Show(.., Which::Number(7))
 //! let files = words.files();          // disk.log
 //! ```
+//!
+//! # Choices
+//!
+//! - 13 at 7 and at 1 to 5 come before 14, in every command that has these options; 13 at 6 comes after 14: options
+//!   are tested before any file is looked at; 13 at 6 belongs to the call `explore`, which is given what the files
+//!   hold.
+//! - `--list` without `--guards` is a fault of the command line; the library call lists nothing then: as with
+//!   `--choice` without `--cut`. Without guards no slot is guarded.
+//! - `--checked 0` is accepted: every program is out of steps on every image: 0 is in the option's range, and the
+//!   definition of the outcome gives that answer.
+//!
+//! # How it is proved
+//!
+//! - A `match` on a `&str` with literals proves an `if bytes_eq word (codes "all") then .. else if ..` over the same
+//!   words without a file, the default arm too (`verb_of` in `command_line/src/parsed.rt`).
+//! - `Ok(f(..)?)` at the end of `Words::of` proves by itself what `f(..)` there doesn't: with `?` the clause of `f`
+//!   is known of the value, and not of the whole result (`words.rt`).
+//! - A test after `clap`'s own parser reads the text once more (`number_of` in `parsed.rt`). So its clause is of the
+//!   text that stands there, and asks nothing of what `clap` took for a number.
 #![tactic(auto)]
 
 mod extents;

@@ -4,7 +4,7 @@ ghost use Rattle.std.specs.Prelude.{◌≡◌, ◌<◌, ◌++◌, codes, length,
 ghost use Rattle.base.specs.Sizes.{sector_limit};
 ghost use Rattle.clap.specs.Words.{first_value, found_of};
 ghost use Rattle.command_line.specs.Number.{NoNumber as NoNumberText};
-ghost use Rattle.command_line.specs.Parsed.{Asks, AreFlushes, AreOptions, AreOptionsWith, IsBoundOf, IsExtent, any_named, asks_losses, bound_named, command_named, cuts_named, explored, files_named, limits_named, losses_named, options_with, parts_named, trial_asked, word_bytes, IsFlagOf, IsNumberOf, IsRead, IsWhich};
+ghost use Rattle.command_line.specs.Parsed.{Asks, AsksBounded, AsksImage, AreFlushes, AreOptions, AreOptionsWith, IsBoundOf, IsExtent, any_named, asks_losses, bound_named, choice_named, command_named, cuts_named, explored, files_named, limits_named, losses_named, options_with, parts_named, trial_asked, word_bytes, IsFlagOf, IsNumberOf, IsRead, IsWhich};
 
 use crate::extents::extent_in;
 use crate::flush_list::flushes_in;
@@ -424,6 +424,43 @@ impl<'a> Parsed<'a> {
         }
     }
 
+    /// What `image` asks for, or `show`, which tells the image in words. With `--cut` and `any` the bound has no number, and the text of
+    /// the choice stands beside the request.
+    fn imaged(&self, in_words: bool) -> Request
+        ensures { AsksImage self.now in_words result }
+    {
+        match self.cut {
+            Some(cut) if self.any => Request::AnyImage {
+                words: self.options_by(0),
+                cut,
+                in_words,
+            },
+            _ => self.bounded(in_words),
+        }
+    }
+
+    /// What is asked for with a bound.
+    fn bounded(&self, in_words: bool) -> Request
+        ensures { AsksBounded self.now in_words result }
+    {
+        if in_words {
+            Request::Show(self.options(), self.which())
+        } else {
+            Request::Image(self.options(), self.which())
+        }
+    }
+
+    /// The text after `--choice`, none of it without that.
+    ///
+    /// # Errors
+    ///
+    /// Want of memory.
+    pub fn choice_text(&self, alloc: Global) -> Result<String, AllocError>
+        ensures { IfOk result (λ text. string_bytes text ≡ choice_named self.now) }
+    {
+        self.choice.unwrap_or("").to_string(alloc)
+    }
+
     /// What is asked of a run on one image, each number that wasn't written by its default.
     fn trial(&self) -> TrialWords
         ensures { result ≡ trial_asked self.now }
@@ -433,6 +470,7 @@ impl<'a> Parsed<'a> {
             epoch: self.epoch.unwrap_or(0),
             marks: self.marks.unwrap_or(0),
             checked: self.checked,
+            guards: self.guards,
             trace: self.trace.unwrap_or(0),
         }
     }
@@ -448,8 +486,8 @@ impl<'a> Parsed<'a> {
             Some(Verb::Page) => Request::Page(self.options()),
             Some(Verb::Images) => Request::Images(self.options(), self.parts),
             Some(Verb::Export) => Request::Export(self.options()),
-            Some(Verb::Image) => Request::Image(self.options(), self.which()),
-            Some(Verb::Show) => Request::Show(self.options(), self.which()),
+            Some(Verb::Image) => self.imaged(false),
+            Some(Verb::Show) => self.imaged(true),
             Some(Verb::Log) => Request::Log(self.options()),
             Some(Verb::Import) => Request::Import(limits_of(self.large)),
             Some(Verb::Verify) => Request::Verify {

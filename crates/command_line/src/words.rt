@@ -18,6 +18,7 @@ pub struct Words {
     request: Request,
     files: Vec<String>,
     base: Option<String>,
+    choice: String,
     progress: bool,
 }
 
@@ -27,7 +28,7 @@ impl Model for Words {
 
     ghost Value = { WordsValue };
 
-    ghost view = { λ w. record { request = w.request; files = map string_bytes w.files.items; base = option_map string_bytes w.base; progress = w.progress } };
+    ghost view = { λ w. record { request = w.request; files = map string_bytes w.files.items; base = option_map string_bytes w.base; choice = string_bytes w.choice; progress = w.progress } };
 }
 
 /// The version of the program, and the kit that it is proved with.
@@ -35,7 +36,7 @@ const VERSION: &str = "0.1.0 (proved with rattle-kit-13f logic dac8208d650f15bf)
 
 /// What the program is for.
 const ABOUT: &str =
-    "Judges every disk image that a power cut may leave behind a log of block writes.";
+    "Judges every disk image that a power cut may leave, from a log of block writes.";
 
 /// What stands after the help of the program.
 const AFTER: &str = "Without a word the program explores an empty log with a program of its own.
@@ -86,7 +87,7 @@ Exit status: 0 where no image of the log itself fails, 1 where one does, 2 for a
 /// What stands after the help of `page`.
 const AFTER_PAGE: &str =
     "One HTML file, for any browser, which fetches nothing: the log as a row of entries, the cuts between them
-coloured by the share of their images that fail, and behind a click on a cut its first eight smallest
+coloured by the share of their images that fail, and after a click on a cut its first eight smallest
 failing choices, each as 'show' tells its image.
 
 Example: crashbpf page disk.log check.bpf --sectors 64 --cuts flush --bound 2 > page.html
@@ -136,6 +137,9 @@ const AFTER_IMAGE: &str =
     "The number is that of a line of the report, with the same options. With --cut and --choice, as a line
 of the report has them, it can be left out.
 
+With --bound any a choice names any number of sectors, as a line of 'explore --bound any' has it. It takes
+--cut and --choice alone.
+
 Examples: crashbpf image disk.log 202 --sectors 64 --tears > broken.img
           crashbpf image disk.log --cut 19 --choice 17.0:drop --sectors 64 > broken.img
 
@@ -143,8 +147,9 @@ Exit status: 0, or 2 for a refusal.";
 
 /// What stands after the help of `show`.
 const AFTER_SHOW: &str =
-    "The image is named as for 'image'. Rows of bytes behind '<' are those of the image of the same cut where
-nothing is lost, those behind '>' of this image; of each sector the first rows that differ are shown.
+    "The image is named as for 'image'. Rows of bytes after '<' are those of the image of the same cut where
+nothing is lost, those after '>' of this image; of each sector the first rows that differ are shown.
+With --bound any it is also told which write is in flight.
 
 Example: crashbpf show disk.log --cut 19 --choice 17.0:drop --sectors 64
 
@@ -166,11 +171,14 @@ the rule that it breaks, each at its slot.";
 const AFTER_CHECK: &str =
     "The device has as many sectors as the image. The last line is what the program ended in: its answer and the
 codes that it reported, or with --checked a fault and its slot. With --trace each of the last steps has a
-line before that: its slot, its instruction and the registers that it changed.
+line before that: its slot, its instruction and the registers that it changed. With --guards the program runs
+as 'explore --guards' runs it: it may end as 'stray at slot S', and the line of that step says at which place
+and by which register.
 
 Examples: crashbpf check check.bpf good.img --trace 20
           crashbpf image disk.log 202 --sectors 64 --tears > broken.img
           crashbpf check check.bpf broken.img --epoch 3 --marks 1
+          crashbpf check check.bpf broken.img --guards --trace 20
 
 Exit status: 0 where the answer is 0, 1 where it isn't or there is none, 2 for a refusal.";
 
@@ -272,7 +280,7 @@ fn bound_option<'a>(alloc: Global, any: bool) -> Arg<'a> {
         .value_name("N")
         .value_parser(parser)
         .help(
-            "How many sectors, or by write how many writes, may be lost or torn, 0 to 3, or any (explore) [default: 1]",
+            "How many sectors, or by write how many writes, may be lost or torn, 0 to 3, or any (explore, image, show) [default: 1]",
         )
 }
 
@@ -311,7 +319,7 @@ fn log_command<'a>(alloc: Global, name: &'a str, any: bool) -> Result<Command<'a
             alloc,
             "cuts",
             "WHICH",
-            "Cuts: all; flush, before each flush and at the end; mark, behind each mark [default: all]",
+            "Cuts: all; flush, before each flush and at the end; mark, after each mark [default: all]",
         ))?
         .arg(range_option(alloc, "from", "The first of the cuts [default: 0]"))?
         .arg(range_option(
@@ -352,7 +360,7 @@ fn guards_option<'a>(alloc: Global) -> Arg<'a> {
     )
 }
 
-/// The same of a run, where it excludes a limit of steps.
+/// The option `--guards` of a run, where it excludes a limit of steps.
 fn guards_of_run<'a>(alloc: Global) -> Result<Arg<'a>, AllocError> {
     guards_option(alloc).conflicts_with("checked")
 }
@@ -419,7 +427,11 @@ fn explore_command<'a>(alloc: Global, any: bool) -> Result<Command<'a>, AllocErr
             "at-most",
             "With --bound any, how many of them may be lost or torn, 1 to 64 [default: any number]",
         ))?
-        .arg(flag_option(alloc, "first", "Report the first failing image alone"))?
+        .arg(flag_option(
+            alloc,
+            "first",
+            "Report the first failing image, or with --bound any case, alone",
+        ))?
         .arg(word_option(
             alloc,
             "images",
@@ -603,7 +615,7 @@ fn image_file<'a>(alloc: Global) -> Arg<'a> {
 
 /// The command `check`.
 fn check_command<'a>(alloc: Global) -> Result<Command<'a>, AllocError> {
-    file_command(alloc, "check", "PROGRAM", "A BPF program, as bytes")?
+    let command = file_command(alloc, "check", "PROGRAM", "A BPF program, as bytes")?
         .about("Runs a program on one image, and says what it answers and in how many steps")
         .after_help(AFTER_CHECK)
         .arg(large_option(alloc))?
@@ -617,7 +629,8 @@ fn check_command<'a>(alloc: Global) -> Result<Command<'a>, AllocError> {
             "marks",
             "How many marks the program is told of, 0 to 65536 [default: 0]",
         ))?
-        .arg(checked_option(alloc))?
+        .arg(checked_option(alloc))?;
+    with_arg(command, guards_of_run(alloc))?
         .arg(number_option(
             alloc,
             "trace",
@@ -729,6 +742,7 @@ impl Words {
             request: Request::StoredRun,
             files: Vec::new(alloc),
             base: None,
+            choice: String::new(alloc),
             progress: false,
         }
     }
@@ -741,6 +755,7 @@ impl Words {
             request: parsed.request(),
             files: parsed.files(alloc)?,
             base: parsed.base_file(alloc)?,
+            choice: parsed.choice_text(alloc)?,
             progress: parsed.progress,
         })
     }
@@ -753,10 +768,10 @@ impl Words {
     fn of_matches(alloc: Global, matches: &ArgMatches<'_>) -> Result<Words, Error>
         ensures { IfOk result (AreFound matches.now) }
     {
-        let Some((name, behind)) = matches.subcommand() else {
+        let Some((name, beyond)) = matches.subcommand() else {
             return Ok(Words::of_stored_run(alloc));
         };
-        match Parsed::of(name, behind) {
+        match Parsed::of(name, beyond) {
             Ok(parsed) => Ok(Words::of_parsed(alloc, &parsed)?),
             Err(word) => Err(number_fault(alloc, &word)?),
         }
@@ -795,6 +810,13 @@ impl Words {
         }
     }
 
+    /// The text of the choice of an image, none of it where no choice is named.
+    pub fn choice(&self) -> &str
+        ensures { result.now ≡ self.now.choice }
+    {
+        self.choice.as_str()
+    }
+
     /// The number of sectors of the device that is asked for; 0 where the command takes none.
     pub fn sectors(&self) -> u64
         ensures { result ≡ sectors_asked self.now.request }
@@ -806,6 +828,7 @@ impl Words {
             Request::Images(words, _) | Request::Log(words) => words.sectors,
             Request::Export(words) => words.sectors,
             Request::Image(words, _) | Request::Show(words, _) => words.sectors,
+            Request::AnyImage { words, .. } => words.sectors,
             Request::Verify { words, .. } => words.sectors,
             Request::Check(_) => 0,
             Request::StoredRun | Request::Import(_) => 0,
@@ -825,6 +848,7 @@ impl Words {
             Request::Images(words, _) | Request::Log(words) => words.limits,
             Request::Export(words) => words.limits,
             Request::Image(words, _) | Request::Show(words, _) => words.limits,
+            Request::AnyImage { words, .. } => words.limits,
             Request::Verify { words, .. } => words.limits,
             Request::Check(words) => words.limits,
             Request::Import(limits) => limits,

@@ -122,20 +122,20 @@ none_next items files n file programs lt here is before =
     rw (add-one n, more, is, before, append-nil) refl
 
 -- why `explore` is refused by its files
-pub no_file : {V : Type 0} {t : Wanted} (items : V → List ℕ) (files : List (Option V)) (base : Option (Option (List ℕ))) (s : Settings) (r : Refusal) → length files ≡ 0 → r ≡ file_refusal 0
-    → RefusesFiles t (record { named = map (option_map items) files; base = base }) s r
+pub no_file : {V : Type 0} {choice : List ℕ} {t : Wanted} (items : V → List ℕ) (files : List (Option V)) (base : Option (Option (List ℕ))) (s : Settings) (r : Refusal) → length files ≡ 0 → r ≡ file_refusal 0
+    → RefusesFiles t (record { named = map (option_map items) files; base = base; choice = choice }) s r
 no_file items [] base s r none same = rw same (for_unread 0 refl)
 no_file items (file ∷ files) base s r none same = absurd (let bad : suc (length files) ≡ 0 = none in omega (arith, bad))
 
-pub no_log : {V : Type 0} {t : Wanted} (items : V → List ℕ) (files : List (Option V)) (first : Option V) (others : List (Option V)) (base : Option (Option (List ℕ))) (s : Settings) (r : Refusal)
-    → files ≡ first ∷ others → first ≡ None → r ≡ file_refusal 0 → RefusesFiles t (record { named = map (option_map items) files; base = base }) s r
+pub no_log : {V : Type 0} {choice : List ℕ} {t : Wanted} (items : V → List ℕ) (files : List (Option V)) (first : Option V) (others : List (Option V)) (base : Option (Option (List ℕ))) (s : Settings) (r : Refusal)
+    → files ≡ first ∷ others → first ≡ None → r ≡ file_refusal 0 → RefusesFiles t (record { named = map (option_map items) files; base = base; choice = choice }) s r
 no_log items files first others base s r split is same =
     let some : nat_lt 0 (suc (length (map (option_map items) others))) ≡ true = grind (arith, nat_tests) in
     rw (split, is, same) (for_unread 0 (rw some refl))
 
-pub no_program : {V : Type 0} {t : Wanted} (items : V → List ℕ) (files : List (Option V)) (first : Option V) (others : List (Option V)) (v : V) (place : ℕ) (base : Option (Option (List ℕ))) (s : Settings)
+pub no_program : {V : Type 0} {choice : List ℕ} {t : Wanted} (items : V → List ℕ) (files : List (Option V)) (first : Option V) (others : List (Option V)) (v : V) (place : ℕ) (base : Option (Option (List ℕ))) (s : Settings)
     (r : Refusal) → files ≡ first ∷ others → first ≡ Some v → position is_none others ≡ Some place → r ≡ file_refusal (place + 1)
-    → RefusesFiles t (record { named = map (option_map items) files; base = base }) s r
+    → RefusesFiles t (record { named = map (option_map items) files; base = base; choice = choice }) s r
 no_program items files first others v place base s r split is there same =
     rw (split, is, same) (for_unread (place + 1) (unread_next items v others place there))
 
@@ -146,27 +146,27 @@ pub files_read : {V : Type 0} (items : V → List ℕ) (files : List (Option V))
 files_read items files first others v log programs split is readable same all =
     rw (split, is, same, all) (ap (λ rest. Some (items v) ∷ rest) (all_read items others readable))
 
-pub memory_wanting : {V : Type 0} {t : Wanted} (items : V → List ℕ) (files : List (Option V)) (first : Option V) (others : List (Option V)) (v : V) (base : Option (Option (List ℕ))) (s : Settings) (r : Refusal)
-    → files ≡ first ∷ others → first ≡ Some v → position is_none others ≡ None → r ≡ memory_refusal → RefusesFiles t (record { named = map (option_map items) files; base = base }) s r
+pub memory_wanting : {V : Type 0} {choice : List ℕ} {t : Wanted} (items : V → List ℕ) (files : List (Option V)) (first : Option V) (others : List (Option V)) (v : V) (base : Option (Option (List ℕ))) (s : Settings) (r : Refusal)
+    → files ≡ first ∷ others → first ≡ Some v → position is_none others ≡ None → r ≡ memory_refusal → RefusesFiles t (record { named = map (option_map items) files; base = base; choice = choice }) s r
 memory_wanting items files first others v base s r split is readable same =
     rw (split, is, same) (for_memory (none_unread items v others readable))
 
 -- all files that are named can be read, and that of the initial content can't be
-pub no_base : {V : Type 0} {t : Wanted} (items : V → List ℕ) (files : List (Option V)) (first : Option V) (others : List (Option V)) (v : V) (base : Option (Option (List ℕ))) (s : Settings) (r : Refusal)
+pub no_base : {V : Type 0} {choice : List ℕ} {t : Wanted} (items : V → List ℕ) (files : List (Option V)) (first : Option V) (others : List (Option V)) (v : V) (base : Option (Option (List ℕ))) (s : Settings) (r : Refusal)
     → files ≡ first ∷ others → first ≡ Some v → position is_none others ≡ None → (initial_of base ≡ None) × (r ≡ file_refusal (length (map (option_map items) files)))
-    → RefusesFiles t (record { named = map (option_map items) files; base = base }) s r
+    → RefusesFiles t (record { named = map (option_map items) files; base = base; choice = choice }) s r
 no_base items files first others v base s r split is readable h =
     let all : unread (map (option_map items) files) ≡ None = rw (split, is) (none_unread items v others readable) in
     rw h.1 (for_base all h.0)
 
 -- why `join` is refused by its files
-pub no_part_file : {V : Type 0} {part : Bool} (items : V → List ℕ) (files : List (Option V)) (base : Option (Option (List ℕ))) (r : Refusal) → length files ≡ 0 → r ≡ file_refusal 0
-    → RefusesParts part (record { named = map (option_map items) files; base = base }) r
+pub no_part_file : {V : Type 0} {choice : List ℕ} {part : Bool} (items : V → List ℕ) (files : List (Option V)) (base : Option (Option (List ℕ))) (r : Refusal) → length files ≡ 0 → r ≡ file_refusal 0
+    → RefusesParts part (record { named = map (option_map items) files; base = base; choice = choice }) r
 no_part_file items [] base r none same = rw same (for_no_part refl)
 no_part_file items (file ∷ files) base r none same = absurd (let bad : suc (length files) ≡ 0 = none in omega (arith, bad))
 
-pub many_part_files : {V : Type 0} {part : Bool} (items : V → List ℕ) (files : List (Option V)) (base : Option (Option (List ℕ))) (r : Refusal) → most_texts < length files
-    → r ≡ join_refusal (record { cause = joining.TooLong; file = most_texts }) → RefusesParts part (record { named = map (option_map items) files; base = base }) r
+pub many_part_files : {V : Type 0} {choice : List ℕ} {part : Bool} (items : V → List ℕ) (files : List (Option V)) (base : Option (Option (List ℕ))) (r : Refusal) → most_texts < length files
+    → r ≡ join_refusal (record { cause = joining.TooLong; file = most_texts }) → RefusesParts part (record { named = map (option_map items) files; base = base; choice = choice }) r
 many_part_files items files base r many same = let long = same_length items files in rw same (for_many_parts (omega (arith, long, many)))
 
 same_position : {V : Type 0} (items : V → List ℕ) (files : List (Option V)) → position is_none (map (option_map items) files) ≡ position is_none files
@@ -176,13 +176,13 @@ unread_parts : {V : Type 0} (items : V → List ℕ) (files : List (Option V)) (
 unread_parts items [] found some there = absurd (omega (arith, some))
 unread_parts items (file ∷ files) found some there = same_position items (file ∷ files) ∙ there
 
-pub unread_part : {V : Type 0} {part : Bool} (items : V → List ℕ) (files : List (Option V)) (place : ℕ) (base : Option (Option (List ℕ))) (r : Refusal) → 0 < length files → length files ≤ most_texts
-    → position is_none files ≡ Some place → r ≡ file_refusal place → RefusesParts part (record { named = map (option_map items) files; base = base }) r
+pub unread_part : {V : Type 0} {choice : List ℕ} {part : Bool} (items : V → List ℕ) (files : List (Option V)) (place : ℕ) (base : Option (Option (List ℕ))) (r : Refusal) → 0 < length files → length files ≤ most_texts
+    → position is_none files ≡ Some place → r ≡ file_refusal place → RefusesParts part (record { named = map (option_map items) files; base = base; choice = choice }) r
 unread_part items files place base r some few there same =
     let long = same_length items files in rw same (for_unread_part place (omega (arith, long, few)) (unread_parts items files (Some place) some there))
 
-pub part_memory : {V : Type 0} {part : Bool} (items : V → List ℕ) (files : List (Option V)) (base : Option (Option (List ℕ))) (r : Refusal) → 0 < length files → position is_none files ≡ None
-    → r ≡ join_refusal (record { cause = joining.Memory; file = 0 }) → RefusesParts part (record { named = map (option_map items) files; base = base }) r
+pub part_memory : {V : Type 0} {choice : List ℕ} {part : Bool} (items : V → List ℕ) (files : List (Option V)) (base : Option (Option (List ℕ))) (r : Refusal) → 0 < length files → position is_none files ≡ None
+    → r ≡ join_refusal (record { cause = joining.Memory; file = 0 }) → RefusesParts part (record { named = map (option_map items) files; base = base; choice = choice }) r
 part_memory items files base r some readable same = rw same (for_part_memory (unread_parts items files None some readable))
 
 -- the texts that were read are those of all files
@@ -203,7 +203,7 @@ pub copies_long : {V : Type 0} (items : V → List ℕ) (files : List (Option V)
     → length copies ≡ length files
 copies_long items files copies readable all = sym (map_long items copies) ∙ texts_long items files (map items copies) readable all
 
-pub parts_refused : {V : Type 0} {part : Bool} (items : V → List ℕ) (files : List (Option V)) (texts : List (List ℕ)) (base : Option (Option (List ℕ))) (r : Refusal) → length files ≤ most_texts
-    → position is_none files ≡ None → texts ≡ filter_map (option_map items) files → RefusesTexts part texts r → RefusesParts part (record { named = map (option_map items) files; base = base }) r
+pub parts_refused : {V : Type 0} {choice : List ℕ} {part : Bool} (items : V → List ℕ) (files : List (Option V)) (texts : List (List ℕ)) (base : Option (Option (List ℕ))) (r : Refusal) → length files ≤ most_texts
+    → position is_none files ≡ None → texts ≡ filter_map (option_map items) files → RefusesTexts part texts r → RefusesParts part (record { named = map (option_map items) files; base = base; choice = choice }) r
 parts_refused items files texts base r few readable all why =
     let long = texts_long items files texts readable all in for_parts texts r (texts_read items files texts readable all) (omega (arith, long, few)) why

@@ -105,10 +105,10 @@ range_at m n below =
 abbrev before_it : (ℕ → List ℕ) → ℕ → ℕ → List ℕ
 before_it f m n = flat_map f (take n (range_with_len 0 m))
 
-abbrev behind_it : (ℕ → List ℕ) → ℕ → ℕ → List ℕ
-behind_it f m n = flat_map f (drop (suc n) (range_with_len 0 m))
+abbrev after_it : (ℕ → List ℕ) → ℕ → ℕ → List ℕ
+after_it f m n = flat_map f (drop (suc n) (range_with_len 0 m))
 
-parted : (f : ℕ → List ℕ) (m n : ℕ) → n < m → flat_map f (range_with_len 0 m) ≡ before_it f m n ++ (f n ++ behind_it f m n)
+parted : (f : ℕ → List ℕ) (m n : ℕ) → n < m → flat_map f (range_with_len 0 m) ≡ before_it f m n ++ (f n ++ after_it f m n)
 parted f m n below =
     ap (flat_map f) (split_at_place (range_with_len 0 m) n n (range_at m n below))
     ∙ flat_map-append f (take n (range_with_len 0 m)) (n ∷ drop (suc n) (range_with_len 0 m))
@@ -134,7 +134,7 @@ head_text plan bound tears choice = numbered_text plan ++ chosen_text plan bound
 
 in_shown : (plan : PlanValue) (bound : ℕ) (tears : Bool) (choice : ChoiceValue) (lefts rights : List (List ℕ)) (n : ℕ) → n < length rights
     → shown_text plan bound tears choice lefts rights
-    ≡ head_text plan bound tears choice ++ (before_it (sector_at lefts rights) (length rights) n ++ (sector_at lefts rights n ++ behind_it (sector_at lefts rights) (length rights) n))
+    ≡ head_text plan bound tears choice ++ (before_it (sector_at lefts rights) (length rights) n ++ (sector_at lefts rights n ++ after_it (sector_at lefts rights) (length rights) n))
 unfolding shown_text difference_text
 in_shown plan bound tears choice lefts rights n below =
     ap (λ (xs : List ℕ). head_text plan bound tears choice ++ xs) (parted (sector_at lefts rights) (length rights) n below)
@@ -151,7 +151,7 @@ same_or_named plan bound tears choice lefts rights bytes n left right text here 
           let whole = text ∙ in_shown plan bound tears choice lefts rights n (slice_get_within rights n right there) in
           inr
           (names_at bytes (head_text plan bound tears choice) (before_it (sector_at lefts rights) (length rights) n) (sector_at lefts rights n)
-          (behind_it (sector_at lefts rights) (length rights) n) n whole (subst (λ (xs : List ℕ). BeginsWith xs n) (sym at) named))
+          (after_it (sector_at lefts rights) (length rights) n) n whole (subst (λ (xs : List ℕ). BeginsWith xs n) (sym at) named))
     ]
 
 -- devices of one size about which a text names no sector are the same

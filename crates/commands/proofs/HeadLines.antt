@@ -35,8 +35,8 @@ inner_digit k small =
 inner_number : (n : ℕ) → IsInner (decimal n)
 inner_number n = number is_inner n inner_digit
 
-behind : (xs ys : List ℕ) → IsInner xs → IsInner ys → IsInner (xs ++ ys)
-behind xs ys own also = both is_inner xs ys own also
+beyond : (xs ys : List ℕ) → IsInner xs → IsInner ys → IsInner (xs ++ ys)
+beyond xs ys own also = both is_inner xs ys own also
 
 -- the words of the options
 
@@ -59,38 +59,38 @@ inner_steps false = refl
 
 inner_flushes : (es : List ℕ) → IsInner (flat_map next_flush es)
 inner_flushes [] = refl
-inner_flushes (e ∷ es) = behind (next_flush e) (flat_map next_flush es) (behind (codes ",") (decimal e) refl (inner_number e)) (inner_flushes es)
+inner_flushes (e ∷ es) = beyond (next_flush e) (flat_map next_flush es) (beyond (codes ",") (decimal e) refl (inner_number e)) (inner_flushes es)
 
 inner_flush : (es : List ℕ) → IsInner (flush_words es)
 unfolding flush_words
 inner_flush [] = refl
-inner_flush (e ∷ es) = behind (codes " flush " ++ decimal e) (flat_map next_flush es) (behind (codes " flush ") (decimal e) refl (inner_number e)) (inner_flushes es)
+inner_flush (e ∷ es) = beyond (codes " flush " ++ decimal e) (flat_map next_flush es) (beyond (codes " flush ") (decimal e) refl (inner_number e)) (inner_flushes es)
 
 inner_from : (o : Option ℕ) → IsInner (from_words o)
 inner_from None = refl
-inner_from (Some n) = behind (codes " from ") (decimal n) refl (inner_number n)
+inner_from (Some n) = beyond (codes " from ") (decimal n) refl (inner_number n)
 
 inner_to : (o : Option ℕ) → IsInner (to_words o)
 inner_to None = refl
-inner_to (Some n) = behind (codes " to ") (decimal n) refl (inner_number n)
+inner_to (Some n) = beyond (codes " to ") (decimal n) refl (inner_number n)
 
 inner_base : (o : Option ℕ) → IsInner (base_words o)
 inner_base None = refl
-inner_base (Some n) = behind (codes " base ") (decimal n) refl (inner_number n)
+inner_base (Some n) = beyond (codes " base ") (decimal n) refl (inner_number n)
 
 inner_cuts : (cuts : Cuts) → IsInner (cuts_words cuts)
 unfolding cuts_words
 inner_cuts cuts =
-    behind (flush_words (places_of cuts.flushes) ++ from_words cuts.from) (to_words cuts.to)
-    (behind (flush_words (places_of cuts.flushes)) (from_words cuts.from) (inner_flush (places_of cuts.flushes)) (inner_from cuts.from)) (inner_to cuts.to)
+    beyond (flush_words (places_of cuts.flushes) ++ from_words cuts.from) (to_words cuts.to)
+    (beyond (flush_words (places_of cuts.flushes)) (from_words cuts.from) (inner_flush (places_of cuts.flushes)) (inner_from cuts.from)) (inner_to cuts.to)
 
 inner_guards : (o : Option ℕ) → IsInner (guards_words o)
 inner_guards None = refl
-inner_guards (Some n) = behind (codes " guards ") (decimal n) refl (inner_number n)
+inner_guards (Some n) = beyond (codes " guards ") (decimal n) refl (inner_number n)
 
 -- six texts one after the other
 six : (a b c d e f : List ℕ) → IsInner a → IsInner b → IsInner c → IsInner d → IsInner e → IsInner f → IsInner (((((a ++ b) ++ c) ++ d) ++ e) ++ f)
-six a b c d e f p q r s t u = behind ((((a ++ b) ++ c) ++ d) ++ e) f (behind (((a ++ b) ++ c) ++ d) e (behind ((a ++ b) ++ c) d (behind (a ++ b) c (behind a b p q) r) s) t) u
+six a b c d e f p q r s t u = beyond ((((a ++ b) ++ c) ++ d) ++ e) f (beyond (((a ++ b) ++ c) ++ d) e (beyond ((a ++ b) ++ c) d (beyond (a ++ b) c (beyond a b p q) r) s) t) u
 
 inner_device : (h : HeadValue) → IsInner (device_text h)
 unfolding device_text
@@ -110,10 +110,10 @@ abbrev options_inside : HeadValue → List ℕ
 options_inside h = (device_text h ++ choices_text h) ++ given_inside h
 
 inner_given : (h : HeadValue) → IsInner (given_inside h)
-inner_given h = behind (by_words h.by ++ cuts_words h.cuts) (base_words h.base) (behind (by_words h.by) (cuts_words h.cuts) (inner_by h.by) (inner_cuts h.cuts)) (inner_base h.base)
+inner_given h = beyond (by_words h.by ++ cuts_words h.cuts) (base_words h.base) (beyond (by_words h.by) (cuts_words h.cuts) (inner_by h.by) (inner_cuts h.cuts)) (inner_base h.base)
 
 inner_options : (h : HeadValue) → IsInner (options_inside h)
-inner_options h = behind (device_text h ++ choices_text h) (given_inside h) (behind (device_text h) (choices_text h) (inner_device h) (inner_choices h)) (inner_given h)
+inner_options h = beyond (device_text h ++ choices_text h) (given_inside h) (beyond (device_text h) (choices_text h) (inner_device h) (inner_choices h)) (inner_given h)
 
 options_ends : (h : HeadValue) → options_line h ≡ options_inside h ++ 10 ∷ []
 unfolding given_text
@@ -131,8 +131,8 @@ inner_program : (n : ℕ) (p : ProgramHead) → IsInner (program_inside n p)
 unfolding program_inside
 inner_program n p =
     six (codes "program ") (decimal n) (codes " slots ") (decimal p.slots) (codes " ") (steps_text p) refl (inner_number n) refl (inner_number p.slots) refl
-    (behind (steps_word p.verified ++ codes " " ++ decimal p.limit) (guards_words p.guards)
-    (behind (steps_word p.verified ++ codes " ") (decimal p.limit) (behind (steps_word p.verified) (codes " ") (inner_steps p.verified) refl) (inner_number p.limit)) (inner_guards p.guards))
+    (beyond (steps_word p.verified ++ codes " " ++ decimal p.limit) (guards_words p.guards)
+    (beyond (steps_word p.verified ++ codes " ") (decimal p.limit) (beyond (steps_word p.verified) (codes " ") (inner_steps p.verified) refl) (inner_number p.limit)) (inner_guards p.guards))
 
 program_begins : (n : ℕ) (p : ProgramHead) → get_or (program_inside n p) 0 0 ≡ 112
 unfolding program_inside

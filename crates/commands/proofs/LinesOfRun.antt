@@ -3,7 +3,7 @@ use Rattle.std.proofs.Common.{ℕ, suc, ◌≡◌, ◌==◌, ◌<◌, ◌≤◌,
 use Rattle.std.proofs.lemmas.Bool.Decides.{nat_tests}
 use Rattle.logfmt.specs.declared.entry.Entry.{Entry}
 use Rattle.epochs.specs.declared.part.By.{By}
-use Rattle.epochs.specs.Cuts.{is_behind_first, is_before_last}
+use Rattle.epochs.specs.Cuts.{is_after_first, is_before_last}
 use Rattle.epochs.specs.Laws.{Precedes as PartPrecedes}
 use Rattle.choices.specs.declared.choice.Departure.{Departure}
 use Rattle.choices.specs.declared.fate.Fate.{Fate}
@@ -68,7 +68,7 @@ names_of_run way es cut bound tears ds is =
     rw (count, of_run, order) refl
 
 -- the cut is in the range that is asked for
-pub from_first : (first : Option ℕ) (cut : ℕ) → IfSome first (λ n. n ≤ cut) → is_behind_first first cut ≡ true
+pub from_first : (first : Option ℕ) (cut : ℕ) → IfSome first (λ n. n ≤ cut) → is_after_first first cut ≡ true
 from_first None cut is = refl
 from_first (Some n) cut is = let test : nat_le n cut ≡ true = grind (arith, nat_tests, is) in test
 

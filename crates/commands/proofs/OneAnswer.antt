@@ -8,7 +8,6 @@ use Rattle.bpf_isa.specs.Program.{slot_bytes}
 use Rattle.bpf_isa.specs.declared.instr.Instr.{Instr}
 use Rattle.bpf_asm.specs.Laws as asm
 use Rattle.verifier.specs.Laws.{OneVerdict}
-use Rattle.verifier.specs.Verdicts.{IsAccepted}
 use Rattle.report.specs.Line.{fails}
 use Rattle.choices.specs.Choices.{ChoiceValue}
 use Rattle.checker.specs.Checker.{CheckerValue}
@@ -25,11 +24,12 @@ use Rattle.request.specs.declared.trials.Trial.{Trial}
 use Rattle.request.specs.declared.trials.TrialWords.{TrialWords}
 use Rattle.join.specs.Joining.{IsJoined}
 use Rattle.inspect.specs.TrialImage.{sectors_of as image_sectors}
-use Rattle.inspect.specs.TrialText.{trial_text, ending_of_trial, IsTried}
+use Rattle.inspect.specs.TrialText.{Bound, bound_of, IsBoundBy, trial_text, ending_of_trial, IsTried}
 use Rattle.request.specs.declared.command.Request.TheVariants as request
 use Rattle.request.specs.OptionWords.{AskFor}
 use Rattle.request.specs.Source.{Recording, plan_of, images_of}
 use Rattle.case_runs.specs.Found.{FindingIsOne}
+use Rattle.case_runs.specs.First.{FirstIsOne}
 use Rattle.runs.specs.Why.{Tells}
 use Rattle.runs.specs.Cured.{TellsCure, IsAnswered}
 use Rattle.runs.specs.Inputs.{inputs_number}
@@ -39,6 +39,7 @@ use Rattle.raw_log.specs.Imported.{IsImported}
 use Rattle.raw_log.proofs.Profile.{one_import}
 use Rattle.inspect.specs.Which.{IsMeant, IsOnly}
 use Rattle.inspect.specs.Image.{text_in, IsImageIn, IsImage, IsShown}
+use Rattle.inspect.specs.AnyImage.{any_text_in, IsAnyImage, IsMeantLoss}
 use Rattle.inspect.specs.Survey.{survey_text, parts_text, IsSurvey}
 use Rattle.inspect.specs.Export.{exported, IsExport}
 use Rattle.export.specs.Export.{export_text}
@@ -47,12 +48,12 @@ use Rattle.inspect.specs.Verifying.{verified_text, IsAcceptedText}
 use Rattle.inspect.specs.Assembly.{listing_text, IsAssembled, IsListed}
 use Rattle.runs.specs.declared.explore_command.Wanted.{Wanted}
 use Rattle.runs.specs.declared.explore_command.Wanted.TheVariants as wanted
-use Rattle.commands.specs.Acting.{Files, initial_of, recording, status_of, AnswersRun, AnswersFiles, AnswersExplore, AnswersCases, AnswersFile, AnswersLog, AnswersOf, AnswersWith, AnswersTrial, AnswersJoin, Answers}
+use Rattle.commands.specs.Acting.{Files, initial_of, recording, status_of, AnswersRun, AnswersFiles, AnswersExplore, AnswersCases, AnswersFile, AnswersLog, AnswersOf, AnswersAny, AnswersWith, AnswersTrial, AnswersJoin, Answers, form_of}
 use Rattle.commands.proofs.OneReport.{same_log, same_asked, one_run}
 use Rattle.commands.proofs.OneText.{one_explanation}
 use Rattle.commands.proofs.OnePage.{one_page}
 use Rattle.commands.proofs.OneCure.{one_cure}
-use Rattle.commands.proofs.OneCases.{one_cases}
+use Rattle.commands.proofs.OneFirst.{one_losses}
 use Rattle.commands.proofs.OneJoin.{one_join}
 
 -- what the laws of the lower layers say
@@ -62,6 +63,7 @@ pub record Laws : Type 0 where
   pub verdicts : OneVerdict
   pub sources : asm.OneProgram
   pub findings : FindingIsOne
+  pub first : FirstIsOne
 
 -- the same bytes and the same number
 abbrev pub Same : List ℕ → List ℕ → ℕ → ℕ → Type 0
@@ -82,7 +84,7 @@ answered_once laws (wanted.Told t) text files s bytes others failing fails a b =
 answered_once laws wanted.Cured text files s bytes others failing fails a b =
     one_run laws.texts laws.programs laws.verdicts TellsCure (λ s value checkers bytes others x y. one_cure s value checkers bytes others x y) text files s bytes others failing fails a b
 answered_once laws (wanted.Cases l) text files s bytes others failing fails a b =
-    one_cases laws.texts laws.programs laws.verdicts laws.findings l text files s bytes others failing fails a b
+    one_losses laws.texts laws.programs laws.verdicts laws.findings laws.first s.first l text files s bytes others failing fails a b
 
 run_once : Laws → (t : Wanted) (s : Settings) (log : Recording) (programs : List (List ℕ)) (bytes others : List ℕ) (status ended : ℕ)
     → AnswersRun t s log programs bytes status → AnswersRun t s log programs others ended → Same bytes others status ended
@@ -194,6 +196,23 @@ one_image laws form which s text bytes others a b =
     let same : text_in form s (plan_of s a.value) a.choice ≡ text_in form s (plan_of s b.value) b.choice = λ i. text_in form s (plan_of s (value i)) (choice i) in
     a.shown ∙ same ∙ sym b.shown
 
+-- the image of a choice of any number of parts
+one_any : Laws → (in_words : Bool) (cut : ℕ) (said : List ℕ) (s : Settings) → IsOneOf (λ text bytes. IsAnyImage (form_of in_words) text s cut said bytes)
+one_any laws in_words cut said s text bytes others a b =
+    let value = same_asked laws.texts text s a.value b.value a.reads b.reads in
+    let there = subst (λ (v : LogValue). IsMeantLoss s v cut said b.shown.departures) (sym value) b.shown.meant in
+    let lost = sym (a.shown.only b.shown.departures there) in
+    let form = form_of in_words in
+    let same : any_text_in form s a.value cut a.shown.departures ≡ any_text_in form s b.value cut b.shown.departures = λ i. any_text_in form s (value i) cut (lost i) in
+    a.shown.told ∙ same ∙ sym b.shown.told
+
+any_once : Laws → (w : OptionWords) (cut : ℕ) (in_words : Bool) (files : Files) (bytes others : List ℕ) (status ended : ℕ)
+    → AnswersAny w cut in_words files bytes status → AnswersAny w cut in_words files others ended → Same bytes others status ended
+any_once laws w cut in_words files bytes others status ended a b =
+    let same = same_settings w b.settings a.settings b.asked a.asked in
+    log_once (λ text. IsAnyImage (form_of in_words) text a.settings cut files.choice) (one_any laws in_words cut files.choice a.settings) files bytes others status ended a.answers
+    (subst (λ (s : Settings). AnswersLog (λ text. IsAnyImage (form_of in_words) text s cut files.choice) files others ended) same b.answers)
+
 one_verified : Laws → (listed : Bool) (s : Settings) → IsOne (λ code bytes. IsAcceptedText code s listed bytes)
 one_verified laws listed s code bytes others a b =
     let program : a.verified.program ≡ b.verified.program = laws.programs code a.verified.program b.verified.program a.spelled b.spelled in
@@ -214,19 +233,27 @@ one_listed laws numbered code bytes others a b = a.listed ∙ ap (listing_text n
 one_imported : (limits : Limits) → IsOne (λ raw text. IsImported raw (sector_limit limits) limits text)
 one_imported limits raw text other a b = one_import raw text other (sector_limit limits) limits a b
 
--- the limit of a run on one image is one
-same_limit : Laws → (p q : List (Option Instr)) (sectors : ℕ) (checked : Option ℕ) (m n : ℕ) → p ≡ q
-    → MatchOption checked (IsAccepted p sectors m) (λ most. m ≡ most) → MatchOption checked (IsAccepted q sectors n) (λ most. n ≡ most) → m ≡ n
-same_limit laws p q sectors None m n same a b = (laws.verdicts.accepted _ _ a.1 b.1 same refl).0
-same_limit laws p q sectors (Some most) m n same a b = a ∙ sym b
+-- how a run on one image is bounded is one
+same_bound : Laws → (guards : Bool) (p q : List (Option Instr)) (sectors : ℕ) (checked : Option ℕ) (m n : Bound) → p ≡ q
+    → MatchOption checked (IsBoundBy guards p sectors m) (λ most. m ≡ record { limit = most; guarded = None })
+    → MatchOption checked (IsBoundBy guards q sectors n) (λ most. n ≡ record { limit = most; guarded = None }) → m ≡ n
+same_bound laws guards p q sectors None m n same a b =
+    let program : a.verified.program ≡ b.verified.program = a.program ∙ same ∙ sym b.program in
+    let kind : a.verified.guards ≡ b.verified.guards = a.guards ∙ sym b.guards in
+    let size : a.verified.sectors ≡ b.verified.sectors = a.sectors ∙ sym b.sectors in
+    let one = laws.verdicts.accepted a.verified b.verified a.accepted b.accepted program size in
+    let all : a.verified ≡ b.verified = λ i. record { guards = kind i; program = program i; sectors = size i; budget = one.0 i; table = one.1 i } in
+    a.is ∙ ap bound_of all ∙ sym b.is
+same_bound laws guards p q sectors (Some most) m n same a b = a ∙ sym b
 
 one_trial : Laws → (program image : List ℕ) (t : Trial) (bytes others : List ℕ) (failing rejects : Bool)
     → IsTried program image t bytes failing → IsTried program image t others rejects → (bytes ≡ others) × (failing ≡ rejects)
 one_trial laws program image t bytes others failing rejects a b =
     let slots = laws.programs program a.slots b.slots a.spelled b.spelled in
-    let limit = same_limit laws a.slots b.slots (image_sectors image) t.checked a.limit b.limit slots a.allowed b.allowed in
-    let text : trial_text a.slots image t a.limit ≡ trial_text b.slots image t b.limit = λ i. trial_text (slots i) image t (limit i) in
-    let ending : fails (ending_of_trial a.slots image t a.limit) ≡ fails (ending_of_trial b.slots image t b.limit) = λ i. fails (ending_of_trial (slots i) image t (limit i)) in
+    let bound : a.bound ≡ b.bound = same_bound laws t.guards a.slots b.slots (image_sectors image) t.checked a.bound b.bound slots a.allowed b.allowed in
+    let limit : a.bound.limit ≡ b.bound.limit = ap (λ (x : Bound). x.limit) bound in
+    let text : trial_text a.slots image t a.bound ≡ trial_text b.slots image t b.bound = λ i. trial_text (slots i) image t (bound i) in
+    let ending : fails (ending_of_trial a.slots image t a.bound.limit) ≡ fails (ending_of_trial b.slots image t b.bound.limit) = λ i. fails (ending_of_trial (slots i) image t (limit i)) in
     (a.says ∙ text ∙ sym b.says, a.ends ∙ ending ∙ sym b.ends)
 
 -- the first two files of a command are one
@@ -266,6 +293,7 @@ one_answer laws (request.Export w) files bytes others status ended a b = of_once
 one_answer laws (request.Log w) files bytes others status ended a b = of_once w (λ s text. IsTable text s) (one_table laws) files bytes others status ended a b
 one_answer laws (request.Image w which) files bytes others status ended a b = of_once w (λ s text. IsImage text s which) (one_image laws _ which) files bytes others status ended a b
 one_answer laws (request.Show w which) files bytes others status ended a b = of_once w (λ s text. IsShown text s which) (one_image laws _ which) files bytes others status ended a b
+one_answer laws (request.AnyImage w cut in_words) files bytes others status ended a b = any_once laws w cut in_words files bytes others status ended a b
 one_answer laws (request.Verify w listed) files bytes others status ended a b =
     with_once w (λ s code. IsAcceptedText code s listed) (one_verified laws listed) files bytes others status ended a b
 one_answer laws (request.Import limits) files bytes others status ended a b =

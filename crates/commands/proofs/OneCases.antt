@@ -7,10 +7,7 @@ use Rattle.std.proofs.lemmas.List.Sums.{sum_by-cons, sum_by-append}
 use Rattle.std.proofs.lemmas.Option.{slice_get_within, slice_get-get_or, slice_get_cases, same_Some}
 use Rattle.machine.specs.Outcome.{Ending}
 use Rattle.logfmt.specs.Bounds.{LogValue}
-use Rattle.logfmt.specs.Laws.{TextOfOneLog}
 use Rattle.epochs.specs.declared.part.By.{By}
-use Rattle.bpf_isa.specs.Laws.{OneProgram}
-use Rattle.verifier.specs.Laws.{OneVerdict}
 use Rattle.checker.specs.Checker.{CheckerValue}
 use Rattle.report.specs.LineText.{ending_text}
 use Rattle.cases.specs.AtCut.{CutValue, parts_of}
@@ -27,30 +24,28 @@ use Rattle.case_text.specs.Text.{known_text, window_text, place_text, number_tex
 use Rattle.report.specs.Report.{HeadValue}
 use Rattle.request.specs.declared.any_losses.AnyLosses.{AnyLosses}
 use Rattle.request.specs.declared.settings.Settings.{Settings}
-use Rattle.request.specs.Source.{Recording}
-use Rattle.runs.specs.CaseCuts.{losses_of, case_cuts, HasTooMany}
-use Rattle.runs.specs.Cases.{TellsCases, IsCases}
+use Rattle.runs.specs.CaseCuts.{losses_of, case_cuts}
+use Rattle.runs.specs.Cases.{TellsCases}
 use Rattle.runs.specs.Explore.{head_of}
 use Rattle.runs.specs.Why.{with_first}
-use Rattle.commands.proofs.OneReport.{same_log, same_checkers}
 
 -- the same was found with each checker, and at each cut
-abbrev EachSame : CutValue → Bool → List Found → List Found → Type 0
+abbrev pub EachSame : CutValue → Bool → List Found → List Found → Type 0
 EachSame at tears [] [] = Unit {0}
 EachSame at tears [] (g ∷ gs) = ⊥
 EachSame at tears (f ∷ fs) [] = ⊥
 EachSame at tears (f ∷ fs) (g ∷ gs) = SameFound at tears f g × EachSame at tears fs gs
 
-abbrev cut_value : LogValue → By → ℕ → CutValue
+abbrev pub cut_value : LogValue → By → ℕ → CutValue
 cut_value log way cut = record { log = log; way = way; cut = cut }
 
-abbrev CutsSame : LogValue → By → Bool → List CutFound → List CutFound → Type 0
+abbrev pub CutsSame : LogValue → By → Bool → List CutFound → List CutFound → Type 0
 CutsSame log way tears [] [] = Unit {0}
 CutsSame log way tears [] (d ∷ ds) = ⊥
 CutsSame log way tears (c ∷ cs) [] = ⊥
 CutsSame log way tears (c ∷ cs) (d ∷ ds) = (c.cut ≡ d.cut) × EachSame (cut_value log way c.cut) tears c.programs.items d.programs.items × CutsSame log way tears cs ds
 
-each_same : FindingIsOne → (asked : Losses) (at : CutValue) (checkers : List CheckerValue) (fs gs : List Found) → AreFoundAt asked at checkers fs → AreFoundAt asked at checkers gs
+pub each_same : FindingIsOne → (asked : Losses) (at : CutValue) (checkers : List CheckerValue) (fs gs : List Found) → AreFoundAt asked at checkers fs → AreFoundAt asked at checkers gs
     → EachSame at asked.tears fs gs
 each_same one asked at checkers [] [] a b = tt
 each_same one asked at checkers [] (g ∷ gs) a b = let here = a.count in let there = b.count in absurd (omega (arith, here, there))
@@ -64,7 +59,7 @@ each_same one asked at (c ∷ cs) (f ∷ fs) (g ∷ gs) a b =
           (record { count = omega (arith, there); each = λ i d h own its. b.each (suc i) d h own its }),
     )
 
-cuts_same : FindingIsOne → (asked : Losses) (log : LogValue) (way : By) (cuts : List ℕ) (checkers : List CheckerValue) (ls ms : List CutFound) → AreFoundIn asked log way cuts checkers ls
+pub cuts_same : FindingIsOne → (asked : Losses) (log : LogValue) (way : By) (cuts : List ℕ) (checkers : List CheckerValue) (ls ms : List CutFound) → AreFoundIn asked log way cuts checkers ls
     → AreFoundIn asked log way cuts checkers ms → CutsSame log way asked.tears ls ms
 cuts_same one asked log way cuts checkers [] [] a b = tt
 cuts_same one asked log way cuts checkers [] (d ∷ ds) a b = let here = a.count in let there = b.count in absurd (omega (arith, here, there))
@@ -83,7 +78,7 @@ cuts_same one asked log way (k ∷ ks) checkers (c ∷ cs) (d ∷ ds) a b =
     )
 
 -- the lines of the same cases are the same
-known_line : CutValue → Bool → ℕ → KnownCase → List ℕ
+unfoldable pub known_line : CutValue → Bool → ℕ → KnownCase → List ℕ
 known_line at tears program k =
     place_text at.cut (epoch_at at.log.entries at.cut) (marks_at at.log.entries at.cut) ++ number_text program k.number ++ ending_text k.ending
     ++ known_text at.way (known_of tears k.is (parts_of at)) ++ window_text (case_window at k.is) ++ codes "\n"
@@ -123,10 +118,10 @@ length_failing at tears f g same = sym (long f.failing.items) ∙ ap (λ (ks : L
     long [] = refl
     long (x ∷ items) = ap suc (long items)
 
-abbrev Tells : (Found → ℕ) → Type 0
+abbrev pub Tells : (Found → ℕ) → Type 0
 Tells number = (at : CutValue) (tears : Bool) (f g : Found) → SameFound at tears f g → number f ≡ number g
 
-sum_each : (number : Found → ℕ) → Tells number → (at : CutValue) (tears : Bool) (fs gs : List Found) → EachSame at tears fs gs → sum_by number fs ≡ sum_by number gs
+pub sum_each : (number : Found → ℕ) → Tells number → (at : CutValue) (tears : Bool) (fs gs : List Found) → EachSame at tears fs gs → sum_by number fs ≡ sum_by number gs
 sum_each number tells at tears [] [] same = refl
 sum_each number tells at tears [] (g ∷ gs) same = absurd same
 sum_each number tells at tears (f ∷ fs) [] same = absurd same
@@ -186,7 +181,7 @@ bytes_same h asked log ls ms same =
     let totals = totals_same log h.by asked.tears ls ms same in
     λ i. head_text h asked ++ lines i ++ totals i
 
-tells_once : FindingIsOne → (l : AnyLosses) (s : Settings) (value : LogValue) (checkers : List CheckerValue) (bytes others : List ℕ) (failing fails : Bool)
+pub tells_once : FindingIsOne → (l : AnyLosses) (s : Settings) (value : LogValue) (checkers : List CheckerValue) (bytes others : List ℕ) (failing fails : Bool)
     → TellsCases l s value checkers bytes failing → TellsCases l s value checkers others fails → (bytes ≡ others) × (failing ≡ fails)
 unfolding head_of
 tells_once one l s value checkers bytes others failing fails a b =
@@ -195,17 +190,8 @@ tells_once one l s value checkers bytes others failing fails a b =
       a.fails ∙ any_same value s.by s.tears a.found b.found same ∙ sym b.fails,
     )
 
-pub one_cases : TextOfOneLog → OneProgram → OneVerdict → FindingIsOne → (l : AnyLosses) (text : Recording) (files : List (List ℕ)) (s : Settings) (bytes others : List ℕ) (failing fails : Bool)
-    → IsCases l text files s bytes failing → IsCases l text files s others fails → (bytes ≡ others) × (failing ≡ fails)
-one_cases texts programs verdicts one l text files s bytes others failing fails h k =
-    let value = same_log texts text s h.value k.value h.source k.source in
-    let checkers = same_checkers programs verdicts s files h.checkers k.checkers h.made k.made in
-    let by_value = subst (λ (v : LogValue). TellsCases l s v k.checkers others fails) (sym value) k.tells in
-    let tells = subst (λ (cs : List CheckerValue). TellsCases l s h.value cs others fails) (sym checkers) by_value in
-    tells_once one l s h.value h.checkers bytes others failing fails h.tells tells
-
 -- the cases of the first checkers, and those of the next one, are among all
-first_at : FindingIsOne → (asked : Losses) (at : CutValue) (checkers : List CheckerValue) (n : ℕ) (before found : List Found) (f : Found) → AreFirstAt asked at checkers n before
+pub first_at : FindingIsOne → (asked : Losses) (at : CutValue) (checkers : List CheckerValue) (n : ℕ) (before found : List Found) (f : Found) → AreFirstAt asked at checkers n before
     → AreFoundAt asked at checkers found → slice_get found n ≡ Some f → cases_at before + f.cases ≤ cases_at found
 first_at one asked at checkers n before [] f a b there = absurd (let bad : None ≡ Some f = there in cc)
 first_at one asked at checkers zero [] (g ∷ gs) f a b there =
@@ -226,7 +212,7 @@ first_at one asked at (c ∷ cs) (suc n) (e ∷ es) (g ∷ gs) f a b there =
     omega (arith, own, rest, first, all)
 
 -- the same of cuts
-first_in : FindingIsOne → (asked : Losses) (log : LogValue) (way : By) (cuts : List ℕ) (checkers : List CheckerValue) (n : ℕ) (before found : List CutFound) (f : CutFound)
+pub first_in : FindingIsOne → (asked : Losses) (log : LogValue) (way : By) (cuts : List ℕ) (checkers : List CheckerValue) (n : ℕ) (before found : List CutFound) (f : CutFound)
     → AreFirstIn asked log way cuts checkers n before → AreFoundIn asked log way cuts checkers found → slice_get found n ≡ Some f
     → cases_in before + cases_at f.programs.items ≤ cases_in found
 first_in one asked log way cuts checkers n before [] f a b there = absurd (let bad : None ≡ Some f = there in cc)
@@ -250,13 +236,13 @@ first_in one asked log way (k ∷ ks) checkers (suc n) (e ∷ es) (g ∷ gs) f a
     omega (arith, own, rest, first, all)
 
 -- a list as long as another has an element at the same place
-there_too : {A B : Type 0} (xs : List A) (ys : List B) (i : ℕ) (x : A) → length ys ≡ length xs → slice_get xs i ≡ Some x → (y : B) × (slice_get ys i ≡ Some y)
+pub there_too : {A B : Type 0} (xs : List A) (ys : List B) (i : ℕ) (x : A) → length ys ≡ length xs → slice_get xs i ≡ Some x → (y : B) × (slice_get ys i ≡ Some y)
 there_too [] ys i x long at = absurd (let bad : None ≡ Some x = at in cc)
 there_too (a ∷ xs) [] i x long at = absurd (omega (arith, long))
 there_too (a ∷ xs) (b ∷ ys) zero x long at = (b, refl)
 there_too (a ∷ xs) (b ∷ ys) (suc i) x long at = there_too xs ys i x (omega (arith, long)) at
 
-past_at : FindingIsOne → (asked : Losses) (at : CutValue) (checkers : List CheckerValue) (left : ℕ) (found : List Found) → AreFoundAt asked at checkers found → IsPastAt asked at checkers left
+pub past_at : FindingIsOne → (asked : Losses) (at : CutValue) (checkers : List CheckerValue) (left : ℕ) (found : List Found) → AreFoundAt asked at checkers found → IsPastAt asked at checkers left
     → left < cases_at found
 past_at one asked at checkers left found are past =
     let there = there_too checkers found past.number past.checker are.count past.own in
@@ -269,7 +255,7 @@ past_at one asked at checkers left found are past =
 
 -- where cases are told there aren't too many
 pub not_too_many : FindingIsOne → (l : AnyLosses) (s : Settings) (value : LogValue) (checkers : List CheckerValue) (bytes : List ℕ) (failing : Bool) (cut : ℕ)
-    → TellsCases l s value checkers bytes failing → HasTooMany l s value checkers cut → ⊥
+    → TellsCases l s value checkers bytes failing → AreTooMany (losses_of l s) value s.by (case_cuts l s.cuts value) checkers cut → ⊥
 not_too_many one l s value checkers bytes failing cut h many =
     let asked = losses_of l s in
     let cuts = case_cuts l s.cuts value in

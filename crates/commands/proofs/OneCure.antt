@@ -64,8 +64,8 @@ same_end : (s : Settings) (cs : List CheckerValue) (value : LogValue) (end other
 same_end s cs value _ _ (with_totals fs few fail none) (with_totals gs small fails nothing) = refl
 same_end s cs value _ _ (with_totals fs few fail none) (with_refusal cut past) = absurd (not_past limit s value cut few past)
 same_end s cs value _ _ (with_refusal cut past) (with_totals fs few fail none) = absurd (not_past limit s value cut few past)
-same_end s cs value _ _ (with_refusal cut past) (with_refusal other behind) =
-    ap refused_line (same_past s value cut other past behind)
+same_end s cs value _ _ (with_refusal cut past) (with_refusal other beyond) =
+    ap refused_line (same_past s value cut other past beyond)
 
 -- after the last run there is no round
 no_round : (s : Settings) (cs : List CheckerValue) (value : LogValue) (ms : List MissingFlush) (end : List ℕ) → IsRound s cs value ms → Ends s cs value end → ⊥
@@ -90,8 +90,8 @@ same_rounds s cs value [] (q ∷ qs) end other a b = absurd (no_round s cs value
 same_rounds s cs value (r ∷ rs) [] end other a b = absurd (no_round s cs value r other a.are.0 b.ends)
 same_rounds s cs value (r ∷ rs) (q ∷ qs) end other a b =
     let one : r ≡ q = same_round s cs value r q a.are.0 b.are.0 in
-    let behind : Rounds s cs (with_flushes (places_in q) value) qs other = record { are = b.are.1; ends = b.ends } in
-    let moved : Rounds s cs (with_flushes (places_in r) value) qs other = subst (λ (ms : List MissingFlush). Rounds s cs (with_flushes (places_in ms) value) qs other) (sym one) behind in
+    let beyond : Rounds s cs (with_flushes (places_in q) value) qs other = record { are = b.are.1; ends = b.ends } in
+    let moved : Rounds s cs (with_flushes (places_in r) value) qs other = subst (λ (ms : List MissingFlush). Rounds s cs (with_flushes (places_in ms) value) qs other) (sym one) beyond in
     let own : Rounds s cs (with_flushes (places_in r) value) rs end = record { are = a.are.1; ends = a.ends } in
     let rest = same_rounds s cs (with_flushes (places_in r) value) rs qs end other own moved in
     (λ i. one i ∷ rest.0 i, rest.1)

@@ -51,19 +51,19 @@ each_of : (P : PartRead → Type 0) (rs : List PartRead) → All P rs → Each P
 each_of P [] all = tt
 each_of P (r ∷ rs) all = (all 0 r (omega arith), each_of P rs (λ k d l. all (suc k) d (omega (arith, l))))
 
-each_behind : (P : PartRead → Type 0) (front back : List PartRead) → Each P (front ++ back) → Each P back
-each_behind P [] back each = each
-each_behind P (r ∷ front) back each = each_behind P front back each.1
+each_beyond : (P : PartRead → Type 0) (front back : List PartRead) → Each P (front ++ back) → Each P back
+each_beyond P [] back each = each
+each_beyond P (r ∷ front) back each = each_beyond P front back each.1
 
 -- a part stands at the place of its file
 abbrev StandsAt : ℕ → List PartRead → PartRead → Type 0
 StandsAt n rs r = (n ≤ r.file) × (slice_get rs (r.file - n) ≡ Some r)
 
-stands_behind : (n : ℕ) (r : PartRead) (rs : List PartRead) (s : PartRead) → StandsAt (n + 1) rs s → StandsAt n (r ∷ rs) s
-stands_behind n r rs s at =
-    let behind = at.0 in
-    let place : s.file - n ≡ suc (s.file - (n + 1)) = omega (arith, behind) in
-    (omega (arith, behind), rw place at.1)
+stands_after : (n : ℕ) (r : PartRead) (rs : List PartRead) (s : PartRead) → StandsAt (n + 1) rs s → StandsAt n (r ∷ rs) s
+stands_after n r rs s at =
+    let beyond = at.0 in
+    let place : s.file - n ≡ suc (s.file - (n + 1)) = omega (arith, beyond) in
+    (omega (arith, beyond), rw place at.1)
 
 all_stand : (n : ℕ) (ts : List (List ℕ)) (rs : List PartRead) → ArePartTexts n ts rs → All (λ (r : PartRead). StandsAt n rs r) rs
 all_stand n [] [] each = All-nil (λ (r : PartRead). StandsAt n [] r)
@@ -73,7 +73,7 @@ all_stand n (t ∷ ts) (r ∷ rs) each =
     let rest = all_stand (n + 1) ts rs each.2 in
     let at = each.1 in
     let place : r.file - n ≡ 0 = omega (arith, at) in
-    All-cons (λ (s : PartRead). StandsAt n (r ∷ rs) s) r rs (omega (arith, at), rw place refl) (λ k d l. stands_behind n r rs (get_or rs k d) (rest k d l))
+    All-cons (λ (s : PartRead). StandsAt n (r ∷ rs) s) r rs (omega (arith, at), rw place refl) (λ k d l. stands_after n r rs (get_or rs k d) (rest k d l))
 
 one_file : (rs : List PartRead) (r s : PartRead) → StandsAt 0 rs r → StandsAt 0 rs s → r.file ≡ s.file → r ≡ s
 one_file rs r s a b same = let both : Some r ≡ Some s = sym a.1 ∙ ap (λ (k : ℕ). slice_get rs (k - 0)) same ∙ b.1 in cc
@@ -85,13 +85,13 @@ early n r = if nat_le r.span.from n then 1 else 0
 abbrev named : ℕ → ℕ → PartRead → ℕ
 named n k r = if r.file == k && nat_le r.span.from n then 1 else 0
 
-abbrev Behind : ℕ → PartRead → Type 0
-Behind n r = n < r.span.from
+abbrev Past : ℕ → PartRead → Type 0
+Past n r = n < r.span.from
 
 abbrev NotBefore : ℕ → PartRead → Type 0
 NotBefore n r = n ≤ r.span.from
 
-none_early : (n : ℕ) (rs : List PartRead) → Each (Behind n) rs → sum_by (early n) rs ≡ 0
+none_early : (n : ℕ) (rs : List PartRead) → Each (Past n) rs → sum_by (early n) rs ≡ 0
 none_early n [] later = refl
 none_early n (r ∷ rs) later =
     let less = later.0 in
@@ -101,7 +101,7 @@ none_early n (r ∷ rs) later =
     let sum = sum_by-cons (early n) r rs in
     omega (arith, own, rest, sum)
 
-none_named : (n k : ℕ) (rs : List PartRead) → Each (Behind n) rs → sum_by (named n k) rs ≡ 0
+none_named : (n k : ℕ) (rs : List PartRead) → Each (Past n) rs → sum_by (named n k) rs ≡ 0
 none_named n k [] later = refl
 none_named n k (r ∷ rs) later =
     let less = later.0 in
@@ -126,17 +126,17 @@ file_named n k r one = elim (eqb_tells r.file k) [
   | inr other ↦ absurd (let none : named n k r ≡ 0 = rw other.0 refl in omega (arith, one, none))
 ]
 
-behind_more : (m n : ℕ) (rs : List PartRead) → m ≤ n → Each (Behind n) rs → Each (Behind m) rs
-behind_more m n [] le each = tt
-behind_more m n (r ∷ rs) le each = (let own = each.0 in omega (arith, own, le), behind_more m n rs le each.1)
+beyond_more : (m n : ℕ) (rs : List PartRead) → m ≤ n → Each (Past n) rs → Each (Past m) rs
+beyond_more m n [] le each = tt
+beyond_more m n (r ∷ rs) le each = (let own = each.0 in omega (arith, own, le), beyond_more m n rs le each.1)
 
-behind_from : (m n : ℕ) (rs : List PartRead) → m < n → Each (NotBefore n) rs → Each (Behind m) rs
-behind_from m n [] less each = tt
-behind_from m n (r ∷ rs) less each = (let own = each.0 in omega (arith, own, less), behind_from m n rs less each.1)
+after_from : (m n : ℕ) (rs : List PartRead) → m < n → Each (NotBefore n) rs → Each (Past m) rs
+after_from m n [] less each = tt
+after_from m n (r ∷ rs) less each = (let own = each.0 in omega (arith, own, less), after_from m n rs less each.1)
 
-from_behind : (n : ℕ) (rs : List PartRead) → Each (Behind n) rs → Each (NotBefore n) rs
-from_behind n [] each = tt
-from_behind n (r ∷ rs) each = (let own = each.0 in omega (arith, own), from_behind n rs each.1)
+from_after : (n : ℕ) (rs : List PartRead) → Each (Past n) rs → Each (NotBefore n) rs
+from_after n [] each = tt
+from_after n (r ∷ rs) each = (let own = each.0 in omega (arith, own), from_after n rs each.1)
 
 -- the same parts
 abbrev Sums : List PartRead → List PartRead → Type 0
@@ -144,17 +144,17 @@ Sums xs ys = (f : PartRead → ℕ) → sum_by f xs ≡ sum_by f ys
 
 abbrev IsRising : List PartRead → Type 0
 IsRising [] = Unit {0}
-IsRising (r ∷ rs) = Each (Behind r.span.from) rs × IsRising rs
+IsRising (r ∷ rs) = Each (Past r.span.from) rs × IsRising rs
 
 abbrev IsNotFalling : List PartRead → Type 0
 IsNotFalling [] = Unit {0}
 IsNotFalling (r ∷ rs) = Each (NotBefore r.span.from) rs × IsNotFalling rs
 
 -- of the same parts the first one of each list begins alike
-not_later : (x y : PartRead) (xs ys : List PartRead) → Sums (x ∷ xs) (y ∷ ys) → Each (Behind x.span.from) xs → x.span.from ≤ y.span.from
+not_later : (x y : PartRead) (xs ys : List PartRead) → Sums (x ∷ xs) (y ∷ ys) → Each (Past x.span.from) xs → x.span.from ≤ y.span.from
 not_later x y xs ys sums up = elim (cases_lt y.span.from x.span.from) [
   | inl less ↦ absurd (
-      let none = none_early y.span.from (x ∷ xs) (less, behind_more y.span.from x.span.from xs (omega (arith, less)) up) in
+      let none = none_early y.span.from (x ∷ xs) (less, beyond_more y.span.from x.span.from xs (omega (arith, less)) up) in
       let all = sums (early y.span.from) in
       let sum = sum_by-cons (early y.span.from) y ys in
       let own = own_early y.span.from y (omega arith) in
@@ -165,7 +165,7 @@ not_later x y xs ys sums up = elim (cases_lt y.span.from x.span.from) [
 not_sooner : (x y : PartRead) (xs ys : List PartRead) → Sums (x ∷ xs) (y ∷ ys) → Each (NotBefore y.span.from) ys → y.span.from ≤ x.span.from
 not_sooner x y xs ys sums up = elim (cases_lt x.span.from y.span.from) [
   | inl less ↦ absurd (
-      let none = none_early x.span.from (y ∷ ys) (less, behind_from x.span.from y.span.from ys less up) in
+      let none = none_early x.span.from (y ∷ ys) (less, after_from x.span.from y.span.from ys less up) in
       let all = sums (early x.span.from) in
       let sum = sum_by-cons (early x.span.from) x xs in
       let own = own_early x.span.from x (omega arith) in
@@ -173,12 +173,12 @@ not_sooner x y xs ys sums up = elim (cases_lt x.span.from y.span.from) [
   | inr le ↦ le
 ]
 
-same_head : (reads : List PartRead) (x y : PartRead) (xs ys : List PartRead) → Sums (x ∷ xs) (y ∷ ys) → Each (Behind x.span.from) xs → Each (NotBefore y.span.from) ys
+same_head : (reads : List PartRead) (x y : PartRead) (xs ys : List PartRead) → Sums (x ∷ xs) (y ∷ ys) → Each (Past x.span.from) xs → Each (NotBefore y.span.from) ys
     → StandsAt 0 reads x → StandsAt 0 reads y → x ≡ y
 same_head reads x y xs ys sums up rise there other =
     let low = not_later x y xs ys sums up in
     let high = not_sooner x y xs ys sums rise in
-    let rest = none_named y.span.from y.file xs (behind_more y.span.from x.span.from xs high up) in
+    let rest = none_named y.span.from y.file xs (beyond_more y.span.from x.span.from xs high up) in
     let all = sums (named y.span.from y.file) in
     let left = sum_by-cons (named y.span.from y.file) x xs in
     let right = sum_by-cons (named y.span.from y.file) y ys in
@@ -211,7 +211,7 @@ same_row reads (x ∷ xs) (y ∷ ys) sums up rise there other =
 abbrev HasImages : PartRead → Type 0
 HasImages r = r.span.from < r.span.to
 
-row_later : (n from to : ℕ) (rs : List PartRead) → n < from → Each HasImages rs → AreInRow from rs to → Each (Behind n) rs
+row_later : (n from to : ℕ) (rs : List PartRead) → n < from → Each HasImages rs → AreInRow from rs to → Each (Past n) rs
 row_later n from to [] less some row = tt
 row_later n from to (r ∷ rs) less some row =
     let begins = row.0 in
@@ -224,7 +224,7 @@ row_rising from to (r ∷ rs) some row = (row_later r.span.from r.span.to to rs 
 
 rising_up : (rs : List PartRead) → IsRising rs → IsNotFalling rs
 rising_up [] up = tt
-rising_up (r ∷ rs) up = (from_behind r.span.from rs up.0, rising_up rs up.1)
+rising_up (r ∷ rs) up = (from_after r.span.from rs up.0, rising_up rs up.1)
 
 sorted_up : (rs : List PartRead) → IsNonDecreasingBy (λ (r : PartRead). r.span.from) rs → IsNotFalling rs
 sorted_up [] up = tt
@@ -435,7 +435,7 @@ not_apart {texts} left right h a =
           beside a.front a.back left right h.from h.to (subst (λ (rs : List PartRead). AreInRow h.from rs h.to) (rows ∙ a.parted) h.in_row)
       | inr none ↦
           let all = each_of HasNone a.row (All-permutation HasNone h.reads a.row order (have_none texts h.reads h.run h.each own none)) in
-          let both = each_behind HasNone a.front (left ∷ right ∷ a.back) (subst (λ (rs : List PartRead). Each HasNone rs) a.parted all) in
+          let both = each_beyond HasNone a.front (left ∷ right ∷ a.back) (subst (λ (rs : List PartRead). Each HasNone rs) a.parted all) in
           both.1.0.0 ∙ sym both.0.1
     ]
 

@@ -14,8 +14,8 @@ use Rattle.losses.specs.declared.cure.failure.Failure.{Failure}
 use Rattle.losses.specs.FailureWindows.{IsWindowIf, IsFailure, AreFailures}
 
 -- a window ends at one entry
-not_behind : (way : By) (es : List Entry) (cut : ℕ) (ds : List Departure) (v w : Window) → IsWindow way es cut ds v → IsWindow way es cut ds w → v.end < w.end → ⊥
-not_behind way es cut ds v w a b less = false≢true (sym (a.last w.end less b.before) ∙ b.end)
+not_after : (way : By) (es : List Entry) (cut : ℕ) (ds : List Departure) (v w : Window) → IsWindow way es cut ds v → IsWindow way es cut ds w → v.end < w.end → ⊥
+not_after way es cut ds v w a b less = false≢true (sym (a.last w.end less b.before) ∙ b.end)
 
 pub one_end : (m n : ℕ) → (m < n → ⊥) → (n < m → ⊥) → m ≡ n
 one_end m n below above = omega (arith, below, above)
@@ -25,15 +25,15 @@ same_window way es cut ds v w a b =
     let both : Some a.first ≡ Some b.first = sym a.departs ∙ b.departs in
     let first : a.first ≡ b.first = cc in
     let start : v.start ≡ w.start = a.start ∙ ap (λ (d : Departure). d.part.entry + 1) first ∙ sym b.start in
-    let end : v.end ≡ w.end = one_end v.end w.end (not_behind way es cut ds v w a b) (not_behind way es cut ds w v b a) in
+    let end : v.end ≡ w.end = one_end v.end w.end (not_after way es cut ds v w a b) (not_after way es cut ds w v b a) in
     λ i. record { start = start i; end = end i }
 
 not_none : (way : By) (es : List Entry) (cut : ℕ) (ds : List Departure) (w : Window) → IsWindow way es cut ds w → HasNoWindow way es cut ds → ⊥
 not_none way es cut ds w a none =
     let start = a.start in
     let order = a.order in
-    let behind : a.first.part.entry < w.end = omega (arith, start, order) in
-    false≢true (sym (none a.first w.end a.departs behind a.before) ∙ a.end)
+    let beyond : a.first.part.entry < w.end = omega (arith, start, order) in
+    false≢true (sym (none a.first w.end a.departs beyond a.before) ∙ a.end)
 
 same_if : (way : By) (es : List Entry) (cut : ℕ) (ds : List Departure) (v w : Option Window) → IsWindowIf way es cut ds v → IsWindowIf way es cut ds w → v ≡ w
 same_if way es cut ds None None a b = refl
@@ -86,22 +86,22 @@ AreNext ws before ps = (i p : ℕ) → slice_get ps i ≡ Some p → IsNext ws (
 next_of : (ws : List Window) (before : List ℕ) (p : ℕ) (ps : List ℕ) → AreNext ws before (p ∷ ps) → AreNext ws (before ++ p ∷ []) ps
 next_of ws before p ps each i q there = subst (λ (xs : List ℕ). IsNext ws xs q) (sym (append_assoc before (p ∷ []) (take i ps))) (each (suc i) q there)
 
-places_behind : (ws : List Window) (before ps qs : List ℕ) → AreNext ws before ps → AreNext ws before qs → Covers ws (before ++ ps) → Covers ws (before ++ qs) → ps ≡ qs
-places_behind ws before [] [] a b all every = refl
-places_behind ws before [] (q ∷ qs) a b all every = absurd (no_next ws (before ++ []) q all (b 0 q refl))
-places_behind ws before (p ∷ ps) [] a b all every = absurd (no_next ws (before ++ []) p every (a 0 p refl))
-places_behind ws before (p ∷ ps) (q ∷ qs) a b all every =
+places_after : (ws : List Window) (before ps qs : List ℕ) → AreNext ws before ps → AreNext ws before qs → Covers ws (before ++ ps) → Covers ws (before ++ qs) → ps ≡ qs
+places_after ws before [] [] a b all every = refl
+places_after ws before [] (q ∷ qs) a b all every = absurd (no_next ws (before ++ []) q all (b 0 q refl))
+places_after ws before (p ∷ ps) [] a b all every = absurd (no_next ws (before ++ []) p every (a 0 p refl))
+places_after ws before (p ∷ ps) (q ∷ qs) a b all every =
     let one : p ≡ q = same_next ws (before ++ []) p q (a 0 p refl) (b 0 q refl) in
     let same : q ∷ qs ≡ p ∷ qs = λ i. sym one i ∷ qs in
     let other : AreNext ws before (p ∷ qs) = subst (λ (xs : List ℕ). AreNext ws before xs) same b in
     let covers : Covers ws (before ++ p ∷ qs) = subst (λ (xs : List ℕ). Covers ws (before ++ xs)) same every in
     let rest =
-    places_behind ws (before ++ p ∷ []) ps qs (next_of ws before p ps a) (next_of ws before p qs other)
+    places_after ws (before ++ p ∷ []) ps qs (next_of ws before p ps a) (next_of ws before p qs other)
     (subst (Covers ws) (sym (append_assoc before (p ∷ []) ps)) all) (subst (Covers ws) (sym (append_assoc before (p ∷ []) qs)) covers) in
     λ i. one i ∷ rest i
 
 same_places : (ws : List Window) (ps qs : List ℕ) → ArePlaces ws ps → ArePlaces ws qs → ps ≡ qs
-same_places ws ps qs a b = places_behind ws [] ps qs a.each b.each a.all b.all
+same_places ws ps qs a b = places_after ws [] ps qs a.each b.each a.all b.all
 
 -- the flushes that are missing for windows are one list
 pub same_missing : (ws : List Window) (ms ns : List MissingFlush) → AreMissing ws ms → AreMissing ws ns → ms ≡ ns

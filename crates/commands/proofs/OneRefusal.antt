@@ -13,7 +13,6 @@ use Rattle.epochs.specs.declared.flushes.Flushes.{Flushes}
 use Rattle.epochs.specs.declared.part.By.{By}
 use Rattle.bpf_isa.specs.declared.instr.Instr.{Instr}
 use Rattle.choices.specs.Choices.{ChoiceValue}
-use Rattle.verifier.specs.Verdicts.{IsAccepted, Refused}
 use Rattle.request.specs.declared.extent.Extent.{Extent}
 use Rattle.request.specs.declared.settings.OptionPlace.TheVariants as place
 use Rattle.request.specs.declared.settings.Settings.{Settings}
@@ -25,7 +24,6 @@ use Rattle.request.specs.declared.command.Request.TheVariants as request
 use Rattle.request.specs.Settings.{option_refusal, settings_refusal}
 use Rattle.request.specs.OptionWords.{AskFor, settings_with, words_refusal}
 use Rattle.request.specs.Source.{Recording, plan_of, images_of, HasImages}
-use Rattle.case_runs.specs.Found.{FindingIsOne}
 use Rattle.checker.specs.Checker.{CheckerValue}
 use Rattle.runs.specs.CaseCuts.{HasTooMany}
 use Rattle.request.specs.AnyLosses.{losses_asked, losses_refusal}
@@ -34,7 +32,7 @@ use Rattle.request.specs.declared.any_losses.LossWords.{LossWords}
 use Rattle.runs.specs.Explore.{RefusesWanted, for_extent, for_rest, for_cases}
 use Rattle.runs.specs.Inputs.{inputs_number}
 use Rattle.runs.specs.Cured.{TellsCure, IsAnswered}
-use Rattle.runs.specs.Cases.{IsCases}
+use Rattle.runs.specs.Cases.{IsLosses}
 use Rattle.runs.specs.Why.{Tells}
 use Rattle.runs.specs.Judged.{takes}
 use Rattle.runs.specs.declared.explore_command.Wanted.{Wanted}
@@ -47,6 +45,8 @@ use Rattle.inspect.specs.Import.{RefusesImport, with_raw_fault, no_raw_memory}
 use Rattle.inspect.specs.Which.{IsMeant}
 use Rattle.inspect.specs.Image as image
 use Rattle.inspect.specs.Image.{IsImage, RefusesImage, IsShown}
+use Rattle.inspect.specs.AnyImage as any
+use Rattle.inspect.specs.AnyImage.{IsAnyImage, IsMeantLoss, RefusesAnyImage}
 use Rattle.inspect.specs.Survey as survey
 use Rattle.inspect.specs.Survey.{Fits, IsSurvey, RefusesSurvey}
 use Rattle.inspect.specs.Export as export
@@ -62,13 +62,14 @@ use Rattle.request.specs.declared.trials.Trial.{Trial}
 use Rattle.request.specs.declared.trials.TrialWords.{TrialWords}
 use Rattle.inspect.specs.TrialImage.{sectors_of}
 use Rattle.inspect.specs.TrialText as trials
-use Rattle.inspect.specs.TrialText.{IsTried, RefusesLimit, RefusesTrial}
+use Rattle.inspect.specs.TrialText.{Bound, IsBoundBy, IsTried, RefusesLimit, RefusesTrial}
+use Rattle.commands.specs.Acting.{AnswersAny, RefusesAny, for_any_losses, for_any_recording, form_of}
 use Rattle.commands.specs.Acting.{AnswersTrial, RefusesCheck, for_trial_words, for_program_file, for_image_file, for_trial}
 use Rattle.commands.specs.Acting.{AnswersJoin, JoinsTexts, RefusesTexts, for_texts, RefusesParts, for_no_part, for_many_parts, for_unread_part, for_parts, for_part_memory}
 use Rattle.commands.specs.Laws.{IsOfMemory}
 use Rattle.commands.proofs.OneJoin.{joined_or_refused}
-use Rattle.commands.proofs.OneReport.{Below, same_log, same_checkers, of_log, of_source, refused_as, of_refuses, told_apart, cured_apart, wanted_or_refusal}
-use Rattle.commands.proofs.OneCases.{not_too_many}
+use Rattle.commands.proofs.OneReport.{Below, same_log, same_asked, same_checkers, of_log, of_source, refused_as, of_refuses, told_apart, cured_apart, wanted_or_refusal}
+use Rattle.commands.proofs.OneFirst.{CasesAreOne, not_refused}
 use Rattle.commands.proofs.OneAnswer.{same_files, same_initial, same_settings, same_held, tried_alike}
 
 -- words that ask for settings are not refused
@@ -158,18 +159,18 @@ none_unread x xs place h =
 same_losses : (l m : AnyLosses) → wanted.Cases l ≡ wanted.Cases m → m ≡ l
 same_losses l m is = let both : wanted.Cases l ≡ wanted.Cases m = is in cc
 
-cases_or_refusal : Below → FindingIsOne → (l : AnyLosses) (text : Recording) (files : List (List ℕ)) (s : Settings) (bytes : List ℕ) (failing : Bool) (r : Refusal)
-    → takes (wanted.Cases l) s.extent ≡ true → IsCases l text files s bytes failing → RefusesWanted (wanted.Cases l) text files s r → IsOfMemory r.code
+cases_or_refusal : Below → CasesAreOne → (l : AnyLosses) (text : Recording) (files : List (List ℕ)) (s : Settings) (bytes : List ℕ) (failing : Bool) (r : Refusal)
+    → takes (wanted.Cases l) s.extent ≡ true → IsLosses s.first l text files s bytes failing → RefusesWanted (wanted.Cases l) text files s r → IsOfMemory r.code
 cases_or_refusal below one l text files s bytes failing _ taken h (for_extent other) = absurd (false≢true (sym other ∙ taken))
 cases_or_refusal below one l text files s bytes failing _ taken h (for_rest r chosen why) = of_refuses below text files s h.value h.checkers r h.count h.source h.made why
 cases_or_refusal below one l text files s bytes failing _ taken h (for_cases m value checkers cut is chosen count source made many) =
     let losses = subst (λ (x : AnyLosses). HasTooMany x s value checkers cut) (same_losses l m is) many in
     let by_value = subst (λ (v : LogValue). HasTooMany l s v checkers cut) (same_log below.texts text s value h.value source h.source) losses in
     let by_checkers = subst (λ (cs : List CheckerValue). HasTooMany l s h.value cs cut) (same_checkers below.programs below.verdicts s files checkers h.checkers made h.made) by_value in
-    absurd (not_too_many one l s h.value h.checkers bytes failing cut h.tells by_checkers)
+    absurd (not_refused one.findings one.first s.first l s h.value h.checkers bytes failing cut h.tells by_checkers)
 
 -- whatever is wanted
-answer_or_none : Below → FindingIsOne → (t : Wanted) (text : Recording) (files : List (List ℕ)) (s : Settings) (bytes : List ℕ) (failing : Bool) (r : Refusal)
+answer_or_none : Below → CasesAreOne → (t : Wanted) (text : Recording) (files : List (List ℕ)) (s : Settings) (bytes : List ℕ) (failing : Bool) (r : Refusal)
     → takes t s.extent ≡ true → IsAnswered t text files s bytes failing → RefusesWanted t text files s r → IsOfMemory r.code
 answer_or_none below one (wanted.Told kind) text files s bytes failing r taken h why =
     wanted_or_refusal below (wanted.Told kind) (λ s value checkers bytes. Tells kind (inputs_number text.text files) s value checkers bytes) (λ l is. told_apart kind l is) text files s bytes
@@ -178,7 +179,7 @@ answer_or_none below one wanted.Cured text files s bytes failing r taken h why =
     wanted_or_refusal below wanted.Cured TellsCure (λ l is. cured_apart l is) text files s bytes failing r taken h why
 answer_or_none below one (wanted.Cases l) text files s bytes failing r taken h why = cases_or_refusal below one l text files s bytes failing r taken h why
 
-of_files : Below → FindingIsOne → (t : Wanted) (files : Files) (s : Settings) (bytes : List ℕ) (status : ℕ) (r : Refusal) → AnswersFiles t s files bytes status → RefusesFiles t files s r
+of_files : Below → CasesAreOne → (t : Wanted) (files : Files) (s : Settings) (bytes : List ℕ) (status : ℕ) (r : Refusal) → AnswersFiles t s files bytes status → RefusesFiles t files s r
     → IsOfMemory r.code
 of_files below one t files s bytes status _ h (for_unread place unreadable) =
     absurd (none_unread h.log h.programs place (subst (λ (fs : List (Option (List ℕ))). unread fs ≡ Some place) h.read unreadable))
@@ -194,12 +195,12 @@ of_files below one t files s bytes status _ h (for_run log programs initial r re
     (subst (λ (ps : List (List ℕ)). RefusesWanted t (recording h.log h.initial) ps s r) others by_log)
 of_files below one t files s bytes status _ h (for_memory readable) = refl
 
-of_explore : Below → FindingIsOne → (t : Wanted) (w : OptionWords) (files : Files) (bytes : List ℕ) (status : ℕ) (r : Refusal) → AnswersExplore t w files bytes status
+of_explore : Below → CasesAreOne → (t : Wanted) (w : OptionWords) (files : Files) (bytes : List ℕ) (status : ℕ) (r : Refusal) → AnswersExplore t w files bytes status
     → RefusesWith w (RefusesFiles t files) r → IsOfMemory r.code
 of_explore below one t w files bytes status r h why =
     of_words w h.settings (RefusesFiles t files) r h.asked (λ q. of_files below one t files h.settings bytes status q h.answers) why
 
-of_cases : Below → FindingIsOne → (w : OptionWords) (l : LossWords) (files : Files) (bytes : List ℕ) (status : ℕ) (r : Refusal) → AnswersCases w l files bytes status
+of_cases : Below → CasesAreOne → (w : OptionWords) (l : LossWords) (files : Files) (bytes : List ℕ) (status : ℕ) (r : Refusal) → AnswersCases w l files bytes status
     → RefusesWith w (RefusesCases l files) r → IsOfMemory r.code
 of_cases below one w l files bytes status r h why = of_words w h.settings (RefusesCases l files) r h.asked (λ q. rest q) why
   where
@@ -207,7 +208,7 @@ of_cases below one w l files bytes status r h why = of_words w h.settings (Refus
     rest _ (for_losses q bad) = absurd (let both : None ≡ Some q = sym h.good ∙ bad in cc)
     rest _ (for_cases_of q good refused) = of_files below one (wanted.Cases (losses_asked l h.settings)) files h.settings bytes status q h.answers refused
 
-of_stored : Below → FindingIsOne → (t : Wanted) (text : Recording) (files : List (List ℕ)) (s : Settings) (bytes : List ℕ) (status : ℕ) (r : Refusal) → AnswersRun t s text files bytes status
+of_stored : Below → CasesAreOne → (t : Wanted) (text : Recording) (files : List (List ℕ)) (s : Settings) (bytes : List ℕ) (status : ℕ) (r : Refusal) → AnswersRun t s text files bytes status
     → (r ≡ memory_refusal) ⊎ RefusesWanted t text files s r → IsOfMemory r.code
 of_stored below one t text files s bytes status r h (inl same) = subst (λ (q : Refusal). IsOfMemory q.code) (sym same) refl
 of_stored below one t text files s bytes status r h (inr why) =
@@ -245,6 +246,26 @@ of_meant below which s text value choice _ source meant (image.for_number other 
     absurd (none.none choice (subst (λ (v : LogValue). IsMeant (plan_of s v) s.bound s.tears which choice) same meant))
 of_meant below which s text value choice _ source meant (image.for_memory other images) = refl
 
+-- the choice of any number of parts that is meant is there
+of_any_image : Below → (in_words : Bool) (cut : ℕ) (said : List ℕ) (s : Settings) (text : Recording) (bytes : List ℕ) (r : Refusal)
+    → IsAnyImage (form_of in_words) text s cut said bytes → RefusesAnyImage text s cut said r → IsOfMemory r.code
+of_any_image below in_words cut said s text bytes _ h (any.for_any_log r why) = of_log below text s h.value r h.reads why
+of_any_image below in_words cut said s text bytes _ h (any.for_choice other reads none) =
+    let same : h.value ≡ other = same_asked below.texts text s h.value other h.reads reads in
+    absurd (none.none h.shown.departures (subst (λ (v : LogValue). IsMeantLoss s v cut said h.shown.departures) same h.shown.meant))
+of_any_image below in_words cut said s text bytes _ h (any.for_any_memory other reads) = refl
+
+of_any : Below → (w : OptionWords) (cut : ℕ) (in_words : Bool) (files : Files) (bytes : List ℕ) (status : ℕ) (r : Refusal) → AnswersAny w cut in_words files bytes status
+    → RefusesWith w (RefusesAny cut files) r → IsOfMemory r.code
+of_any below w cut in_words files bytes status r h why = of_words w h.settings (RefusesAny cut files) r h.asked (λ q. rest q) why
+  where
+    rest : (q : Refusal) → RefusesAny cut files h.settings q → IsOfMemory q.code
+    rest _ (for_any_losses q bad) = absurd (let both : None ≡ Some q = sym h.good ∙ bad in cc)
+    rest _ (for_any_recording q good refused) =
+        let own = h.answers in
+        of_recording files own.held own.initial (λ text. RefusesAnyImage text h.settings cut files.choice) q own.read own.based
+        (λ p. of_any_image below in_words cut files.choice h.settings (recording own.held own.initial) bytes p own.is) refused
+
 of_verified : Below → (listed : Bool) (s : Settings) (code bytes : List ℕ) (r : Refusal) → IsAcceptedText code s listed bytes → RefusesVerified code s r → IsOfMemory r.code
 of_verified below listed s code bytes _ h (with_code_fault cause slot fault) = absurd (below.spelled code h.verified.program h.spelled cause slot fault)
 of_verified below listed s code bytes _ h no_code_memory = refl
@@ -270,17 +291,19 @@ of_imported limits raw text _ h (with_raw_fault cause at fault) = absurd (import
 of_imported limits raw text _ h no_raw_memory = refl
 
 -- a run on one image without a limit was accepted
-accepted_trial : (p : List (Option Instr)) (sectors : ℕ) (checked : Option ℕ) (limit : ℕ) → checked ≡ None
-    → MatchOption checked (IsAccepted p sectors limit) (λ most. limit ≡ most) → IsAccepted p sectors limit
-accepted_trial p sectors None limit none h = h
-accepted_trial p sectors (Some most) limit none h = absurd (let bad : Some most ≡ None = none in cc)
+accepted_trial : (guards : Bool) (p : List (Option Instr)) (sectors : ℕ) (checked : Option ℕ) (b : Bound) → checked ≡ None
+    → MatchOption checked (IsBoundBy guards p sectors b) (λ most. b ≡ record { limit = most; guarded = None }) → IsBoundBy guards p sectors b
+accepted_trial guards p sectors None b none h = h
+accepted_trial guards p sectors (Some most) b none h = absurd (let bad : Some most ≡ None = none in cc)
 
 of_limit : Below → (program image : List ℕ) (t : Trial) (bytes : List ℕ) (failing : Bool) (slots : List (Option Instr)) (r : Refusal) → (h : IsTried program image t bytes failing)
     → slots ≡ h.slots → RefusesLimit slots image t r → IsOfMemory r.code
 of_limit below program image t bytes failing slots _ h same (trials.with_verifier_fault cause slot none refused) =
-    let accepted = accepted_trial h.slots (sectors_of image) t.checked h.limit none h.allowed in
-    absurd (below.verdicts.not_both _ cause slot accepted.1 (subst (λ (p : List (Option Instr)). Refused p (sectors_of image) cause slot) same refused))
+    let by = accepted_trial t.guards h.slots (sectors_of image) t.checked h.bound none h.allowed in
+    absurd (below.verdicts.not_both by.verified cause slot by.accepted
+    (refused_as by.verified t.guards (sectors_of image) slots cause slot by.guards (same ∙ sym by.program) by.sectors refused))
 of_limit below program image t bytes failing slots _ h same (trials.no_verifier_memory none) = refl
+of_limit below program image t bytes failing slots _ h same trials.no_count_memory = refl
 
 of_tried : Below → (program image : List ℕ) (t : Trial) (bytes : List ℕ) (failing : Bool) (r : Refusal) → IsTried program image t bytes failing → RefusesTrial program image t r
     → IsOfMemory r.code
@@ -318,7 +341,7 @@ of_join part files bytes status _ h (for_parts texts r read few why) =
     of_texts part h.texts bytes status r h.joins (subst (λ (ts : List (List ℕ)). RefusesTexts part ts r) (same_files files.named texts h.texts read h.read) why)
 of_join part files bytes status _ h (for_part_memory readable) = refl
 
-pub answer_or_refusal : Below → FindingIsOne → (r : Request) (files : Files) (bytes : List ℕ) (status : ℕ) (refusal : Refusal) → Answers r files bytes status → RefusesToAct r files refusal
+pub answer_or_refusal : Below → CasesAreOne → (r : Request) (files : Files) (bytes : List ℕ) (status : ℕ) (refusal : Refusal) → Answers r files bytes status → RefusesToAct r files refusal
     → IsOfMemory refusal.code
 answer_or_refusal below findings request.StoredRun files bytes status refusal h why = of_stored below findings (wanted.Told telling.Report) _ _ _ bytes status refusal h why
 answer_or_refusal below findings (request.Explore w) files bytes status refusal h why = of_explore below findings (wanted.Told telling.Report) w files bytes status refusal h why
@@ -338,6 +361,7 @@ answer_or_refusal below findings (request.Image w which) files bytes status refu
 answer_or_refusal below findings (request.Show w which) files bytes status refusal h why =
     of_log_with w (λ s text. IsShown text s which) (λ s text. RefusesImage text s which)
     (λ s text shown r k. of_meant below which s text k.value k.choice r k.source k.meant.is) files bytes status refusal h why
+answer_or_refusal below findings (request.AnyImage w cut in_words) files bytes status refusal h why = of_any below w cut in_words files bytes status refusal h why
 answer_or_refusal below findings (request.Verify w listed) files bytes status refusal h why =
     of_with w (λ s code. IsAcceptedText code s listed) (λ s code. RefusesVerified code s) (of_verified below listed) files bytes status refusal h why
 answer_or_refusal below findings (request.Import limits) files bytes status refusal h why =

@@ -1,11 +1,12 @@
 -- Who does the work changes no answer.
-use Rattle.std.proofs.Common.{ℕ, ◌≡◌, ◌==◌, nat_le, Bool, true, false, not, ◌&&◌, ◌||◌, is_some, List, [], ◌∷◌, Option, None, Some, option_map, sym, ap, subst}
+use Rattle.std.proofs.Common.{ℕ, ◌≡◌, ◌==◌, nat_le, Bool, true, false, not, ◌&&◌, ◌||◌, is_some, List, [], ◌∷◌, Option, None, Some, option_map, refl, sym, ◌∙◌, ap, subst}
 use Rattle.std.specs.Option.{option_map_or, option_and_then}
 use Rattle.base.specs.Check.{Check, check, first_failing}
 use Rattle.logfmt.specs.Bounds.{LogValue}
 use Rattle.epochs.specs.declared.cuts.CutKind.{CutKind}
 use Rattle.epochs.specs.declared.flushes.Flushes.{Flushes}
 use Rattle.epochs.specs.declared.part.By.{By}
+use Rattle.choices.specs.declared.choice.Departure.{Departure}
 use Rattle.request.specs.declared.settings.OptionPlace.{OptionPlace}
 use Rattle.request.specs.declared.settings.OptionPlace.TheVariants as place
 use Rattle.base.specs.Sizes.{sector_limit}
@@ -29,18 +30,19 @@ use Rattle.checker.specs.Checker.{CheckerValue}
 use Rattle.logfmt.specs.Flushed.{with_flushes}
 use Rattle.losses.specs.FailureWindows.{places_in}
 use Rattle.runs.specs.Cured.{AreRounds, Ends, with_totals, with_refusal, TellsCure, IsAnswered}
-use Rattle.runs.specs.Cases.{IsCases}
+use Rattle.runs.specs.Cases.{TellsCases, TellsFirst, of_first, of_none, TellsLosses, IsLosses}
 use Rattle.runs.specs.Explore.{IsRun}
 use Rattle.runs.specs.Why.{Tells}
 use Rattle.losses.specs.declared.flushes.counted.MissingFlush.{MissingFlush}
 use Rattle.runs.specs.declared.explore_command.Wanted.{Wanted}
 use Rattle.runs.specs.declared.explore_command.Wanted.TheVariants as wanted
 use Rattle.inspect.specs.Image.{IsImage, IsShown}
+use Rattle.inspect.specs.AnyImage.{any_text_in}
 use Rattle.inspect.specs.Survey.{IsSurvey}
 use Rattle.inspect.specs.Export.{IsExport}
 use Rattle.inspect.specs.Table.{IsTable}
 use Rattle.inspect.specs.Verifying.{IsAcceptedText}
-use Rattle.commands.specs.Acting.{Files, recording, AnswersExplore, AnswersCases, AnswersOf, AnswersWith, Answers}
+use Rattle.commands.specs.Acting.{Files, recording, any_words, form_of, AnswersExplore, AnswersCases, AnswersOf, AnswersAny, AnswersWith, Answers}
 use Rattle.commands.specs.OneAnswer.{OneAnswer, alone, asked_alone, WorkChangesNothing}
 
 -- the same settings for one worker without a cache
@@ -172,18 +174,32 @@ run_alone Is keeps text files s bytes failing h =
       faultless = h.faultless;
     }
 
-cases_alone : (l : AnyLosses) (text : Recording) (files : List (List ℕ)) (s : Settings) (bytes : List ℕ) (failing : Bool) → IsCases l text files s bytes failing
-    → IsCases l text files (set_alone s) bytes failing
+tells_cases_alone : (l : AnyLosses) (s : Settings) (value : LogValue) (cs : List CheckerValue) (bytes : List ℕ) (failing : Bool) → TellsCases l s value cs bytes failing
+    → TellsCases l (set_alone s) value cs bytes failing
 unfolding head_of
-cases_alone l text files s bytes failing h =
-    let tells = h.tells in
+tells_cases_alone l s value cs bytes failing tells = record { found = tells.found; are = tells.are; few = tells.few; text = tells.text; fails = tells.fails }
+
+tells_first_alone : (l : AnyLosses) (s : Settings) (value : LogValue) (cs : List CheckerValue) (bytes : List ℕ) (failing : Bool) → TellsFirst l s value cs bytes failing
+    → TellsFirst l (set_alone s) value cs bytes failing
+unfolding head_of
+tells_first_alone l s value cs bytes _ (of_first first is text) = of_first first is text
+tells_first_alone l s value cs bytes _ (of_none tells) = of_none (tells_cases_alone l s value cs bytes false tells)
+
+tells_losses_alone : (first : Bool) (l : AnyLosses) (s : Settings) (value : LogValue) (cs : List CheckerValue) (bytes : List ℕ) (failing : Bool) → TellsLosses first l s value cs bytes failing
+    → TellsLosses first l (set_alone s) value cs bytes failing
+tells_losses_alone false l s value cs bytes failing tells = tells_cases_alone l s value cs bytes failing tells
+tells_losses_alone true l s value cs bytes failing tells = tells_first_alone l s value cs bytes failing tells
+
+cases_alone : (first : Bool) (l : AnyLosses) (text : Recording) (files : List (List ℕ)) (s : Settings) (bytes : List ℕ) (failing : Bool) → IsLosses first l text files s bytes failing
+    → IsLosses first l text files (set_alone s) bytes failing
+cases_alone first l text files s bytes failing h =
     record {
       count = h.count;
       value = h.value;
       source = images_alone h.source;
       checkers = h.checkers;
       made = checkers_alone s files h.checkers h.made;
-      tells = record { found = tells.found; are = tells.are; few = tells.few; text = tells.text; fails = tells.fails };
+      tells = tells_losses_alone first l s h.value h.checkers bytes failing h.tells;
     }
 
 answered_alone : (w : Wanted) (text : Recording) (files : List (List ℕ)) (s : Settings) (bytes : List ℕ) (failing : Bool)
@@ -191,7 +207,7 @@ answered_alone : (w : Wanted) (text : Recording) (files : List (List ℕ)) (s : 
 answered_alone (wanted.Told t) text files s bytes failing h =
     run_alone (λ s value checkers bytes. Tells t (inputs_number text.text files) s value checkers bytes) (tells_alone t (inputs_number text.text files)) text files s bytes failing h
 answered_alone wanted.Cured text files s bytes failing h = run_alone TellsCure cure_alone text files s bytes failing h
-answered_alone (wanted.Cases l) text files s bytes failing h = cases_alone l text files s bytes failing h
+answered_alone (wanted.Cases l) text files s bytes failing h = cases_alone s.first l text files s bytes failing h
 
 explore_alone : (t : Wanted) (w : OptionWords) (files : Files) (bytes : List ℕ) (status : ℕ)
     → AnswersExplore t w files bytes status → AnswersExplore t (alone w) files bytes status
@@ -214,19 +230,19 @@ explore_alone t w files bytes status h =
 losses_alone : (l : LossWords) (s : Settings) → losses_refusal l s ≡ None → losses_refusal l (set_alone s) ≡ None
 unfolding loss_checks
 losses_alone l s h =
-    by_checks (l.any || not (is_some l.torn)) l.any (is_torn_asked l.torn s.tears) (is_lost_asked l.at_most) (s.cache == 0) (is_whole s.extent) (not s.first) h
+    by_checks (l.any || not (is_some l.torn)) l.any (is_torn_asked l.torn s.tears) (is_lost_asked l.at_most) (s.cache == 0) (is_whole s.extent) h
   where
-    by_checks : (a b c d e f g : Bool)
+    by_checks : (a b c d e f : Bool)
         → option_map option_refusal (first_failing (check place.Torn a ∷ check place.AtMost b ∷ check place.Torn c ∷ check place.AtMost d ∷ check place.Cache e ∷ check place.Images f
-        ∷ check place.First g ∷ [])) ≡ None
+        ∷ [])) ≡ None
         → option_map option_refusal (first_failing (check place.Torn a ∷ check place.AtMost b ∷ check place.Torn c ∷ check place.AtMost d ∷ check place.Cache true ∷ check place.Images f
-        ∷ check place.First g ∷ [])) ≡ None
-    by_checks false b c d e f g k = k
-    by_checks true false c d e f g k = k
-    by_checks true true false d e f g k = k
-    by_checks true true true false e f g k = k
-    by_checks true true true true false f g k = absurd (let bad : Some (option_refusal place.Cache) ≡ None = k in cc)
-    by_checks true true true true true f g k = k
+        ∷ [])) ≡ None
+    by_checks false b c d e f k = k
+    by_checks true false c d e f k = k
+    by_checks true true false d e f k = k
+    by_checks true true true false e f k = k
+    by_checks true true true true false f k = absurd (let bad : Some (option_refusal place.Cache) ≡ None = k in cc)
+    by_checks true true true true true f k = k
 
 cases_answered_alone : (w : OptionWords) (l : LossWords) (files : Files) (bytes : List ℕ) (status : ℕ) → AnswersCases w l files bytes status → AnswersCases (alone w) l files bytes status
 cases_answered_alone w l files bytes status h =
@@ -275,6 +291,40 @@ of_alone w Is keeps files bytes status h =
       };
     }
 
+told_alone : (in_words : Bool) (s : Settings) (v : LogValue) (cut : ℕ) (ds : List Departure) → any_text_in (form_of in_words) s v cut ds ≡ any_text_in (form_of in_words) (set_alone s) v cut ds
+told_alone true s v cut ds = refl
+told_alone false s v cut ds = refl
+
+any_alone : (w : OptionWords) (cut : ℕ) (in_words : Bool) (files : Files) (bytes : List ℕ) (status : ℕ) → AnswersAny w cut in_words files bytes status
+    → AnswersAny (alone w) cut in_words files bytes status
+any_alone w cut in_words files bytes status h =
+    let own = h.answers in
+    let shown = own.is.shown in
+    let lost = shown.departures in
+    let value = own.is.value in
+    record {
+      settings = set_alone h.settings;
+      asked = ask_alone w h.settings h.asked;
+      good = losses_alone any_words h.settings h.good;
+      answers = record {
+        held = own.held;
+        initial = own.initial;
+        read = own.read;
+        based = own.based;
+        is = record {
+          value = value;
+          reads = log_alone own.is.reads;
+          shown = record {
+            departures = lost;
+            meant = record { place = shown.meant.place; wanted = shown.meant.wanted; is = shown.meant.is };
+            only = λ others m. shown.only others (record { place = m.place; wanted = m.wanted; is = m.is });
+            told = shown.told ∙ told_alone in_words h.settings value cut lost;
+          };
+        };
+        ends = own.ends;
+      };
+    }
+
 pub answers_alone : (r : Request) (files : Files) (bytes : List ℕ) (status : ℕ) → Answers r files bytes status → Answers (asked_alone r) files bytes status
 answers_alone request.StoredRun files bytes status h = h
 answers_alone (request.Explore w) files bytes status h = explore_alone (wanted.Told telling.Report) w files bytes status h
@@ -297,6 +347,7 @@ answers_alone (request.Image w which) files bytes status h =
 answers_alone (request.Show w which) files bytes status h =
     of_alone w (λ s text. IsShown text s which)
     (λ s held shown k. record { value = k.value; source = images_alone k.source; choice = k.choice; meant = k.meant; shown = k.shown }) files bytes status h
+answers_alone (request.AnyImage w cut in_words) files bytes status h = any_alone w cut in_words files bytes status h
 answers_alone (request.Verify w listed) files bytes status h =
     with_alone w (λ s code. IsAcceptedText code s listed)
     (λ s held shown k. record { verified = k.verified; spelled = k.spelled; accepted = k.accepted; guards = k.guards; sectors = k.sectors; says = k.says }) files bytes status h

@@ -12,7 +12,7 @@ use Rattle.logfmt.specs.Bounds.{LogValue}
 use Rattle.logfmt.specs.Flushed.{is_place}
 use Rattle.logfmt.proofs.Flushed.{length-flushed}
 use Rattle.epochs.specs.declared.cuts.Cuts.{Cuts}
-use Rattle.epochs.specs.Cuts.{is_behind_first, is_before_last}
+use Rattle.epochs.specs.Cuts.{is_after_first, is_before_last}
 use Rattle.epochs.specs.declared.cuts.CutKind.{CutKind}
 use Rattle.epochs.specs.declared.cuts.CutKind.TheVariants as kind
 use Rattle.epochs.specs.Flushes.{places_of}
@@ -98,9 +98,9 @@ lines_precede : (s : Subject) (image : ℕ) → ArePreceding (image_lines s imag
 lines_precede s image i j a b less at also =
     (listed (at_image s image)).ordered i j a b less (ap (λ (ls : List FailingLine). slice_get ls i) (lines_at s image) ∙ at) (ap (λ (ls : List FailingLine). slice_get ls j) (lines_at s image) ∙ also)
 
-behind_one : (a b : FailingLine) → Precedes a b → follows (Some (mark_of a)) (mark_of b) ≡ true
-behind_one a b (inl less) = let one : nat_lt a.image b.image ≡ true = grind (arith, nat_tests, less) in rw one refl
-behind_one a b (inr (same, less)) =
+after_one : (a b : FailingLine) → Precedes a b → follows (Some (mark_of a)) (mark_of b) ≡ true
+after_one a b (inl less) = let one : nat_lt a.image b.image ≡ true = grind (arith, nat_tests, less) in rw one refl
+after_one a b (inr (same, less)) =
     let image : (a.image == b.image) ≡ true = grind (arith, nat_tests, same) in
     let program : nat_lt a.program b.program ≡ true = grind (arith, nat_tests, less) in
     let none : nat_lt a.image b.image ≡ false = grind (arith, nat_tests, same) in
@@ -110,22 +110,22 @@ behind_one a b (inr (same, less)) =
 record StandsIn (from to : ℕ) (last : Option Mark) (l : FailingLine) : Type 0 where
   low : from ≤ l.image
   high : l.image < to
-  behind : follows last (mark_of l) ≡ true
+  beyond : follows last (mark_of l) ≡ true
 
 in_order_of : (from to : ℕ) (last : Option Mark) (ls : List FailingLine) → ((i : ℕ) (l : FailingLine) → slice_get ls i ≡ Some l → StandsIn from to last l) → ArePreceding ls
     → in_order from to last (marks_of ls) ≡ true
 in_order_of from to last [] each precede = refl
 in_order_of from to last (l ∷ ls) each precede =
     let here = each 0 l refl in
-    next_back from to last (mark_of l) (marks_of ls) here.low here.high here.behind
+    next_back from to last (mark_of l) (marks_of ls) here.low here.high here.beyond
     (in_order_of from to (Some (mark_of l)) ls
-    (λ i k there. let own = each (suc i) k there in record { low = own.low; high = own.high; behind = behind_one l k (precede 0 (suc i) l k (omega arith) refl there) })
+    (λ i k there. let own = each (suc i) k there in record { low = own.low; high = own.high; beyond = after_one l k (precede 0 (suc i) l k (omega arith) refl there) })
     (λ i j a b less at also. precede (suc i) (suc j) a b (omega (arith, less)) at also))
 
 image_in_order : (s : Subject) (image : ℕ) → in_order image (image + 1) None (marks_of (image_lines s image)) ≡ true
 image_in_order s image =
     in_order_of image (image + 1) None (image_lines s image)
-    (λ i l there. let is = line_there s image i l there in record { low = is.low; high = is.high; behind = refl })
+    (λ i l there. let is = line_there s image i l there in record { low = is.low; high = is.high; beyond = refl })
     (lines_precede s image)
 
 -- what is known of the checkers
@@ -304,7 +304,7 @@ line_of_run text files s value checkers image l given is =
     let departures : l.departures ≡ is.choice.departures = is.departures in
     let named : nat_lt l.program (length (map program_head checkers)) ≡ true = grind (arith, nat_tests, program, heads) in
     let within : nat_le l.cut (length value.entries) ≡ true = grind (arith, nat_tests, cut, same) in
-    let first : is_behind_first s.cuts.from l.cut ≡ true = rw same (from_first s.cuts.from is.choice.cut wanted.behind) in
+    let first : is_after_first s.cuts.from l.cut ≡ true = rw same (from_first s.cuts.from is.choice.cut wanted.beyond) in
     let last : is_before_last s.cuts.to l.cut ≡ true = rw same (to_last s.cuts.to is.choice.cut wanted.before) in
     record {
       there = rw (named, within, first, last) refl;

@@ -34,6 +34,9 @@ use Rattle.base.specs.Sizes.{sector_limit}
 use Rattle.raw_log.specs.Imported.{IsImported}
 use Rattle.inspect.specs.Import.{RefusesImport}
 use Rattle.inspect.specs.Image.{IsImage, RefusesImage, IsShown}
+use Rattle.inspect.specs.AnyImage.{IsAnyImage, RefusesAnyImage}
+use Rattle.inspect.specs.declared.looks.image_command.Form.{Form}
+use Rattle.inspect.specs.declared.looks.image_command.Form.TheVariants as form
 use Rattle.inspect.specs.Survey.{IsSurvey, RefusesSurvey}
 use Rattle.inspect.specs.Export.{IsExport, RefusesExport}
 use Rattle.inspect.specs.Table.{IsTable, RefusesTable}
@@ -42,16 +45,17 @@ use Rattle.inspect.specs.Assembly.{IsAssembled, RefusesText, IsListed, RefusesBy
 use Rattle.inspect.specs.TrialText.{IsTried, RefusesTrial}
 
 -- what each file of a command holds, none where it can't be read: those that it names by themselves, and the one after --base,
--- where that stands there
+-- where that stands there; beside them the text after --choice
 pub record Files : Type 0 where
   pub named : List (Option (List ℕ))
   pub base : Option (Option (List ℕ))
+  pub choice : List ℕ
 
-abbrev pub files_of : {V : Type 0} → (V → List ℕ) → List (Option V) → Option (Option V) → Files
-files_of items named base = record { named = map (option_map items) named; base = option_map (option_map items) base }
+abbrev pub files_of : {V : Type 0} → (V → List ℕ) → List (Option V) → Option (Option V) → List ℕ → Files
+files_of items named base choice = record { named = map (option_map items) named; base = option_map (option_map items) base; choice = choice }
 
 abbrev pub held_by : Held → Files
-held_by held = files_of (λ f. f.items) held.named.now held.base.now
+held_by held = files_of (λ f. f.items) held.named.now held.base.now held.choice.now
 
 -- the place of the first file that can't be read; without any file the first can't be read
 abbrev pub unread : List (Option (List ℕ)) → Option ℕ
@@ -121,6 +125,14 @@ pub record AnswersCases (w : OptionWords) (l : LossWords) (files : Files) (bytes
   pub good : losses_refusal l settings ≡ None
   pub answers : AnswersFiles (wanted.Cases (losses_asked l settings)) settings files bytes status
 
+-- what is asked of any number of losses, where no number of them is given
+abbrev pub any_words : LossWords
+any_words = record { any = true; torn = None; at_most = None }
+
+-- how an image is told
+abbrev pub form_of : Bool → Form
+form_of in_words = if in_words then form.Words else form.Bytes
+
 -- what a command on one file answers, by what that file holds; its status is 0
 pub record AnswersFile (Is : List ℕ → List ℕ → Type 0) (files : Files) (bytes : List ℕ) (status : ℕ) : Type 0 where
   pub held : List ℕ
@@ -142,6 +154,13 @@ pub record AnswersOf (w : OptionWords) (Is : Settings → Recording → List ℕ
   pub settings : Settings
   pub asked : AskFor w settings
   pub answers : AnswersLog (Is settings) files bytes status
+
+-- the same of an image with any number of losses, of the choice that is printed so
+pub record AnswersAny (w : OptionWords) (cut : ℕ) (in_words : Bool) (files : Files) (bytes : List ℕ) (status : ℕ) : Type 0 where
+  pub settings : Settings
+  pub asked : AskFor w settings
+  pub good : losses_refusal any_words settings ≡ None
+  pub answers : AnswersLog (λ text. IsAnyImage (form_of in_words) text settings cut files.choice) files bytes status
 
 -- the same of a command that takes options, but no log
 pub record AnswersWith (w : OptionWords) (Is : Settings → List ℕ → List ℕ → Type 0) (files : Files) (bytes : List ℕ) (status : ℕ) : Type 0 where
@@ -202,6 +221,7 @@ Answers (request.Export w) files bytes status = AnswersOf w (λ s text. IsExport
 Answers (request.Log w) files bytes status = AnswersOf w (λ s text. IsTable text s) files bytes status
 Answers (request.Image w which) files bytes status = AnswersOf w (λ s text. IsImage text s which) files bytes status
 Answers (request.Show w which) files bytes status = AnswersOf w (λ s text. IsShown text s which) files bytes status
+Answers (request.AnyImage w cut in_words) files bytes status = AnswersAny w cut in_words files bytes status
 Answers (request.Verify w listed) files bytes status = AnswersWith w (λ s code. IsAcceptedText code s listed) files bytes status
 Answers (request.Import limits) files bytes status = AnswersFile (λ raw. IsImported raw (sector_limit limits) limits) files bytes status
 Answers (request.Check w) files bytes status = AnswersTrial w files bytes status
@@ -240,6 +260,11 @@ pub data RefusesFiles (t : Wanted) (files : Files) (s : Settings) : Refusal → 
 pub data RefusesCases (l : LossWords) (files : Files) (s : Settings) : Refusal → Type 0 where
   for_losses : (r : Refusal) → losses_refusal l s ≡ Some r → RefusesCases l files s r
   for_cases_of : (r : Refusal) → losses_refusal l s ≡ None → RefusesFiles (wanted.Cases (losses_asked l s)) files s r → RefusesCases l files s r
+
+-- the refusals of an image with any number of losses after its options: what doesn't go with these first
+pub data RefusesAny (cut : ℕ) (files : Files) (s : Settings) : Refusal → Type 0 where
+  for_any_losses : (r : Refusal) → losses_refusal any_words s ≡ Some r → RefusesAny cut files s r
+  for_any_recording : (r : Refusal) → losses_refusal any_words s ≡ None → RefusesRecording files (λ text. RefusesAnyImage text s cut files.choice) r → RefusesAny cut files s r
 
 -- the refusals of a program on an image: of the words; of good words, that the program's file can't be read; that it can be, and the
 -- image's can't be; then those of what they hold
@@ -288,6 +313,7 @@ RefusesToAct (request.Export w) files r = RefusesWith w (λ s. RefusesRecording 
 RefusesToAct (request.Log w) files r = RefusesWith w (λ s. RefusesRecording files (λ text. RefusesTable text s)) r
 RefusesToAct (request.Image w which) files r = RefusesWith w (λ s. RefusesRecording files (λ text. RefusesImage text s which)) r
 RefusesToAct (request.Show w which) files r = RefusesWith w (λ s. RefusesRecording files (λ text. RefusesImage text s which)) r
+RefusesToAct (request.AnyImage w cut in_words) files r = RefusesWith w (RefusesAny cut files) r
 RefusesToAct (request.Verify w listed) files r = RefusesWith w (λ s. RefusesFile files (λ code. RefusesVerified code s)) r
 RefusesToAct (request.Import limits) files r = RefusesFile files (RefusesImport limits) r
 RefusesToAct (request.Check w) files r = RefusesCheck w files r

@@ -51,6 +51,7 @@ asked_alone (request.Export w) = request.Export (alone w)
 asked_alone (request.Log w) = request.Log (alone w)
 asked_alone (request.Image w which) = request.Image (alone w) which
 asked_alone (request.Show w which) = request.Show (alone w) which
+asked_alone (request.AnyImage w cut in_words) = request.AnyImage (alone w) cut in_words
 asked_alone (request.Verify w listed) = request.Verify (alone w) listed
 asked_alone (request.Import limits) = request.Import limits
 asked_alone (request.Check w) = request.Check w

@@ -7,7 +7,7 @@ ghost use Rattle.request.specs.declared.command.Request.TheVariants as asks;
 ghost use Rattle.runs.specs.Explore.{RefusesWanted};
 ghost use Rattle.request.specs.Refusals.{file_refusal};
 ghost use Rattle.runs.specs.declared.explore_command.Wanted.TheVariants as wants;
-ghost use Rattle.commands.specs.Acting.{first_held, second_held, files_of, held_by, initial_of, recording, status_of, HoldsRecording, RefusesRecording, AnswersRun, AnswersFiles, AnswersExplore, AnswersCases, Shows, AnswersOf, Answers, JoinsTexts, RefusesTexts, join_refusal, most_texts, RefusesWith, RefusesCases, RefusesLook, RefusesToAct, RefusesFiles};
+ghost use Rattle.commands.specs.Acting.{first_held, second_held, files_of, held_by, initial_of, recording, status_of, HoldsRecording, RefusesRecording, AnswersRun, AnswersFiles, AnswersExplore, AnswersCases, AnswersAny, RefusesAny, any_words, form_of, Shows, AnswersOf, Answers, JoinsTexts, RefusesTexts, join_refusal, most_texts, RefusesWith, RefusesCases, RefusesLook, RefusesToAct, RefusesFiles};
 ghost use Rattle.commands.specs.Stored.{stored_log, stored_programs, stored_settings};
 ghost use Rattle.request.specs.declared.settings.Telling.TheVariants as tells;
 
@@ -17,7 +17,8 @@ use base::limits::Limits;
 use base::refusal::{Cause, Refusal};
 use command_line::Words;
 use inspect::looks::{
-    assemble, export_images, image, import, list, show, shown_log, survey, verify_program,
+    Form, any_image, assemble, export_images, image, import, list, show, shown_log, survey,
+    verify_program,
 };
 use inspect::trial::try_image;
 use join::{JoinFault, join};
@@ -51,11 +52,12 @@ pub(crate) enum Look {
 }
 
 /// What each file of a command holds, none where it could not be read: those that it names by themselves, and the one after
-/// `--base`, where that stands there.
+/// `--base`, where that stands there. Beside them the text after `--choice`.
 #[derive(Clone, Copy)]
 pub(crate) struct Held<'x> {
     pub named: &'x [Option<Vec<u8>>],
     pub base: &'x Option<Option<Vec<u8>>>,
+    pub choice: &'x str,
 }
 
 impl<'x> Held<'x> {
@@ -174,6 +176,7 @@ fn act_explore<G: Gate + Sync, R: Threads + Wait + Sync>(
 }
 
 /// Finds the failing cases of any number of losses in the files of a command, of which the first is the log.
+#[inline(never)]
 fn act_cases<G: Gate + Sync, R: Threads + Wait + Sync>(
     rt: &R,
     alloc: Global,
@@ -280,6 +283,7 @@ fn shown(
 }
 
 /// What is shown of the log that the first file holds.
+#[inline(never)]
 fn act_look(
     alloc: Global,
     look: Look,
@@ -296,7 +300,47 @@ fn act_look(
     Ok((bytes, 0))
 }
 
+/// What is asked of any number of losses, where no number of them is given.
+fn any_words() -> LossWords
+    ensures { result ≡ any_words }
+{
+    LossWords {
+        any: true,
+        torn: None,
+        at_most: None,
+    }
+}
+
+/// How an image is told.
+fn form_of(in_words: bool) -> Form
+    ensures { result ≡ form_of in_words }
+{
+    if in_words { Form::Words } else { Form::Bytes }
+}
+
+/// The image with any number of losses that the text of a choice names, of the log that the first file holds.
+#[inline(never)]
+fn act_any_image(
+    alloc: Global,
+    words: OptionWords,
+    cut: u64,
+    in_words: bool,
+    files: &Held<'_>,
+    facts: &mut Facts,
+) -> Result<(Vec<u8>, u8), Refusal>
+    ensures answers { IfOk result (λ answer. AnswersAny words cut in_words (held_by files.now) answer.0.items answer.1) }
+    ensures refused { IfErr result (RefusesWith words (RefusesAny cut (held_by files.now))) }
+{
+    let options = options_of(words)?;
+    let _losses = losses_of(any_words(), &options)?;
+    let recording = files.recording()?;
+    let form = form_of(in_words);
+    let bytes = any_image(alloc, form, &recording, cut, files.choice, &options, facts)?;
+    Ok((bytes, 0))
+}
+
 /// The log that is imported of a raw log.
+#[inline(never)]
 fn act_import(alloc: Global, limits: Limits, files: &Held<'_>) -> Result<(Vec<u8>, u8), Refusal>
     ensures answers { IfOk result (λ answer. Answers (asks.Import limits) (held_by files.now) answer.0.items answer.1) }
     ensures refused { IfErr result (RefusesToAct (asks.Import limits) (held_by files.now)) }
@@ -307,6 +351,7 @@ fn act_import(alloc: Global, limits: Limits, files: &Held<'_>) -> Result<(Vec<u8
 }
 
 /// What the verifier says of a program, with each guarded slot or without.
+#[inline(never)]
 fn act_verify(
     alloc: Global,
     words: OptionWords,
@@ -331,6 +376,7 @@ fn status_of(failing: bool) -> u8
 }
 
 /// What a program comes to on one image, with the status 1 where it rejects that.
+#[inline(never)]
 fn act_check(
     alloc: Global,
     words: TrialWords,
@@ -349,6 +395,7 @@ fn act_check(
 }
 
 /// The program of a source text, as bytes.
+#[inline(never)]
 fn act_asm(alloc: Global, files: &Held<'_>) -> Result<(Vec<u8>, u8), Refusal>
     ensures answers { IfOk result (λ answer. Answers asks.Asm (held_by files.now) answer.0.items answer.1) }
     ensures refused { IfErr result (RefusesToAct asks.Asm (held_by files.now)) }
@@ -359,6 +406,7 @@ fn act_asm(alloc: Global, files: &Held<'_>) -> Result<(Vec<u8>, u8), Refusal>
 }
 
 /// The listing of a program.
+#[inline(never)]
 fn act_list(alloc: Global, numbered: bool, files: &Held<'_>) -> Result<(Vec<u8>, u8), Refusal>
     ensures answers { IfOk result (λ answer. Answers (asks.List numbered) (held_by files.now) answer.0.items answer.1) }
     ensures refused { IfErr result (RefusesToAct (asks.List numbered) (held_by files.now)) }
@@ -400,6 +448,7 @@ fn join_texts(alloc: Global, part: bool, texts: &[Vec<u8>]) -> Result<(Vec<u8>, 
 }
 
 /// What the parts that the files hold come to.
+#[inline(never)]
 fn act_join(alloc: Global, part: bool, files: &Held<'_>) -> Result<(Vec<u8>, u8), Refusal>
     ensures answers { IfOk result (λ answer. Answers (asks.Join part) (held_by files.now) answer.0.items answer.1) }
     ensures refused { IfErr result (RefusesToAct (asks.Join part) (held_by files.now)) }
@@ -456,6 +505,11 @@ pub(crate) fn act_known<G: Gate + Sync, R: Threads + Wait + Sync>(
         Request::Import(limits) => act_import(alloc, limits, files),
         Request::Image(words, which) => act_look(alloc, Look::Image(which), words, files, facts),
         Request::Show(words, which) => act_look(alloc, Look::Show(which), words, files, facts),
+        Request::AnyImage {
+            words,
+            cut,
+            in_words,
+        } => act_any_image(alloc, words, cut, in_words, files, facts),
         Request::Verify { words, listed } => act_verify(alloc, words, listed, files, facts),
         Request::Check(words) => act_check(alloc, words, files, facts),
         Request::Asm => act_asm(alloc, files),
@@ -482,9 +536,13 @@ pub fn act<G: Gate + Sync, R: Threads + Wait + Sync>(
     files: &[Option<Vec<u8>>],
     base: &Option<Option<Vec<u8>>>,
 ) -> Result<(Vec<u8>, u8), Refusal>
-    ensures answers { IfOk result (λ answer. Answers words.now.request (files_of (λ f. f.items) files.now base.now) answer.0.items answer.1) }
-    ensures refused { IfErr result (RefusesToAct words.now.request (files_of (λ f. f.items) files.now base.now)) }
+    ensures answers { IfOk result (λ answer. Answers words.now.request (files_of (λ f. f.items) files.now base.now words.now.choice) answer.0.items answer.1) }
+    ensures refused { IfErr result (RefusesToAct words.now.request (files_of (λ f. f.items) files.now base.now words.now.choice)) }
 {
-    let held = Held { named: files, base };
+    let held = Held {
+        named: files,
+        base,
+        choice: words.choice(),
+    };
     act_known(rt, alloc, gate, words, &held, &mut Facts::new())
 }

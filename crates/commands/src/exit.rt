@@ -39,9 +39,13 @@ pub fn perform<G: Gate + Sync, R: Threads + Wait + Sync>(
     files: &[Option<Vec<u8>>],
     base: &Option<Option<Vec<u8>>>,
 ) -> Exit
-    ensures { Exits words.now.request (files_of (λ f. f.items) files.now base.now) result.output.items result.refusal result.status }
+    ensures { Exits words.now.request (files_of (λ f. f.items) files.now base.now words.now.choice) result.output.items result.refusal result.status }
 {
-    let held = Held { named: files, base };
+    let held = Held {
+        named: files,
+        base,
+        choice: words.choice(),
+    };
     let mut facts = Facts::new();
     match act_known(rt, alloc, gate, words, &held, &mut facts) {
         Ok((output, status)) => Exit {

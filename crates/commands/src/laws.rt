@@ -11,7 +11,7 @@ ghost use Rattle.commands.specs.OtherWork.{JoinIsExploreByOwn};
 ghost use Rattle.commands.specs.Parts.{JoinIsExplore, JoinedPartsAreRun, PartsOfRunAreJoined};
 
 use bpf_isa::laws::{no_fault_in_spelled, one_program};
-use case_runs::finding_is_one;
+use case_runs::{finding_is_one, first_is_one};
 use choices::list_is_set;
 use logfmt::{text_has_no_fault, text_of_one_log};
 use losses::why::{all_stand, each_stands_once};
@@ -43,6 +43,7 @@ pub fn one_answer()
     one_verdict();
     one_source();
     finding_is_one();
+    first_is_one();
 }
 
 /// Where there is an answer to a request, a refusal is for want of memory alone.
@@ -55,6 +56,7 @@ pub fn answer_or_refusal()
     no_fault_in_spelled();
     one_verdict();
     finding_is_one();
+    first_is_one();
 }
 
 /// Two command lines that differ in the number of workers, the size of the cache and the line of progress alone have the same
@@ -126,7 +128,8 @@ pub fn join_is_explore()
     one_verdict();
 }
 
-/// The same of parts that were made by other numbers of workers, and with caches of other sizes, than the whole run.
+/// The join of parts is the run as well where other numbers of workers, and caches of other sizes, made them than the whole
+/// run.
 pub fn join_is_explore_by_own()
     ensures { JoinIsExploreByOwn }
 {

@@ -15,7 +15,7 @@
 //!   refusal.
 //! - `command_line`: the words of the command line, and their help.
 //! - `runs`: `explore`, with a bound or with any number of losses, `why`, `page` and `cure_run`, from bytes to bytes.
-//! - `inspect`: `images`, `image`, `show`, `log`, `verify`, `asm` and `list`.
+//! - `inspect`: `images`, `image`, `show`, both with a bound or with any number of losses, `log`, `verify`, `asm` and `list`.
 //! - `notes`: the notes after a refusal and beside an answer.
 //!
 //! What stands here:
@@ -83,6 +83,15 @@
 //! let (bytes, status) = act(rt, alloc, &OpenGate, &words, files, &None)?;
 //! // bytes: the report; status: 1 where an image fails
 //! ```
+//!
+//! # Choices
+//!
+//! - Where several files can't be read, 14 names the first of them in the order of the command line: that is the
+//!   order in which they are named, and one refusal is enough.
+//! - 14 and 13 have no ` of program P`: the place of 14 names the file; no program was decoded.
+//! - At a refusal nothing is printed on standard output: what stands there is a whole report or nothing.
+//! - Out of memory in `asm` and `list` has place 0, and number 72 where the part that met it has no number of its
+//!   own: as in every other command.
 #![tactic(auto)]
 
 mod action;
@@ -107,7 +116,7 @@ pub use laws::{
     joined_parts_are_run, one_answer, one_report, parts_of_run_are_joined, report_or_refusal,
     reports_are_bounded, show_names_differences, work_changes_nothing,
 };
-pub use notes::command_notes::{notes_behind, notes_beside};
+pub use notes::command_notes::{notes_after, notes_beside};
 pub use progress::Progress;
 pub use request::facts::{Facts, Recording};
 pub use request::{

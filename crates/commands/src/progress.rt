@@ -7,7 +7,8 @@ use workers::{BLOCK, Gate};
 
 /// A gate that says on standard error how many images are judged, of how many. Of each exploration it is one
 /// line, which is written again once a second at most, with a carriage return after it. It is ended where the
-/// next exploration begins, and by `end`. Where that isn't asked for, or the clock can't be read, nothing is said. Before the first
+/// next exploration begins, and by `end`. Of any number of losses no number of images is known: it says how many cases are found, and is
+/// told of each as of a block. Where that isn't asked for, or the clock can't be read, nothing is said. Before the first
 /// image is judged it says how large the report may get, where that is much.
 #[derive(Drop)]
 pub struct Progress<'r, R> {
@@ -16,11 +17,11 @@ pub struct Progress<'r, R> {
     lines: u64,
     /// When it was made, where progress is asked for.
     start: Option<Instant>,
-    /// How many images there are; 0 until the exploration begins.
+    /// How many images there are; 0 until the exploration begins, and where cases are found.
     images: AtomicU64,
-    /// How many images are judged or passed over.
+    /// How many images are judged or passed over, or how many cases are found.
     judged: AtomicU64,
-    /// In which second from the start the line was last written.
+    /// The second from the start in which the line was last written.
     second: AtomicU64,
 }
 
@@ -39,9 +40,17 @@ impl<'r, R: Clock + Eprint> Progress<'r, R> {
 
     /// Writes the line of the exploration a last time and ends it, if one has begun.
     pub fn end(&self) {
-        if self.start.is_some() && self.images.load(Ordering::SeqCst) > 0 {
+        if self.start.is_some() && self.has_begun() {
             self.say("\n");
         }
+    }
+
+    /// Whether an exploration has begun: of images, or of cases, of which one is found or the line was written.
+    fn has_begun(&self) -> bool {
+        let images = self.images.load(Ordering::SeqCst);
+        let judged = self.judged.load(Ordering::SeqCst);
+        let second = self.second.load(Ordering::SeqCst);
+        images > 0 || judged > 0 || second > 0
     }
 
     /// Says how large the report of that many images may get, where that is more than a GiB.
@@ -63,7 +72,18 @@ impl<'r, R: Clock + Eprint> Progress<'r, R> {
     fn say(&self, end: &str) {
         let judged = self.judged.load(Ordering::SeqCst);
         let images = self.images.load(Ordering::SeqCst);
-        eprint!(self.rt; "progress: {judged} of {images} images{end}").ok();
+        if images > 0 {
+            eprint!(self.rt; "progress: {judged} of {images} images{end}").ok();
+        } else {
+            eprint!(self.rt; "progress: {judged} cases{end}").ok();
+        }
+    }
+
+    /// Writes the line, where a second has passed.
+    fn say_if_due(&self) {
+        if self.is_due() {
+            self.say("\r");
+        }
     }
 
     /// Whether a second has passed since the line was last written. One worker alone is told so.
@@ -78,8 +98,11 @@ impl<'r, R: Clock + Eprint> Progress<'r, R> {
     }
 }
 
-/// How many images a block has, of a run of that many.
+/// How many images a block has, of a run of that many; or one case.
 fn images_in(block: u32, images: u64) -> u64 {
+    if images == 0 {
+        return 1;
+    }
     images.saturating_sub(BLOCK * u64::from(block)).min(BLOCK)
 }
 
@@ -91,7 +114,12 @@ impl<R: Clock + Eprint> Gate for Progress<'_, R> {
         self.images.store(images, Ordering::SeqCst);
     }
 
-    fn before(&self, _worker: u8, _block: u32) {}
+    fn before(&self, _worker: u8, _block: u32) {
+        // A program is run for a case, of which there may be none for long.
+        if self.start.is_some() && self.images.load(Ordering::SeqCst) == 0 {
+            self.say_if_due();
+        }
+    }
 
     fn after(&self, _worker: u8, block: u32) {
         if self.start.is_none() {
@@ -100,8 +128,6 @@ impl<R: Clock + Eprint> Gate for Progress<'_, R> {
         let images = self.images.load(Ordering::SeqCst);
         self.judged
             .fetch_add(images_in(block, images), Ordering::SeqCst);
-        if self.is_due() {
-            self.say("\r");
-        }
+        self.say_if_due();
     }
 }

@@ -47,19 +47,24 @@ fn write_export<W: Write>(
     write_images(alloc, &recording, &options, facts, output)
 }
 
-/// Performs `export` with such words on what its files hold, as `perform` does, and writes the answer as it is made: whatever its length,
+/// Performs `export` with such words on what its files hold, beside the text after `--choice`, as `perform` does, and writes the answer as it is made: whatever its length,
 /// a piece of it is kept. Its status is 0 where all of it was written, and 2 where it wasn't.
 pub fn perform_export<W: Write>(
     alloc: Global,
     words: OptionWords,
     files: &[Option<Vec<u8>>],
     base: &Option<Option<Vec<u8>>>,
+    choice: &str,
     writer: W,
 ) -> Streamed<W>
-    ensures all { OnOk result.written (IsWritten (asks.Export words) (files_of (λ f. f.items) files.now base.now) (W.contents writer) (W.contents result.writer)) }
-    ensures stopped { IfErr result.written (IsStopped (asks.Export words) (files_of (λ f. f.items) files.now base.now) (W.contents writer) (W.contents result.writer)) }
+    ensures all { OnOk result.written (IsWritten (asks.Export words) (files_of (λ f. f.items) files.now base.now choice.now) (W.contents writer) (W.contents result.writer)) }
+    ensures stopped { IfErr result.written (IsStopped (asks.Export words) (files_of (λ f. f.items) files.now base.now choice.now) (W.contents writer) (W.contents result.writer)) }
 {
-    let held = Held { named: files, base };
+    let held = Held {
+        named: files,
+        base,
+        choice,
+    };
     let mut facts = Facts::new();
     let output = Output::new(writer);
     let (written, output) = write_export(alloc, words, &held, &mut facts, output);

@@ -2,3 +2,4 @@ pub mod Rows
 pub mod Sectors
 pub mod Cut
 pub mod Shown
+pub mod AnyShown

@@ -1,8 +1,10 @@
 //! What stands at a cut.
 
-ghost use Rattle.std.specs.Prelude.{ℕ, ◌⊎◌, ◌≡◌, ◌+◌, ◌*◌, ◌<◌, ◌≤◌, ◌++◌, [], ◌∷◌, Bool, if◌then◌else◌, length, slice_get, Some, IfSome, OnOk, string_bytes};
+ghost use Rattle.std.specs.Prelude.{ℕ, ◌⊎◌, ◌≡◌, ◌+◌, ◌*◌, ◌<◌, ◌≤◌, ◌++◌, [], ◌∷◌, Bool, codes, if◌then◌else◌, length, slice_get, Some, IfSome, OnOk, string_bytes};
+ghost use Rattle.std.specs.Option.{option_map_or};
 ghost use Rattle.notes.specs.LogTable.{line_at};
 ghost use Rattle.crash_text.specs.Cut.{place_text, arrived_text, departed_line, volatile_line, parts_text, volatile_text, told_word, is_told_at, last_before, last_text, before_line, before_text};
+ghost use Rattle.crash_text.specs.AnyShown.{any_cut_shown, any_departed_line, entry_part, flight_text, flight_word, has_forced_data, in_flight, is_in_flight, place_at};
 ghost use Rattle.crash_text.specs.Shown.{cut_shown};
 
 use crate::numbering::Numbering;
@@ -54,6 +56,50 @@ pub(crate) fn put_departed(out: &mut String, departure: Departure) -> Result<(),
     out.push_str("\n")
 }
 
+/// Whether an entry is in flight at a cut: it is the last before it, and forced to the device with its data.
+fn is_in_flight(entries: &[Entry], cut: u32, number: u32) -> bool
+    ensures { result ≡ is_in_flight entries.now cut number }
+{
+    match entries.get(number as usize) {
+        Some(entry) => entry.flags.fua && u64::from(number) + 1 == u64::from(cut),
+        None => false,
+    }
+}
+
+/// Appends that an entry is in flight, where it is.
+fn put_flight_word(
+    out: &mut String,
+    entries: &[Entry],
+    cut: u32,
+    number: u32,
+) -> Result<(), AllocError>
+    ensures { OnOk result (string_bytes out.new ≡ string_bytes out.old ++ flight_word entries.now cut number) }
+{
+    if is_in_flight(entries, cut, number) {
+        out.push_str(", in flight")
+    } else {
+        Ok(())
+    }
+}
+
+/// Appends a line for a departure at a cut, which says where its entry is in flight.
+#[tactic(auto, unfolding(crate::specs::AnyShown::any_departed_line))]
+pub(crate) fn put_any_departed(
+    out: &mut String,
+    entries: &[Entry],
+    cut: u32,
+    departure: Departure,
+) -> Result<(), AllocError>
+    ensures { OnOk result (string_bytes out.new ≡ string_bytes out.old ++ any_departed_line entries.now cut departure) }
+{
+    out.push_str("departed: ")?;
+    put_place(out, departure.part)?;
+    put_flight_word(out, entries, cut, departure.part.entry)?;
+    out.push_str(": ")?;
+    put_arrived(out, departure.part.count, departure.fate)?;
+    out.push_str("\n")
+}
+
 /// Appends a line for a volatile part.
 #[tactic(auto, unfolding(crate::specs::Cut::volatile_line))]
 fn put_volatile_part(out: &mut String, part: Part) -> Result<(), AllocError>
@@ -92,6 +138,67 @@ fn put_volatile(out: &mut String, plan: &Plan<'_>, cut: u32) -> Result<(), Alloc
     let parts = plan.volatile(cut);
     write!(out, "volatile parts: {parts}\n")?;
     put_parts(out, plan, cut)
+}
+
+/// Whether an entry is forced to the device, and has data.
+fn has_forced_data(entries: &[Entry], number: u32) -> bool
+    requires { number < length entries.now }
+    ensures { result ≡ has_forced_data entries.now number }
+{
+    let entry = &entries[number as usize];
+    entry.flags.fua && 0 < entry.count
+}
+
+/// The entry in flight at a cut, if it has data.
+fn in_flight(entries: &[Entry], cut: u32) -> Option<u32>
+    requires { cut ≤ length entries.now }
+    ensures value { result ≡ in_flight entries.now cut }
+    ensures there { IfSome result (λ e. e < length entries.now) }
+{
+    if cut == 0 {
+        return None;
+    }
+    let last = cut - 1;
+    if has_forced_data(entries, last) {
+        Some(last)
+    } else {
+        None
+    }
+}
+
+/// Appends the place of all of an entry.
+#[tactic(auto, unfolding(crate::specs::Cut::place_text))]
+fn put_entry_place(out: &mut String, number: u32, entry: &Entry) -> Result<(), AllocError>
+    ensures { OnOk result (string_bytes out.new ≡ string_bytes out.old ++ place_text (entry_part number entry.now)) }
+{
+    write!(out, "entry {number}")?;
+    if entry.count == 1 {
+        write!(out, ", sector {}", entry.sector)
+    } else {
+        write!(out, ", {} sectors from {} on", entry.count, entry.sector)
+    }
+}
+
+/// Appends the place of the entry in flight, if there is one.
+fn put_flying(out: &mut String, entries: &[Entry], number: Option<u32>) -> Result<(), AllocError>
+    requires { IfSome number (λ e. e < length entries.now) }
+    ensures { OnOk result (string_bytes out.new ≡ string_bytes out.old ++ option_map_or (place_at entries.now) number (codes "none")) }
+{
+    match number {
+        Some(number) => put_entry_place(out, number, &entries[number as usize]),
+        None => out.push_str("none"),
+    }
+}
+
+/// Appends the entry in flight at a cut: of it a crash may take something, though it isn't volatile.
+#[tactic(auto, unfolding(crate::specs::AnyShown::flight_text))]
+fn put_flight(out: &mut String, entries: &[Entry], cut: u32) -> Result<(), AllocError>
+    requires { cut ≤ length entries.now }
+    ensures { OnOk result (string_bytes out.new ≡ string_bytes out.old ++ flight_text entries.now cut) }
+{
+    out.push_str("in flight: ")?;
+    put_flying(out, entries, in_flight(entries, cut))?;
+    out.push_str("\n")
 }
 
 /// Appends the line of an entry.
@@ -213,6 +320,23 @@ pub fn put_cut(out: &mut String, numbering: &Numbering<'_>, cut: u32) -> Result<
     ensures { OnOk result (string_bytes out.new ≡ string_bytes out.old ++ cut_shown numbering.now.plan.now cut) }
 {
     put_volatile(out, numbering.plan, cut)?;
+    put_before(out, numbering, cut)?;
+    put_last(out, numbering, Told::Flush, cut)?;
+    put_last(out, numbering, Told::Mark, cut)
+}
+
+/// Appends the same of a cut where any number of parts may be lost, and which entry is in flight.
+#[tactic(auto, unfolding(crate::specs::AnyShown::any_cut_shown))]
+pub(crate) fn put_any_cut(
+    out: &mut String,
+    numbering: &Numbering<'_>,
+    cut: u32,
+) -> Result<(), AllocError>
+    requires cut { cut ≤ length numbering.now.plan.now.log.entries }
+    ensures { OnOk result (string_bytes out.new ≡ string_bytes out.old ++ any_cut_shown numbering.now.plan.now cut) }
+{
+    put_volatile(out, numbering.plan, cut)?;
+    put_flight(out, numbering.log.entries(), cut)?;
     put_before(out, numbering, cut)?;
     put_last(out, numbering, Told::Flush, cut)?;
     put_last(out, numbering, Told::Mark, cut)

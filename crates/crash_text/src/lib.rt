@@ -13,6 +13,8 @@
 //! | `put_choice(out, numbering, choice)` | the cut and the choice in a line, and a line for each departure |
 //! | `put_cut(out, numbering, cut)` | what is volatile at a cut, the last entries before it, its last flush and its last mark |
 //! | `put_differences(out, whole, image)` | each sector in which two devices differ: how many bytes, the first of them, and rows of both |
+//! | `put_any_head(out, numbering, cut, departures)` | of a choice that may lose any number of parts, all that stands before the sectors that differ, and which entry is in flight |
+//! | `put_sector(out, number, left, right)` | a sector of two devices, where it differs |
 //!
 //! # What is proved
 //!
@@ -50,6 +52,11 @@
 //! > 00000000: 1111 1111 1111 1111 1111 1111 1111 1111  ................
 //! ..
 //! ```
+//!
+//! # How it is proved
+//!
+//! - `using(crash_text::proofs::Steps::text_more)` names a lemma of a crate below. `All P xs` is `(k : ℕ) (d : A) → k
+//!   < length xs → P (get_or xs k d)`, and a loop over `xs` knows it of its element.
 #![tactic(auto)]
 
 mod cut;
@@ -60,5 +67,5 @@ mod shown;
 
 pub use cut::put_cut;
 pub use numbering::Numbering;
-pub use sector::put_differences;
-pub use shown::{put_choice, put_shown};
+pub use sector::{put_differences, put_sector};
+pub use shown::{put_any_head, put_choice, put_shown};

@@ -120,9 +120,10 @@ fn put_head(
     write!(out, " of 512 bytes differ, the first is byte {first}\n")
 }
 
-/// Appends a sector, where it differs.
+/// Appends a sector of two devices, where it differs: how many bytes, the first of them, and the first rows that differ, those of the
+/// first device after `<`.
 #[tactic(auto, unfolding(crate::specs::Sectors::sector_difference))]
-fn put_sector(
+pub fn put_sector(
     out: &mut String,
     sector: u32,
     left: &[u8; 512],

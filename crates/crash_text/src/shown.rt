@@ -2,14 +2,16 @@
 
 ghost use Rattle.std.specs.Prelude.{ℕ, ◌≡◌, ◌<◌, ◌≤◌, ◌++◌, length, codes, true, if◌then◌else◌, OnOk, string_bytes};
 ghost use Rattle.base.specs.Sizes.{most_sectors};
+ghost use Rattle.crash_text.specs.AnyShown.{any_chosen_text, any_departed_text, any_head_text, any_line};
 ghost use Rattle.crash_text.specs.Shown.{cuts_word, by_word, numbered_text, chosen_text, cut_text, choice_line, departed_text, choice_shown, shown_text};
 
-use crate::cut::{put_cut, put_departed};
+use crate::cut::{put_any_cut, put_any_departed, put_cut, put_departed};
 use crate::numbering::Numbering;
 use crate::sector::put_differences;
-use choices::Choice;
+use choices::{Choice, Departure};
 use epochs::{By, CutKind};
 use helpers::Device;
+use logfmt::Entry;
 use report::choice_text::{put_cuts_words, put_departures};
 use std::alloc::AllocError;
 
@@ -147,4 +149,72 @@ pub fn put_shown<W: Device, I: Device>(
     put_choice(out, numbering, choice)?;
     put_cut(out, numbering, choice.cut())?;
     put_differences(out, whole, image)
+}
+
+/// Appends the other options, where any number of parts may be lost.
+#[tactic(auto, unfolding(crate::specs::AnyShown::any_chosen_text))]
+fn put_any_chosen(out: &mut String, numbering: &Numbering<'_>) -> Result<(), AllocError>
+    ensures { OnOk result (string_bytes out.new ≡ string_bytes out.old ++ any_chosen_text numbering.now.plan.now numbering.now.tears) }
+{
+    let tears = yes_or_no(numbering.tears);
+    write!(out, " bound any tears {tears}")?;
+    let by = by_word(numbering.by);
+    write!(out, " by {by}")?;
+    put_cuts_words(out, &numbering.cuts)?;
+    out.push_str("\n")
+}
+
+/// Appends a cut and the departures of a choice there.
+#[tactic(auto, unfolding(crate::specs::AnyShown::any_line))]
+fn put_any_line(
+    out: &mut String,
+    numbering: &Numbering<'_>,
+    cut: u32,
+    departures: &[Departure],
+) -> Result<(), AllocError>
+    requires { cut ≤ length numbering.now.plan.now.log.entries }
+    ensures { OnOk result (string_bytes out.new ≡ string_bytes out.old
+        ++ any_line numbering.now.plan.now cut departures.now) }
+{
+    put_place(out, numbering, cut)?;
+    out.push_str(" choice ")?;
+    put_departures(out, numbering.by, departures)?;
+    out.push_str("\n")
+}
+
+/// Appends a line for each departure at a cut.
+#[tactic(auto, unfolding(crate::specs::AnyShown::any_departed_text))]
+fn put_any_departed_lines(
+    out: &mut String,
+    entries: &[Entry],
+    cut: u32,
+    departures: &[Departure],
+) -> Result<(), AllocError>
+    ensures { OnOk result (string_bytes out.new ≡ string_bytes out.old
+        ++ any_departed_text entries.now cut departures.now) }
+{
+    for departure in departures {
+        put_any_departed(out, entries, cut, *departure)?;
+    }
+    Ok(())
+}
+
+/// Appends what is said of a crash image in which any number of parts may be lost, before what in it differs: what images are numbered
+/// by, the choice, and what stands at its cut. `put_sector` appends what differs, sector by sector.
+#[tactic(auto, unfolding(crate::specs::AnyShown::any_head_text))]
+pub fn put_any_head(
+    out: &mut String,
+    numbering: &Numbering<'_>,
+    cut: u32,
+    departures: &[Departure],
+) -> Result<(), AllocError>
+    requires cut { cut ≤ length numbering.now.plan.now.log.entries }
+    ensures { OnOk result (string_bytes out.new ≡ string_bytes out.old
+        ++ any_head_text numbering.now.plan.now numbering.now.tears cut departures.now) }
+{
+    put_numbered(out, numbering)?;
+    put_any_chosen(out, numbering)?;
+    put_any_line(out, numbering, cut, departures)?;
+    put_any_departed_lines(out, numbering.log.entries(), cut, departures)?;
+    put_any_cut(out, numbering, cut)
 }

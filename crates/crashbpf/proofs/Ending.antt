@@ -12,10 +12,9 @@ use Rattle.input_files.specs.Reads.{InputsValue}
 use Rattle.crashbpf.specs.Ending.{held_in, Ends, answered, refused, unwritten}
 
 -- what the command is given is what was read
-pub given_as_read : {V : Type 0} → (items : V → List ℕ) (named : List (Option V)) (base : Option (Option V)) (inputs : InputsValue) → map (option_map items) named ≡ inputs.files
-    → option_map (option_map items) base ≡ inputs.base → files_of items named base ≡ held_in inputs
-given_as_read items named base inputs files based =
-    ap (λ (fs : List (Option (List ℕ))). record { named = fs; base = option_map (option_map items) base }) files ∙ ap (λ (b : Option (Option (List ℕ))). record { named = inputs.files; base = b }) based
+pub given_as_read : {V : Type 0} → (items : V → List ℕ) (named : List (Option V)) (base : Option (Option V)) (given choice : List ℕ) (inputs : InputsValue)
+    → map (option_map items) named ≡ inputs.files → option_map (option_map items) base ≡ inputs.base → given ≡ choice → files_of items named base given ≡ held_in inputs choice
+given_as_read items named base given choice inputs files based same = λ i. record { named = files i; base = based i; choice = same i }
 
 -- the answer, or the refusal, on that
 pub answered_on : (request : _) (given held : Files) (output : List ℕ) (refusal : Option Refusal) (status : ℕ) → Exits request given output refusal status → given ≡ held → refusal ≡ None

@@ -5,9 +5,9 @@ use Rattle.base.specs.declared.refusal.Refusal.{Refusal}
 use Rattle.commands.specs.Acting.{Files}
 use Rattle.input_files.specs.Reads.{InputsValue}
 
--- what the files of a command hold, as they were read
-abbrev pub held_in : InputsValue → Files
-held_in inputs = record { named = inputs.files; base = inputs.base }
+-- what the files of a command hold, as they were read, beside the text after --choice
+abbrev pub held_in : InputsValue → List ℕ → Files
+held_in inputs choice = record { named = inputs.files; base = inputs.base; choice = choice }
 
 -- By what a command answers and when it is refused, what standard output has before and after, where that is known, and the status: an
 -- answer that was written whole, with its status; an answer of which the first bytes alone were written, or a refusal with nothing on standard

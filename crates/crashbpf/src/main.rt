@@ -37,7 +37,7 @@ use base::refusal::Refusal;
 use clap::error::ErrorKind as WordsFault;
 use commands::{
     Facts, Fault, OptionWords, Output, Progress, Request, Stopped, Streamed, Words, emit,
-    escaped_words, fault_line, lines_of_image, notes_behind, notes_beside, perform, perform_export,
+    escaped_words, fault_line, lines_of_image, notes_after, notes_beside, perform, perform_export,
 };
 use input_files::{DeviceSize, Inputs, Source};
 use std::alloc::AllocError;
@@ -119,7 +119,7 @@ fn run_whole<R: AllocGlobal + Eprint + Clock + Threads + Wait + Sync, W: Write>(
     inputs: &Inputs,
     writer: W,
 ) -> Ended<W>
-    ensures { Ends (Answers words.now.request (held_in inputs.now)) (RefusesToAct words.now.request (held_in inputs.now)) (W.contents writer) (W.contents result.writer) result.status }
+    ensures { Ends (Answers words.now.request (held_in inputs.now words.now.choice)) (RefusesToAct words.now.request (held_in inputs.now words.now.choice)) (W.contents writer) (W.contents result.writer) result.status }
 {
     let files = inputs.contents();
     let progress = Progress::new(rt, words.progress(), lines_of_image(words));
@@ -143,7 +143,7 @@ fn run_whole<R: AllocGlobal + Eprint + Clock + Threads + Wait + Sync, W: Write>(
             let status = print_refusal(rt, &refusal);
             print_notes(
                 rt,
-                notes_behind(rt.alloc(), words, files, &refusal, &exit.facts),
+                notes_after(rt.alloc(), words, files, &refusal, &exit.facts),
             );
             rt.eprint(inputs.note(&refusal)).ok();
             Ended { status, writer }
@@ -160,10 +160,11 @@ fn run_streamed<R: AllocGlobal + Eprint, W: Write>(
     writer: W,
 ) -> Ended<W>
     requires { words.now.request ≡ asks.Export asked }
-    ensures { Ends (Answers words.now.request (held_in inputs.now)) (RefusesToAct words.now.request (held_in inputs.now)) (W.contents writer) (W.contents result.writer) result.status }
+    ensures { Ends (Answers words.now.request (held_in inputs.now words.now.choice)) (RefusesToAct words.now.request (held_in inputs.now words.now.choice)) (W.contents writer) (W.contents result.writer) result.status }
 {
     let files = inputs.contents();
-    let ended = perform_export(rt.alloc(), asked, files, inputs.base(), writer);
+    let choice = words.choice();
+    let ended = perform_export(rt.alloc(), asked, files, inputs.base(), choice, writer);
     let Streamed {
         written,
         writer,
@@ -196,7 +197,7 @@ fn print_stopped<R: AllocGlobal + Eprint>(
             let refusal = inputs.refusal(refusal);
             let status = print_refusal(rt, &refusal);
             let files = inputs.contents();
-            print_notes(rt, notes_behind(rt.alloc(), words, files, &refusal, facts));
+            print_notes(rt, notes_after(rt.alloc(), words, files, &refusal, facts));
             rt.eprint(inputs.note(&refusal)).ok();
             status
         }
@@ -221,7 +222,7 @@ fn run<R: AllocGlobal + Eprint + Clock + Threads + Wait + Sync, W: Write>(
     inputs: &Inputs,
     writer: W,
 ) -> Ended<W>
-    ensures { Ends (Answers words.now.request (held_in inputs.now)) (RefusesToAct words.now.request (held_in inputs.now)) (W.contents writer) (W.contents result.writer) result.status }
+    ensures { Ends (Answers words.now.request (held_in inputs.now words.now.choice)) (RefusesToAct words.now.request (held_in inputs.now words.now.choice)) (W.contents writer) (W.contents result.writer) result.status }
 {
     match words.request() {
         Request::Export(asked) => run_streamed(rt, words, asked, inputs, writer),
@@ -237,7 +238,7 @@ fn read_and_run<S: Source + AllocGlobal + Eprint + Clock + Threads + Wait + Sync
     writer: W,
 ) -> Ended<W>
     ensures { EndsOn (AreInputs S.named S.File.remaining command.now (sectors_asked words.now.request) (limits_asked words.now.request) words.now.files words.now.base)
-        (λ i. Ends (Answers words.now.request (held_in i)) (RefusesToAct words.now.request (held_in i)) (W.contents writer) (W.contents result.writer) result.status)
+        (λ i. Ends (Answers words.now.request (held_in i words.now.choice)) (RefusesToAct words.now.request (held_in i words.now.choice)) (W.contents writer) (W.contents result.writer) result.status)
         (W.contents writer) (W.contents result.writer) result.status }
 {
     let size = DeviceSize {
@@ -250,7 +251,7 @@ fn read_and_run<S: Source + AllocGlobal + Eprint + Clock + Threads + Wait + Sync
             let status = print_refusal(rt, &refusal);
             print_notes(
                 rt,
-                notes_behind(rt.alloc(), words, &[], &refusal, &Facts::new()),
+                notes_after(rt.alloc(), words, &[], &refusal, &Facts::new()),
             );
             Ended { status, writer }
         }
@@ -279,7 +280,7 @@ fn print_fault<R: AllocGlobal + Print + Eprint>(rt: &R, words: &[String]) -> u8 
 }
 
 /// The status after a text that was to be printed: that of the text, or 2 where it couldn't be.
-fn status_behind<R: Eprint>(rt: &R, printed: io::Result<()>, status: u8) -> u8
+fn status_after<R: Eprint>(rt: &R, printed: io::Result<()>, status: u8) -> u8
     ensures printed { OnOk printed (result ≡ status) }
     ensures unprinted { OnErr printed (result ≡ 2) }
 {
@@ -294,7 +295,7 @@ fn print_text<R: AllocGlobal + Print + Eprint>(rt: &R, fault: &clap::Error) -> u
     if fault.kind() == WordsFault::OutOfMemory {
         return print_refusal(rt, &Refusal::of_memory());
     }
-    status_behind(rt, fault.print(rt), fault.exit_code() as u8)
+    status_after(rt, fault.print(rt), fault.exit_code() as u8)
 }
 
 /// Performs what the command line asks for.

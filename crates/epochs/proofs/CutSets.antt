@@ -10,7 +10,7 @@ use Rattle.logfmt.specs.declared.entry.Entry.{Entry}
 use Rattle.epochs.specs.declared.cuts.Cuts.{Cuts}
 use Rattle.epochs.specs.declared.cuts.CutKind.{CutKind}
 use Rattle.epochs.specs.declared.cuts.CutKind.TheVariants as kind
-use Rattle.epochs.specs.Cuts.{is_of_kind, is_behind_first, is_before_last, is_wanted, is_flush_at, is_behind_mark}
+use Rattle.epochs.specs.Cuts.{is_of_kind, is_after_first, is_before_last, is_wanted, is_flush_at, is_after_mark}
 use Rattle.epochs.specs.Laws.{IsOfKind, IsWanted, CutsAreSet}
 use Rattle.epochs.proofs.Wanted.{kept_cut, left_cut}
 
@@ -134,7 +134,7 @@ kind_tests kind.BeforeFlush es k h = elim h [
 ]
 kind_tests kind.AfterMark es k h =
     let next : k ≡ suc h.0 = omega (arith, h.2) in
-    ap (is_behind_mark es) next ∙ flag_there (λ (entry : Entry). entry.flags.mark) es h.0 h.1 h.3 h.4
+    ap (is_after_mark es) next ∙ flag_there (λ (entry : Entry). entry.flags.mark) es h.0 h.1 h.3 h.4
 
 both : (a b : Bool) → (a && b) ≡ true → (a ≡ true) × (b ≡ true)
 both true b h = (refl, h)
@@ -144,11 +144,11 @@ and_both : (a b : Bool) → a ≡ true → b ≡ true → (a && b) ≡ true
 and_both true b h k = k
 and_both false b h k = absurd (let bad : false ≡ true = h in cc)
 
-first_means : (first : Option ℕ) (k : ℕ) → is_behind_first first k ≡ true → IfSome first (λ n. n ≤ k)
+first_means : (first : Option ℕ) (k : ℕ) → is_after_first first k ≡ true → IfSome first (λ n. n ≤ k)
 first_means None k h = tt
 first_means (Some n) k h = grind (arith, nat_tests, h)
 
-first_tests : (first : Option ℕ) (k : ℕ) → IfSome first (λ n. n ≤ k) → is_behind_first first k ≡ true
+first_tests : (first : Option ℕ) (k : ℕ) → IfSome first (λ n. n ≤ k) → is_after_first first k ≡ true
 first_tests None k h = refl
 first_tests (Some n) k h = grind (arith, nat_tests, h)
 
@@ -163,18 +163,18 @@ last_tests (Some n) k h = grind (arith, nat_tests, h)
 -- the test of a cut, and what it means
 test_means : (wanted : Cuts) (es : List Entry) (k : ℕ) → k < length es + 1 → is_wanted wanted es k ≡ true → IsWanted wanted es k
 test_means wanted es k lt h =
-    let early = both (is_of_kind wanted.kind es k && is_behind_first wanted.from k) (is_before_last wanted.to k) h in
-    let late = both (is_of_kind wanted.kind es k) (is_behind_first wanted.from k) early.0 in
+    let early = both (is_of_kind wanted.kind es k && is_after_first wanted.from k) (is_before_last wanted.to k) h in
+    let late = both (is_of_kind wanted.kind es k) (is_after_first wanted.from k) early.0 in
     record {
       of_kind = kind_means wanted.kind es k lt late.0;
-      behind = first_means wanted.from k late.1;
+      beyond = first_means wanted.from k late.1;
       before = last_means wanted.to k early.1;
     }
 
 meaning_tests : (wanted : Cuts) (es : List Entry) (k : ℕ) → IsWanted wanted es k → is_wanted wanted es k ≡ true
 meaning_tests wanted es k h =
-    and_both (is_of_kind wanted.kind es k && is_behind_first wanted.from k) (is_before_last wanted.to k)
-    (and_both (is_of_kind wanted.kind es k) (is_behind_first wanted.from k) (kind_tests wanted.kind es k h.of_kind) (first_tests wanted.from k h.behind))
+    and_both (is_of_kind wanted.kind es k && is_after_first wanted.from k) (is_before_last wanted.to k)
+    (and_both (is_of_kind wanted.kind es k) (is_after_first wanted.from k) (kind_tests wanted.kind es k h.of_kind) (first_tests wanted.from k h.beyond))
     (last_tests wanted.to k h.before)
 
 pub cuts_are_set : CutsAreSet

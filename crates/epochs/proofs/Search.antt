@@ -109,7 +109,7 @@ rows_rise way es rows are i j d le lt =
 pub record Splits (rows : List Row) (t count : ℕ) : Type 0 where
   pub bound : count ≤ length rows
   pub before : (k : ℕ) (d : Row) → k < count → (slice_index_or rows k d).start ≤ t
-  pub behind : (k : ℕ) (d : Row) → count ≤ k → k < length rows → t < (slice_index_or rows k d).start
+  pub beyond : (k : ℕ) (d : Row) → count ≤ k → k < length rows → t < (slice_index_or rows k d).start
 
 blank : Row
 blank = record { start = 0; durable = 0; epoch = 0; marks = 0 }
@@ -123,7 +123,7 @@ some_row way es rows t count are lt splits =
     let none = first_is_row way es in
     let low : 1 ≤ count = elim (cases_lt 0 count) [
       | inl le ↦ omega (arith, le)
-      | inr above ↦ absurd (omega (arith, splits.behind 0 blank (omega (arith, above)) (omega (arith, are.count)), first.start, none.start))
+      | inr above ↦ absurd (omega (arith, splits.beyond 0 blank (omega (arith, above)) (omega (arith, are.count)), first.start, none.start))
     ] in
     let high : count ≤ length es = elim (cases_lt (length es) count) [
       | inr le ↦ le
@@ -143,7 +143,7 @@ found way es rows t count e are lt splits before =
     let next = row_at way es rows (suc e) blank are (omega (arith, here, high_bound)) in
     let low : length (unforced_parts way es e) ≤ t = omega (arith, first.start, splits.before e blank (omega (arith, here))) in
     let high : t < length (unforced_parts way es (suc e)) =
-    omega (arith, next.start, splits.behind (suc e) blank (omega (arith, here)) (omega (arith, here, high_bound, are.count))) in
+    omega (arith, next.start, splits.beyond (suc e) blank (omega (arith, here)) (omega (arith, here, high_bound, are.count))) in
     elim (slice_get_cases es e).1 [
       | inl a ↦
           let part = part_at way es e a.0 t a.2 low high in

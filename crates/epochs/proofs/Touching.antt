@@ -227,14 +227,14 @@ begins way es k e row is le some at =
       | inl less ↦ omega (arith, less, is.start)
       | inr more ↦ let same : row.start ≡ row.durable = omega (arith, more, is.durable) in absurd (some same)
     ] in
-    let behind : last_flush es k ≤ e = elim (cases_lt e (last_flush es k)) [
+    let beyond : last_flush es k ≤ e = elim (cases_lt e (last_flush es k)) [
       | inl less ↦
           let flush = last_flush_le es k in
           let rise = unforced_parts-rise way es (suc e) (last_flush es k) (omega (arith, less)) (omega (arith, flush, le)) in
           absurd (omega (arith, rise, s, at.high))
       | inr more ↦ more
     ] in
-    let rise = unforced_parts-rise way es (last_flush es k) e behind (omega (arith, inside)) in
+    let rise = unforced_parts-rise way es (last_flush es k) e beyond (omega (arith, inside)) in
     record {
       start = omega (arith, rise, s, at.low);
       before = before_cut way es k e row.durable at.entry at.there at.low lt le;

@@ -67,7 +67,7 @@ IsOfKind kind.AfterMark es k = (e : ℕ) × (entry : Entry) × (k ≡ e + 1) × 
 -- cut k is wanted: one of the kind, from the first to the last that are given
 pub record IsWanted (wanted : Cuts) (es : List Entry) (k : ℕ) : Type 0 where
   pub of_kind : IsOfKind wanted.kind es k
-  pub behind : IfSome wanted.from (λ first. first ≤ k)
+  pub beyond : IfSome wanted.from (λ first. first ≤ k)
   pub before : IfSome wanted.to (λ last. k ≤ last)
 
 -- the list has the wanted cuts and no other, rising, and so each once

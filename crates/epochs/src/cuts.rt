@@ -1,7 +1,7 @@
 //! The cuts of a log that are explored.
 
 ghost use Rattle.std.specs.Prelude.{◌≡◌, ◌≤◌, length, IfOk};
-ghost use Rattle.epochs.specs.Cuts.{is_of_kind, is_behind_first, is_before_last, is_wanted, cuts_of};
+ghost use Rattle.epochs.specs.Cuts.{is_of_kind, is_after_first, is_before_last, is_wanted, cuts_of};
 
 use crate::flushes::Flushes;
 use logfmt::Entry;
@@ -51,8 +51,8 @@ impl CutKind {
 }
 
 /// Whether a cut isn't before the first that is wanted.
-fn is_behind_first(first: Option<u64>, cut: u32) -> bool
-    ensures { result ≡ is_behind_first first cut }
+fn is_after_first(first: Option<u64>, cut: u32) -> bool
+    ensures { result ≡ is_after_first first cut }
 {
     if let Some(first) = first {
         first <= u64::from(cut)
@@ -87,9 +87,9 @@ impl Cuts {
         ensures { result ≡ is_wanted self.now entries.now cut }
     {
         let of_kind = self.kind.has(entries, cut);
-        let behind = is_behind_first(self.from, cut);
+        let beyond = is_after_first(self.from, cut);
         let before = is_before_last(self.to, cut);
-        of_kind && behind && before
+        of_kind && beyond && before
     }
 
     /// These cuts of a log, rising.

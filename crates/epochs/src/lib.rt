@@ -65,6 +65,23 @@
 //! let part = plan.part(3, 0);
 //! // the second write: Part { entry: 2, place: 0, count: 1, sector: 0 }
 //! ```
+//!
+//! # Choices
+//!
+//! - What is lost or torn is a part, some sectors of an entry in a row, and a plan says whether it is a sector or a
+//!   whole write: the crash model is stated once; choices and their order count parts, and only the forming of an
+//!   image looks at the sectors of one.
+//! - The flushes that were added are a part of the record of the wanted cuts (`Cuts`), beside kind and range:
+//!   everything that hands on and tells the cuts (the head of the report, what `show` and the page number images by)
+//!   tells them too. The log that a plan borrows has them in its entries already.
+//!
+//! # How it is proved
+//!
+//! - `partition_point` stands in a free function that requires `IsNonDecreasingBy` and says what is before and after
+//!   its answer (`rows_up_to` in `epochs/src/table.rt`).
+//! - A table is stated by rows: `IsRow es k row` says what one row holds, `next_is_row` leads to the next, and the
+//!   invariant says it of each row so far (`epochs/proofs/Rows.antt`). A private `row(cut)` with clauses then makes
+//!   the public calls auto.
 #![tactic(auto)]
 
 mod cuts;

@@ -74,7 +74,7 @@ pub(crate) fn rows_up_to(rows: &[Row], part: u32) -> usize
     requires { IsNonDecreasingBy (λ (row : Row). row.start) rows.now }
     ensures bound { result ≤ length rows.now }
     ensures before { (k : ℕ) (d : Row) → k < result → (slice_index_or rows.now k d).start ≤ part }
-    ensures behind { (k : ℕ) (d : Row) → result ≤ k → k < length rows.now → part < (slice_index_or rows.now k d).start }
+    ensures beyond { (k : ℕ) (d : Row) → result ≤ k → k < length rows.now → part < (slice_index_or rows.now k d).start }
 {
     rows.partition_point(|row| row.start <= part)
 }

@@ -58,6 +58,19 @@
 //!     step(alloc, &mut explore, &Event::Done(1))?;            // nothing changes: its jobs aren't judged yet
 //! }
 //! ```
+//!
+//! # Choices
+//!
+//! - In the exploration as a list of events a line is a job with the outcome that was taken; whether it fails is the
+//!   job's own: equal keys promise equal outcomes, and nothing else.
+//! - In the exploration as a list of events the workers' lists stand in one list of pairs, of a worker and a block,
+//!   and a worker that found no block left is no hand `Ended`: only Quit ends a worker: a block is in one list at
+//!   most, by the count of its pairs; such a worker may still take.
+//!
+//! # How it is proved
+//!
+//! - One lemma for each event over `(hand : Option Hand) → slice_get hands w ≡ hand → ..`, with the cases of the hand
+//!   inside, is 30 to 40 lines and proves at once (`explore_core/proofs/Sound.antt`).
 #![tactic(auto)]
 
 mod cache;

@@ -4,7 +4,7 @@ use Rattle.std.proofs.lemmas.Bool.{cases_lt, eq-eqb, ne_eqb}
 use Rattle.std.proofs.lemmas.Bool.Decides.{eqb_tells}
 use Rattle.std.proofs.lemmas.Option.{same_Some}
 use Rattle.export.specs.Export.{AskedValue, device_at, marks_before, is_same, first_same}
-use Rattle.export.specs.Kept.{sum_of, key_by, key_at, key_behind, AreOthers, IsIndex}
+use Rattle.export.specs.Kept.{sum_of, key_by, key_at, key_after, AreOthers, IsIndex}
 use Rattle.export.proofs.Same.{same_told, told_first, first_is_new, new_is_first}
 
 -- images that are the same have one key
@@ -22,19 +22,19 @@ none_kept a at none = record {
 }
 
 -- one key more has another image
-pub others_more : (a : AskedValue) (i j : ℕ) (at : ℕ → Option ℕ) (steps : ℕ) → AreOthers a i at steps → at (key_behind (key_at a i) steps) ≡ Some j → is_same a i j ≡ false
+pub others_more : (a : AskedValue) (i j : ℕ) (at : ℕ → Option ℕ) (steps : ℕ) → AreOthers a i at steps → at (key_after (key_at a i) steps) ≡ Some j → is_same a i j ≡ false
     → AreOthers a i at (steps + 1)
 others_more a i j at steps are held other = record {
   others = λ s lt. elim (cases_lt s steps) [
     | inl before ↦ are.others s before
     | inr past ↦
         let here : steps ≡ s = omega (arith, lt, past) in
-        (j, ap (λ t. at (key_behind (key_at a i) t)) (sym here) ∙ held, other)
+        (j, ap (λ t. at (key_after (key_at a i) t)) (sym here) ∙ held, other)
   ];
 }
 
 -- where a key is free and those before it have other images, the image is new
-pub free_is_new : (a : AskedValue) (i : ℕ) (at : ℕ → Option ℕ) (steps : ℕ) → IsIndex a i at → AreOthers a i at steps → at (key_behind (key_at a i) steps) ≡ None
+pub free_is_new : (a : AskedValue) (i : ℕ) (at : ℕ → Option ℕ) (steps : ℕ) → IsIndex a i at → AreOthers a i at steps → at (key_after (key_at a i) steps) ≡ None
     → first_same a i ≡ None
 free_is_new a i at steps index are free = by (first_same a i) refl
   where
@@ -45,17 +45,17 @@ free_is_new a i at steps index are free = by (first_same a i) refl
         let high = first.high in
         let kept = index.found j (omega (arith, high)) (first_is_new a i j e) in
         let t : ℕ = kept.0 in
-        let own : at (key_behind (key_at a i) t) ≡ Some j = ap (λ k. at (key_behind k t)) (same_key a i j first.passes) ∙ kept.1 in
+        let own : at (key_after (key_at a i) t) ≡ Some j = ap (λ k. at (key_after k t)) (same_key a i j first.passes) ∙ kept.1 in
         elim (cases_lt t steps) [
           | inl before ↦
               let other = are.others t before in
               let same : j ≡ other.0 = same_Some j other.0 (sym own ∙ other.1) in
               absurd (let bad : true ≡ false = sym first.passes ∙ ap (is_same a i) same ∙ other.2 in cc)
           | inr past ↦ elim (cases_lt steps t) [
-            | inl further ↦ absurd (kept.2 steps further (ap (λ k. at (key_behind k steps)) (sym (same_key a i j first.passes)) ∙ free))
+            | inl further ↦ absurd (kept.2 steps further (ap (λ k. at (key_after k steps)) (sym (same_key a i j first.passes)) ∙ free))
             | inr most ↦
                 let here : t ≡ steps = omega (arith, past, most) in
-                absurd (let bad : Some j ≡ None = sym own ∙ ap (λ s. at (key_behind (key_at a i) s)) here ∙ free in cc)
+                absurd (let bad : Some j ≡ None = sym own ∙ ap (λ s. at (key_after (key_at a i) s)) here ∙ free in cc)
           ]
         ]
 
@@ -92,10 +92,10 @@ stays_full at new key i k is full none = elim (eqb_tells key k) [
   | inr other ↦ full (sym (put_at at new key i k is other.1) ∙ none)
 ]
 
-pub index_more : (a : AskedValue) (i : ℕ) (at new : ℕ → Option ℕ) (steps : ℕ) → IsIndex a i at → AreOthers a i at steps → at (key_behind (key_at a i) steps) ≡ None
-    → ((q : ℕ) → new q ≡ cond (key_behind (key_at a i) steps == q) (Some i) (at q)) → IsIndex a (i + 1) new
+pub index_more : (a : AskedValue) (i : ℕ) (at new : ℕ → Option ℕ) (steps : ℕ) → IsIndex a i at → AreOthers a i at steps → at (key_after (key_at a i) steps) ≡ None
+    → ((q : ℕ) → new q ≡ cond (key_after (key_at a i) steps == q) (Some i) (at q)) → IsIndex a (i + 1) new
 index_more a i at new steps index are free is =
-    let key : ℕ = key_behind (key_at a i) steps in
+    let key : ℕ = key_after (key_at a i) steps in
     record {
       held = λ k m h. elim (eqb_tells key k) [
         | inl same ↦
@@ -110,18 +110,18 @@ index_more a i at new steps index are free is =
         | inl before ↦
             let was = index.found m before fresh in (
               was.0,
-              keeps at new key i (key_behind (key_at a m) was.0) m is free was.1,
-              λ s less none. stays_full at new key i (key_behind (key_at a m) s) is (was.2 s less) none,
+              keeps at new key i (key_after (key_at a m) was.0) m is free was.1,
+              λ s less none. stays_full at new key i (key_after (key_at a m) s) is (was.2 s less) none,
             )
         | inr past ↦
             let here : i ≡ m = omega (arith, lt, past) in
-            let P : ℕ → Type 0 = λ j. (t : ℕ) × (new (key_behind (key_at a j) t) ≡ Some j) × ((s : ℕ) → s < t → new (key_behind (key_at a j) s) ≡ None → ⊥) in
+            let P : ℕ → Type 0 = λ j. (t : ℕ) × (new (key_after (key_at a j) t) ≡ Some j) × ((s : ℕ) → s < t → new (key_after (key_at a j) s) ≡ None → ⊥) in
             subst P here (
               steps,
               put_here at new key i is,
               λ s less none.
                   let other = are.others s less in
-                  stays_full at new key i (key_behind (key_at a i) s) is (λ gone. let bad : None ≡ Some other.0 = sym gone ∙ other.1 in cc) none,
+                  stays_full at new key i (key_after (key_at a i) s) is (λ gone. let bad : None ≡ Some other.0 = sym gone ∙ other.1 in cc) none,
             )
       ];
     }

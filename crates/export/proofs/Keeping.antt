@@ -16,7 +16,7 @@ use Rattle.export.specs.Export.{AskedValue, device_at, is_same, first_same, is_n
 use Rattle.std.specs.Option.{option_map}
 use Rattle.std.proofs.lemmas.Bool.{eq-eqb, ne_eqb}
 use Rattle.export.specs.declared.walk.Held.{Held}
-use Rattle.export.specs.Kept.{weight, weight_at, sum_of, key_at, key_behind, firsts, IsIndex, IsFree, IsNext, AreRecords, IsKept}
+use Rattle.export.specs.Kept.{weight, weight_at, sum_of, key_at, key_after, firsts, IsIndex, IsFree, IsNext, AreRecords, IsKept}
 use Rattle.export.proofs.First.{none_first}
 use Rattle.export.proofs.Same.{same_if, told_first, new_flag, same_flag}
 use Rattle.export.proofs.Numbers.{kept_of}
@@ -63,8 +63,8 @@ sum_moves one other numbers own old new log is own_is old_is new_is =
     let whole : sum_by g (range_with_len 0 (length (sectors_of other))) ≡ sum_by g all =
     ap (λ k. sum_by g (range_with_len 0 k)) (length_view other ∙ sym (ap (λ (l : LogValue). l.sectors) log)) in
     let before : old ≡ sum_by f (filter d all) = old_is ∙ ap (sum_by f) is in
-    let behind : new ≡ sum_by g (filter d all) = new_is ∙ ap (sum_by g) is in
-    omega (arith, moves, first, whole, before, behind)
+    let beyond : new ≡ sum_by g (filter d all) = new_is ∙ ap (sum_by g) is in
+    omega (arith, moves, first, whole, before, beyond)
 
 -- numbers of sectors of a device
 pub numbers_inside : (p : ℕ → Bool) (count k n : ℕ) (xs : List ℕ) → xs ≡ filter p (range_with_len 0 count) → slice_get xs k ≡ Some n → n < count
@@ -194,8 +194,8 @@ pub kept_new : (a : AskedValue) (i key : ℕ) (shown near new next_shown : ViewV
 unfolding IsFree
 kept_new a i key shown near new next_shown own sum fresh marks at after held is next log device free first last put =
     let steps : ℕ = free.0 in
-    let here : key ≡ key_behind (key_at a i) steps = free.1 in
-    let none : firsts at (key_behind (key_at a i) steps) ≡ None = ap (firsts at) (sym here) ∙ free.3 in
+    let here : key ≡ key_after (key_at a i) steps = free.1 in
+    let none : firsts at (key_after (key_at a i) steps) ≡ None = ap (firsts at) (sym here) ∙ free.3 in
     let fresh_is : first_same a i ≡ None = free_is_new a i (firsts at) steps is.held.index free.2 none in
     let shows : last_new a (i + 1) ≡ device_at a i = ap (last_new a) (add-one i) ∙ new_shows a i fresh_is in
     let few = is.few in

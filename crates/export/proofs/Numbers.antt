@@ -64,11 +64,11 @@ place_is : (xs ys : List ℕ) (n place : ℕ) → All (λ m. m < n) xs → All (
     → ((k d : ℕ) → k < place → slice_index_or (xs ++ ys) k d < n)
     → ((k d : ℕ) → place ≤ k → k < length (xs ++ ys) → n ≤ slice_index_or (xs ++ ys) k d)
     → place ≡ length xs
-place_is xs ys n place below above bound before behind =
+place_is xs ys n place below above bound before beyond =
     let long = length-append xs ys in
     elim (cases_lt place (length xs)) [
       | inl less ↦
-          let high = behind place 0 (omega arith) (omega (arith, less, long)) in
+          let high = beyond place 0 (omega arith) (omega (arith, less, long)) in
           let low = below place 0 less in
           let same = get_or_append_left xs ys 0 place less in
           absurd (omega (arith, high, low, same))
@@ -133,7 +133,7 @@ pub number_put : (p : ℕ → Bool) (count n place : ℕ) (there : Bool) (xs : L
     → ((k d : ℕ) → place ≤ k → k < length xs → n ≤ slice_index_or xs k d)
     → there ≡ option_map_or (λ (m : ℕ). m == n) (slice_get xs place) false
     → with_number xs place n there ≡ those (or_is p n) count
-number_put p count n place there xs lt is bound before behind test =
+number_put p count n place there xs lt is bound before beyond test =
     let q : ℕ = count - (n + 1) in
     let size : count ≡ n + suc q = omega (arith, lt) in
     let zero_n : 0 + n ≡ n = omega arith in
@@ -158,7 +158,7 @@ number_put p count n place there xs lt is bound before behind test =
     let P : List ℕ → Type 0 = λ ys. place ≤ length ys in
     let Q : List ℕ → Type 0 = λ ys. (k d : ℕ) → k < place → slice_index_or ys k d < n in
     let R : List ℕ → Type 0 = λ ys. (k d : ℕ) → place ≤ k → k < length ys → n ≤ slice_index_or ys k d in
-    let here : place ≡ length front = place_is front (cond (p n) (n ∷ back) back) n place below from (subst P parts bound) (subst Q parts before) (subst R parts behind) in
+    let here : place ≡ length front = place_is front (cond (p n) (n ∷ back) back) n place below from (subst P parts bound) (subst Q parts before) (subst R parts beyond) in
     ap (λ ys. with_number ys place n there) parts ∙ ap (λ m. with_number (front ++ cond (p n) (n ∷ back) back) m n there) here
     ∙ put_there front back (p n) n there above
     (test ∙ ap (λ ys. option_map_or (λ (m : ℕ). m == n) (slice_get ys place) false) parts

@@ -15,7 +15,7 @@ use Rattle.images.proofs.Members.{member_cut}
 use Rattle.images.specs.Keys.{differs}
 use Rattle.images.specs.Whole.{length_view}
 use Rattle.export.specs.Export.{AskedValue, no_choice, choice_at, device_at, marks_before, is_same, first_same, is_new, image_text, new_count, total_text, export_text}
-use Rattle.export.specs.Kept.{sum_of, key_by, key_at, key_behind, IsIndex, AreOthers, IsFree, IsAsked}
+use Rattle.export.specs.Kept.{sum_of, key_by, key_at, key_after, IsIndex, AreOthers, IsFree, IsAsked}
 use Rattle.export.proofs.Same.{same_told, same_if, same_chain, same_back}
 use Rattle.export.proofs.Keeping.{nowhere_differs, nothing_differs}
 use Rattle.export.proofs.Index.{free_is_new}
@@ -58,7 +58,7 @@ same_by_sectors a i j one other numbers empty own log first second marks these i
 
 -- the key that follows one by that many steps
 pub key_is : (a : AskedValue) (i sum marks key step at : ℕ) → sum ≡ sum_of (device_at a i) → marks ≡ marks_before a i → key ≡ key_by sum marks
-    → at ≡ (key + step) % 2 ^ 64 → at ≡ key_behind (key_at a i) step
+    → at ≡ (key + step) % 2 ^ 64 → at ≡ key_after (key_at a i) step
 unfolding key_at
 key_is a i sum marks key step at s m k is =
     is ∙ ap (λ n. (n + step) % 2 ^ 64) (k ∙ ap (λ n. key_by n marks) s ∙ ap (key_by (sum_of (device_at a i))) m)
@@ -67,14 +67,14 @@ key_is a i sum marks key step at s m k is =
 pub no_others : (a : AskedValue) (i : ℕ) (at : ℕ → Option ℕ) → AreOthers a i at 0
 no_others a i at = record { others = λ s lt. absurd (omega (arith, lt)) }
 
-pub free_here : (a : AskedValue) (i step key : ℕ) (at : ℕ → Option ℕ) → key ≡ key_behind (key_at a i) step → AreOthers a i at step → at key ≡ None → IsFree a i at key
+pub free_here : (a : AskedValue) (i step key : ℕ) (at : ℕ → Option ℕ) → key ≡ key_after (key_at a i) step → AreOthers a i at step → at key ≡ None → IsFree a i at key
 unfolding IsFree
 free_here a i step key at is others none = (step, is, others, none)
 
 -- the text of one image more
-pub text_more : (a : AskedValue) (n : ℕ) (head before behind : List ℕ) → before ≡ head ++ flat_map (image_text a) (range_with_len 0 n) → behind ≡ before ++ image_text a n
-    → behind ≡ head ++ flat_map (image_text a) (range_with_len 0 (n + 1))
-text_more a n head before behind was is =
+pub text_more : (a : AskedValue) (n : ℕ) (head before beyond : List ℕ) → before ≡ head ++ flat_map (image_text a) (range_with_len 0 n) → beyond ≡ before ++ image_text a n
+    → beyond ≡ head ++ flat_map (image_text a) (range_with_len 0 (n + 1))
+text_more a n head before beyond was is =
     let here : 0 + n ≡ n = omega arith in
     is ∙ ap (λ xs. xs ++ image_text a n) was ∙ append_assoc head (flat_map (image_text a) (range_with_len 0 n)) (image_text a n)
     ∙ ap (λ xs. head ++ xs)
@@ -119,10 +119,10 @@ goes_on xs n true old new there lt goes ends = goes refl n there
 goes_on xs n false old new there lt goes ends = let end = ends refl n there in absurd (omega (arith, end, lt))
 
 -- the whole text
-pub all_text : (a : AskedValue) (head before behind : List ℕ) (count fresh : ℕ) → before ≡ head ++ flat_map (image_text a) (range_with_len 0 (a.to - a.from))
-    → fresh ≡ new_count a (a.to - a.from) → a.from + count ≡ a.to → behind ≡ before ++ total_text count fresh → behind ≡ head ++ export_text a
+pub all_text : (a : AskedValue) (head before beyond : List ℕ) (count fresh : ℕ) → before ≡ head ++ flat_map (image_text a) (range_with_len 0 (a.to - a.from))
+    → fresh ≡ new_count a (a.to - a.from) → a.from + count ≡ a.to → beyond ≡ before ++ total_text count fresh → beyond ≡ head ++ export_text a
 unfolding export_text
-all_text a head before behind count fresh was new size is =
+all_text a head before beyond count fresh was new size is =
     let all : count ≡ a.to - a.from = omega (arith, size) in
     is ∙ ap (λ xs. xs ++ total_text count fresh) was
     ∙ append_assoc head (flat_map (image_text a) (range_with_len 0 (a.to - a.from))) (total_text count fresh)

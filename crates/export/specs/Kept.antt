@@ -59,18 +59,18 @@ key_by sum marks = (factor * marks % 2 ^ 64 + sum) % 2 ^ 64
 unfoldable pub key_at : AskedValue → ℕ → ℕ
 key_at a i = key_by (sum_of (device_at a i)) (marks_before a i)
 
-abbrev pub key_behind : ℕ → ℕ → ℕ
-key_behind key steps = (key + steps) % 2 ^ 64
+abbrev pub key_after : ℕ → ℕ → ℕ
+key_after key steps = (key + steps) % 2 ^ 64
 
 -- the first keys from that of an image on have other images
 pub record AreOthers (a : AskedValue) (i : ℕ) (at : ℕ → Option ℕ) (steps : ℕ) : Type 0 where
-  pub others : (s : ℕ) → s < steps → (j : ℕ) × (at (key_behind (key_at a i) s) ≡ Some j) × (is_same a i j ≡ false)
+  pub others : (s : ℕ) → s < steps → (j : ℕ) × (at (key_after (key_at a i) s) ≡ Some j) × (is_same a i j ≡ false)
 
 -- of the first n images the new ones are kept, each at the first key from its own on that was free
 pub record IsIndex (a : AskedValue) (n : ℕ) (at : ℕ → Option ℕ) : Type 0 where
   pub held : (k j : ℕ) → at k ≡ Some j → (j < n) × (first_same a j ≡ None)
   pub found : (j : ℕ) → j < n → first_same a j ≡ None
-      → (t : ℕ) × (at (key_behind (key_at a j) t) ≡ Some j) × ((s : ℕ) → s < t → at (key_behind (key_at a j) s) ≡ None → ⊥)
+      → (t : ℕ) × (at (key_after (key_at a j) t) ≡ Some j) × ((s : ℕ) → s < t → at (key_after (key_at a j) s) ≡ None → ⊥)
 
 -- of what is kept at each key the first place
 abbrev pub firsts : (ℕ → Option Held) → ℕ → Option ℕ
@@ -136,7 +136,7 @@ pub record IsKept (a : AskedValue) (n : ℕ) (shown near : ViewValue) (own fresh
 
 -- a key is free for the image at a place, and the keys from its own on to before that one have other images
 unfoldable pub IsFree : AskedValue → ℕ → (ℕ → Option ℕ) → ℕ → Type 0
-IsFree a i at key = (steps : ℕ) × (key ≡ key_behind (key_at a i) steps) × AreOthers a i at steps × (at key ≡ None)
+IsFree a i at key = (steps : ℕ) × (key ≡ key_after (key_at a i) steps) × AreOthers a i at steps × (at key ≡ None)
 
 -- what a search for an image ends in
 unfoldable pub IsFound : AskedValue → ℕ → (ℕ → Option Held) → Found → Type 0

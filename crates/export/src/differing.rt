@@ -18,7 +18,7 @@ use std::alloc::AllocError;
 fn place_of(numbers: &[u32], number: u32) -> usize
     ensures bound { result ≤ length numbers.now }
     ensures before { IsNonDecreasingBy (λ (n : ℕ). n) numbers.now → (k d : ℕ) → k < result → slice_index_or numbers.now k d < number }
-    ensures behind { IsNonDecreasingBy (λ (n : ℕ). n) numbers.now → (k d : ℕ) → result ≤ k → k < length numbers.now → number ≤ slice_index_or numbers.now k d }
+    ensures beyond { IsNonDecreasingBy (λ (n : ℕ). n) numbers.now → (k d : ℕ) → result ≤ k → k < length numbers.now → number ≤ slice_index_or numbers.now k d }
 {
     numbers.partition_point(|other| *other < number)
 }

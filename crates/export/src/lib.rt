@@ -72,6 +72,13 @@
 //! // written: Ok(()); output.into_writer() begins with the line 'image 0 cut 0 epoch 0 marks 0 choice - new 0',
 //! // and ends with 'total 6 new 3'
 //! ```
+//!
+//! # Choices
+//!
+//! - Numbers of images in `export` are those of the run, and `same` names an image of the text: a line can be pasted
+//!   to `image` and `show`; who reads a range needs nothing before it.
+//! - `export` writes its text as it is made, a piece of some 64 KiB at a time, and its last line says that it is
+//!   whole: a text may be longer than memory. One that is cut off lacks its last line, and the status is 2.
 #![tactic(auto)]
 
 mod asked;

@@ -47,6 +47,17 @@
 //! let device = Filled::new(4, 0);
 //! // answers::zero(&device, 3) is 1, answers::zero(&device, 4) is 2
 //! ```
+//!
+//! # Choices
+//!
+//! - Helpers 3 (`again`) and 4 (`report`) have their answers defined in `helpers` and their code in `interp`: they
+//!   change what the machine holds, and no device is asked.
+//!
+//! # How it is proved
+//!
+//! - Bytes that are lent or owned: an enum, a definition by its cases (`bytes_of`), and `unfolding` of it on the few
+//!   methods that look inside. A number that is worked out once (the mix of a sector) is an invariant of the Model,
+//!   which every method has.
 #![tactic(auto)]
 
 pub mod answers;

@@ -25,7 +25,7 @@ use Rattle.images.proofs.Shares.{lies_in}
 use Rattle.images.proofs.Kept.{lost_departs}
 use Rattle.images.proofs.Tears.{one_sector}
 use Rattle.images.proofs.Sectors.{view_there, base_there}
-use Rattle.images.proofs.Listed.{change_alike, changes_alike, changes_of_key, others_there, others_before, others_behind, sectors_less}
+use Rattle.images.proofs.Listed.{change_alike, changes_alike, changes_of_key, others_there, others_before, others_after, sectors_less}
 
 pub filter_within : (p q : LogUnit → Bool) (us : List LogUnit) → All (λ u. p u ≡ q u) us → filter p us ≡ filter q us
 filter_within p q [] same = refl
@@ -137,7 +137,7 @@ goes_on base new count ds j sectors more d was there is =
       | inl before ↦ others_before old new a k n before
       | inr low ↦ elim (cases_lt n (a + k)) [
         | inl high ↦ absurd (not_in (record { low = low; high = high }))
-        | inr past ↦ others_behind old new a k n past
+        | inr past ↦ others_after old new a k n past
       ]
     ] in
     record {
@@ -148,7 +148,7 @@ goes_on base new count ds j sectors more d was there is =
         | inr other ↦ elim (was.left n lt) [
           | inl so ↦ inl (same_of n other ∙ so)
           | inr departs ↦ elim (cases_lt j departs.0) [
-            | inl behind ↦ inr (departs.0, departs.1, omega (arith, behind), departs.3, departs.4)
+            | inl beyond ↦ inr (departs.0, departs.1, omega (arith, beyond), departs.3, departs.4)
             | inr past ↦
                 let low = departs.2 in
                 let here : departs.0 ≡ j = omega (arith, past, low) in

@@ -102,8 +102,8 @@ whole_shows log us u ds is at none =
     let old_long : length old ≡ 512 = length-sector_after log us ds u.sector in
     let spliced = sector_head log us u ds (unit_content es u) old 512 (omega arith) refl long refl old_long (λ i lt. no_departure ds u i none ∙ sym (lt-ltb i 512 lt)) in
     let front : take 512 (unit_content es u) ≡ unit_content es u = take_all 512 (unit_content es u) (omega (arith, long)) in
-    let behind : drop 512 old ≡ [] = drop_all 512 old (omega (arith, old_long)) in
-    sym spliced ∙ ap (λ xs. take 512 (unit_content es u) ++ xs) behind ∙ append-nil (take 512 (unit_content es u)) ∙ front
+    let beyond : drop 512 old ≡ [] = drop_all 512 old (omega (arith, old_long)) in
+    sym spliced ∙ ap (λ xs. take 512 (unit_content es u) ++ xs) beyond ∙ append-nil (take 512 (unit_content es u)) ∙ front
 
 dropped_stays : (log : LogValue) (us : List LogUnit) (u : LogUnit) (ds : List Departure) (s : ℕ) (d : Departure)
     → departures_of ds u ≡ d ∷ [] → d.fate ≡ fate.Drop

@@ -64,9 +64,9 @@ sector_laid log us u ds new old made kept content below size survived bytes =
     ∙ sym (get_or-map-range_with_len byte 0 512 i i 0 within here))
 
 -- two sectors spliced after m bytes
-pub spliced_size : (front behind : List ℕ) (m : ℕ) → m ≤ 512 → length front ≡ 512 → length behind ≡ 512 → length (take m front ++ drop m behind) ≡ 512
-spliced_size front behind m le first second =
-    omega (arith, length-append (take m front) (drop m behind), length-take-le m front (omega (arith, first, le)), length-drop m behind, second, le)
+pub spliced_size : (front beyond : List ℕ) (m : ℕ) → m ≤ 512 → length front ≡ 512 → length beyond ≡ 512 → length (take m front ++ drop m beyond) ≡ 512
+spliced_size front beyond m le first second =
+    omega (arith, length-append (take m front) (drop m beyond), length-take-le m front (omega (arith, first, le)), length-drop m beyond, second, le)
 
 -- the tests for a byte of the head and of the tail
 other_part : (m i : ℕ) (x y : ℕ) → (if nat_lt i m then y else x) ≡ (if nat_le m i then x else y)

@@ -162,13 +162,13 @@ place_is : (xs ys : List ChangedValue) (n place : ℕ) → All (λ (s : ChangedV
     → ((k : ℕ) (d : ChangedValue) → k < place → (slice_index_or (xs ++ ys) k d).number < n)
     → ((k : ℕ) (d : ChangedValue) → place ≤ k → k < length (xs ++ ys) → n ≤ (slice_index_or (xs ++ ys) k d).number)
     → place ≡ length xs
-place_is xs ys n place below above bound before behind =
+place_is xs ys n place below above bound before beyond =
     let d : ChangedValue = nobody in
     let number : ChangedValue → ℕ = λ s. s.number in
     let long = length-append xs ys in
     elim (cases_lt place (length xs)) [
       | inl less ↦
-          let high = behind place d (omega arith) (omega (arith, less, long)) in
+          let high = beyond place d (omega arith) (omega (arith, less, long)) in
           let low = below place d less in
           let same = ap number (get_or_append_left xs ys d place less) in
           absurd (omega (arith, high, low, same))
@@ -240,7 +240,7 @@ pub relisted_is : (base image : ℕ → List ℕ) (count n place : ℕ) (there :
     → ((k : ℕ) (d : ChangedValue) → place ≤ k → k < length xs → n ≤ (slice_index_or xs k d).number)
     → there ≡ option_map_or (λ (s : ChangedValue). s.number == n) (slice_get xs place) false
     → relisted xs place there change ≡ changes base (with_sector image n content) 0 count
-relisted_is base image count n place there content xs change lt is told bound before behind test =
+relisted_is base image count n place there content xs change lt is told bound before beyond test =
     let new : ℕ → List ℕ = with_sector image n content in
     let q : ℕ = count - (n + 1) in
     let size : count ≡ n + suc q = omega (arith, lt) in
@@ -269,7 +269,7 @@ relisted_is base image count n place there content xs change lt is told bound be
     let P : List ChangedValue → Type 0 = λ ys. place ≤ length ys in
     let Q : List ChangedValue → Type 0 = λ ys. (k : ℕ) (d : ChangedValue) → k < place → (slice_index_or ys k d).number < n in
     let R : List ChangedValue → Type 0 = λ ys. (k : ℕ) (d : ChangedValue) → place ≤ k → k < length ys → n ≤ (slice_index_or ys k d).number in
-    let here : place ≡ length front = place_is front (option_to_list was ++ back) n place below from (subst P parts bound) (subst Q parts before) (subst R parts behind) in
+    let here : place ≡ length front = place_is front (option_to_list was ++ back) n place below from (subst P parts bound) (subst Q parts before) (subst R parts beyond) in
     ap (λ ys. relisted ys place there change) parts
     ∙ ap (λ p. relisted (front ++ (option_to_list was ++ back)) p there change) here
     ∙ relist front back was n there change (own_number base image n) above
@@ -312,8 +312,8 @@ others_there image other a k n low high =
 pub others_before : (image other : ℕ → List ℕ) (a k n : ℕ) → n < a → with_sectors image a k other n ≡ image n
 others_before image other a k n lt = ap (λ b. if b && nat_lt n (a + k) then other n else image n) (lt-leb a n lt)
 
-pub others_behind : (image other : ℕ → List ℕ) (a k n : ℕ) → a + k ≤ n → with_sectors image a k other n ≡ image n
-others_behind image other a k n le =
+pub others_after : (image other : ℕ → List ℕ) (a k n : ℕ) → a + k ≤ n → with_sectors image a k other n ≡ image n
+others_after image other a k n le =
     ap (λ b. if nat_le a n && b then other n else image n) (le-ltb n (a + k) le)
     ∙ ap (λ b. if b && false then other n else image n) (le-leb a n (omega (arith, le)))
 
@@ -330,7 +330,7 @@ other_more image other a k s n is = elim (eqb_tells n s) [
         | inr from ↦ elim (cases_lt n (a + k)) [
           | inl within ↦ others_there image other a k n from within ∙ sym (others_there image other a (k + 1) n from (omega (arith, within)))
           | inr past ↦ elim (cases_lt (a + k) n) [
-            | inl behind ↦ others_behind image other a k n past ∙ sym (others_behind image other a (k + 1) n (omega (arith, behind)))
+            | inl beyond ↦ others_after image other a k n past ∙ sym (others_after image other a (k + 1) n (omega (arith, beyond)))
             | inr end ↦ absurd (differ.1 (let here : n ≡ s = omega (arith, past, end, is) in here))
           ]
         ]
@@ -343,7 +343,7 @@ pub sectors_less : (base image other : ℕ → List ℕ) (count a k : ℕ) → a
 sectors_less base image other count a zero le =
     let same = ap length (changes_alike base base image (with_sectors image a 0 other) 0 count (λ n low high. refl) (λ n low high. elim (cases_lt n a) [
       | inl before ↦ sym (others_before image other a 0 n before)
-      | inr from ↦ sym (others_behind image other a 0 n (omega (arith, from)))
+      | inr from ↦ sym (others_after image other a 0 n (omega (arith, from)))
     ])) in
     omega (arith, same)
 sectors_less base image other count a (suc k) le =

@@ -265,14 +265,14 @@ split_at : (row xs ys : List LogUnit) (k count : ℕ) → row ≡ xs ++ ys → A
     → ((i : ℕ) (d : LogUnit) → i < count → (slice_index_or row i d).entry < k)
     → ((i : ℕ) (d : LogUnit) → count ≤ i → i < length row → k ≤ (slice_index_or row i d).entry)
     → take count row ≡ xs
-split_at row xs ys k count is below above bound before behind =
+split_at row xs ys k count is below above bound before beyond =
     let d : LogUnit = record { entry = 0; place = 0; sector = 0 } in
     let entry : LogUnit → ℕ = λ u. u.entry in
     let long = ap length is ∙ length-append xs ys in
     let here : count ≡ length xs = elim (cases_lt count (length xs)) [
       | inl less ↦
           let inside : count < length row = omega (arith, less, long) in
-          let high = behind count d (omega arith) inside in
+          let high = beyond count d (omega arith) inside in
           let low = below count d less in
           let same = ap (λ us. (slice_index_or us count d).entry) is ∙ ap entry (get_or_append_left xs ys d count less) in
           absurd (omega (arith, high, low, same))
@@ -294,7 +294,7 @@ pub versions_before : (es : List Entry) (n k s count : ℕ) (row : List LogUnit)
     → ((i : ℕ) (d : LogUnit) → count ≤ i → i < length row → k ≤ (slice_index_or row i d).entry)
     → take count row ≡ versions es k s
 unfolding covering
-versions_before es n k s count row is le within bound before behind =
+versions_before es n k s count row is le within bound before beyond =
     let parts = later_units es k n le within in
     let p : LogUnit → Bool = λ u. u.sector == s in
     let below : All (λ u. u.entry < k) (units_before es k) = all_units (λ u. u.entry < k) es k (omega (arith, le, within)) (λ e x j lt there own. lt) in
@@ -302,7 +302,7 @@ versions_before es n k s count row is le within bound before behind =
     (is ∙ ap (filter p) parts.both ∙ filter-append p (units_before es k) parts.rest)
     (All-filter p (λ u. u.entry < k) (units_before es k) below)
     (All-filter p (λ u. k ≤ u.entry) parts.rest parts.later)
-    bound before behind
+    bound before beyond
 
 -- the units of a row
 pub row_units : (log : LogValue) (k s : ℕ) → IsLog log → k ≤ length log.entries

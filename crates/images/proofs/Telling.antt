@@ -24,16 +24,16 @@ abbrev differing : List (List ℕ) → List (List ℕ) → ℕ → ℕ → List 
 differing base image a m = filter (differs base image) (range_with_len a m)
 
 -- a sector before the first isn't listed
-behind : (image : List (List ℕ)) (a n : ℕ) (ns : List ℕ) (other : List ℕ) (b : Bool) → n < a → content_in (map (with_content image) ns) n other ≡ other
+beyond : (image : List (List ℕ)) (a n : ℕ) (ns : List ℕ) (other : List ℕ) (b : Bool) → n < a → content_in (map (with_content image) ns) n other ≡ other
     → content_in (map (with_content image) (cond b (a ∷ ns) ns)) n other ≡ other
-behind image a n ns other false lt rest = rest
-behind image a n ns other true lt rest =
+beyond image a n ns other false lt rest = rest
+beyond image a n ns other true lt rest =
     ap (λ t. if t then content_at image a else content_in (map (with_content image) ns) n other) (ne_eqb a n (λ e. absurd (omega (arith, lt, e)))) ∙ rest
 
 absent : (base image : List (List ℕ)) (a m n : ℕ) (other : List ℕ) → n < a → content_in (map (with_content image) (differing base image a m)) n other ≡ other
 absent base image a zero n other lt = refl
 absent base image a (suc m) n other lt =
-    behind image a n (differing base image (a + 1) m) other (differs base image a) lt (absent base image (a + 1) m n other (omega (arith, lt)))
+    beyond image a n (differing base image (a + 1) m) other (differs base image a) lt (absent base image (a + 1) m n other (omega (arith, lt)))
 
 -- a sector that doesn't differ
 untold : (b : Bool) → false ≡ not b → true ≡ b

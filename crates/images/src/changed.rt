@@ -65,7 +65,7 @@ impl<'a> ChangedSector<'a> {
         })
     }
 
-    /// The same sector.
+    /// A copy of the sector.
     pub(crate) fn copy(&self, alloc: Global) -> Result<ChangedSector<'a>, AllocError>
         ensures { IfOk result (λ copy. copy ≡ self.now) }
     {

@@ -70,7 +70,7 @@ impl<'a> Changes<'a> {
         Changes::over(alloc, history.versions())
     }
 
-    /// The same, by a version table.
+    /// Nothing is known yet, of a version table. It takes no memory.
     pub(crate) fn over(alloc: Global, versions: Versions<'a>) -> Changes<'a>
         ensures { result ≡ versions.entry }
     {

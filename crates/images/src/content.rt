@@ -27,7 +27,7 @@ impl<'a> Content<'a> {
         }
     }
 
-    /// The same bytes, which takes memory where a torn unit shows.
+    /// A copy, which takes memory where a torn unit shows.
     #[tactic(auto, unfolding(crate::specs::Contents::bytes_of))]
     pub(crate) fn copy(&self, alloc: Global) -> Result<Content<'a>, AllocError>
         ensures { IfOk result (λ copy. bytes_of copy ≡ bytes_of self.now) }

@@ -79,8 +79,8 @@ fn share_of(fate: Fate, count: u64, before: u64) -> Option<Fate>
             if count == 1 {
                 Some(Fate::Tail(eighths))
             } else {
-                let behind = count - 1 - before;
-                tail_of((u64::from(kept) * count).saturating_sub(8 * behind))
+                let beyond = count - 1 - before;
+                tail_of((u64::from(kept) * count).saturating_sub(8 * beyond))
             }
         }
     }

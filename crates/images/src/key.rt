@@ -91,7 +91,7 @@ impl<'a> Key<'a> {
         self.changed.as_slice()
     }
 
-    /// The same key, for those who put one into a cache and keep one.
+    /// A copy of the key, for those who put one into a cache and keep one.
     ///
     /// # Errors
     ///

@@ -124,6 +124,48 @@
 //! let key = changes.key(alloc, &view)?;
 //! // there is no flush, so the base is zeros, and the key has one changed sector
 //! ```
+//!
+//! # Choices
+//!
+//! - The definition of a crash image takes a log, where it took a number of sectors and a list of entries: it stands
+//!   once, reads shorter, and no caller can pair the entries of one log with the device of another.
+//! - A view borrows sectors of the initial content from the log. Where nothing of a unit shows in a sector, it asks
+//!   whether the sector's first byte lies before the end of what is kept: no image, worker or key has a copy. A log
+//!   without initial content keeps nothing, so that one comparison is all that it costs, and no sector in which a
+//!   unit shows makes it.
+//! - `Changes` carries the changed sectors from cut to cut, as a list without a limit: a key has 64, but a sector
+//!   that is written back to its base leaves the list again. The list has at most a record of 32 bytes for each
+//!   sector of the device.
+//! - The shard of a key is defined by a sum that doesn't wrap, taken modulo 16: 16 divides 2^64, so the code's
+//!   wrapping sum gives the same, which is proved.
+//!
+//! # How it is proved
+//!
+//! - A law that a device's `content` needs can't stand in proofs/. Cure: put it in specs/
+//!   (`images/specs/Whole.antt`).
+//! - Define the state after any list of units (`device_after es us ds` in `images`), and let the step ensure it for
+//!   every list: `(us : List ..) → old ≡ .. us → new ≡ .. (us ++ unit ∷ [])`. Each loop's answer is then one line.
+//! - What is lost or torn is a map from units to fates: `DepartOnce` says that each unit is lost or torn at most
+//!   once, `fate_at` looks its fate up (`images/src/image.rt`). One lemma (`fated_survives`) leads to the definition,
+//!   which goes by all of them. A new fate is then one arm (`lay_over`), stated byte by byte by `keeps`. Where a part
+//!   has several sectors, `share` says what the part's fate makes of one of them: none where it takes nothing of it,
+//!   else a fate of a part of one sector. One lemma (`keeps_by_share`) leads from the part's bytes to that, for bytes
+//!   below 512, and no law above it knows of parts. Products such as `t * n` stay one variable for `omega`. While
+//!   every fate was a head, a unit's fates could be taken as the minimum of what each keeps. That was shorter, and
+//!   had nothing to say of a tail.
+//! - **A list kept in order under single changes** is stated by a recursion over the places (`changes base image a k`
+//!   in `images/specs/Changes.antt`), over functions from places to contents. One lemma splits it at a place. Then
+//!   replacing, inserting and removing are one lemma more (`relisted_is` in `images/proofs/Listed.antt`), and
+//!   `changes_alike` leads from one description of the image to another.
+//! - A loop that changes an image place after place keeps 'some image that is the wanted one, but at places that are
+//!   still to come' (`Towards` in `images/proofs/Departing.antt`). Then the same place may come twice.
+//! - Prove `Decides (eq a b) (a ≡ b)` once in specs/. Then the laws of `Eq` take four lines and `respects_eq` of
+//!   `Hash` is one `ap` (`images/specs/Equal.antt`). `eq` and `hash` over `unfoldable` words are auto with
+//!   `unfolding(..)` on the method, the generic hasher included.
+//! - **A table that grows on demand is stated by what is read of it.** `HasRows pages units` says of each sector,
+//!   however large, that reading its row gives its units, and an empty row stands for one that isn't there
+//!   (`images/specs/Table.antt`). A page or a row more then changes nothing that is read (`HaveSameRows`), no size
+//!   stands in the invariant, and filling it needs no list of empty rows before.
 #![tactic(auto)]
 
 mod changed;

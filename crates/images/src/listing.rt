@@ -45,7 +45,7 @@ fn place_of(sectors: &[ChangedSector<'_>], number: u32) -> usize
     requires { IsNonDecreasingBy (λ (s : ChangedValue). s.number) sectors.now }
     ensures bound { result ≤ length sectors.now }
     ensures before { (k : ℕ) (d : ChangedValue) → k < result → (slice_index_or sectors.now k d).number < number }
-    ensures behind { (k : ℕ) (d : ChangedValue) → result ≤ k → k < length sectors.now → number ≤ (slice_index_or sectors.now k d).number }
+    ensures beyond { (k : ℕ) (d : ChangedValue) → result ≤ k → k < length sectors.now → number ≤ (slice_index_or sectors.now k d).number }
 {
     sectors.partition_point(|sector| sector.number() < number)
 }
@@ -84,7 +84,7 @@ pub(crate) fn put<'a>(
     Ok(())
 }
 
-/// The same sectors, with room for that many more.
+/// A copy of the sectors, with room for that many more.
 pub(crate) fn copy_sectors<'a>(
     alloc: Global,
     sectors: &[ChangedSector<'a>],

@@ -50,7 +50,7 @@ impl<'a> Versions<'a> {
         Versions { log, pages }
     }
 
-    /// The same table.
+    /// A copy, which lends the log and the pages once more.
     pub(crate) fn same(&self) -> Versions<'a>
         ensures { result ≡ self.now }
     {
@@ -128,7 +128,7 @@ fn count_before(row: &[Unit], cut: u32) -> usize
     requires { IsNonDecreasingBy (λ (u : LogUnit). u.entry) row.now }
     ensures bound { result ≤ length row.now }
     ensures before { (k : ℕ) (d : LogUnit) → k < result → (slice_index_or row.now k d).entry < cut }
-    ensures behind { (k : ℕ) (d : LogUnit) → result ≤ k → k < length row.now → cut ≤ (slice_index_or row.now k d).entry }
+    ensures beyond { (k : ℕ) (d : LogUnit) → result ≤ k → k < length row.now → cut ≤ (slice_index_or row.now k d).entry }
 {
     row.partition_point(|unit| unit.entry < cut)
 }

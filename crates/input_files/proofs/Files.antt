@@ -3,7 +3,7 @@ use Rattle.std.proofs.Common.{ℕ, ◌≡◌, ◌+◌, ◌<◌, ◌≤◌, List,
 use Rattle.std.proofs.lemmas.List.{take_all, take_more, map-append, length-take-le, length-map}
 use Rattle.base.specs.declared.limits.Limits.{Limits}
 use Rattle.input_files.specs.declared.kind.FileKind.{FileKind}
-use Rattle.input_files.specs.Kinds.{is_part, kind_of, left_behind, most_of_parts}
+use Rattle.input_files.specs.Kinds.{is_part, kind_of, left_beyond, most_of_parts}
 use Rattle.input_files.specs.Reads.{AreInputs, AreRead, HoldsBase, InputsValue, IsBase, IsRead, none_read, one_more}
 
 -- the names of one more
@@ -21,14 +21,14 @@ all_names f names i past = ap (map f) (take_all i names past)
 -- one more file was read
 pub next_read : (command : List ℕ) (limits : Limits) (Read : List ℕ → FileKind → Option (List ℕ) → ℕ → Type 0) (left rest place : ℕ) (names : List (List ℕ)) (files new_files : List (Option (List ℕ))) (lengths new_lengths : List ℕ)
     (name : List ℕ) (held : Option (List ℕ)) (told : ℕ) (k : FileKind) → new_files ≡ files ++ (held ∷ []) → new_lengths ≡ lengths ++ (told ∷ []) → k ≡ kind_of command place limits left
-    → AreRead command limits Read left names files lengths → Read name k held told → length names ≡ place → (is_part k ≡ true → IsSome held) → left_behind k told ≡ Some rest
+    → AreRead command limits Read left names files lengths → Read name k held told → length names ≡ place → (is_part k ≡ true → IsSome held) → left_beyond k told ≡ Some rest
     → AreRead command limits Read rest (names ++ (name ∷ [])) new_files new_lengths
 next_read command limits Read left rest place names files new_files lengths new_lengths name held told k more longer is before read long some room =
     let same : k ≡ kind_of command (length names) limits left = is ∙ ap (λ p. kind_of command p limits left) (sym long) in
     subst (λ fs. AreRead command limits Read rest (names ++ (name ∷ [])) fs new_lengths) (sym more)
     (subst (λ ls. AreRead command limits Read rest (names ++ (name ∷ [])) (files ++ (held ∷ [])) ls) (sym longer)
     (one_more left rest names files lengths name held told before (subst (λ j. Read name j held told) same read)
-    (subst (λ j. is_part j ≡ true → IsSome held) same some) (subst (λ j. left_behind j told ≡ Some rest) same room)))
+    (subst (λ j. is_part j ≡ true → IsSome held) same some) (subst (λ j. left_beyond j told ≡ Some rest) same room)))
 
 -- the files of a command were read, and the one after --base
 pub inputs_read : {F : Type 0} → (named : F → List ℕ → Type 0) (remaining : F → Option (List ℕ)) (command : List ℕ) (sectors : ℕ) (limits : Limits) (names all : List (List ℕ)) (base : Option (List ℕ)) (left : ℕ)

@@ -22,16 +22,16 @@ little_kept (suc n) j xs ys h =
 pub number_kept : (n i : ℕ) (xs ys : List ℕ) → i + n ≤ length xs → number_at n i (xs ++ ys) ≡ number_at n i xs
 unfolding number_at
 number_kept n i xs ys h =
-    let behind : drop i (xs ++ ys) ≡ drop i xs ++ ys = drop-append-le i xs ys (omega (arith, h)) in
+    let beyond : drop i (xs ++ ys) ≡ drop i xs ++ ys = drop-append-le i xs ys (omega (arith, h)) in
     let long : length (drop i xs) ≡ length xs - i = length-drop i xs in
-    rw behind (little_kept n 0 (drop i xs) ys (omega (arith, long, h)))
+    rw beyond (little_kept n 0 (drop i xs) ys (omega (arith, long, h)))
 
 -- some bytes
 range_kept : (a b : ℕ) (xs ys : List ℕ) → a ≤ b → b ≤ length xs → slice_range (xs ++ ys) a b ≡ slice_range xs a b
 range_kept a b xs ys ordered within =
-    let behind : drop a (xs ++ ys) ≡ drop a xs ++ ys = drop-append-le a xs ys (omega (arith, ordered, within)) in
+    let beyond : drop a (xs ++ ys) ≡ drop a xs ++ ys = drop-append-le a xs ys (omega (arith, ordered, within)) in
     let long : length (drop a xs) ≡ length xs - a = length-drop a xs in
-    ap (take (b - a)) behind ∙ take-append-le (b - a) (drop a xs) ys (omega (arith, long, within))
+    ap (take (b - a)) beyond ∙ take-append-le (b - a) (drop a xs) ys (omega (arith, long, within))
 
 -- a range that has as many bytes as it is long ends within the list
 ends_within : (a n : ℕ) (xs : List ℕ) → a ≤ length xs → n ≡ length (slice_range xs a (a + n)) → a + n ≤ length xs

@@ -104,14 +104,14 @@ rest_read old new bytes all most rest there given room whole end is left more = 
     long = ap (λ (zs : List ℕ). length zs) is
 
     by_old : (o n : Option (List ℕ)) → Consumes o n bytes → IfSome o (λ xs. bytes ≡ beginning most xs) → IfSome n (λ ys. all ≡ bytes ++ take rest ys) → IfSome o (λ xs. all ≡ part_read most xs)
-    by_old None n eats first behind = tt
-    by_old (Some xs) None eats first behind = absurd eats
-    by_old (Some xs) (Some ys) eats first behind =
+    by_old None n eats first beyond = tt
+    by_old (Some xs) None eats first beyond = absurd eats
+    by_old (Some xs) (Some ys) eats first beyond =
         let test : bytes_eq (beginning most xs) part_line ≡ true = ap (λ (zs : List ℕ). bytes_eq zs part_line) (sym first ∙ is) in
         let within : length bytes ≤ most = omega (arith, room) in
         let parted = take_past most bytes ys within in
         let cut : take (most - length bytes) ys ≡ take rest ys = ap (λ (n : ℕ). take (most - n) ys) long ∙ ap (λ (n : ℕ). take n ys) (sym left) in
-        behind ∙ ap (λ (zs : List ℕ). bytes ++ zs) (sym cut) ∙ sym parted ∙ ap (λ (zs : List ℕ). take most zs) (sym eats) ∙ sym (all_read most xs test)
+        beyond ∙ ap (λ (zs : List ℕ). bytes ++ zs) (sym cut) ∙ sym parted ∙ ap (λ (zs : List ℕ). take most zs) (sym eats) ∙ sym (all_read most xs test)
 
 -- what the test of the first bytes tells
 pub not_line : (b : Bool) (slice bytes : List ℕ) → b ≡ false → IsTrue b ↔ (slice ≡ part_line) → slice ≡ bytes → bytes ≡ part_line → ⊥

@@ -71,9 +71,9 @@ some_needed bytes =
       | true ↦ λ e.
           let is = needed_known bytes e in
           let first : header (times_at bytes) bytes 0 ≡ 1 * size_at bytes = sectors_in bytes 1 e in
-          let behind = up_to (times_at bytes) bytes 0 (entries_of bytes) (omega arith) in
+          let beyond = up_to (times_at bytes) bytes 0 (entries_of bytes) (omega arith) in
           let size = (sizes bytes e).0 in
-          omega (arith, clamps, is, first, behind, size)
+          omega (arith, clamps, is, first, beyond, size)
       | false ↦ λ e. let is = needed_unknown bytes e in omega (arith, is)
     ] in
     by_size (is_known bytes) refl
@@ -200,16 +200,16 @@ fault_alike sectors limits i xs ys first known lt pass =
     let same = header_alike k sectors limits i xs ys some pass in
     let s : ℕ = header k xs i in
     let long = first.known known in
-    let behind : header k (xs ++ ys) (suc i) ≤ header k (xs ++ ys) (entries_of xs) = up_to k (xs ++ ys) (suc i) (entries_of xs) (omega (arith, lt)) in
+    let beyond : header k (xs ++ ys) (suc i) ≤ header k (xs ++ ys) (entries_of xs) = up_to k (xs ++ ys) (suc i) (entries_of xs) (omega (arith, lt)) in
     let next : header k (xs ++ ys) (suc i) ≡ s + bytes_in k (1 + data_sectors (xs ++ ys) s) = rw (same.0) refl in
-    let reaches : s + bytes_in k 1 ≤ 201326592 → s + bytes_in k 1 ≤ length xs = λ h. omega (arith, clamps, h, long, behind, next) in
+    let reaches : s + bytes_in k 1 ≤ 201326592 → s + bytes_in k 1 ≤ length xs = λ h. omega (arith, clamps, h, long, beyond, next) in
     let ends : s + bytes_in k 1 ≤ length xs → s + bytes_in k (1 + data_sectors xs s) ≤ 201326592 → s + bytes_in k (1 + data_sectors xs s) ≤ length xs =
     λ within h.
     let count = number_kept 8 (s + 8) xs ys (omega (arith, some, within)) in
     let word = number_kept 8 (s + 16) xs ys (omega (arith, some, within)) in
     let told : data_sectors (xs ++ ys) s ≡ data_sectors xs s = rw (count, word) refl in
     let end : header k (xs ++ ys) (suc i) ≡ s + bytes_in k (1 + data_sectors xs s) = next ∙ ap (λ d. s + bytes_in k (1 + d)) told in
-    omega (arith, clamps, h, long, behind, end) in
+    omega (arith, clamps, h, long, beyond, end) in
     entry_alike k sectors xs ys s (units_before k xs i) (byte_limit limits - written_before k xs i) some reaches ends ∙ (rw (same.0, same.1, same.2) refl)
 
 refused_first : (sectors : ℕ) (limits : Limits) (xs ys : List ℕ) (c : LogCause) (at : ℕ) → AreFirst xs ys → (is_known xs ≡ true → size_at xs ≤ length xs)
@@ -247,9 +247,9 @@ refused_alike bytes sectors limits c at fault = elim (cases_lt (needed_length by
       let k_known : is_known bytes ≡ true = tells ∙ e in
       let is = needed_known bytes k_known in
       let begins : header (times_at bytes) bytes 0 ≡ 1 * size_at bytes = sectors_in bytes 1 k_known in
-      let behind = up_to (times_at bytes) bytes 0 (entries_of bytes) (omega arith) in
+      let beyond = up_to (times_at bytes) bytes 0 (entries_of bytes) (omega arith) in
       let most = (sizes bytes k_known).1 in
-      omega (arith, clamps, long, is, begins, behind, size, most) in
+      omega (arith, clamps, long, is, begins, beyond, size, most) in
       subst (λ zs. FirstRawFault zs sectors limits c at) all (refused_first sectors limits xs ys c at first whole fault)
   | inr less ↦ subst (λ zs. FirstRawFault zs sectors limits c at) (take_all (needed_length bytes) bytes (omega (arith, less))) fault
 ]

@@ -71,11 +71,11 @@ reached_needed bytes r most is = elim (cases_zero r.left) [
       let n : ℕ = entries_of bytes in
       let left = next.some in
       let more = one_more bytes (n - r.left) next.known in
-      let behind = up_to (times_at bytes) bytes (suc (n - r.left)) n (omega (arith, some, left)) in
+      let beyond = up_to (times_at bytes) bytes (suc (n - r.left)) n (omega (arith, some, left)) in
       let all = needed_known bytes next.known in
       let at = next.ends in
       let size = next.sector in
-      omega (arith, clamps, more, behind, all, at, size, most)
+      omega (arith, clamps, more, beyond, all, at, size, most)
 ]
 
 -- the first bytes of a raw log tell how far it is to be read next
@@ -139,7 +139,7 @@ go_on raw rest r extent sum next reached some sector header_in within data_is no
     let alike : data_sectors bytes (r.needed - r.size) ≡ data_sectors raw (r.needed - r.size) = told_alike raw rest (r.needed - r.size) (omega (arith, clamps, sector, header_in, within)) in
     let whole : ℕ = data_sectors bytes (r.needed - r.size) * r.size in
     let same : extent ≡ min whole (2 ^ 64 - 1) = data_is ∙ ap (λ d. min (d * r.size) (2 ^ 64 - 1)) (sym alike) in
-    let behind : header (times_at bytes) bytes (suc i) ≡ r.needed + whole = next_header bytes r.size r.needed r.left whole before refl in
+    let beyond : header (times_at bytes) bytes (suc i) ≡ r.needed + whole = next_header bytes r.size r.needed r.left whole before refl in
     let all = needed_known bytes before.known in
     let left = before.some in
     let size = before.sector in (
@@ -157,7 +157,7 @@ go_on raw rest r extent sum next reached some sector header_in within data_is no
           ] in
           record {
             next = λ h. absurd (omega (arith, h));
-            last = λ _. omega (arith, clamps, all, last, behind, same, sum_is, reached_is, far);
+            last = λ _. omega (arith, clamps, all, last, beyond, same, sum_is, reached_is, far);
           },
       λ near.
           record {
@@ -169,13 +169,13 @@ go_on raw rest r extent sum next reached some sector header_in within data_is no
                   known = before.known;
                   sector = size;
                   some = omega (arith, clamps, left);
-                  ends = omega (arith, clamps, there, behind, same, sum_is, reached_is, near, next_is);
+                  ends = omega (arith, clamps, there, beyond, same, sum_is, reached_is, near, next_is);
                 };
             last = λ ended.
                 let zero_next = none ended in
                 let place : n ≡ suc i = omega (arith, clamps, some, left, ended) in
                 let there : header (times_at bytes) bytes n ≡ header (times_at bytes) bytes (suc i) = ap (λ m. header (times_at bytes) bytes m) place in
-                omega (arith, clamps, all, there, behind, same, sum_is, reached_is, near, zero_next);
+                omega (arith, clamps, all, there, beyond, same, sum_is, reached_is, near, zero_next);
           },
     )
 
@@ -188,11 +188,11 @@ reach_of None b bs slice r same p first = tt
 reach_of (Some xs) None bs slice r same p first = absurd p
 reach_of (Some xs) (Some ys) bs slice r same p first = subst (λ zs. Reaches zs r) (ap (λ l. l ++ ys) same ∙ sym p) (first ys)
 
-pub reach_behind : (a b : Option (List ℕ)) (bs slice : List ℕ) (r s : Reach) → slice ≡ bs → Consumes a b bs → OfKnown a r
+pub reach_after : (a b : Option (List ℕ)) (bs slice : List ℕ) (r s : Reach) → slice ≡ bs → Consumes a b bs → OfKnown a r
     → ((rest : List ℕ) → Reaches (slice ++ rest) r → Reaches (slice ++ rest) s) → OfKnown a s
-reach_behind None b bs slice r s same p is more = tt
-reach_behind (Some xs) None bs slice r s same p is more = absurd p
-reach_behind (Some xs) (Some ys) bs slice r s same p is more =
+reach_after None b bs slice r s same p is more = tt
+reach_after (Some xs) None bs slice r s same p is more = absurd p
+reach_after (Some xs) (Some ys) bs slice r s same p is more =
     let all : slice ++ ys ≡ xs = ap (λ l. l ++ ys) same ∙ sym p in
     subst (λ zs. Reaches zs s) all (more ys (subst (λ zs. Reaches zs r) (sym all) is))
 

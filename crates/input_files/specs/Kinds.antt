@@ -69,9 +69,9 @@ memory_of (kind.Image limits) place = memory_refusal
 memory_of (kind.Part left) place = record { code = Join joining.Memory; at = 0; program = None }
 
 -- how many bytes are left for parts after a file of that many; none where it is a part that has more than were left
-abbrev pub left_behind : FileKind → ℕ → Option ℕ
-left_behind (kind.Part left) length = if nat_le length left then Some (left - length) else None
-left_behind k length = Some most_of_parts
+abbrev pub left_beyond : FileKind → ℕ → Option ℕ
+left_beyond (kind.Part left) length = if nat_le length left then Some (left - length) else None
+left_beyond k length = Some most_of_parts
 
 -- whether that many files are more than the command of that name takes
 abbrev pub are_too_many : List ℕ → ℕ → Bool

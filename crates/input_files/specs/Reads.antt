@@ -3,7 +3,7 @@ use Rattle.std.specs.Prelude.{ℕ, ◌≡◌, ◌⊎◌, ◌++◌, List, [], ◌
 use Rattle.base.specs.declared.limits.Limits.{Limits}
 use Rattle.input_files.specs.declared.kind.FileKind.{FileKind}
 use Rattle.input_files.specs.Contents.{Holds}
-use Rattle.input_files.specs.Kinds.{base_read, is_part, kind_of, left_behind, most_of_parts}
+use Rattle.input_files.specs.Kinds.{base_read, is_part, kind_of, left_beyond, most_of_parts}
 
 -- what the files of a command hold, none where one can't be read, and the length that is told of each; and what the one after --base holds
 pub record InputsValue : Type 0 where
@@ -23,7 +23,7 @@ pub data AreRead (command : List ℕ) (limits : Limits) (Read : List ℕ → Fil
       → AreRead command limits Read left names files lengths
       → Read name (kind_of command (length names) limits left) held told
       → (is_part (kind_of command (length names) limits left) ≡ true → IsSome held)
-      → left_behind (kind_of command (length names) limits left) told ≡ Some rest
+      → left_beyond (kind_of command (length names) limits left) told ≡ Some rest
       → AreRead command limits Read rest (names ++ (name ∷ [])) (files ++ (held ∷ [])) (lengths ++ (told ∷ []))
 
 -- what was read of what a device of that many sectors held, from the file of that name: as many bytes as the device has and one more, of

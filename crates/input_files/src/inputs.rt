@@ -159,7 +159,7 @@ impl Inputs {
         if kind.is_part() && piece.bytes.is_none() {
             return Err(unreadable_at(place));
         }
-        let Some(rest) = kind.left_behind(piece.length) else {
+        let Some(rest) = kind.left_beyond(piece.length) else {
             return Err(too_long_at(place));
         };
         if self.push(piece).is_err() {

@@ -1,7 +1,7 @@
 //! What a command takes a file for, and how much of it is read.
 
 ghost use Rattle.std.specs.Prelude.{◌≡◌};
-ghost use Rattle.input_files.specs.Kinds.{are_too_many, checked_kind, kind_of, left_behind, most_of, read_of, number_of, memory_of, is_part, too_long_at, unreadable_at};
+ghost use Rattle.input_files.specs.Kinds.{are_too_many, checked_kind, kind_of, left_beyond, most_of, read_of, number_of, memory_of, is_part, too_long_at, unreadable_at};
 
 use base::causes::{AsmCause, CodeCause, JoinCause, LogCause, RequestCause};
 use base::limits::Limits;
@@ -100,8 +100,8 @@ impl FileKind {
     }
 
     /// How many bytes are left for parts after this file, which has that many; none where it is a part that has more than were left.
-    pub fn left_behind(self, length: u64) -> Option<u32>
-        ensures { result ≡ left_behind self length }
+    pub fn left_beyond(self, length: u64) -> Option<u32>
+        ensures { result ≡ left_beyond self length }
     {
         match self {
             FileKind::Part(left) if length <= u64::from(left) => Some(left - length as u32),

@@ -26,7 +26,7 @@
 //!
 //! # What is proved
 //!
-//! `FileKind::of` says what a file is taken for, `left_behind` how many bytes are left for parts after one of them,
+//! `FileKind::of` says what a file is taken for, `left_beyond` how many bytes are left for parts after one of them,
 //! `standing_length` how many bytes stand for a program, and
 //! `refusal_of_whole` what the refusal of these bytes says of the whole file. Laws (`laws`) tie them to what `logfmt` and
 //! `bpf_isa` say of a first fault. A log that isn't too long is read whole, and a longer one is refused for its length, as is
@@ -56,6 +56,24 @@
 //! let contents = inputs.contents();           // of each file its bytes, or that it can't be read
 //! let whole = inputs.refusal(refusal);        // the refusal of the whole files, where `contents` were refused
 //! ```
+//!
+//! # More that is promised
+//!
+//! - **Files are read as far as they matter.** They are read in their order, each as its kind and within its limits.
+//!   A file that can't be read is told as such. A log that isn't too long is read whole: `FileKind::most_read`,
+//!   `short_log_is_read`.
+//! - What is read of a long log, program, raw log or part has the answer of the whole file. A long log and a long
+//!   program are refused alike, at the place in the whole file. A raw log is imported or refused alike, and at most
+//!   192 MiB of it are read. A text of which only its first bytes are read is no part. A program is never cut and
+//!   run: `no_more_is_read`, `read_raw_is_short`, `short_stands_for_itself`, `long_is_refused`,
+//!   `long_is_refused_alike`.
+//!
+//! # Choices
+//!
+//! - Of a program that is no regular file 64 MiB are counted, and one that doesn't end there is refused 21 at 0: 20
+//!   at the slot that is cut would need its end, and there may be none.
+//! - An assembly text has at most 16 MiB, and a longer one can't be read (14, with a note): the limits of the text
+//!   itself are on what it says, 4,096 slots, and comments may go on for ever.
 #![tactic(auto)]
 
 mod cut;

@@ -46,7 +46,7 @@ impl Reach {
     }
 
     /// That after the first entry that is left, of a raw log that was read as far as this one says.
-    pub(crate) fn behind(self, raw: &[u8]) -> Reach
+    pub(crate) fn beyond(self, raw: &[u8]) -> Reach
         requires left { 0 < self.left }
         requires there { self.needed ≤ length raw.now }
         ensures less { result.left < self.left }

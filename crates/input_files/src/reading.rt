@@ -142,7 +142,7 @@ fn read_raw<F: Read>(alloc: Global, file: &mut F) -> io::Result<Vec<u8>>
         if reach.left == 0 {
             return Ok(bytes);
         }
-        reach = reach.behind(bytes.as_slice());
+        reach = reach.beyond(bytes.as_slice());
     }
 }
 
@@ -277,7 +277,7 @@ fn expected_length(most: usize, said: Option<u64>) -> usize {
     }
 }
 
-/// The same of a file of that kind. A part that isn't a regular file is one of many, and expected to have as many as a pipe holds.
+/// How many bytes a file of a kind is expected to have. A part that isn't a regular file is one of many, and expected to have as many as a pipe holds.
 fn expected_of(kind: FileKind, said: Option<u64>) -> usize {
     match (kind, said) {
         (FileKind::Part(_), None) => COUNTED_AT_ONCE,

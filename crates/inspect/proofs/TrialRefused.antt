@@ -7,7 +7,7 @@ use Rattle.bpf_isa.specs.Decoding as code
 use Rattle.bpf_isa.specs.Program.{FirstFault}
 use Rattle.bpf_shape.specs.declared.fault.Fault.{Fault}
 use Rattle.bpf_shape.specs.Fault as shape
-use Rattle.verifier.specs.Verdicts.{Refused}
+use Rattle.verifier.specs.Verdicts.{RefusedWith}
 use Rattle.request.specs.declared.trials.Trial.{Trial}
 use Rattle.request.specs.Refusals.{bytes_refusal}
 use Rattle.inspect.specs.TrialImage.{sectors_of, is_image}
@@ -19,7 +19,7 @@ undecoded program image t f whole (inl e) = rw e (no_code_memory whole)
 undecoded program image t f whole (inr h) = with_code_fault f.code f.slot whole h
 
 pub unaccepted : (slots : List (Option Instr)) (image : List ℕ) (t : Trial) (sectors : ℕ) (f : Fault) → sectors ≡ sectors_of image → t.checked ≡ None
-    → (f ≡ shape.memory_fault) ⊎ Refused slots sectors f.code f.slot → RefusesLimit slots image t (record { code = Verifier f.code; at = f.slot; program = None })
+    → (f ≡ shape.memory_fault) ⊎ RefusedWith t.guards slots sectors f.code f.slot → RefusesLimit slots image t (record { code = Verifier f.code; at = f.slot; program = None })
 unaccepted slots image t sectors f same unchecked (inl e) = rw e (no_verifier_memory unchecked)
 unaccepted slots image t sectors f same unchecked (inr h) =
-    with_verifier_fault f.code f.slot unchecked (subst (λ (n : ℕ). Refused slots n f.code f.slot) same h)
+    with_verifier_fault f.code f.slot unchecked (subst (λ (n : ℕ). RefusedWith t.guards slots n f.code f.slot) same h)

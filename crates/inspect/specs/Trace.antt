@@ -1,35 +1,45 @@
 -- The steps of a run in words (docs/OUTPUT.md, The text of `check`).
-use Rattle.std.specs.Prelude.{ℕ, zero, suc, ◌+◌, ◌-◌, ◌*◌, ◌/◌, ◌%◌, ◌==◌, nat_lt, Bool, true, false, if◌then◌else◌, List, [], ◌++◌, map, codes, Option, None, Some, slice_index_or}
+use Rattle.std.specs.Prelude.{ℕ, zero, suc, ◌+◌, ◌-◌, ◌*◌, ◌/◌, ◌%◌, ◌==◌, nat_lt, Bool, true, false, if◌then◌else◌, ℤ, List, [], ◌++◌, map, codes, Option, None, Some, slice_index_or}
 use Rattle.std.specs.List.{flat_map, range_with_len}
-use Rattle.std.specs.Option.{option_map_or}
+use Rattle.std.specs.Option.{option_map_or, option_and_then}
+use Rattle.std.specs.Int.{cast_unsigned, w32}
 use Rattle.std.specs.Fmt.{decimal}
 use Rattle.base.specs.Sizes.{sector_limit}
 use Rattle.base.specs.declared.limits.Limits.{Limits}
 use Rattle.bpf_isa.specs.declared.instr.Instr.{Instr}
+use Rattle.bpf_isa.specs.declared.instr.Instr.TheVariants as instr
 use Rattle.bpf_isa.specs.Slots.{at}
 use Rattle.bpf_asm.specs.Listing.{line_text}
+use Rattle.helpers.specs.declared.helper.Helper.{Helper}
+use Rattle.helpers.specs.declared.helper.Helper.TheVariants as helper
+use Rattle.helpers.specs.Helper.{helper_of}
 use Rattle.helpers.specs.Answers.{sector_start}
-use Rattle.machine.specs.State.{State, register, context_start, stack_start}
-use Rattle.machine.specs.Step.{Stepped, Next, Done, Fault, step}
-use Rattle.machine.specs.Outcome.{Ending, Verdict, Stopped}
+use Rattle.machine.specs.State.{State, register, word, context_start, stack_start}
+use Rattle.machine.specs.Memory.{byte_count, plain_size}
+use Rattle.machine.specs.Step.{Stepped, Next, Done, Fault, address}
+use Rattle.machine.specs.Outcome.{Ending, Verdict, Stopped, Stray}
+use Rattle.interp.specs.Walks.{step_as}
 use Rattle.interp.specs.declared.walk.Halt.{Halt}
 use Rattle.interp.specs.declared.walk.Halt.TheVariants as halt
+use Rattle.inspect.specs.declared.trial.trace.Touch.{Touch}
 
--- what follows a step that led to a next state, or else this
-abbrev pub behind : {X : Type 0} → X → (State → X) → Stepped → X
-behind end rest (Next s) = rest s
-behind end rest (Done _ _) = end
-behind end rest (Fault _ _) = end
+-- what follows a step that led to a next state, or else this, as where it strayed
+abbrev pub beyond : {X : Type 0} → X → (State → X) → Option Stepped → X
+beyond end rest None = end
+beyond end rest (Some (Next s)) = rest s
+beyond end rest (Some (Done _ _)) = end
+beyond end rest (Some (Fault _ _)) = end
 
 -- what a run came to that a step ended so, where these codes were reported
 abbrev pub ending_of_halt : List ℕ → Halt → Ending
 ending_of_halt numbers (halt.Verdict answer) = Verdict answer numbers
 ending_of_halt numbers (halt.Fault cause slot) = Stopped cause slot
+ending_of_halt numbers (halt.Stray slot) = Stray slot
 
--- how many of at most n steps from a state on are made; one that ends the run is made too
-unfoldable pub steps_made : List (Option Instr) → List ℕ → List (List ℕ) → ℕ → State → ℕ
-steps_made program context device zero s = 0
-steps_made program context device (suc n) s = behind 0 (steps_made program context device n) (step program context device s) + 1
+-- how many of at most n steps from a state on are made, with guards or without; one that ends the run is made too
+unfoldable pub steps_made : Bool → List (Option Instr) → List ℕ → List (List ℕ) → ℕ → State → ℕ
+steps_made guards program context device zero s = 0
+steps_made guards program context device (suc n) s = beyond 0 (steps_made guards program context device n) (step_as guards program context device s) + 1
 
 -- memory stands in blocks that begin 1,024 addresses apart: the block of an address, and the place in it
 abbrev pub place_text : ℕ → List ℕ
@@ -72,15 +82,56 @@ registers_of s = map (register s) (range_with_len 0 11)
 unfoldable pub changes_text : Limits → List (Option ℕ) → List (Option ℕ) → List ℕ
 changes_text limits before now = flat_map (λ r. change_text limits r (slice_index_or before r None) (slice_index_or now r None)) (range_with_len 0 11)
 
--- the line of a step: its number, its slot, the instruction there, and the registers that it changed
-unfoldable pub step_text : Limits → List (Option Instr) → ℕ → State → Stepped → List ℕ
+-- the place that an instruction reads or writes, and by which register: that of a load, a store or a copy
+abbrev pub touch_at : State → ℕ → ℤ → ℕ → Touch
+touch_at s base distance count = record { register = base; address = address s base distance; count = count }
+
+abbrev pub call_touches : State → Helper → Option Touch
+call_touches s helper.Copy = Some (record { register = 2; address = word s 2; count = word s 3 })
+call_touches s _ = None
+
+abbrev pub touches : State → Instr → Option Touch
+touches s (instr.Load size dst base distance) = Some (touch_at s base distance (byte_count size))
+touches s (instr.LoadSigned size dst base distance) = Some (touch_at s base distance (byte_count (plain_size size)))
+touches s (instr.StoreImmediate size base distance n) = Some (touch_at s base distance (byte_count size))
+touches s (instr.Store size base distance src) = Some (touch_at s base distance (byte_count size))
+touches s (instr.CallHelper number) = option_and_then (call_touches s) (helper_of (cast_unsigned w32 number))
+touches s _ = None
+
+unfoldable pub touch_here : List (Option Instr) → State → Option Touch
+touch_here program s = option_and_then (touches s) (at program s.slot)
+
+-- where a step strays: by which register, at which place, and how many bytes would have been read or written
+unfoldable pub strayed_by : ℕ → List ℕ
+strayed_by register = codes "; stray by r" ++ decimal register ++ codes " at "
+
+unfoldable pub strayed_bytes : ℕ → List ℕ
+strayed_bytes count = codes " bytes " ++ decimal count
+
+abbrev pub touch_text : Limits → Touch → List ℕ
+touch_text limits t = strayed_by t.register ++ word_text limits t.address ++ strayed_bytes t.count
+
+abbrev pub stray_text : Limits → Option Touch → List ℕ
+stray_text limits None = []
+stray_text limits (Some t) = touch_text limits t
+
+-- what is said of a step, before which these were in the registers and this was the place: the registers that it changed, or that it
+-- strayed there
+abbrev pub came_text : Limits → List (Option ℕ) → Option Touch → Option Stepped → List ℕ
+came_text limits before touch None = stray_text limits touch
+came_text limits before touch (Some (Next t)) = changes_text limits before (registers_of t)
+came_text limits before touch (Some (Done _ _)) = []
+came_text limits before touch (Some (Fault _ _)) = []
+
+-- the line of a step: its number, its slot, the instruction there, and what is said of it
+unfoldable pub step_text : Limits → List (Option Instr) → ℕ → State → Option Stepped → List ℕ
 step_text limits program number s x =
     codes "step " ++ decimal number ++ codes " slot " ++ decimal s.slot ++ codes " " ++ option_map_or line_text (at program s.slot) []
-    ++ behind [] (λ t. changes_text limits (registers_of s) (registers_of t)) x ++ codes "\n"
+    ++ came_text limits (registers_of s) (touch_here program s) x ++ codes "\n"
 
 -- of at most n steps from a state on, the first of this number, the lines of those whose numbers are above another
-unfoldable pub trace_text : Limits → List (Option Instr) → List ℕ → List (List ℕ) → ℕ → ℕ → ℕ → State → List ℕ
-trace_text limits program context device zero number above s = []
-trace_text limits program context device (suc n) number above s =
-    (if nat_lt above number then step_text limits program number s (step program context device s) else [])
-    ++ behind [] (trace_text limits program context device n (number + 1) above) (step program context device s)
+unfoldable pub trace_text : Limits → Bool → List (Option Instr) → List ℕ → List (List ℕ) → ℕ → ℕ → ℕ → State → List ℕ
+trace_text limits guards program context device zero number above s = []
+trace_text limits guards program context device (suc n) number above s =
+    (if nat_lt above number then step_text limits program number s (step_as guards program context device s) else [])
+    ++ beyond [] (trace_text limits guards program context device n (number + 1) above) (step_as guards program context device s)

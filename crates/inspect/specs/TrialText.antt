@@ -1,5 +1,5 @@
 -- What one run of a program on one image comes to (docs/OUTPUT.md, The text of `check`).
-use Rattle.std.specs.Prelude.{ℕ, ◌≡◌, ◌-◌, Bool, true, false, List, length, ◌++◌, codes, Option, None, Some, MatchOption}
+use Rattle.std.specs.Prelude.{ℕ, ◌≡◌, ◌-◌, Bool, true, false, if◌then◌else◌, List, [], length, ◌++◌, codes, Option, None, Some, MatchOption}
 use Rattle.std.specs.Fmt.{decimal}
 use Rattle.base.specs.declared.causes.CodeCause.{CodeCause}
 use Rattle.base.specs.declared.causes.CodeCause.TheVariants as code
@@ -12,9 +12,10 @@ use Rattle.bpf_isa.specs.declared.instr.Instr.{Instr}
 use Rattle.bpf_isa.specs.Program.{IsSpelledBy, FirstFault}
 use Rattle.helpers.specs.declared.device.Context.{Context}
 use Rattle.machine.specs.Memory.{context_bytes}
-use Rattle.machine.specs.Outcome.{Ending, outcome}
-use Rattle.machine.specs.State.{start}
-use Rattle.verifier.specs.Verdicts.{IsAccepted, Refused}
+use Rattle.machine.specs.Outcome.{Ending}
+use Rattle.interp.specs.Walks.{start_as, outcome_as}
+use Rattle.verifier.specs.Guards.{guarded_slots}
+use Rattle.verifier.specs.Verdicts.{VerifiedValue, IsVerified, RefusedWith}
 use Rattle.report.specs.Line.{fails}
 use Rattle.report.specs.LineText.{ending_text}
 use Rattle.request.specs.declared.trials.Trial.{Trial}
@@ -30,16 +31,33 @@ disk_of image = device_of image (sectors_of image)
 abbrev pub context_of : List ℕ → Trial → Context
 context_of image t = record { sectors = sectors_of image; epoch = t.epoch; marks = t.marks }
 
--- the most steps of the run: the limit where one is given, else the budget with which the verifier accepts the program
-abbrev pub Allows : List (Option Instr) → List ℕ → Trial → ℕ → Type 0
-Allows slots image t limit = MatchOption t.checked (IsAccepted slots (sectors_of image) limit) (λ most. limit ≡ most)
+-- the most steps of a run, and with guards how many slots are guarded
+pub record Bound : Type 0 where
+  pub limit : ℕ
+  pub guarded : Option ℕ
 
--- what the run comes to within that many steps, and how many it makes
+abbrev pub bound_of : VerifiedValue → Bound
+bound_of v = record { limit = v.budget; guarded = if v.guards then Some (length (guarded_slots v.program v.table)) else None }
+
+-- the verifier accepts the program so, with guards or without
+pub record IsBoundBy (with_guards : Bool) (slots : List (Option Instr)) (sector_count : ℕ) (b : Bound) : Type 0 where
+  pub verified : VerifiedValue
+  pub accepted : IsVerified verified
+  pub guards : verified.guards ≡ with_guards
+  pub program : verified.program ≡ slots
+  pub sectors : verified.sectors ≡ sector_count
+  pub is : b ≡ bound_of verified
+
+-- the limit where one is given, else the budget with which the verifier accepts the program
+abbrev pub Allows : List (Option Instr) → List ℕ → Trial → Bound → Type 0
+Allows slots image t b = MatchOption t.checked (IsBoundBy t.guards slots (sectors_of image) b) (λ most. b ≡ record { limit = most; guarded = None })
+
+-- what the run comes to within that many steps, with guards or without, and how many it makes
 abbrev pub ending_of_trial : List (Option Instr) → List ℕ → Trial → ℕ → Ending
-ending_of_trial slots image t limit = outcome slots (disk_of image) (context_of image t) limit
+ending_of_trial slots image t limit = outcome_as t.guards slots (disk_of image) (context_of image t) limit
 
 abbrev pub steps_of_trial : List (Option Instr) → List ℕ → Trial → ℕ → ℕ
-steps_of_trial slots image t limit = steps_made slots (context_bytes (context_of image t)) (disk_of image) limit start
+steps_of_trial slots image t limit = steps_made t.guards slots (context_bytes (context_of image t)) (disk_of image) limit (start_as t.guards)
 
 -- the line of what the program is told
 unfoldable pub context_text : Context → List ℕ
@@ -50,43 +68,49 @@ abbrev pub bound_text : Option ℕ → List ℕ
 bound_text (Some limit) = codes " limit "
 bound_text None = codes " budget "
 
-unfoldable pub program_text : Option ℕ → ℕ → ℕ → List ℕ
-program_text checked slots limit = codes "program slots " ++ decimal slots ++ bound_text checked ++ decimal limit ++ codes "\n"
+-- with guards the number of guarded slots stands there too
+abbrev pub guarded_count_text : Option ℕ → List ℕ
+guarded_count_text None = []
+guarded_count_text (Some count) = codes " guards " ++ decimal count
+
+unfoldable pub program_text : Option ℕ → ℕ → Bound → List ℕ
+program_text checked slots b = codes "program slots " ++ decimal slots ++ bound_text checked ++ decimal b.limit ++ guarded_count_text b.guarded ++ codes "\n"
 
 -- the lines before the steps
-unfoldable pub head_text : Context → Option ℕ → ℕ → ℕ → List ℕ
-head_text context checked slots limit = codes "crash check 1\n" ++ context_text context ++ program_text checked slots limit
+unfoldable pub head_text : Context → Option ℕ → ℕ → Bound → List ℕ
+head_text context checked slots b = codes "crash check 1\n" ++ context_text context ++ program_text checked slots b
 
 -- the lines of the last steps of a run that makes that many
 abbrev pub last_steps : List (Option Instr) → List ℕ → Trial → ℕ → List ℕ
-last_steps slots image t steps = trace_text t.limits slots (context_bytes (context_of image t)) (disk_of image) steps 1 (steps - t.trace) start
+last_steps slots image t steps = trace_text t.limits t.guards slots (context_bytes (context_of image t)) (disk_of image) steps 1 (steps - t.trace) (start_as t.guards)
 
 -- the lines after them: how many steps were made, and what the program ended in
 unfoldable pub end_text : ℕ → Ending → List ℕ
 end_text steps ending = codes "steps " ++ decimal steps ++ codes "\n" ++ ending_text ending ++ codes "\n"
 
--- what is said of a run of this program on this image, within this limit
-unfoldable pub trial_text : List (Option Instr) → List ℕ → Trial → ℕ → List ℕ
-trial_text slots image t limit =
-    head_text (context_of image t) t.checked (length slots) limit
-    ++ last_steps slots image t (steps_of_trial slots image t limit)
-    ++ end_text (steps_of_trial slots image t limit) (ending_of_trial slots image t limit)
+-- what is said of a run of this program on this image, so bounded
+unfoldable pub trial_text : List (Option Instr) → List ℕ → Trial → Bound → List ℕ
+trial_text slots image t b =
+    head_text (context_of image t) t.checked (length slots) b
+    ++ last_steps slots image t (steps_of_trial slots image t b.limit)
+    ++ end_text (steps_of_trial slots image t b.limit) (ending_of_trial slots image t b.limit)
 
 -- what the bytes of a program and of an image come to: the text, and whether the program rejects the image
 pub record IsTried (program image : List ℕ) (t : Trial) (text : List ℕ) (failing : Bool) : Type 0 where
   pub whole : is_image t.limits image ≡ true
   pub slots : List (Option Instr)
   pub spelled : IsSpelledBy program slots
-  pub limit : ℕ
-  pub allowed : Allows slots image t limit
-  pub says : text ≡ trial_text slots image t limit
-  pub ends : failing ≡ fails (ending_of_trial slots image t limit)
+  pub bound : Bound
+  pub allowed : Allows slots image t bound
+  pub says : text ≡ trial_text slots image t bound
+  pub ends : failing ≡ fails (ending_of_trial slots image t bound.limit)
 
 -- no limit is given, and the verifier refuses the program, or memory was wanting for it
 pub data RefusesLimit (slots : List (Option Instr)) (image : List ℕ) (t : Trial) : Refusal → Type 0 where
-  with_verifier_fault : (cause : VerifierCause) (slot : ℕ) → t.checked ≡ None → Refused slots (sectors_of image) cause slot
+  with_verifier_fault : (cause : VerifierCause) (slot : ℕ) → t.checked ≡ None → RefusedWith t.guards slots (sectors_of image) cause slot
       → RefusesLimit slots image t (record { code = Verifier cause; at = slot; program = None })
   no_verifier_memory : t.checked ≡ None → RefusesLimit slots image t (record { code = Verifier verifier.Memory; at = 0; program = None })
+  no_count_memory : RefusesLimit slots image t memory_refusal
 
 -- refused for the size of the image, the second file; of one of a good size for the first fault of the program's bytes; of a program that
 -- they spell for what the verifier says of it; or for want of memory

@@ -1,9 +1,11 @@
 //! Looks at logs, images and programs by themselves: the answers of the commands that run no program.
 //!
 //! `which.rt` finds the choice of the image that is meant, by its number, or by its cut and its choice as the report prints it;
-//! `laws.rt` has what holds of the texts of choices, and of the parts of a run.
+//! `laws.rt` has what holds of the texts of choices, and of the parts of a run. `any_image_command.rt` has the image of a choice of any number
+//! of parts; `names.rt` reads the text of such a choice, and `lost.rt` finds what becomes of each part by it.
 #![tactic(auto)]
 
+mod any_image_command;
 mod asm_command;
 mod export_command;
 mod image_command;
@@ -13,13 +15,16 @@ mod laws;
 mod layout;
 mod list_command;
 mod log_command;
+mod lost;
+mod names;
 mod show_command;
 mod verify_command;
 mod which;
 
+pub use any_image_command::any_image;
 pub use asm_command::assemble;
 pub use export_command::{Stopped, export_images, write_images};
-pub use image_command::image;
+pub use image_command::{Form, image};
 pub use images_command::survey;
 pub use import_command::import;
 pub use laws::{choices_are_short, parts_are_even, report_prints_choices};

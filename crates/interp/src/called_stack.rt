@@ -4,10 +4,10 @@
 ghost use Rattle.std.specs.Prelude.{◌≡◌, ◌≤◌, ◌<◌, ◌+◌, length, replicate};
 ghost use Rattle.machine.specs.Memory.{byte_count};
 ghost use Rattle.machine.specs.State.{unset_stack};
-ghost use Rattle.interp.specs.Cells.{stack_with};
+ghost use Rattle.interp.specs.Cells.{filled_stack, stack_with};
 ghost use Rattle.interp.specs.Reading.{reading, stack_byte};
 
-use crate::stack::{is_marked, number};
+use crate::stack::{is_marked, known_bytes, number};
 use arithmetic::byte_count;
 use base::causes::MachineFault;
 use bpf_isa::instr::Size;
@@ -86,6 +86,17 @@ impl CalledStack {
         self.bytes[place..end].copy_from_slice(bytes);
         let mark = self.mark;
         give_all(&mut self.marks[place..end], mark);
+    }
+
+    /// Sets each unset byte to 0.
+    pub(crate) fn fill(&mut self)
+        ensures filled { self.new ≡ filled_stack self.old }
+        ensures long { length self.new ≡ 512 }
+    {
+        let mark = self.mark;
+        let known = known_bytes(&self.bytes, &self.marks, mark);
+        self.bytes = known;
+        self.marks = [mark; 512];
     }
 }
 

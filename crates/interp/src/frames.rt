@@ -1,11 +1,12 @@
 //! The frames above the first (docs/MACHINE.md, Local calls, exit, helper calls).
 
-ghost use Rattle.std.specs.Prelude.{◌≡◌, ◌≤◌, ◌<◌, ◌+◌, ◌-◌, ◌∷◌, ◌++◌, [], Some, None, length, take, nat_lt, if◌then◌else◌, IfNone, slice_get};
+ghost use Rattle.std.specs.Prelude.{◌≡◌, ◌≤◌, ◌<◌, ◌+◌, ◌-◌, ◌∷◌, ◌++◌, [], ℕ, List, Option, Some, None, length, map, take, nat_lt, if◌then◌else◌, IfNone, slice_get};
 ghost use Rattle.std.specs.Option.{option_map};
 ghost use Rattle.machine.specs.State.{unset_stack};
 ghost use Rattle.machine.specs.Step.{caller_of};
+ghost use Rattle.machine.specs.Guards.{filled_frame};
 ghost use Rattle.machine.specs.Memory.{change_at};
-ghost use Rattle.interp.specs.Cells.{stack_with};
+ghost use Rattle.interp.specs.Cells.{filled_stack, stack_with};
 ghost use Rattle.interp.specs.Frames.{called_frame, caller_value, AreLong};
 
 use crate::called_stack::CalledStack;
@@ -112,5 +113,21 @@ impl Frames {
         ensures { self.new ≡ change_at number (λ f. record f { stack = stack_with f.stack place bytes.now }) self.old }
     {
         self.stacks[number].write(place, bytes);
+    }
+
+    /// Sets each unset byte of a stack to 0.
+    pub(crate) fn fill(&mut self)
+        ensures { self.new ≡ map filled_frame self.old }
+    {
+        fill_all(&mut self.stacks);
+    }
+}
+
+/// Sets each unset byte of these stacks to 0.
+fn fill_all(stacks: &mut [CalledStack])
+    ensures filled { stacks.new ≡ map filled_stack stacks.old }
+{
+    for frame in 0..stacks.len() {
+        stacks[frame].fill();
     }
 }

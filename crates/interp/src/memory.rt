@@ -258,7 +258,7 @@ impl<const COUNTS: usize, const FRAMES: usize> Machine<COUNTS, FRAMES> {
         self.writable_outside(world, address, count)
     }
 
-    /// The same for bytes that don't begin in the first stack, where there are places for frames above it.
+    /// Where bytes may be written that don't begin in the first stack, where there are places for frames above it.
     #[inline(never)]
     fn writable_outside<D: Device>(
         &self,
@@ -294,7 +294,7 @@ impl<const COUNTS: usize, const FRAMES: usize> Machine<COUNTS, FRAMES> {
         }
     }
 
-    /// The same for bytes that begin below the sectors, and neither in the context nor in the first stack.
+    /// Where bytes may be written that begin below the sectors, and neither in the context nor in the first stack.
     #[inline(never)]
     fn writable_above(&self, address: u64, count: u64) -> Result<Spot, MachineFault>
         requires some { 0 < count }

@@ -82,7 +82,7 @@ impl<const COUNTS: usize, const FRAMES: usize> Machine<COUNTS, FRAMES> {
         }
     }
 
-    /// The same.
+    /// Notes what the instruction of a record reads.
     #[inline(never)]
     #[tactic(auto, unfolding(plain::specs::Reads::operation_reads))]
     fn note_record<D: Device, const ROOM: usize>(

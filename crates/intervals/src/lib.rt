@@ -95,6 +95,25 @@
 //! // before the next turn of a loop: 8 to 15
 //! let rounded = Range { low: 8, high: 11 }.round();
 //! ```
+//!
+//! # How it is proved
+//!
+//! - **One record of two inequalities a notion** (`IsSpan m x`, `Has x a`, `Within x t` in
+//!   `intervals/specs/Spans.antt`), the bound m a variable. Then `grind (arith, nat_tests)` splits the tests of a
+//!   table on both sides, and the same two words close 'covers', 'fits' and 'is monotone' of an operator. What it is
+//!   to know of products, quotients and masks is bound by `let` before. `intervals/proofs/Decided.antt` has the
+//!   results that a test decides (a constant, a range that stays, the full range) once for all operators.
+//! - A constant of a type (`const FULL`) is pinned by no clause and seen by no plant; a function with a clause is.
+//! - A definition that is a chain of `option_and_then` wants two words: `Whenever P` (holds where there is something)
+//!   and `Related R` (where there is a first there is a second, related). Each has a lemma for a step and one for a
+//!   map. Every law of reducing, results and edges of `Bounds` is such a chain (`intervals/proofs`).
+//! - 'No word is lost' follows from monotony: the limits of one word are reduced and lie in x, so they lie in what is
+//!   left (`reduced_has` in `intervals`).
+//! - What the crates above ask of ranges and limits stands as closed lemmas in `intervals/proofs/CallerLemmas.antt`;
+//!   the answers of the laws cite the same ones. The bounds of `cast_unsigned w64 n` want the range of n: `pos n` is
+//!   n, however large.
+//! - Over whole numbers with a sign `omega (arith, ints, clamps)` does `int_min` and `int_max`; state readings by
+//!   cases (`natural_reading`, `negative_reading`).
 #![tactic(auto)]
 
 mod bounds;

@@ -22,10 +22,10 @@ pub by_words : (w : Words) (more : List ℕ)
 unfolding words_text
 by_words w more = simp append_assoc
 
-pub words_read : (line image behind_image at behind_cut program rest : List ℕ) (i k p : ℕ)
-    → ReadsField line image behind_image → ReadsField behind_image at behind_cut → ReadsField behind_cut program rest
+pub words_read : (line image after_image at after_cut program rest : List ℕ) (i k p : ℕ)
+    → ReadsField line image after_image → ReadsField after_image at after_cut → ReadsField after_cut program rest
     → SaysNumber image i → SaysNumber at k → SaysNumber program p → ReadsWords line (record { image = i; cut = k; program = p })
-words_read line image behind_image at behind_cut program rest i k p f1 f2 f3 n1 n2 n3 = record { read = reads }
+words_read line image after_image at after_cut program rest i k p f1 f2 f3 n1 n2 n3 = record { read = reads }
   where
     reads : (w : Words) (more : List ℕ) → w.image < 2 ^ 64 → w.cut < 2 ^ 64 → w.program < 2 ^ 64 → line ≡ words_text w ++ more → record { image = i; cut = k; program = p } ≡ w
     reads w more s1 s2 s3 e =

@@ -6,11 +6,11 @@ use Rattle.std.specs.List.Sorted.{IsNonDecreasing}
 use Rattle.report.specs.declared.lines.marks.Mark.{Mark}
 use Rattle.report.specs.Line.{FailingLine, first_lines}
 use Rattle.report.specs.Marks.{mark_of, marks_of}
-use Rattle.report.specs.Images.{images_of, failing_images, first_image, changes_behind, is_same}
+use Rattle.report.specs.Images.{images_of, failing_images, first_image, changes_after, is_same}
 use Rattle.report.proofs.Order.{changes_are_images}
 use Rattle.report.specs.declared.span.Span.{Span}
 use Rattle.join.specs.declared.tally.Tally.{Tally}
-use Rattle.join.specs.Order.{is_behind, follows, in_order}
+use Rattle.join.specs.Order.{is_after, follows, in_order}
 use Rattle.join.specs.Reading.{is_new, first_of, none_read, one_more, tallied}
 
 pub tallied_push : (s : Span) (t : Tally) (ms : List Mark) (m : Mark) → tallied s t (ms ++ m ∷ []) ≡ one_more s (tallied s t ms) m
@@ -38,7 +38,7 @@ new_image None image = refl
 new_image (Some m) image = elim (m.image == image) as (λ v. ◌≡◌ {A = ℕ} (if not v then 1 else 0) (if v then 0 else 1)) [ true ↦ refl | false ↦ refl ]
 
 -- how often the image changes
-images_from : (s : Span) (t : Tally) (ls : List FailingLine) → (tallied s t (marks_of ls)).images ≡ t.images + changes_behind (last_image t.last) ls
+images_from : (s : Span) (t : Tally) (ls : List FailingLine) → (tallied s t (marks_of ls)).images ≡ t.images + changes_after (last_image t.last) ls
 unfolding tallied
 images_from s t [] = omega arith
 images_from s t (l ∷ ls) =
@@ -80,7 +80,7 @@ both false b e = absurd (let lack : false ≡ true = e in cc)
 pub record IsNext (from to : ℕ) (last : Option Mark) (m : Mark) (ms : List Mark) : Type 0 where
   pub low : from ≤ m.image
   pub high : m.image < to
-  pub behind : follows last m ≡ true
+  pub beyond : follows last m ≡ true
   pub rest : in_order from to (Some m) ms ≡ true
 
 pub next_is : (from to : ℕ) (last : Option Mark) (m : Mark) (ms : List Mark) → in_order from to last (m ∷ ms) ≡ true → IsNext from to last m ms
@@ -90,9 +90,9 @@ next_is from to last m ms e =
     let three = both (nat_le from m.image) (nat_lt m.image to) two.0 in
     let at = three.0 in
     let below = three.1 in
-    record { low = grind (arith, nat_tests, at); high = grind (arith, nat_tests, below); behind = two.1; rest = one.1 }
+    record { low = grind (arith, nat_tests, at); high = grind (arith, nat_tests, below); beyond = two.1; rest = one.1 }
 
-not_before : (last m : Mark) → is_behind last m ≡ true → last.image ≤ m.image
+not_before : (last m : Mark) → is_after last m ≡ true → last.image ≤ m.image
 not_before last m e = by_test (nat_lt last.image m.image) (last.image == m.image) refl refl e
   where
     by_test : (a b : Bool) → nat_lt last.image m.image ≡ a → (last.image == m.image) ≡ b → (a || (b && nat_lt last.program m.program)) ≡ true → last.image ≤ m.image
@@ -109,10 +109,10 @@ rising from to last (l ∷ ls) e =
   where
     at_default : (from to : ℕ) (l : FailingLine) (ls : List FailingLine) → in_order from to (Some (mark_of l)) (marks_of ls) ≡ true → (j d : ℕ) → j < length (images_of ls) → l.image ≤ get_or (images_of ls) j d
     at_default from to l [] own j d small = absurd (omega (arith, small))
-    at_default from to l (k ∷ ks) own zero d small = not_before (mark_of l) (mark_of k) (next_is from to (Some (mark_of l)) (mark_of k) (marks_of ks) own).behind
+    at_default from to l (k ∷ ks) own zero d small = not_before (mark_of l) (mark_of k) (next_is from to (Some (mark_of l)) (mark_of k) (marks_of ks) own).beyond
     at_default from to l (k ∷ ks) own (suc j) d small =
         let next = next_is from to (Some (mark_of l)) (mark_of k) (marks_of ks) own in
-        let here = not_before (mark_of l) (mark_of k) next.behind in
+        let here = not_before (mark_of l) (mark_of k) next.beyond in
         let more = at_default from to k ks next.rest j d (omega (arith, small)) in
         omega (arith, here, more)
 
@@ -143,21 +143,21 @@ pub counted_first : (s : Span) (ls : List FailingLine) → (tallied s none_read 
 counted_first s ls = first_from s none_read ls
 
 -- lines of at most one image are those of the first
-no_change : (l : FailingLine) (ls : List FailingLine) → changes_behind (Some l.image) ls ≡ 0 → filter (λ (m : FailingLine). m.image == l.image) ls ≡ ls
+no_change : (l : FailingLine) (ls : List FailingLine) → changes_after (Some l.image) ls ≡ 0 → filter (λ (m : FailingLine). m.image == l.image) ls ≡ ls
 no_change l [] e = refl
 no_change l (k ∷ ks) e = elim (eqb_tells l.image k.image) [
   | inl same ↦
       let back : k.image ≡ l.image = sym same.1 in
-      let here : (if l.image == k.image then 0 else 1) + changes_behind (Some k.image) ks ≡ 0 = e in
-      let none : changes_behind (Some k.image) ks ≡ 0 = omega (arith, here) in
-      let less : changes_behind (Some l.image) ks ≡ 0 = subst (λ (image : ℕ). changes_behind (Some image) ks ≡ 0) back none in
+      let here : (if l.image == k.image then 0 else 1) + changes_after (Some k.image) ks ≡ 0 = e in
+      let none : changes_after (Some k.image) ks ≡ 0 = omega (arith, here) in
+      let less : changes_after (Some l.image) ks ≡ 0 = subst (λ (image : ℕ). changes_after (Some image) ks ≡ 0) back none in
       rw (eq-eqb k.image l.image back) (ap (λ (xs : List FailingLine). k ∷ xs) (no_change l ks less))
-  | inr other ↦ absurd (let here : (if l.image == k.image then 0 else 1) + changes_behind (Some k.image) ks ≡ 0 = e in let step = rw other.0 at here in omega (arith, step))
+  | inr other ↦ absurd (let here : (if l.image == k.image then 0 else 1) + changes_after (Some k.image) ks ≡ 0 = e in let step = rw other.0 at here in omega (arith, step))
 ]
 
 pub all_of_first : (ls : List FailingLine) → IsNonDecreasing (images_of ls) → failing_images ls ≤ 1 → first_lines ls ≡ ls
 all_of_first [] up few = refl
 all_of_first (l ∷ ls) up few =
     let changes = changes_are_images (l ∷ ls) up in
-    let none : changes_behind (Some l.image) ls ≡ 0 = omega (arith, changes, few) in
+    let none : changes_after (Some l.image) ls ≡ 0 = omega (arith, changes, few) in
     rw (eq-eqb l.image l.image refl) (ap (λ (xs : List FailingLine). l ∷ xs) (no_change l ls none))

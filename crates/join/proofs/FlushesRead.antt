@@ -63,8 +63,8 @@ more_entries before text front more between left n found cut says is rest = reco
     reads e (f ∷ fs) few all is_text =
         let one = one_cut 44 front (decimal e) more (entries_text (f ∷ fs)) cut.first (comma_lacks e (first_of e (f ∷ fs) all)) (sym cut.is ∙ is_text) in
         let same : n ≡ e = says e (first_of e (f ∷ fs) all) one.0 in
-        let behind = rest.read f fs (omega (arith, few)) (rest_of e (f ∷ fs) all) one.1 in
-        behind ∙ ap (λ (xs : List ℕ). xs ++ f ∷ fs) (is ∙ ap (λ (m : ℕ). before ++ m ∷ []) same) ∙ append_assoc before (e ∷ []) (f ∷ fs)
+        let beyond = rest.read f fs (omega (arith, few)) (rest_of e (f ∷ fs) all) one.1 in
+        beyond ∙ ap (λ (xs : List ℕ). xs ++ f ∷ fs) (is ∙ ap (λ (m : ℕ). before ++ m ∷ []) same) ∙ append_assoc before (e ∷ []) (f ∷ fs)
 
 -- the list of entries is a word
 next_lacks : (es : List ℕ) → AreEntries es → lacks 32 (flat_map next_flush es) ≡ true

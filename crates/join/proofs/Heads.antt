@@ -7,7 +7,7 @@ use Rattle.std.proofs.Math.Seq.{take-append_seam}
 use Rattle.report.specs.MarkReading.{lacks}
 use Rattle.report.proofs.Back.{lacks_both}
 use Rattle.join.specs.Text.{IsHeadLine, AreHeadLines, lines_text}
-use Rattle.join.specs.Reading.{IsCut, NoCut, BeginsImage, IsBehindHead, NoHead}
+use Rattle.join.specs.Reading.{IsCut, NoCut, BeginsImage, IsAfterHead, NoHead}
 use Rattle.join.proofs.Texts.{one_cut, has_it}
 
 -- some lines of the head were passed over
@@ -57,7 +57,7 @@ cut_at_image text front rest word more is begins =
     let some : 0 < length (10 ∷ more) = omega arith in
     IsCharBoundary-before_ascii text (length front) (omega (arith, long, own, some)) (omega (arith, byte))
 
-pub head_found : (text rest line more x : List ℕ) → HasPassed text rest → IsUtf8 text → IsCut 10 rest line more → line ≡ codes "image" ++ x → IsBehindHead text rest
+pub head_found : (text rest line more x : List ℕ) → HasPassed text rest → IsUtf8 text → IsCut 10 rest line more → line ≡ codes "image" ++ x → IsAfterHead text rest
 head_found text rest line more x h whole cut is =
     let begins : rest ≡ (codes "image" ++ x) ++ 10 ∷ more = cut.is ∙ ap (λ (bs : List ℕ). bs ++ 10 ∷ more) is in
     let at = cut_at_image text (lines_text h.lines) rest x more h.is begins in
@@ -71,7 +71,7 @@ head_found text rest line more x h whole cut is =
     }
 
 pub head_here : (text rest line more : List ℕ) (o : Option (Bor (List ℕ))) → HasPassed text rest → IsUtf8 text → IsCut 10 rest line more
-    → MatchOption o ((x : List ℕ) → line ≢ codes "image" ++ x) (λ x. line ≡ codes "image" ++ x.now) → is_some o ≡ true → IsBehindHead text rest
+    → MatchOption o ((x : List ℕ) → line ≢ codes "image" ++ x) (λ x. line ≡ codes "image" ++ x.now) → is_some o ≡ true → IsAfterHead text rest
 head_here text rest line more None h whole cut found some = absurd (let bad : false ≡ true = some in cc)
 head_here text rest line more (Some x) h whole cut found some = head_found text rest line more x.now h whole cut found
 

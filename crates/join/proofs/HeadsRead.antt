@@ -227,11 +227,11 @@ abbrev line_of : HeadValue → List ℕ
 line_of v = join_words (device_words v ++ (choices_words v ++ given_words v))
 
 -- the words after the first
-abbrev behind_first : HeadValue → List (List ℕ)
-behind_first v = decimal v.sectors ∷ codes "entries" ∷ decimal v.entries ∷ codes "cuts" ∷ cuts_word v.cuts.kind ∷ (choices_words v ++ given_words v)
+abbrev beyond_first : HeadValue → List (List ℕ)
+beyond_first v = decimal v.sectors ∷ codes "entries" ∷ decimal v.entries ∷ codes "cuts" ∷ cuts_word v.cuts.kind ∷ (choices_words v ++ given_words v)
 
 words_opened : (v : HeadValue) → line_of v ≡ opened v (spaced (given_words v))
-words_opened v = words_spaced (codes "sectors") (behind_first v)
+words_opened v = words_spaced (codes "sectors") (beyond_first v)
 
 line_is : (v : HeadValue) → options_line v ≡ line_of v ++ 10 ∷ []
 line_is v =
@@ -282,8 +282,8 @@ given_lack v small =
     (flush_lack (places_of v.cuts.flushes) (option_words (codes "from") v.cuts.from ++ (option_words (codes "to") v.cuts.to ++ b)) small.flushes
     (option_lack (codes "from") v.cuts.from (option_words (codes "to") v.cuts.to ++ b) refl small.from (option_lack (codes "to") v.cuts.to b refl small.to own)))
 
-behind_lack : (v : HeadValue) → IsSmallHead v → all_lack (behind_first v)
-behind_lack v small = (
+after_lack : (v : HeadValue) → IsSmallHead v → all_lack (beyond_first v)
+after_lack v small = (
   line_lacks v.sectors (less v.sectors small.sectors),
   (
     refl,
@@ -302,8 +302,8 @@ behind_lack v small = (
 
 line_one : (v : HeadValue) → IsSmallHead v → lacks 10 (line_of v) ≡ true
 line_one v small =
-    subst (λ (bs : List ℕ). lacks 10 bs ≡ true) (sym (words_spaced (codes "sectors") (behind_first v)))
-    (lacks_both 10 (codes "sectors") (spaced (behind_first v)) refl (spaced_lack (behind_first v) (behind_lack v small)))
+    subst (λ (bs : List ℕ). lacks 10 bs ≡ true) (sym (words_spaced (codes "sectors") (beyond_first v)))
+    (lacks_both 10 (codes "sectors") (spaced (beyond_first v)) refl (spaced_lack (beyond_first v) (after_lack v small)))
 
 -- a head is read from its lines
 pub head_read : (text line rest : List ℕ) (programs : List ProgramHead) (h : HeadValue) → IsCutAt 10 text line rest → ReadsPrograms rest programs → ReadsOptions line h → h.programs ≡ programs → ReadsHead text h

@@ -159,9 +159,9 @@ joined_more rs n left right all at next own = λ k a b small one two. by_place k
     by_place k a b one two (inr past) small =
         let same : k ≡ n = omega (arith, past, small) in
         let here : slice_get rs n ≡ Some a = rw same at one in
-        let behind : slice_get rs (n + 1) ≡ Some b = rw same at two in
+        let beyond : slice_get rs (n + 1) ≡ Some b = rw same at two in
         let x = one_there rs n left a at here in
-        let y = one_there rs (n + 1) right b next behind in
+        let y = one_there rs (n + 1) right b next beyond in
         rw (← x, ← y) own
 
 pub all_joined : (rs : List PartRead) (n : ℕ) → length rs ≤ n + 1 → AreJoinedTo rs n → NoneIsApart rs

@@ -93,8 +93,8 @@ inside a b image low high =
 before : (a b image : ℕ) → image < a → held a b image ≡ 0
 before a b image low = let one : nat_le a image ≡ false = grind (arith, nat_tests, low) in rw one refl
 
-behind : (a b image : ℕ) → b ≤ image → held a b image ≡ 0
-behind a b image high =
+beyond : (a b image : ℕ) → b ≤ image → held a b image ≡ 0
+beyond a b image high =
     let two : nat_lt image b ≡ false = grind (arith, nat_tests, high) in
     elim (nat_le a image) as (λ v. ◌≡◌ {A = ℕ} (if v && nat_lt image b then 1 else 0) 0) [ true ↦ rw two refl | false ↦ refl ]
 
@@ -103,7 +103,7 @@ within a b image one = elim (cases_lt image a) [
   | inl low ↦ absurd (let none = before a b image low in omega (arith, none, one))
   | inr up ↦ elim (cases_lt image b) [
     | inl lt ↦ (up, lt)
-    | inr high ↦ absurd (let none = behind a b image high in omega (arith, none, one))
+    | inr high ↦ absurd (let none = beyond a b image high in omega (arith, none, one))
   ]
 ]
 
@@ -132,8 +132,8 @@ two_ranges a m b image le up = elim (cases_lt image a) [
   | inr from ↦ elim (cases_lt image m) [
     | inl lt ↦ let x = inside a m image from lt in let y = before m b image lt in let z = inside a b image from (omega (arith, lt, up)) in omega (arith, x, y, z)
     | inr past ↦ elim (cases_lt image b) [
-      | inl lt ↦ let x = behind a m image past in let y = inside m b image past lt in let z = inside a b image from lt in omega (arith, x, y, z)
-      | inr end ↦ let x = behind a m image past in let y = behind m b image end in let z = behind a b image end in omega (arith, x, y, z)
+      | inl lt ↦ let x = beyond a m image past in let y = inside m b image past lt in let z = inside a b image from lt in omega (arith, x, y, z)
+      | inr end ↦ let x = beyond a m image past in let y = beyond m b image end in let z = beyond a b image end in omega (arith, x, y, z)
     ]
   ]
 ]
@@ -156,7 +156,7 @@ row_up (rd ∷ rs) from to spans row =
 row_times : (rs : List PartRead) (from to image : ℕ) → AreSpans rs → AreInRow from rs to → times image rs ≡ held from to image
 row_times [] from to image spans row = elim (cases_lt image from) [
   | inl low ↦ let none = before from to image low in sym none
-  | inr past ↦ let none = behind from to image (omega (arith, past, row)) in sym none
+  | inr past ↦ let none = beyond from to image (omega (arith, past, row)) in sym none
 ]
 row_times (rd ∷ rs) from to image spans row =
     let tail = λ (k : ℕ) (d : PartRead) (small : k < length rs). spans (suc k) d (omega (arith, small)) in
@@ -446,9 +446,9 @@ all_front P (x ∷ front) left right back all = by_place (all_front P front left
     by_place rest zero d l = all 0 d (omega arith)
     by_place rest (suc k) d l = rest k d (omega (arith, l))
 
-all_behind : (P : PartRead → Type 0) (front back : List PartRead) → All P (front ++ back) → All P back
-all_behind P [] back all = all
-all_behind P (x ∷ front) back all = all_behind P front back (λ k d l. all (suc k) d (omega (arith, l)))
+all_after : (P : PartRead → Type 0) (front back : List PartRead) → All P (front ++ back) → All P back
+all_after P [] back all = all
+all_after P (x ∷ front) back all = all_after P front back (λ k d l. all (suc k) d (omega (arith, l)))
 
 breaks : (r : RunValue) (ranges : List Range) (from to : ℕ) (left right : PartRead) → ArePartsOf r ranges from to → IsFirstApart (texts_of r ranges) left right → Breaks r from to left right
 breaks r ranges from to left right parts h =
@@ -459,7 +459,7 @@ breaks r ranges from to left right parts h =
     let tail = IsNonDecreasingBy-drop (λ (x : PartRead). x.span.from) (length h.front) (h.front ++ left ∷ right ∷ h.back) up in
     let cut = drop-append_seam h.front (left ∷ right ∷ h.back) in
     let rising = subst (λ (rs : List PartRead). IsNonDecreasingBy (λ (x : PartRead). x.span.from) rs) cut tail in
-    let told_tail = λ (k : ℕ) (d : PartRead) (l : k < length (left ∷ right ∷ h.back)). all_behind (IsTold (OfRun r)) h.front (left ∷ right ∷ h.back) told k d l in
+    let told_tail = λ (k : ℕ) (d : PartRead) (l : k < length (left ∷ right ∷ h.back)). all_after (IsTold (OfRun r)) h.front (left ∷ right ∷ h.back) told k d l in
     let one = value_is r left (told_tail 0 left (omega arith)) in
     let two = value_is r right (told_tail 1 right (omega arith)) in
     record {
@@ -523,10 +523,10 @@ no_gap r from to left right h gap =
     let split = sum_by-append (read_has left.span.to) h.front (left ∷ []) in
     let alone = sum_by-cons (read_has left.span.to) left [] in
     let before_it = row_times (h.front ++ left ∷ []) h.start left.span.to left.span.to h.spans h.row in
-    let past = behind h.start left.span.to left.span.to (omega arith) in
-    let behind_it = none_has left.span.to (right ∷ h.back) (λ k d l. let later = h.later k d l in omega (arith, later, gap)) in
+    let past = beyond h.start left.span.to left.span.to (omega arith) in
+    let after_it = none_has left.span.to (right ∷ h.back) (λ k d l. let later = h.later k d l in omega (arith, later, gap)) in
     let back_split = sum_by-cons (read_has left.span.to) right h.back in
-    omega (arith, has_it, all, split, alone, before_it, past, behind_it, back_split)
+    omega (arith, has_it, all, split, alone, before_it, past, after_it, back_split)
 
 -- all parts of a run lack none of its images
 not_short : (r : RunValue) (ranges : List Range) (from to file : ℕ) → ArePartsOf r ranges from to → from ≡ 0 → to ≡ r.head.images → IsShortOfRun (texts_of r ranges) file → ⊥

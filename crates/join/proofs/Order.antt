@@ -5,7 +5,7 @@ use Rattle.std.proofs.lemmas.List.Elements.{filter-append}
 use Rattle.report.specs.declared.lines.marks.Mark.{Mark}
 use Rattle.report.specs.Line.{FailingLine, first_lines}
 use Rattle.report.specs.Marks.{mark_of, marks_of}
-use Rattle.report.specs.Images.{failing_images, changes_behind}
+use Rattle.report.specs.Images.{failing_images, changes_after}
 use Rattle.report.proofs.Order.{changes_are_images}
 use Rattle.join.specs.Order.{follows, in_order}
 use Rattle.join.proofs.Counts.{next_is, rising, all_of_first}
@@ -47,15 +47,15 @@ low_is a b le = grind (arith, nat_tests, le)
 high_is : (a b : ℕ) → a < b → nat_lt a b ≡ true
 high_is a b lt = grind (arith, nat_tests, lt)
 
-behind_is : (image : ℕ) (last : Option Mark) (m : Mark) → Before image last → image ≤ m.image → follows last m ≡ true
-behind_is image None m before le = refl
-behind_is image (Some last) m before le = let less : nat_lt last.image m.image ≡ true = high_is last.image m.image (omega (arith, before, le)) in rw less refl
+beyond_is : (image : ℕ) (last : Option Mark) (m : Mark) → Before image last → image ≤ m.image → follows last m ≡ true
+beyond_is image None m before le = refl
+beyond_is image (Some last) m before le = let less : nat_lt last.image m.image ≡ true = high_is last.image m.image (omega (arith, before, le)) in rw less refl
 
 pub next_back : (from to : ℕ) (last : Option Mark) (m : Mark) (ms : List Mark) → from ≤ m.image → m.image < to → follows last m ≡ true → in_order from to (Some m) ms ≡ true → in_order from to last (m ∷ ms) ≡ true
-next_back from to last m ms low high behind rest =
+next_back from to last m ms low high beyond rest =
     let a = low_is from m.image low in
     let b = high_is m.image to high in
-    rw (a, b, behind, rest) refl
+    rw (a, b, beyond, rest) refl
 
 -- lines of images up to `mid`, and then lines from there on
 pub in_order-append : (from mid to : ℕ) (last : Option Mark) (ls more : List FailingLine) → from ≤ mid → mid ≤ to → Before mid last
@@ -67,22 +67,22 @@ in_order-append from mid to last [] more le up at e f = from_there last more at 
     from_there last (k ∷ ks) at f =
         let next = next_is mid to None (mark_of k) (marks_of ks) f in
         let low = next.low in
-        next_back from to last (mark_of k) (marks_of ks) (omega (arith, le, low)) next.high (behind_is mid last (mark_of k) at low) (rest_there (mark_of k) ks next.rest)
+        next_back from to last (mark_of k) (marks_of ks) (omega (arith, le, low)) next.high (beyond_is mid last (mark_of k) at low) (rest_there (mark_of k) ks next.rest)
       where
         rest_there : (m : Mark) (ks : List FailingLine) → in_order mid to (Some m) (marks_of ks) ≡ true → in_order from to (Some m) (marks_of ks) ≡ true
         rest_there m [] g = refl
         rest_there m (j ∷ js) g =
             let next = next_is mid to (Some m) (mark_of j) (marks_of js) g in
             let low = next.low in
-            next_back from to (Some m) (mark_of j) (marks_of js) (omega (arith, le, low)) next.high next.behind (rest_there (mark_of j) js next.rest)
+            next_back from to (Some m) (mark_of j) (marks_of js) (omega (arith, le, low)) next.high next.beyond (rest_there (mark_of j) js next.rest)
 in_order-append from mid to last (l ∷ ls) more le up at e f =
     let next = next_is from mid last (mark_of l) (marks_of ls) e in
     let high = next.high in
-    next_back from to last (mark_of l) (marks_of (ls ++ more)) next.low (omega (arith, high, up)) next.behind
+    next_back from to last (mark_of l) (marks_of (ls ++ more)) next.low (omega (arith, high, up)) next.beyond
     (in_order-append from mid to (Some (mark_of l)) ls more le up high next.rest f)
 
 -- how often the image changes, in two lists of which the second has later images
-unchanged : (v : ℕ) (ls : List FailingLine) → AreFrom (v + 1) ls → changes_behind (Some v) ls ≡ changes_behind None ls
+unchanged : (v : ℕ) (ls : List FailingLine) → AreFrom (v + 1) ls → changes_after (Some v) ls ≡ changes_after None ls
 unchanged v [] all = refl
 unchanged v (l ∷ ls) all = elim (eqb_tells v l.image) [
   | inl same ↦ absurd (let own = all.0 in let is = same.1 in omega (arith, own, is))
@@ -95,7 +95,7 @@ ImageBefore image None = Unit {0}
 ImageBefore image (Some last) = last < image
 
 changes-append : (mid : ℕ) (last : Option ℕ) (ls more : List FailingLine) → ImageBefore mid last → AreBelow mid ls → AreFrom mid more
-    → changes_behind last (ls ++ more) ≡ changes_behind last ls + changes_behind None more
+    → changes_after last (ls ++ more) ≡ changes_after last ls + changes_after None more
 changes-append mid None [] more at below above = omega arith
 changes-append mid (Some v) [] more at below above = let same = unchanged v more (later (v + 1) mid more (omega (arith, at)) above) in omega (arith, same)
 changes-append mid last (l ∷ ls) more at below above =

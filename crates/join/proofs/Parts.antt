@@ -12,7 +12,7 @@ use Rattle.report.specs.Report.{HeadValue}
 use Rattle.join.specs.Printable.{IsLineOfRun, AreLinesOfRun}
 use Rattle.join.specs.Heads.{HasLines, HaveSameOptions, IsHeadRead, NoHeadRead}
 use Rattle.join.specs.Text.{PartValue, IsPart, part_text, lines_text}
-use Rattle.join.specs.Reading.{IsSmall, IsSpanOf, NoSpan, IsBehindHead, NoHead, AreRead, NoLine, IsWhole, HasFront, none_read, tallied, last_text, IsPartText, NoPartText}
+use Rattle.join.specs.Reading.{IsSmall, IsSpanOf, NoSpan, IsAfterHead, NoHead, AreRead, NoLine, IsWhole, HasFront, none_read, tallied, last_text, IsPartText, NoPartText}
 use Rattle.join.proofs.Texts.{cancel}
 use Rattle.join.proofs.Counts.{counted_order, counted_images}
 use Rattle.join.proofs.Heads.{one_head}
@@ -45,7 +45,7 @@ IsFront body found front = (bytes : List ℕ) → body ≡ bytes ++ found → fr
 -- what was read of a text, step by step
 pub record AreSteps (text body found front last : List ℕ) (h : HeadValue) (s : Span) (t : Tally) : Type 0 where
   pub span : IsSpanOf text s body
-  pub head : IsBehindHead body found
+  pub head : IsAfterHead body found
   pub front_is : IsFront body found front
   pub read : IsHeadRead front h
   pub lines : AreRead h s found t last
@@ -69,7 +69,7 @@ span_step text body s of p is e =
     let same : s ≡ p.span = of.only p.span _ (small_span p is) whole in
     (same, cancel (span_text p.span) body _ (sym (of.is ∙ ap (λ (x : Span). span_text x ++ body) same) ∙ whole))
 
-pub head_step : (body found : List ℕ) (h : IsBehindHead body found) → (p : PartValue) → IsPart p → body ≡ p.head ++ (flat_map line_text p.lines ++ last_of p)
+pub head_step : (body found : List ℕ) (h : IsAfterHead body found) → (p : PartValue) → IsPart p → body ≡ p.head ++ (flat_map line_text p.lines ++ last_of p)
     → (h.head ≡ p.head) × (found ≡ flat_map line_text p.lines ++ last_of p)
 head_step body found h p is e =
     let begins = image_lines p.lines is.printable p.first (p.span.to - p.span.from) (tally_of p) in
@@ -116,7 +116,7 @@ no_head_no_part text body s of lack = record {
 }
 
 -- nor where the head isn't that of a run
-pub other_head_no_part : (text body found front : List ℕ) (s : Span) → IsSpanOf text s body → IsBehindHead body found → IsFront body found front → NoHeadRead front → NoPartText text
+pub other_head_no_part : (text body found front : List ℕ) (s : Span) → IsSpanOf text s body → IsAfterHead body found → IsFront body found front → NoHeadRead front → NoPartText text
 other_head_no_part text body found front s of h front_is lack = record {
   none = λ p is e.
       let one = span_step text body s of p is e in
@@ -142,7 +142,7 @@ steps_of text body found front last h s t steps p is e =
       lines_are = three.1;
     }
 
-module _ (text body found front last : List ℕ) (h : HeadValue) (s : Span) (t : Tally) (span : IsSpanOf text s body) (head : IsBehindHead body found) (front_is : IsFront body found front) (read : IsHeadRead front h)
+module _ (text body found front last : List ℕ) (h : HeadValue) (s : Span) (t : Tally) (span : IsSpanOf text s body) (head : IsAfterHead body found) (front_is : IsFront body found front) (read : IsHeadRead front h)
     (lines : AreRead h s found t last) (none : NoLine (IsLineOfRun h) last) where
   steps : AreSteps text body found front last h s t
   steps = record { span = span; head = head; front_is = front_is; read = read; lines = lines; none = none }
@@ -190,8 +190,8 @@ module _ (text body found front last : List ℕ) (h : HeadValue) (s : Span) (t :
   }
 
 -- after the head stands no line of a program
-pub lines_behind_head : (body found head : List ℕ) (h : IsBehindHead body found) → ((front : List ℕ) → body ≡ front ++ found → head ≡ front) → HasLines body head
-lines_behind_head body found head h head_is = record {
+pub lines_after_head : (body found head : List ℕ) (h : IsAfterHead body found) → ((front : List ℕ) → body ≡ front ++ found → head ≡ front) → HasLines body head
+lines_after_head body found head h head_is = record {
   rest = found;
   is = h.is ∙ ap (λ (bs : List ℕ). bs ++ found) (sym (head_is h.head h.is));
   other = λ rest e.
@@ -200,14 +200,14 @@ lines_behind_head body found head h head_is = record {
 }
 
 -- what stands before what is left
-pub head_in_front : (body found : List ℕ) → IsBehindHead body found → HasFront body found
+pub head_in_front : (body found : List ℕ) → IsAfterHead body found → HasFront body found
 head_in_front body found h = record { front = h.head; is = h.is }
 
 pub lines_in_front : (v : HeadValue) (s : Span) (found last : List ℕ) (t : Tally) → AreRead v s found t last → HasFront found last
 lines_in_front v s found last t h = record { front = flat_map line_text h.lines; is = h.is }
 
 -- where all steps found something, the text is of a part
-pub part_found : (text body found last front lines : List ℕ) (v : HeadValue) (s : Span) (t : Tally) (first : Bool) (file : ℕ) → IsSpanOf text s body → IsBehindHead body found → AreRead v s found t last
+pub part_found : (text body found last front lines : List ℕ) (v : HeadValue) (s : Span) (t : Tally) (first : Bool) (file : ℕ) → IsSpanOf text s body → IsAfterHead body found → AreRead v s found t last
     → last ≡ last_text first (s.to - s.from) t → IsWhole s first t → IsFront body found front → IsHeadRead front v → v.first ≡ first → ((bytes : List ℕ) → found ≡ bytes ++ last → lines ≡ bytes)
     → IsPartText text (record { span = s; head = front; first = first; lines = lines; tally = t; file = file })
 part_found text body found last front lines v s t first file span h r at whole front_is read shown lines_are =

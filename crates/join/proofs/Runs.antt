@@ -7,7 +7,7 @@ use Rattle.std.proofs.lemmas.Fmt.{decimal_injective}
 use Rattle.report.specs.declared.lines.marks.Mark.{Mark}
 use Rattle.report.specs.Line.{FailingLine, first_lines}
 use Rattle.report.specs.Marks.{mark_of, marks_of}
-use Rattle.report.specs.Images.{failing_images, changes_behind, leading_of, leading}
+use Rattle.report.specs.Images.{failing_images, changes_after, leading_of, leading}
 use Rattle.report.specs.LineText.{line_text}
 use Rattle.report.proofs.Order.{changes_are_images, first_are_leading}
 use Rattle.report.specs.Report.{options_text, shown_lines, findings_text}
@@ -62,7 +62,7 @@ leading_order v a b last [] e = refl
 leading_order v a b last (l ∷ ls) e = elim (eqb_tells v l.image) [
   | inl same ↦
       let next = next_is a b last (mark_of l) (marks_of ls) e in
-      let more = next_back a b last (mark_of l) (marks_of (leading_of v ls)) next.low next.high next.behind (leading_order v a b (Some (mark_of l)) ls next.rest) in
+      let more = next_back a b last (mark_of l) (marks_of (leading_of v ls)) next.low next.high next.beyond (leading_order v a b (Some (mark_of l)) ls next.rest) in
       rw same.0 more
   | inr other ↦ rw other.0 refl
 ]
@@ -74,13 +74,13 @@ leading_each P v (l ∷ ls) own = elim (eqb_tells v l.image) [
   | inr other ↦ rw other.0 tt
 ]
 
-leading_unchanged : (v : ℕ) (ls : List FailingLine) → changes_behind (Some v) (leading_of v ls) ≡ 0
+leading_unchanged : (v : ℕ) (ls : List FailingLine) → changes_after (Some v) (leading_of v ls) ≡ 0
 leading_unchanged v [] = refl
 leading_unchanged v (l ∷ ls) = elim (eqb_tells v l.image) [
   | inl same ↦
       let rest = leading_unchanged v ls in
       let is = same.1 in
-      let own : changes_behind (Some l.image) (leading_of v ls) ≡ 0 = subst (λ (w : ℕ). changes_behind (Some w) (leading_of v ls) ≡ 0) is rest in
+      let own : changes_after (Some l.image) (leading_of v ls) ≡ 0 = subst (λ (w : ℕ). changes_after (Some w) (leading_of v ls) ≡ 0) is rest in
       rw (same.0, same.0, own) refl
   | inr other ↦ rw other.0 refl
 ]
@@ -89,7 +89,7 @@ first_order : (a b : ℕ) (ls : List FailingLine) → in_order a b None (marks_o
 first_order a b [] e = refl
 first_order a b (l ∷ ls) e =
     let next = next_is a b None (mark_of l) (marks_of ls) e in
-    next_back a b None (mark_of l) (marks_of (leading_of l.image ls)) next.low next.high next.behind (leading_order l.image a b (Some (mark_of l)) ls next.rest)
+    next_back a b None (mark_of l) (marks_of (leading_of l.image ls)) next.low next.high next.beyond (leading_order l.image a b (Some (mark_of l)) ls next.rest)
 
 first_each : (P : FailingLine → Type 0) (ls : List FailingLine) → EachLine P ls → EachLine P (leading ls)
 first_each P [] own = tt
@@ -100,7 +100,7 @@ shown_each : (P : FailingLine → Type 0) (a b : ℕ) (first : Bool) (ls : List 
 shown_each P a b false ls e own = own
 shown_each P a b true ls e own = let same = first_are_leading ls (rising a b None ls e) in rw same (first_each P ls own)
 
-first_unchanged : (ls : List FailingLine) → changes_behind None (leading ls) ≤ 1
+first_unchanged : (ls : List FailingLine) → changes_after None (leading ls) ≤ 1
 first_unchanged [] = omega arith
 first_unchanged (l ∷ ls) = let rest = leading_unchanged l.image ls in omega (arith, rest)
 

@@ -43,12 +43,12 @@ pub span_words : (s : Span) (more : List ℕ)
 unfolding span_text
 span_words s more = simp append_assoc
 
-pub span_read : (text title line part range from behind_from point behind_points to behind_to word all images behind_images other last inputs rest : List ℕ) (a b n h : ℕ)
-    → IsCutAt 10 text title line → IsCutAt 32 line part range → IsCutAt 46 range from behind_from → IsCutAt 46 behind_from point behind_points
-    → IsCutAt 32 behind_points to behind_to → IsCutAt 32 behind_to word all → IsCutAt 32 all images behind_images → IsCutAt 32 behind_images other last
+pub span_read : (text title line part range from after_from point after_points to after_to word all images after_images other last inputs rest : List ℕ) (a b n h : ℕ)
+    → IsCutAt 10 text title line → IsCutAt 32 line part range → IsCutAt 46 range from after_from → IsCutAt 46 after_from point after_points
+    → IsCutAt 32 after_points to after_to → IsCutAt 32 after_to word all → IsCutAt 32 all images after_images → IsCutAt 32 after_images other last
     → IsCutAt 10 last inputs rest → SaysNumber from a → SaysNumber to b → SaysNumber images n → SaysNumber inputs h
     → ReadsSpan text (record { from = a; to = b; images = n; inputs = h }) rest
-span_read text title line part range from behind_from point behind_points to behind_to word all images behind_images other last inputs rest a b n h c1 c2 c3 c4 c5 c6 c7 c8 c9 n1 n2 n3 n4 = record { read = reads }
+span_read text title line part range from after_from point after_points to after_to word all images after_images other last inputs rest a b n h c1 c2 c3 c4 c5 c6 c7 c8 c9 n1 n2 n3 n4 = record { read = reads }
   where
     reads : (s : Span) (more : List ℕ) → IsSmall s → text ≡ span_text s ++ more → (record { from = a; to = b; images = n; inputs = h } ≡ s) × (rest ≡ more)
     reads s more small e =

@@ -61,8 +61,8 @@ part_is_text : (p : PartValue) → IsPart p → IsUtf8 (part_text p)
 part_is_text p is =
     let lines = lines_are_text p.lines in
     let last = text_of_plain (last_of p) (plain_last p.first (p.span.to - p.span.from) (tally_of p)) in
-    let behind = IsUtf8-append p.head (flat_map line_text p.lines ++ last_of p) is.head.text (IsUtf8-append (flat_map line_text p.lines) (last_of p) lines last) in
-    let whole = IsUtf8-append (span_text p.span) (p.head ++ (flat_map line_text p.lines ++ last_of p)) (text_of_plain (span_text p.span) (plain_span p.span)) behind in
+    let beyond = IsUtf8-append p.head (flat_map line_text p.lines ++ last_of p) is.head.text (IsUtf8-append (flat_map line_text p.lines) (last_of p) lines last) in
+    let whole = IsUtf8-append (span_text p.span) (p.head ++ (flat_map line_text p.lines ++ last_of p)) (text_of_plain (span_text p.span) (plain_span p.span)) beyond in
     subst (λ (bs : List ℕ). IsUtf8 bs) (sym (pieces p is)) whole
 
 -- what is no text is the text of no part

@@ -3,12 +3,12 @@ use Rattle.std.specs.Prelude.{ℕ, ◌==◌, Bool, true, ◌&&◌, ◌||◌, nat
 use Rattle.report.specs.declared.lines.marks.Mark.{Mark}
 
 -- a line stands after another: by image, and then by program
-abbrev pub is_behind : Mark → Mark → Bool
-is_behind last m = nat_lt last.image m.image || (last.image == m.image && nat_lt last.program m.program)
+abbrev pub is_after : Mark → Mark → Bool
+is_after last m = nat_lt last.image m.image || (last.image == m.image && nat_lt last.program m.program)
 
 abbrev pub follows : Option Mark → Mark → Bool
 follows None m = true
-follows (Some last) m = is_behind last m
+follows (Some last) m = is_after last m
 
 -- lines of images from `from` to below `to`, each after the one before it, after a line `last`
 abbrev pub in_order : ℕ → ℕ → Option Mark → List Mark → Bool

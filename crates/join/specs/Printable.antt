@@ -3,7 +3,7 @@ use Rattle.std.specs.Prelude.{ℕ, ◌<◌, ◌≤◌, ◌^◌, ◌≡◌, ◌==
 use Rattle.std.specs.List.{All}
 use Rattle.machine.specs.Outcome.{Ending, Verdict, Stopped, OutOfSteps, Stray}
 use Rattle.epochs.specs.declared.part.By.{By}
-use Rattle.epochs.specs.Cuts.{is_behind_first, is_before_last}
+use Rattle.epochs.specs.Cuts.{is_after_first, is_before_last}
 use Rattle.choices.specs.declared.choice.Departure.{Departure}
 use Rattle.choices.specs.declared.fate.Fate.{Fate}
 use Rattle.choices.specs.declared.fate.Fate.TheVariants as fate
@@ -57,7 +57,7 @@ are_names_of_run h cut ns = nat_le (length ns) h.bound && each_of_run h.tears cu
 
 -- there is that program, and the cut is one of the log, within the range that is asked for
 abbrev pub has_program_and_cut : HeadValue → ℕ → ℕ → Bool
-has_program_and_cut h cut program = nat_lt program (length h.programs) && nat_le cut h.entries && is_behind_first h.cuts.from cut && is_before_last h.cuts.to cut
+has_program_and_cut h cut program = nat_lt program (length h.programs) && nat_le cut h.entries && is_after_first h.cuts.from cut && is_before_last h.cuts.to cut
 
 -- a line that a run with that head may print
 pub record IsLineOfRun (h : HeadValue) (l : FailingLine) : Type 0 where

@@ -145,7 +145,7 @@ pub record BeginsImage (text : List ℕ) : Type 0 where
   pub one : lacks 10 word ≡ true
 
 -- a text has a head, and after it a line that begins with `image`
-pub record IsBehindHead (text rest : List ℕ) : Type 0 where
+pub record IsAfterHead (text rest : List ℕ) : Type 0 where
   pub head : List ℕ
   pub is_head : IsHead head
   pub is : text ≡ head ++ rest

@@ -1,4 +1,5 @@
--- Parts in a row, as the code goes through them.
+-- What a row of parts that were read may be: each of the run of the first, each begins where the one before it ends; or the first
+-- place at which that fails. And what is printed where it holds (docs/COMMANDS.md, Joining parts).
 use Rattle.std.specs.Prelude.{ℕ, ◌+◌, ◌-◌, ◌≡◌, ◌↔◌, IsTrue, Bool, ◌<◌, ◌⊎◌, false, List, ◌++◌, length, slice_get, Some}
 use Rattle.std.specs.List.Sorted.{IsPermutation, IsNonDecreasingBy, IsStableByKey}
 use Rattle.std.specs.Ordering.{nat_cmp}
@@ -9,13 +10,15 @@ use Rattle.report.specs.declared.span.Span.{Span}
 use Rattle.join.specs.Reading.{PartRead, none_read, last_text}
 use Rattle.join.specs.Joining.{IsOfRun, LacksImages, opening_text, shown_bytes, totalled}
 
--- the part at each place below n is of the run of the first
+-- each of the first n parts is of the run of the first one
 abbrev pub AreAlikeTo : List PartRead → ℕ → Type 0
 AreAlikeTo rs n = (k : ℕ) (run r : PartRead) → k < n → slice_get rs 0 ≡ Some run → slice_get rs k ≡ Some r → IsOfRun run r
 
+-- every part is of the run of the first one
 pub record NoneIsStrange (rs : List PartRead) : Type 0 where
   pub alike : (n : ℕ) → AreAlikeTo rs n
 
+-- the first part that is of another run stands at this place
 pub record IsStrangeAt (rs : List PartRead) (place : ℕ) : Type 0 where
   pub within : place < length rs
   pub run : PartRead
@@ -25,17 +28,19 @@ pub record IsStrangeAt (rs : List PartRead) (place : ℕ) : Type 0 where
   pub alike : AreAlikeTo rs place
   pub strange : IsOfRun run read → ⊥
 
--- at each place below n the next part begins where the part ends
+-- each of the first n parts ends where the next one begins
 abbrev pub AreJoinedTo : List PartRead → ℕ → Type 0
 AreJoinedTo rs n = (k : ℕ) (left right : PartRead) → k < n → slice_get rs k ≡ Some left → slice_get rs (k + 1) ≡ Some right → left.span.to ≡ right.span.from
 
+-- every part ends where the next one begins
 pub record NoneIsApart (rs : List PartRead) : Type 0 where
   pub joined : (n : ℕ) → AreJoinedTo rs n
 
--- why the right part doesn't begin where the left one ends
+-- images are missing between two parts, or both have some
 abbrev pub IsApart : PartRead → PartRead → JoinCause → Type 0
 IsApart left right kind = ((kind ≡ cause.Gap) × (left.span.to < right.span.from)) ⊎ ((kind ≡ cause.Overlap) × (right.span.from < left.span.to))
 
+-- the first part that doesn't end where the next one begins is told, by the file of the next one
 pub record IsApartAt (rs : List PartRead) (fault : JoinFault) : Type 0 where
   pub place : ℕ
   pub left : PartRead
@@ -46,13 +51,13 @@ pub record IsApartAt (rs : List PartRead) (fault : JoinFault) : Type 0 where
   pub file : fault.file ≡ right.file
   pub kind : IsApart left right fault.cause
 
--- the bytes are the text of the images of a span, of parts
+-- the bytes are the text of a row of parts: the head of the first one, the lines of all, and the totals over all
 pub record IsWritten (span : Span) (rs : List PartRead) (bytes : List ℕ) : Type 0 where
   pub run : PartRead
   pub there : slice_get rs 0 ≡ Some run
   pub is : bytes ≡ opening_text span ++ (run.head ++ (shown_bytes run.first rs ++ last_text run.first (span.to - span.from) (totalled none_read rs)))
 
--- the span from the first image of the first part to the last of the last
+-- the span begins where the first part begins, and ends where the last one ends
 pub record IsSpanOfRow (rs : List PartRead) (span : Span) : Type 0 where
   pub run : PartRead
   pub there : slice_get rs 0 ≡ Some run

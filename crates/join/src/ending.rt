@@ -7,7 +7,7 @@ ghost use Rattle.report.specs.ChoiceText.{IsPlace, IsName};
 ghost use Rattle.join.specs.Printable.{IsEnd, all_rise, are_names_of_run, comes_before, each_of_run, is_drop, is_name_of_run, names_rise};
 ghost use Rattle.join.specs.Endings.{IsPlain, IsNumber, IsFaultNumber, AreNumbers, AreCodes, IsEnding, IsAtChoice, NoChoice, AreNamesAt, AreNamesOf, IsAnswer, IsChoice, IsFault, IsVerdict};
 
-use crate::words::{behind, parts};
+use crate::words::{beyond, parts};
 use choices::{Fate, Name};
 use epochs::By;
 use report::Head;
@@ -97,7 +97,7 @@ fn is_verdict(text: &str) -> bool
     let Some((answer, more)) = parts(text, ' ') else {
         return false;
     };
-    match behind("codes ", more) {
+    match beyond("codes ", more) {
         Some(codes) => is_answer(answer) && are_codes(codes),
         None => false,
     }
@@ -111,7 +111,7 @@ fn is_fault(text: &str) -> bool
     let Some((fault, more)) = parts(text, ' ') else {
         return false;
     };
-    match behind("slot ", more) {
+    match beyond("slot ", more) {
         Some(slot) => is_fault_number(fault) && is_number(slot),
         None => false,
     }
@@ -125,13 +125,13 @@ fn is_ending(text: &str) -> bool
     if text == "out of steps" {
         return true;
     }
-    if let Some(verdict) = behind("answer ", text) {
+    if let Some(verdict) = beyond("answer ", text) {
         return is_verdict(verdict);
     }
-    if let Some(fault) = behind("fault ", text) {
+    if let Some(fault) = beyond("fault ", text) {
         return is_fault(fault);
     }
-    match behind("stray at slot ", text) {
+    match beyond("stray at slot ", text) {
         Some(slot) => is_number(slot),
         None => false,
     }
@@ -194,7 +194,7 @@ fn names_rise(last: Name, names: &[Name]) -> bool
     }
 }
 
-/// The same of all parts.
+/// Whether the names of all parts rise.
 fn all_rise(names: &[Name]) -> bool
     ensures { result ≡ all_rise names.now }
 {
@@ -221,7 +221,7 @@ fn is_name_of_run(tears: bool, cut: u64, name: Name) -> bool
     u64::from(name.entry) < cut && (tears || is_drop(name.fate))
 }
 
-/// The same of each part.
+/// Whether each part's name is one that a run can have at a cut.
 fn each_of_run(tears: bool, cut: u64, names: &[Name]) -> bool
     ensures { result ≡ each_of_run tears cut names.now }
 {
@@ -284,7 +284,7 @@ fn at_choice(text: &str) -> Option<(&str, &str)>
 {
     let (begun, rest) = parts(text, 'h')?;
     let ending = without(begun, " c")?;
-    let choice = behind("oice ", rest)?;
+    let choice = beyond("oice ", rest)?;
     Some((ending, choice))
 }
 

@@ -3,24 +3,24 @@
 ghost use Rattle.std.specs.Prelude.{◌≡◌, ◌↔◌, ◌<◌, ◌≤◌, IfOk, IsTrue, MatchOption, length};
 ghost use Rattle.report.specs.Report.{options_text};
 ghost use Rattle.join.specs.Heads.{HasLines, IsHeadRead, IsPrintedHead, IsSmallHead, NoHeadRead, ReadsHead, are_cuts_of_run, are_entries_of_run, are_guards_of_run, are_options_of_run, are_programs_of_run, is_program_of_run};
-ghost use Rattle.join.specs.Reading.{IsBehindHead, NoHead};
+ghost use Rattle.join.specs.Reading.{IsAfterHead, NoHead};
 
 use crate::line::is_before_last;
 use crate::options::options_said;
 use crate::programs::{MOST_PROGRAMS, programs_said};
-use crate::words::{behind, cut, parts};
+use crate::words::{beyond, cut, parts};
 use epochs::Cuts;
 use report::{Head, ProgramHead, put_options};
 use std::alloc::{AllocError, Global};
 
 /// What stands after the head of a text, from the first line on that begins with `image`.
 #[tactic(auto, using(crate::proofs::Heads::none_passed, crate::proofs::Heads::one_passed, crate::proofs::Bodies::line_shorter))]
-pub(crate) fn behind_head(text: &str) -> Option<&str>
-    ensures { MatchOption result (NoHead text.now) (λ rest. IsBehindHead text.now rest.now) }
+pub(crate) fn after_head(text: &str) -> Option<&str>
+    ensures { MatchOption result (NoHead text.now) (λ rest. IsAfterHead text.now rest.now) }
 {
     let mut rest = text;
     while let Some((line, more)) = parts(rest, '\n') {
-        if behind("image", line).is_some() {
+        if beyond("image", line).is_some() {
             return Some(rest);
         }
         rest = more;
@@ -67,7 +67,7 @@ fn is_program_of_run(program: &ProgramHead) -> bool
         && are_guards_of_run(program)
 }
 
-/// The same of each program.
+/// Whether each program of a head is one that a run can have.
 fn are_programs_of_run(programs: &[ProgramHead]) -> bool
     ensures { result ≡ are_programs_of_run programs.now }
 {

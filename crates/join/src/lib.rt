@@ -80,6 +80,19 @@
 //!     // `file` is 1: its images are in the file before it too
 //! }
 //! ```
+//!
+//! # Choices
+//!
+//! - Where the last part is missing, 63 names a file after all others, and where the first is, the first file by
+//!   images: its sentence says that images are missing between the file and the part before it. At the last file that
+//!   would be read as a gap before this one.
+//! - What is missing at the ends is told after what is missing between parts, and with `--first` too: `join` and
+//!   `join --part` have one order, and a missing part is told whatever the others hold.
+//! - A file that doesn't begin with the first line of a part is read and counted to its 13th byte: it is no part, and
+//!   a wrong file of gigabytes is told at once. It is refused 61 in the order of the files, after 65, as a short one
+//!   is.
+//! - `join` tells 14 and 65 file by file, in the order of the files: what comes first is known without reading the
+//!   files after it.
 #![tactic(auto)]
 
 mod ending;

@@ -2,12 +2,12 @@
 
 ghost use Rattle.std.specs.Prelude.{◌≡◌, ◌<◌, ◌^◌, ◌↔◌, ◌++◌, ◌&&◌, IfOk, IfSome, IsTrue, MatchOption, OnOk, string_bytes, length};
 ghost use Rattle.report.specs.MarkReading.{ReadsField};
-ghost use Rattle.epochs.specs.Cuts.{is_before_last, is_behind_first};
+ghost use Rattle.epochs.specs.Cuts.{is_before_last, is_after_first};
 ghost use Rattle.join.specs.Printable.{IsLineOfRun, has_program_and_cut};
 ghost use Rattle.join.specs.Reading.{words_text, ReadsWords, Fit, IsBody, NoBody, IsLine, NoLine, IsCut, NoCut};
 
 use crate::ending::is_end;
-use crate::words::{behind, cut, number, parts};
+use crate::words::{beyond, cut, number, parts};
 use report::Head;
 use report::lines::Mark;
 use std::alloc::{AllocError, Global};
@@ -32,9 +32,9 @@ fn field(text: &str) -> (&str, &str)
 fn words_said(line: &str) -> Words
     ensures { ReadsWords line.now result }
 {
-    let (image, behind_image) = field(line);
-    let (at, behind_cut) = field(behind_image);
-    let (program, _behind_program) = field(behind_cut);
+    let (image, after_image) = field(line);
+    let (at, after_cut) = field(after_image);
+    let (program, _after_program) = field(after_cut);
     Words {
         image: number(image),
         cut: number(at),
@@ -64,8 +64,8 @@ fn words_text(alloc: Global, words: Words) -> Result<String, AllocError>
 }
 
 /// Whether a cut isn't before the first one that is asked for.
-fn is_behind_first(first: Option<u64>, cut: u64) -> bool
-    ensures { result ≡ is_behind_first first cut }
+fn is_after_first(first: Option<u64>, cut: u64) -> bool
+    ensures { result ≡ is_after_first first cut }
 {
     match first {
         Some(first) => first <= cut,
@@ -89,7 +89,7 @@ fn has_program_and_cut(head: &Head, words: Words) -> bool
 {
     words.program < head.programs.len() as u64
         && words.cut <= u64::from(head.entries)
-        && is_behind_first(head.cuts.from, words.cut)
+        && is_after_first(head.cuts.from, words.cut)
         && is_before_last(head.cuts.to, words.cut)
 }
 
@@ -106,7 +106,7 @@ fn mark_of(alloc: Global, head: &Head, line: &str) -> Result<Option<Mark>, Alloc
         return Ok(None);
     }
     let printed = words_text(alloc, words)?;
-    let Some(end) = behind(printed.as_str(), line) else {
+    let Some(end) = beyond(printed.as_str(), line) else {
         return Ok(None);
     };
     if !is_end(alloc, head, words.cut, end)? {

@@ -5,7 +5,7 @@ ghost use Rattle.report.specs.Report.{image_text};
 ghost use Rattle.join.specs.Reading.{last_text, IsWhole, IsPartText, NoPartText, BeginsImage};
 ghost use Rattle.join.specs.Text.{IsSpan};
 
-use crate::heading::{behind_head, read_head};
+use crate::heading::{after_head, read_head};
 use crate::reading::read_lines;
 use crate::span::read_span;
 use crate::tally::Tally;
@@ -141,7 +141,7 @@ fn is_whole(span: Span, first: bool, tally: Tally) -> bool
 }
 
 /// The part of which a text is that, to the byte; none where it is that of no part.
-#[tactic(auto, using(crate::proofs::Parts::no_span_no_part, crate::proofs::Parts::no_head_no_part, crate::proofs::Parts::no_last_no_part, crate::proofs::Parts::other_kind_no_part, crate::proofs::Parts::not_whole_no_part, crate::proofs::Parts::other_head_no_part, crate::proofs::Parts::lines_behind_head, crate::proofs::Parts::part_found, crate::proofs::Parts::head_in_front, crate::proofs::Parts::lines_in_front))]
+#[tactic(auto, using(crate::proofs::Parts::no_span_no_part, crate::proofs::Parts::no_head_no_part, crate::proofs::Parts::no_last_no_part, crate::proofs::Parts::other_kind_no_part, crate::proofs::Parts::not_whole_no_part, crate::proofs::Parts::other_head_no_part, crate::proofs::Parts::lines_after_head, crate::proofs::Parts::part_found, crate::proofs::Parts::head_in_front, crate::proofs::Parts::lines_in_front))]
 fn read_text<'t>(alloc: Global, file: u32, text: &'t str) -> Result<Option<Part<'t>>, AllocError>
     requires { length text.now ≤ 2 ^ 30 }
     ensures { IfOk result (λ found. MatchOption found (NoPartText text.now) (λ part. IsPartText text.now part × (part.file ≡ file))) }
@@ -149,7 +149,7 @@ fn read_text<'t>(alloc: Global, file: u32, text: &'t str) -> Result<Option<Part<
     let Some((span, body)) = read_span(alloc, text)? else {
         return Ok(None);
     };
-    let Some(found) = behind_head(body) else {
+    let Some(found) = after_head(body) else {
         return Ok(None);
     };
     let front = before(body, found);

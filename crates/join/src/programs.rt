@@ -4,7 +4,7 @@ ghost use Rattle.std.specs.Prelude.{◌≡◌, Bool, All, IfOk, MatchOption};
 ghost use Rattle.report.specs.Report.{steps_word};
 ghost use Rattle.join.specs.Heads.{IsFewOption, IsProgramHead, IsProgramLine, NoProgramLine, ReadsGuards, ReadsProgram, ReadsPrograms};
 
-use crate::words::{behind, next_word, number, parts, small_number};
+use crate::words::{beyond, next_word, number, parts, small_number};
 use report::ProgramHead;
 use std::alloc::{AllocError, Global};
 
@@ -55,7 +55,7 @@ fn program_said(line: &str) -> ProgramHead
 fn program_line(text: &str) -> Option<(&str, &str)>
     ensures { MatchOption result (NoProgramLine text.now) (λ x. IsProgramLine text.now x.0.now x.1.now) }
 {
-    let begun = behind("program ", text)?;
+    let begun = beyond("program ", text)?;
     parts(begun, '\n')
 }
 

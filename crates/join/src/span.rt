@@ -4,7 +4,7 @@ ghost use Rattle.std.specs.Prelude.{◌≡◌, ◌++◌, IfOk, MatchOption, stri
 ghost use Rattle.report.specs.Part.{span_text};
 ghost use Rattle.join.specs.Reading.{ReadsSpan, IsSpanOf, NoSpan};
 
-use crate::words::{behind, cut, number};
+use crate::words::{beyond, cut, number};
 use report::{Span, put_span};
 use std::alloc::{AllocError, Global};
 
@@ -14,12 +14,12 @@ fn span_said(text: &str) -> (Span, &str)
 {
     let (_title, line) = cut(text, '\n');
     let (_part, range) = cut(line, ' ');
-    let (from, behind_from) = cut(range, '.');
-    let (_point, behind_points) = cut(behind_from, '.');
-    let (to, behind_to) = cut(behind_points, ' ');
-    let (_of, all) = cut(behind_to, ' ');
-    let (images, behind_images) = cut(all, ' ');
-    let (_inputs, last) = cut(behind_images, ' ');
+    let (from, after_from) = cut(range, '.');
+    let (_point, after_points) = cut(after_from, '.');
+    let (to, after_to) = cut(after_points, ' ');
+    let (_of, all) = cut(after_to, ' ');
+    let (images, after_images) = cut(all, ' ');
+    let (_inputs, last) = cut(after_images, ' ');
     let (inputs, rest) = cut(last, '\n');
     let span = Span {
         from: number(from),
@@ -49,7 +49,7 @@ pub(crate) fn read_span<'t>(
 {
     let (span, _rest) = span_said(text);
     let printed = span_text(alloc, span)?;
-    match behind(printed.as_str(), text) {
+    match beyond(printed.as_str(), text) {
         Some(rest) => Ok(Some((span, rest))),
         None => Ok(None),
     }

@@ -1,7 +1,7 @@
 //! What is counted of lines.
 
 ghost use Rattle.std.specs.Prelude.{◌≡◌, ◌<◌, ◌+◌, ◌^◌};
-ghost use Rattle.join.specs.Order.{is_behind, follows};
+ghost use Rattle.join.specs.Order.{is_after, follows};
 ghost use Rattle.join.specs.Reading.{is_new, first_of, none_read, one_more};
 
 use report::Span;
@@ -23,8 +23,8 @@ pub struct Tally {
 }
 
 /// Whether a line stands after another: by image, and then by program.
-fn is_behind(last: Mark, mark: Mark) -> bool
-    ensures { result ≡ is_behind last mark }
+fn is_after(last: Mark, mark: Mark) -> bool
+    ensures { result ≡ is_after last mark }
 {
     last.image < mark.image || (last.image == mark.image && last.program < mark.program)
 }
@@ -34,7 +34,7 @@ fn follows(last: Option<Mark>, mark: Mark) -> bool
     ensures { result ≡ follows last mark }
 {
     match last {
-        Some(last) => is_behind(last, mark),
+        Some(last) => is_after(last, mark),
         None => true,
     }
 }
@@ -80,8 +80,8 @@ impl Tally {
         ensures { result ≡ one_more span self mark }
     {
         let new = is_new(self.last, mark.image);
-        let behind = follows(self.last, mark);
-        let within = span.from <= mark.image && mark.image < span.to && behind;
+        let beyond = follows(self.last, mark);
+        let within = span.from <= mark.image && mark.image < span.to && beyond;
         Tally {
             last: Some(mark),
             first: first_of(self.first, mark.image),

@@ -67,7 +67,7 @@ pub(crate) fn byte_number(word: &str) -> u8
 }
 
 /// What stands after these words, if a text begins with them.
-pub(crate) fn behind<'t>(front: &str, text: &'t str) -> Option<&'t str>
+pub(crate) fn beyond<'t>(front: &str, text: &'t str) -> Option<&'t str>
     ensures { MatchOption result ((rest : List ℕ) → text.now ≢ front.now ++ rest) (λ rest. text.now ≡ front.now ++ rest.now) }
 {
     text.strip_prefix(front)

@@ -54,6 +54,26 @@
 //! let torn = splice(&new, &old, 7); // the last 64 bytes did not reach the device
 //! // is_zero(&torn) and same(&torn, &old) are true, mix(&new) is 1 and mix(&torn) is 0
 //! ```
+//!
+//! # Choices
+//!
+//! - `mix` is defined as the value of two polynomials, cut off modulo 2^64 at the end: the definition then doesn't
+//!   repeat the loop, which wraps at each step.
+//!
+//! # How it is proved
+//!
+//! - The length of a vector is free: `c.fits-x.0`. Where a function answers lanes, say the length and each lane in
+//!   one record (`HasLanes`), since nothing else knows the length.
+//! - One test of lanes serves `same` and `is_zero`: the second compares with `splat(0)`. Both are
+//!   `simd_ne(..).to_bitmask() == 0`, whose lemma is `mask_tells`.
+//! - Keep a load of a slice in a function of its own (`load_row`), against an `unfoldable` definition (`row_of`).
+//!   Else each goal prints and computes 64 bytes.
+//! - Worked values by `refl`, with an `unfolding` line, compute over lists of 512 elements in about 3 seconds
+//!   (`lanes/proofs/mixing/worked_mixes`).
+//! - A vector of bytes read as words is `digits_l` of `number_l`: `words_of_row` says once that these are the words
+//!   of the definition.
+//! - A crate above that wants a test in place of an equation takes it from `lanes/proofs/CallerLemmas.antt`
+//!   (`same_test`, `zero_test`).
 #![tactic(auto)]
 
 mod compare;

@@ -177,7 +177,7 @@ fn lost_blocks_are_handed_over_by_nobody(rt: HostRuntime) -> Result<(), Fail> {
 }
 
 #[test]
-fn passes_over_blocks_behind_a_failing_image(rt: HostRuntime) -> Result<(), Fail> {
+fn passes_over_blocks_after_a_failing_image(rt: HostRuntime) -> Result<(), Fail> {
     let alloc = rt.alloc();
     let events = [
         Event::Draw(0),

@@ -33,7 +33,7 @@ fn logs_are_written_as_they_were_read(rt: HostRuntime) -> Result<(), Fail> {
     assert!(rt; text.len() > 1024);
     text[28] = 1;
     text[512 + 32 + 3] = 1;
-    text.extend_from_slice(b"behind the last entry")?;
+    text.extend_from_slice(b"after the last entry")?;
     let again = write(rt.alloc(), &read(rt.alloc(), &text, 4, Limits::Usual)?)?;
     assert!(rt; again == written);
     Ok(())

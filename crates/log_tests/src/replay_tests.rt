@@ -27,7 +27,7 @@ const BY_70: [u8; 24] = [
 #[derive(Drop)]
 struct Recording {
     calls: Vec<AtomicU64>,
-    /// By which worker each block was taken.
+    /// The worker that took each block.
     takers: Vec<AtomicU64>,
     count: AtomicU64,
     ended: AtomicU64,
@@ -59,7 +59,7 @@ impl Recording {
         }
     }
 
-    /// By which worker a block was taken.
+    /// The worker that took a block.
     fn taker(&self, block: u64) -> u8 {
         match self.takers.get(block as usize) {
             Some(worker) => (worker.load(Ordering::SeqCst) % 64) as u8,

@@ -106,7 +106,7 @@ fn collected_by<'a, J: Run, R: Wait>(
     }
 }
 
-/// The same of a run of one program.
+/// What a run of one program collects.
 fn collected<R: Wait>(
     rt: &R,
     alloc: Global,

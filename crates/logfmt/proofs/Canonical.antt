@@ -50,17 +50,17 @@ slice_range-between front part rest i j before to =
     rw (gap, drop_at front (part ++ rest) i before) (take_at part rest (length part) refl)
 
 -- an entry's sectors after 512 * p bytes stand in sector p
-stands_behind : (sectors : ℕ) (front rest : List ℕ) (p : ℕ) (e : Entry) → IsEntry sectors e → e.count ≤ 262144
+stands_after : (sectors : ℕ) (front rest : List ℕ) (p : ℕ) (e : Entry) → IsEntry sectors e → e.count ≤ 262144
     → length front ≡ 512 * p → StandsAt (front ++ (entry_sectors e ++ rest)) p e
 unfolding header_sector
-stands_behind sectors front rest p e is few before =
+stands_after sectors front rest p e is few before =
     let short : length e.text ≤ 480 = text_fits sectors e is in
     let s : List ℕ = number_bytes 8 e.sector in
     let c : List ℕ = number_bytes 8 e.count in
     let w : List ℕ = number_bytes 8 (flag_word e.flags) in
     let l : List ℕ = number_bytes 8 (length e.text) in
     let z : List ℕ = zeros (480 - length e.text) in
-    let behind_text : List ℕ = z ++ (e.content ++ rest) in
+    let after_text : List ℕ = z ++ (e.content ++ rest) in
     let s8 : length s ≡ 8 = length-number_bytes 8 e.sector in
     let c8 : length c ≡ 8 = length-number_bytes 8 e.count in
     let w8 : length w ≡ 8 = length-number_bytes 8 (flag_word e.flags) in
@@ -81,11 +81,11 @@ stands_behind sectors front rest p e is few before =
     let n4 : length f4 ≡ 512 * p + 32 = omega (arith, length-append f3 l, n3, l8) in
     let n6 : length f6 ≡ 512 * (p + 1) = omega (arith, length-append f5 z, length-append f4 e.text, n4, z480, short) in
     let whole : List ℕ = front ++ (entry_sectors e ++ rest) in
-    let at0 : whole ≡ front ++ (s ++ (c ++ (w ++ (l ++ (e.text ++ behind_text))))) = simp append_assoc in
-    let at1 : whole ≡ f1 ++ (c ++ (w ++ (l ++ (e.text ++ behind_text)))) = simp append_assoc in
-    let at2 : whole ≡ f2 ++ (w ++ (l ++ (e.text ++ behind_text))) = simp append_assoc in
-    let at3 : whole ≡ f3 ++ (l ++ (e.text ++ behind_text)) = simp append_assoc in
-    let at4 : whole ≡ f4 ++ (e.text ++ behind_text) = simp append_assoc in
+    let at0 : whole ≡ front ++ (s ++ (c ++ (w ++ (l ++ (e.text ++ after_text))))) = simp append_assoc in
+    let at1 : whole ≡ f1 ++ (c ++ (w ++ (l ++ (e.text ++ after_text)))) = simp append_assoc in
+    let at2 : whole ≡ f2 ++ (w ++ (l ++ (e.text ++ after_text))) = simp append_assoc in
+    let at3 : whole ≡ f3 ++ (l ++ (e.text ++ after_text)) = simp append_assoc in
+    let at4 : whole ≡ f4 ++ (e.text ++ after_text) = simp append_assoc in
     let at6 : whole ≡ f6 ++ (e.content ++ rest) = simp append_assoc in
     record {
       whole = omega (arith, length-append front (entry_sectors e ++ rest), length-append (entry_sectors e) rest, long, before);
@@ -93,7 +93,7 @@ stands_behind sectors front rest p e is few before =
       count = sym (ap (number_at 8 (512 * p + 8)) at1 ∙ number_at-number_bytes 8 e.count (512 * p + 8) f1 _ (omega (arith, few)) n1);
       flags = sym (ap (number_at 8 (512 * p + 16)) at2 ∙ number_at-number_bytes 8 (flag_word e.flags) (512 * p + 16) f2 _ (omega (arith, word)) n2);
       text_length = sym (ap (number_at 8 (512 * p + 24)) at3 ∙ number_at-number_bytes 8 (length e.text) (512 * p + 24) f3 _ (omega (arith, short)) n3);
-      text = sym (ap (λ bytes. slice_range bytes (512 * p + 32) (512 * p + 32 + length e.text)) at4 ∙ slice_range-between f4 e.text behind_text (512 * p + 32) (512 * p + 32 + length e.text) n4 refl);
+      text = sym (ap (λ bytes. slice_range bytes (512 * p + 32) (512 * p + 32 + length e.text)) at4 ∙ slice_range-between f4 e.text after_text (512 * p + 32) (512 * p + 32 + length e.text) n4 refl);
       content = sym (ap (λ bytes. slice_range bytes (512 * (p + 1)) (512 * (p + 1 + data_of e))) at6 ∙ slice_range-between f6 e.content rest (512 * (p + 1)) (512 * (p + 1 + data_of e)) n6 (omega (arith, is.content)));
     }
 
@@ -136,7 +136,7 @@ all_stand sectors es are units i e here =
     let before : length front ≡ 512 * place es i =
     omega (arith, length-append (super_sector (length es)) (flat_map entry_sectors (take i es)), length-super_sector (length es), front_length sectors es i are (omega (arith, within))) in
     let P : List ℕ → Type 0 = λ bytes. StandsAt bytes (place es i) e in
-    subst P (sym whole) (stands_behind sectors front rest (place es i) e (are i e here) (count_fits es i e here units) before)
+    subst P (sym whole) (stands_after sectors front rest (place es i) e (are i e here) (count_fits es i e here units) before)
 
 is_super : (n : ℕ) (rest : List ℕ) → n ≤ 65536 → IsSuper (super_sector n ++ rest) n
 unfolding super_sector

@@ -63,13 +63,13 @@ pub set-flush : (es : List Entry) (p : ℕ) (e : Entry) → slice_get es p ≡ S
 set-flush [] p e here = absurd (let bad : None ≡ Some e = here in cc)
 set-flush (x ∷ es) zero e here =
     let same : x ≡ e = cc in
-    let behind : (n : ℕ) → (0 == suc n) ≡ false = λ n. grind (arith, nat_tests) in
-    let rest = flushed-alike (λ n. 0 == suc n) (λ n. false) es behind ∙ flushed-none es in
+    let beyond : (n : ℕ) → (0 == suc n) ≡ false = λ n. grind (arith, nat_tests) in
+    let rest = flushed-alike (λ n. 0 == suc n) (λ n. false) es beyond ∙ flushed-none es in
     rw (same, rest) refl
 set-flush (x ∷ es) (suc p) e here =
-    let behind : (n : ℕ) → (p == n) ≡ (suc p == suc n) = λ n. sym (suc-is p n) in
+    let beyond : (n : ℕ) → (p == n) ≡ (suc p == suc n) = λ n. sym (suc-is p n) in
     let first : (suc p == 0) ≡ false = grind (arith, nat_tests) in
-    rw first (ap (λ xs. x ∷ xs) (set-flush es p e here ∙ flushed-alike (λ n. p == n) (λ n. suc p == suc n) es behind))
+    rw first (ap (λ xs. x ∷ xs) (set-flush es p e here ∙ flushed-alike (λ n. p == n) (λ n. suc p == suc n) es beyond))
 
 -- one place more
 pub is_place-push : (places : List ℕ) (p n : ℕ) → is_place (places ++ p ∷ []) n ≡ (is_place places n || (p == n))

@@ -17,7 +17,7 @@ kept_byte count kept j is =
       | inl lt ↦ get_or-take count kept j 0 lt
       | inr le ↦
           let long : length (take count kept) ≡ count = length-take-le count kept is.within in
-          get_or_past (take count kept) j 0 (omega (arith, long, le)) ∙ sym (is.behind j le)
+          get_or_past (take count kept) j 0 (omega (arith, long, le)) ∙ sym (is.beyond j le)
     ]
 
 -- a sector by its bytes
@@ -77,7 +77,7 @@ filled bytes kept n are inside is =
     record {
       within = omega (arith, long, inside);
       whole = (n, omega (arith, long));
-      behind = λ j past. ap (λ xs. slice_index xs j) is ∙ get_or-append_right bytes fill (length bytes) j 0 refl past ∙ zero_here (n * 512 - length bytes) (j - length bytes);
+      beyond = λ j past. ap (λ xs. slice_index xs j) is ∙ get_or-append_right bytes fill (length bytes) j 0 refl past ∙ zero_here (n * 512 - length bytes) (j - length bytes);
       bytes = λ j. rw is (appended bytes fill are (zero_bytes (n * 512 - length bytes)) j);
     }
 

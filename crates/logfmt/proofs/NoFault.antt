@@ -73,8 +73,8 @@ entry_passes bytes sectors p units e stands is recorded few =
     let inside : ((count_at bytes p == 0) || nat_le (sector_at bytes p + count_at bytes p) sectors) ≡ true =
     grind (arith, nat_tests, stands.count, stands.sector, is.device) in
     let room : nat_le (units + count_at bytes p) 262144 ≡ true = grind (arith, nat_tests, stands.count, few) in
-    let behind : data_of e ≡ data_sectors bytes p = same_data bytes p e stands in
-    let whole : nat_le (512 * (p + 1 + data_sectors bytes p)) (length bytes) ≡ true = grind (arith, nat_tests, stands.whole, behind) in
+    let beyond : data_of e ≡ data_sectors bytes p = same_data bytes p e stands in
+    let whole : nat_le (512 * (p + 1 + data_sectors bytes p)) (length bytes) ≡ true = grind (arith, nat_tests, stands.whole, beyond) in
     rw (here, known, length_passes bytes sectors p e stands is, mark_passes bytes sectors p e stands is recorded, inside, room, whole) refl
 
 header_place : (bytes : List ℕ) (es : List Entry) (i : ℕ) → AllStand bytes es → i ≤ length es → header bytes i ≡ place es i
@@ -83,8 +83,8 @@ header_place bytes es (suc i) stand h =
     let before : header bytes i ≡ place es i = header_place bytes es i stand (omega (arith, h)) in
     elim (slice_get_cases es i).1 [
       | inl a ↦
-          let behind : data_of a.0 ≡ data_sectors bytes (place es i) = same_data bytes (place es i) a.0 (stand i a.0 a.2) in
-          rw (before, a.2, behind) refl
+          let beyond : data_of a.0 ≡ data_sectors bytes (place es i) = same_data bytes (place es i) a.0 (stand i a.0 a.2) in
+          rw (before, a.2, beyond) refl
       | inr past ↦ absurd (omega (arith, past.0, h))
     ]
 

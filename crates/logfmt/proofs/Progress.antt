@@ -74,17 +74,17 @@ pub go_on : (bytes : List ℕ) (sectors : ℕ) (es : List Entry) (n p u : ℕ) (
     → StandsAt bytes p e → IsEntry sectors e → (e.flags.mark ≡ true → e.flags.flush ≡ false)
     → (h : Header) → HeaderStands bytes p h → u + h.count ≤ 262144 → (d : ℕ) → d ≡ (if h.flags.discard then 0 else h.count)
     → Progress bytes sectors (es ++ e ∷ []) (n + 1) (p + (1 + d)) (u + h.count)
-go_on bytes sectors es n p u e so passes stands fits recorded h has room d behind_is =
+go_on bytes sectors es n p u e so passes stands fits recorded h has room d beyond_is =
     let count : e.count ≡ h.count = stands.count ∙ sym has.count in
-    let behind : d ≡ data_sectors bytes p = behind_is ∙ rw (has.discard, has.count) refl in
+    let beyond : d ≡ data_sectors bytes p = beyond_is ∙ rw (has.discard, has.count) refl in
     let content : data_of e ≡ data_sectors bytes p = same_data bytes p e stands in
     record {
       count = omega (arith, length-append es (e ∷ []), so.count);
-      placed = rw (add-one n, ← so.count, place-last es e, so.count, so.placed) (omega (arith, content, behind));
-      header = rw (add-one n, so.header, ← behind) (omega arith);
+      placed = rw (add-one n, ← so.count, place-last es e, so.count, so.placed) (omega (arith, content, beyond));
+      header = rw (add-one n, so.header, ← beyond) (omega arith);
       before = rw (add-one n, so.header, so.before, has.count) refl;
       sum = sum_by_push (λ (x : Entry). x.count) es e ∙ (rw (so.sum, count) refl);
-      inside = omega (arith, has.whole, behind);
+      inside = omega (arith, has.whole, beyond);
       within = room;
       stand = λ i x k. elim (slice_get_of_push es e i x k) [
         | inl was ↦ let lt : i < length es = slice_get_within es i x was in rw (place-push es e i (omega (arith, lt))) (so.stand i x was)

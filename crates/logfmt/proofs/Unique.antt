@@ -18,9 +18,9 @@ same_entry bytes p a b at bt =
     let long : length a.text ≡ length b.text = at.text_length ∙ sym bt.text_length in
     let text : a.text ≡ b.text =
     at.text ∙ ap (λ n. slice_range bytes (512 * p + 32) (512 * p + 32 + n)) long ∙ sym bt.text in
-    let behind : data_of a ≡ data_of b = rw (count, flags) refl in
+    let beyond : data_of a ≡ data_of b = rw (count, flags) refl in
     let content : a.content ≡ b.content =
-    at.content ∙ ap (λ n. slice_range bytes (512 * (p + 1)) (512 * (p + 1 + n))) behind ∙ sym bt.content in
+    at.content ∙ ap (λ n. slice_range bytes (512 * (p + 1)) (512 * (p + 1 + n))) beyond ∙ sym bt.content in
     λ i. record { sector = sector i; count = count i; flags = flags i; text = text i; content = content i }
 
 -- two lists of entries that stand in one text, at an index where their places agree

@@ -19,5 +19,5 @@ over initial log = record { sectors = log.sectors; entries = log.entries; initia
 pub record AreKept (count : ℕ) (kept : List ℕ) : Type 0 where
   pub within : count ≤ length kept
   pub whole : (n : ℕ) × (length kept ≡ 512 * n)
-  pub behind : (j : ℕ) → count ≤ j → slice_index kept j ≡ 0
+  pub beyond : (j : ℕ) → count ≤ j → slice_index kept j ≡ 0
   pub bytes : AreBytes kept

@@ -67,6 +67,34 @@
 //! let fault = read(alloc, &bytes[..1535], 4, Limits::Usual).err();
 //! // the data of entry 0 is cut short: Some(LogFault { code: LogCause::CutShort, at: 0 })
 //! ```
+//!
+//! # More that is promised
+//!
+//! - The initial content is the bytes that were given, and zeros after them. Flushes are added where they are asked
+//!   for: `Log::with_flushes`.
+//!
+//! # Choices
+//!
+//! - What a device held before entry 0 is called its initial content: 'base' means what the last flush made durable.
+//! - Of the initial content contracts see exactly the bytes that were given. In memory zeros stand after them up to
+//!   the end of their last sector (`InitialContent`): a byte of it is then an element of one list, and 0 after its
+//!   end; and each sector can be lent whole.
+//! - Entries, units, images and all else are the same with `--large`: these bound the memory and the time of a run.
+//!   192 MiB is more than entries and units can need.
+//!
+//! # How it is proved
+//!
+//! - Where the first fault speaks of bytes and the accepted value of a record, both give the same numbers. These are
+//!   the places of headers by entries (`place`) and by bytes (`header`), and the data of an entry (`data_of`) and of
+//!   a header (`data_sectors`). The loop keeps both in its record, and one lemma (`same_data`) leads from one to the
+//!   other. With it `text_has_no_fault` is proved: no check fails at bytes that are a log text, so the two
+//!   definitions agree.
+//! - The header's checks stand in a list by their order: `checked_header` makes seven of them, and needs no answer by
+//!   hand.
+//! - Bits of a word of flags: open `flag_word` and `has_bit` and answer `grind (arith, nat_tests)`
+//!   (`logfmt/proofs/FlagBits.antt`). A test such as `nat_le a b ≡ true` goes the same way, with the facts after.
+//! - Two records are the same where their fields are: `λ i. record { sector = sector i; .. }`
+//!   (`logfmt/proofs/Unique.antt`).
 #![tactic(auto)]
 
 mod entry;

@@ -126,6 +126,6 @@ kind_stays kind.AfterMark chosen es k is =
 pub cuts_stay : CutsStay
 cuts_stay wanted log places cut is = record {
   of_kind = kind_stays wanted.kind (is_place places) log.entries cut is.of_kind;
-  behind = is.behind;
+  beyond = is.beyond;
   before = is.before;
 }

@@ -22,9 +22,9 @@ use Rattle.losses.specs.WindowLaws.{up_to, FlushTakesAway}
 -- with a flush between its entry and the cut a part isn't volatile
 flushed_part : (way : By) (es : List Entry) (cut : ℕ) (chosen : ℕ → Bool) (part : Part) (p : ℕ) (e : Entry) → slice_get es p ≡ Some e → chosen p ≡ true
     → part.entry < p → p < cut → ¬ (IsVolatile way (flushed_at chosen es) cut part)
-flushed_part way es cut chosen part p e there is behind before volatile =
+flushed_part way es cut chosen part p e there is beyond before volatile =
     let now : slice_get (flushed_at chosen es) p ≡ Some (with_flush e) = entry-flushed chosen es p e there ∙ ap (λ b. Some (if b then with_flush e else e)) is in
-    let calm : true ≡ false = volatile.flushed p (with_flush e) behind before now in
+    let calm : true ≡ false = volatile.flushed p (with_flush e) beyond before now in
     cc
 
 -- the entries up to the end of a window stand in the log
@@ -55,12 +55,12 @@ flush_takes_away way es cut bound tears ds w places p is holds chosen =
     let to = holds.to in
     let before = is.before in
     let order = is.order in
-    let behind : is.first.part.entry < p = omega (arith, start, from) in
+    let beyond : is.first.part.entry < p = omega (arith, start, from) in
     let early : p < cut = omega (arith, to, before) in
     let right : p < w.end + 1 = omega (arith, to) in
     let low : is.first.part.entry ≤ w.end = omega (arith, start, order) in (
-      λ admissible. flushed_part way es cut (is_place places) is.first.part p entry.0 entry.1 chosen behind early (admissible.volatile 0 is.first is.departs),
-      λ admissible. flushed_part way es (w.end + 1) (is_place places) is.first.part p entry.0 entry.1 chosen behind right (admissible.volatile 0 is.first (first_stays w.end ds is.first is.departs low)),
+      λ admissible. flushed_part way es cut (is_place places) is.first.part p entry.0 entry.1 chosen beyond early (admissible.volatile 0 is.first is.departs),
+      λ admissible. flushed_part way es (w.end + 1) (is_place places) is.first.part p entry.0 entry.1 chosen beyond right (admissible.volatile 0 is.first (first_stays w.end ds is.first is.departs low)),
     )
 
 -- a part that is volatile at a cut stays so up to there, where no flush is added after it
@@ -94,10 +94,10 @@ stays_volatile way es cut right chosen part is before order calm =
       sector = is.sector ∙ sym (ap (λ (n : ℕ). n + part.place) (own_sector b is.entry));
       before = before;
       forced = own_fua b is.entry ∙ is.forced;
-      flushed = λ f flush behind early at.
+      flushed = λ f flush beyond early at.
           let was = entry-before chosen es f flush at in
-          let same : flush ≡ was.0 = was.2 ∙ ap (λ v. if v then with_flush was.0 else was.0) (calm f behind early) in
-          ap (λ (x : Entry). x.flags.flush) same ∙ is.flushed f was.0 behind (omega (arith, early, order)) was.1;
+          let same : flush ≡ was.0 = was.2 ∙ ap (λ v. if v then with_flush was.0 else was.0) (calm f beyond early) in
+          ap (λ (x : Entry). x.flags.flush) same ∙ is.flushed f was.0 beyond (omega (arith, early, order)) was.1;
     }
 
 -- elements that a test lets through
@@ -124,7 +124,7 @@ pub kept_two : (p : Departure → Bool) (xs : List Departure) (i j : ℕ) (c d :
     → Apart xs c d
 kept_two p [] i j c d less here there = absurd (let bad : None ≡ Some c = here in cc)
 kept_two p (x ∷ xs) i j c d less here there =
-    by_test (λ k at. kept_from p xs k d at) (λ k l before at behind. kept_two p xs k l c d before at behind) (p x) refl here there
+    by_test (λ k at. kept_from p xs k d at) (λ k l before at beyond. kept_two p xs k l c d before at beyond) (p x) refl here there
   where
     at_head : ((k : ℕ) → slice_get (filter p xs) k ≡ Some d → (l : ℕ) × (slice_get xs l ≡ Some d) × (p d ≡ true))
         → ((k l : ℕ) → k < l → slice_get (filter p xs) k ≡ Some c → slice_get (filter p xs) l ≡ Some d → Apart xs c d)
@@ -172,7 +172,7 @@ leaves way es cut bound right tears ds p chosen is order before calm = record {
   few = let most = is.few in let less = shorter p ds in omega (arith, most, less);
   volatile = λ i d there.
       let was = kept_from p ds i d there in
-      stays_volatile way es cut right chosen d.part (is.volatile was.0 d was.1) (before d was.0 was.1 was.2) order (λ f behind early. calm d was.0 f was.1 was.2 behind early);
+      stays_volatile way es cut right chosen d.part (is.volatile was.0 d was.1) (before d was.0 was.1 was.2) order (λ f beyond early. calm d was.0 f was.1 was.2 beyond early);
   fates = λ i d there. let was = kept_from p ds i d there in is.fates was.0 d was.1;
   rising = λ i j c d less here there. let was = kept_two p ds i j c d less here there in is.rising was.0 was.1 c d was.2 was.3 was.4;
 }
@@ -214,10 +214,10 @@ elsewhere way es cut bound tears ds w places is admissible none =
     let test : nat_le d.part.entry w.end ≡ true = passes in
     let low : d.part.entry ≤ w.end = grind (arith, nat_tests, test) in
     omega (arith, low))
-    (λ d k f there passes behind early.
+    (λ d k f there passes beyond early.
     not_place places f (λ i p at same.
     let first = first_entry way es cut bound tears ds is.first d k admissible is.departs there in
-    none i p at (record { from = omega (arith, start, first, behind, same); to = omega (arith, early, same) })))
+    none i p at (record { from = omega (arith, start, first, beyond, same); to = omega (arith, early, same) })))
 
 -- flushes before a window, at the cut itself
 pub before_all : (way : By) (es : List Entry) (cut bound : ℕ) (tears : Bool) (ds : List Departure) (w : Window) (places : List ℕ)
@@ -227,12 +227,12 @@ before_all way es cut bound tears ds w places is admissible low = record {
   few = admissible.few;
   volatile = λ k d there.
       let whole = admissible.volatile k d there in
-      stays_volatile way es cut cut (is_place places) d.part whole whole.before (omega arith) (λ f behind early.
+      stays_volatile way es cut cut (is_place places) d.part whole whole.before (omega arith) (λ f beyond early.
       not_place places f (λ i p at same.
       let start = is.start in
       let first = first_entry way es cut bound tears ds is.first d k admissible is.departs there in
       let less = low i p at in
-      omega (arith, start, first, behind, same, less)));
+      omega (arith, start, first, beyond, same, less)));
   fates = admissible.fates;
   rising = admissible.rising;
 }

@@ -11,7 +11,7 @@ use Rattle.losses.specs.Failures.{is_below, is_between, AreInOrder, AreImages, A
 pub record AreBelow (xs : List ℕ) (bound count : ℕ) : Type 0 where
   pub within : count ≤ length xs
   pub before : (k d : ℕ) → k < count → slice_index_or xs k d < bound
-  pub behind : (k d : ℕ) → count ≤ k → k < length xs → bound ≤ slice_index_or xs k d
+  pub beyond : (k d : ℕ) → count ≤ k → k < length xs → bound ≤ slice_index_or xs k d
 
 inside : (first end x : ℕ) → first ≤ x → x < end → is_between first end x ≡ true
 inside first end x low high = grind (arith, nat_tests, low, high)
@@ -34,7 +34,7 @@ later x xs bound count are =
     record {
       within = let w = are.within in omega (arith, w);
       before = λ k d lt. are.before (suc k) d (omega (arith, lt));
-      behind = λ k d le lt. are.behind (suc k) d (omega (arith, le)) (omega (arith, lt));
+      beyond = λ k d le lt. are.beyond (suc k) d (omega (arith, le)) (omega (arith, lt));
     }
 
 none_later : (x : ℕ) (xs : List ℕ) (bound : ℕ) → AreBelow (x ∷ xs) bound 0 → AreBelow xs bound 0
@@ -42,25 +42,25 @@ none_later x xs bound are =
     record {
       within = omega arith;
       before = λ k d lt. absurd (omega (arith, lt));
-      behind = λ k d le lt. are.behind (suc k) d (omega arith) (omega (arith, lt));
+      beyond = λ k d le lt. are.beyond (suc k) d (omega arith) (omega (arith, lt));
     }
 
-pub between_is : (xs : List ℕ) (first end begin behind : ℕ) → first ≤ end → AreBelow xs first begin → AreBelow xs end behind
-    → take (behind - begin) (drop begin xs) ≡ filter (is_between first end) xs
+pub between_is : (xs : List ℕ) (first end begin beyond : ℕ) → first ≤ end → AreBelow xs first begin → AreBelow xs end beyond
+    → take (beyond - begin) (drop begin xs) ≡ filter (is_between first end) xs
 between_is [] first end zero zero le low high = refl
 between_is [] first end zero (suc m) le low high = absurd (let w = high.within in omega (arith, w))
 between_is [] first end (suc n) m le low high = absurd (let w = low.within in omega (arith, w))
 between_is (x ∷ xs) first end zero zero le low high =
-    let out = outside_high first end x (high.behind 0 0 (omega arith) (omega arith)) in
+    let out = outside_high first end x (high.beyond 0 0 (omega arith) (omega arith)) in
     between_is xs first end zero zero le (none_later x xs first low) (none_later x xs end high) ∙ leaves (is_between first end) x xs out
 between_is (x ∷ xs) first end zero (suc m) le low high =
-    let in_it = inside first end x (low.behind 0 0 (omega arith) (omega arith)) (high.before 0 0 (omega arith)) in
+    let in_it = inside first end x (low.beyond 0 0 (omega arith) (omega arith)) (high.before 0 0 (omega arith)) in
     let so : suc m - 0 ≡ suc (m - 0) = omega arith in
     ap (λ n. take n (x ∷ xs)) so
     ∙ ap (λ (ys : List ℕ). x ∷ ys) (between_is xs first end zero m le (none_later x xs first low) (later x xs end m high))
     ∙ stays (is_between first end) x xs in_it
 between_is (x ∷ xs) first end (suc n) zero le low high =
-    absurd (let a = low.before 0 0 (omega arith) in let b = high.behind 0 0 (omega arith) (omega arith) in omega (arith, a, b, le))
+    absurd (let a = low.before 0 0 (omega arith) in let b = high.beyond 0 0 (omega arith) (omega arith) in omega (arith, a, b, le))
 between_is (x ∷ xs) first end (suc n) (suc m) le low high =
     let out = outside_low first end x (low.before 0 0 (omega arith)) in
     let so : suc m - suc n ≡ m - n = omega arith in
@@ -70,7 +70,7 @@ between_is (x ∷ xs) first end (suc n) (suc m) le low high =
 pub below_is : (xs : List ℕ) (bound count : ℕ) → AreBelow xs bound count → count ≡ length (filter (is_below bound) xs)
 below_is [] bound count are = let w = are.within in omega (arith, w)
 below_is (x ∷ xs) bound zero are =
-    let high = are.behind 0 0 (omega arith) (omega arith) in
+    let high = are.beyond 0 0 (omega arith) (omega arith) in
     let out : is_below bound x ≡ false = grind (arith, nat_tests, high) in
     let rest = below_is xs bound zero (none_later x xs bound are) in
     rest ∙ ap (λ (ys : List ℕ). length ys) (leaves (is_below bound) x xs out)

@@ -14,14 +14,14 @@ use Rattle.losses.specs.Counted.{places_before, counted_at, greatest_start, miss
 -- numbers of which the first r are below s, and no other
 pub prefix_count : (xs : List ℕ) (r s : ℕ) → r ≤ length xs → ((k d : ℕ) → k < r → slice_index_or xs k d < s)
     → ((k d : ℕ) → r ≤ k → k < length xs → s ≤ slice_index_or xs k d) → r ≡ length (filter (λ (x : ℕ). nat_lt x s) xs)
-prefix_count [] r s within before behind = omega (arith, within)
-prefix_count (x ∷ xs) zero s within before behind =
-    let rest = prefix_count xs 0 s (omega arith) (λ k d less. absurd (omega (arith, less))) (λ k d late inside. behind (suc k) d (omega arith) (omega (arith, inside))) in
-    let high : s ≤ x = behind 0 0 (omega arith) (omega arith) in
+prefix_count [] r s within before beyond = omega (arith, within)
+prefix_count (x ∷ xs) zero s within before beyond =
+    let rest = prefix_count xs 0 s (omega arith) (λ k d less. absurd (omega (arith, less))) (λ k d late inside. beyond (suc k) d (omega arith) (omega (arith, inside))) in
+    let high : s ≤ x = beyond 0 0 (omega arith) (omega arith) in
     let test : nat_lt x s ≡ false = grind (arith, nat_tests, high) in
     rw test rest
-prefix_count (x ∷ xs) (suc r) s within before behind =
-    let rest = prefix_count xs r s (omega (arith, within)) (λ k d less. before (suc k) d (omega (arith, less))) (λ k d late inside. behind (suc k) d (omega (arith, late)) (omega (arith, inside))) in
+prefix_count (x ∷ xs) (suc r) s within before beyond =
+    let rest = prefix_count xs r s (omega (arith, within)) (λ k d less. before (suc k) d (omega (arith, less))) (λ k d late inside. beyond (suc k) d (omega (arith, late)) (omega (arith, inside))) in
     let low : x < s = before 0 0 (omega arith) in
     let test : nat_lt x s ≡ true = grind (arith, nat_tests, low) in
     rw test (ap suc rest)

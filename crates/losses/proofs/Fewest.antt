@@ -5,7 +5,7 @@ use Rattle.std.proofs.lemmas.Option.{slice_get_cases, slice_get_within, slice_ge
 use Rattle.losses.specs.declared.flushes.window.Window.{Window}
 use Rattle.losses.specs.Places.{AreWindows, ArePlaces, Covers}
 use Rattle.losses.specs.WindowLaws.{PlacesAreFewest}
-use Rattle.losses.proofs.Walked.{behind_earlier}
+use Rattle.losses.proofs.Walked.{after_earlier}
 
 -- how many of some numbers are at most m
 abbrev count : ℕ → List ℕ → ℕ
@@ -75,11 +75,11 @@ reached n ws ps qs (suc i) p are so all here =
           let before = reached n ws ps qs i a.0 are so all a.2 in
           let next = so.each (suc i) p here in
           let own = all next.number next.window next.there in
-          let behind = behind_earlier n ws ps i (suc i) a.0 p are so (omega arith) a.2 here in
+          let beyond = after_earlier n ws ps i (suc i) a.0 p are so (omega arith) a.2 here in
           let from = own.holds.from in
           let to = own.holds.to in
           let end = next.end in
-          let more_now = one_more a.0 p own.place own.number qs own.there (omega (arith, behind, from)) (omega (arith, to, end)) in
+          let more_now = one_more a.0 p own.place own.number qs own.there (omega (arith, beyond, from)) (omega (arith, to, end)) in
           omega (arith, before, more_now)
       | inr past ↦ let within = slice_get_within ps (suc i) p here in let end = past.0 in absurd (omega (arith, within, end))
     ]

@@ -12,7 +12,7 @@ use Rattle.report.specs.Line.{FailingLine}
 use Rattle.report.specs.MarkReading.{lacks}
 use Rattle.report.specs.LineText.{codes_text, choice_text, line_text}
 use Rattle.report.proofs.Back.{lacks_both, end_of, end_lacks, words_of}
-use Rattle.losses.specs.Printed.{EndsLine, IsBehind, IsPrinted}
+use Rattle.losses.specs.Printed.{EndsLine, IsAfter, IsPrinted}
 
 -- parts of a text without c have none
 both_lack : (c : ℕ) (xs ys : List ℕ) → lacks c (xs ++ ys) ≡ true → (lacks c xs ≡ true) × (lacks c ys ≡ true)
@@ -64,11 +64,11 @@ first_newline (b ∷ bs) (suc i) none here [] ys lack same = absurd (let is : b 
 first_newline (b ∷ bs) zero none here (x ∷ xs) ys lack same =
     absurd (let own : b ≡ 10 = cc in let is : b ≡ x = cc in let bad : lacks 10 (10 ∷ xs) ≡ true = subst (λ k. lacks 10 (k ∷ xs) ≡ true) (sym is ∙ own) lack in let no : false ≡ true = bad in cc)
 first_newline (b ∷ bs) (suc i) none here (x ∷ xs) ys lack same =
-    let rest = first_newline bs i (behind b (take i bs) none) here xs ys (behind x xs lack) (let tails : bs ≡ xs ++ 10 ∷ ys = cc in tails) in
+    let rest = first_newline bs i (beyond b (take i bs) none) here xs ys (beyond x xs lack) (let tails : bs ≡ xs ++ 10 ∷ ys = cc in tails) in
     omega (arith, rest)
   where
-    behind : (x : ℕ) (xs : List ℕ) → lacks 10 (x ∷ xs) ≡ true → lacks 10 xs ≡ true
-    behind x xs own = by_test (x == 10) own
+    beyond : (x : ℕ) (xs : List ℕ) → lacks 10 (x ∷ xs) ≡ true → lacks 10 xs ≡ true
+    beyond x xs own = by_test (x == 10) own
       where
         by_test : (t : Bool) → (if t then false else lacks 10 xs) ≡ true → lacks 10 xs ≡ true
         by_test true bad = absurd cc
@@ -104,20 +104,20 @@ drop_none zero = refl
 drop_none (suc n) = refl
 
 -- the lines after the first ones
-behind-more : (ls : List FailingLine) (n : ℕ) (rest : List ℕ) (end : ℕ) → rest ≡ flat_map line_text (drop n ls) → EndsLine rest end → end ≤ length rest
+beyond-more : (ls : List FailingLine) (n : ℕ) (rest : List ℕ) (end : ℕ) → rest ≡ flat_map line_text (drop n ls) → EndsLine rest end → end ≤ length rest
     → drop end rest ≡ flat_map line_text (drop (suc n) ls)
-behind-more [] zero rest end same ends within = let none : rest ≡ [] = same in rw none (drop_none end)
-behind-more [] (suc n) rest end same ends within = let none : rest ≡ [] = same in rw none (drop_none end)
-behind-more (l ∷ ls) zero rest end same ends within =
+beyond-more [] zero rest end same ends within = let none : rest ≡ [] = same in rw none (drop_none end)
+beyond-more [] (suc n) rest end same ends within = let none : rest ≡ [] = same in rw none (drop_none end)
+beyond-more (l ∷ ls) zero rest end same ends within =
     rw (line_end rest end l (flat_map line_text ls) ends same, same) (drop_front (line_text l) (flat_map line_text ls))
-behind-more (l ∷ ls) (suc n) rest end same ends within = behind-more ls n rest end same ends within
+beyond-more (l ∷ ls) (suc n) rest end same ends within = beyond-more ls n rest end same ends within
 
-pub behind_start : (text : List ℕ) → IsBehind text 0 text
-behind_start text = record { read = λ ls same. same }
+pub after_start : (text : List ℕ) → IsAfter text 0 text
+after_start text = record { read = λ ls same. same }
 
-behind_next : (text : List ℕ) (n : ℕ) (rest : List ℕ) (end : ℕ) → IsBehind text n rest → EndsLine rest end → end ≤ length rest → IsBehind text (n + 1) (drop end rest)
-behind_next text n rest end so ends within =
-    subst (λ (k : ℕ). IsBehind text k (drop end rest)) (sym (add-one n)) (record { read = λ ls same. behind-more ls n rest end (so.read ls same) ends within })
+after_next : (text : List ℕ) (n : ℕ) (rest : List ℕ) (end : ℕ) → IsAfter text n rest → EndsLine rest end → end ≤ length rest → IsAfter text (n + 1) (drop end rest)
+after_next text n rest end so ends within =
+    subst (λ (k : ℕ). IsAfter text k (drop end rest)) (sym (add-one n)) (record { read = λ ls same. beyond-more ls n rest end (so.read ls same) ends within })
 
 -- the lines from one on
 from_line : (ls : List FailingLine) (n : ℕ) (l : FailingLine) → slice_get ls n ≡ Some l → drop n ls ≡ l ∷ drop (suc n) ls
@@ -125,7 +125,7 @@ from_line [] n l here = absurd (let bad : None ≡ Some l = here in cc)
 from_line (x ∷ ls) zero l here = let same : x ≡ l = (let e : Some x ≡ Some l = here in cc) in ap (λ (y : FailingLine). y ∷ ls) same
 from_line (x ∷ ls) (suc n) l here = from_line ls n l here
 
-pub printed_line : (text : List ℕ) (n : ℕ) (rest : List ℕ) (end : ℕ) → IsBehind text n rest → EndsLine rest end → IsPrinted text n (take end rest)
+pub printed_line : (text : List ℕ) (n : ℕ) (rest : List ℕ) (end : ℕ) → IsAfter text n rest → EndsLine rest end → IsPrinted text n (take end rest)
 printed_line text n rest end so ends =
     record {
       read = λ ls l same here.
@@ -150,6 +150,6 @@ ends_last text i n past none = ends_nowhere text n (subst (λ (t : List ℕ). la
 whole_slice : (xs : List ℕ) (end : ℕ) → end ≤ length xs → take (length xs - end) (drop end xs) ≡ drop end xs
 whole_slice xs end within = take_all (length xs - end) (drop end xs) (let long = length-drop end xs in omega (arith, long))
 
-pub behind_slice : (text : List ℕ) (n : ℕ) (rest : List ℕ) (end : ℕ) → IsBehind text n rest → EndsLine rest end → end ≤ length rest
-    → IsBehind text (n + 1) (take (length rest - end) (drop end rest))
-behind_slice text n rest end so ends within = subst (λ (r : List ℕ). IsBehind text (n + 1) r) (sym (whole_slice rest end within)) (behind_next text n rest end so ends within)
+pub after_slice : (text : List ℕ) (n : ℕ) (rest : List ℕ) (end : ℕ) → IsAfter text n rest → EndsLine rest end → end ≤ length rest
+    → IsAfter text (n + 1) (take (length rest - end) (drop end rest))
+after_slice text n rest end so ends within = subst (λ (r : List ℕ). IsAfter text (n + 1) r) (sym (whole_slice rest end within)) (after_next text n rest end so ends within)

@@ -19,29 +19,29 @@ above_head : (n : ℕ) (ns : List ℕ) → AreRising (n ∷ ns) → (i a : ℕ) 
 above_head n ns h i a at = h 0 (suc i) n a (omega arith) refl at
 
 -- what isn't the head stands after it
-behind : (m : ℕ) (ms : List ℕ) (j n : ℕ) → m < n → slice_get (m ∷ ms) j ≡ Some n → (k : ℕ) × (slice_get ms k ≡ Some n)
-behind m ms zero n lt at = absurd (let same : Some m ≡ Some n = at in let e : m ≡ n = cc in omega (arith, e, lt))
-behind m ms (suc j) n lt at = (j, at)
+beyond : (m : ℕ) (ms : List ℕ) (j n : ℕ) → m < n → slice_get (m ∷ ms) j ≡ Some n → (k : ℕ) × (slice_get ms k ≡ Some n)
+beyond m ms zero n lt at = absurd (let same : Some m ≡ Some n = at in let e : m ≡ n = cc in omega (arith, e, lt))
+beyond m ms (suc j) n lt at = (j, at)
 
 -- the numbers of a part whose first stands after the head stand after it too
-all_behind : (n : ℕ) (ns : List ℕ) (m : ℕ) (ms : List ℕ) → AreRising (n ∷ ns) → m < n → IsPartOf (n ∷ ns) (m ∷ ms) → IsPartOf (n ∷ ns) ms
-all_behind n ns m ms rn low h zero a at_i =
+all_after : (n : ℕ) (ns : List ℕ) (m : ℕ) (ms : List ℕ) → AreRising (n ∷ ns) → m < n → IsPartOf (n ∷ ns) (m ∷ ms) → IsPartOf (n ∷ ns) ms
+all_after n ns m ms rn low h zero a at_i =
     let same : Some n ≡ Some a = at_i in
     let e : n ≡ a = cc in
-    behind m ms (h 0 a at_i).0 a (subst (λ x. m < x) e low) (h 0 a at_i).1
-all_behind n ns m ms rn low h (suc i) a at_i = behind m ms (h (suc i) a at_i).0 a (let up = above_head n ns rn i a at_i in omega (arith, low, up)) (h (suc i) a at_i).1
+    beyond m ms (h 0 a at_i).0 a (subst (λ x. m < x) e low) (h 0 a at_i).1
+all_after n ns m ms rn low h (suc i) a at_i = beyond m ms (h (suc i) a at_i).0 a (let up = above_head n ns rn i a at_i in omega (arith, low, up)) (h (suc i) a at_i).1
 
 -- and so do all but the first of a part whose first is the head
-rest_behind : (n : ℕ) (ns : List ℕ) (m : ℕ) (ms : List ℕ) → AreRising (n ∷ ns) → n ≡ m → IsPartOf (n ∷ ns) (m ∷ ms) → IsPartOf ns ms
-rest_behind n ns m ms rn e h i a at_i = behind m ms (h (suc i) a at_i).0 a (subst (λ x. x < a) e (above_head n ns rn i a at_i)) (h (suc i) a at_i).1
+rest_after : (n : ℕ) (ns : List ℕ) (m : ℕ) (ms : List ℕ) → AreRising (n ∷ ns) → n ≡ m → IsPartOf (n ∷ ns) (m ∷ ms) → IsPartOf ns ms
+rest_after n ns m ms rn e h i a at_i = beyond m ms (h (suc i) a at_i).0 a (subst (λ x. x < a) e (above_head n ns rn i a at_i)) (h (suc i) a at_i).1
 
 left_step : (n : ℕ) (ns : List ℕ) (m : ℕ) (ms : List ℕ) → AreRising (n ∷ ns) → AreRising (m ∷ ms) → IsPartOf (n ∷ ns) (m ∷ ms)
     → ((ks : List ℕ) → AreRising ks → IsPartOf ks ms → Leaves ks ms) → (j : ℕ) → slice_get (m ∷ ms) j ≡ Some n → Leaves (n ∷ ns) (m ∷ ms)
 left_step n ns m ms rn rm h inner zero at =
     let same : Some m ≡ Some n = at in
     let e : n ≡ m = cc in
-    inl (e, inner ns (later_rises n ns rn) (rest_behind n ns m ms rn e h))
-left_step n ns m ms rn rm h inner (suc j) at = inr (inner (n ∷ ns) rn (all_behind n ns m ms rn (above_head m ms rm j n at) h))
+    inl (e, inner ns (later_rises n ns rn) (rest_after n ns m ms rn e h))
+left_step n ns m ms rn rm h inner (suc j) at = inr (inner (n ∷ ns) rn (all_after n ns m ms rn (above_head m ms rm j n at) h))
 
 pub left_out : (ms ns : List ℕ) → AreRising ns → AreRising ms → IsPartOf ns ms → Leaves ns ms
 left_out ms [] rn rm h = tt
@@ -72,9 +72,9 @@ differs_once (n ∷ ns) (inl lt) = omega (arith, lt)
 differs_once (n ∷ ns) (inr h) = differs_once ns h.1
 
 -- what a choice precedes is no part of it
-pub not_behind : (ns ms : List ℕ) → AreRising ns → AreRising ms → IsPartOf ns ms → Precedes ms ns → ⊥
-not_behind ns ms rn rm h (inl lt) = let le = no_longer ns ms (left_out ms ns rn rm h) in omega (arith, le, lt)
-not_behind ns ms rn rm h (inr p) =
+pub not_after : (ns ms : List ℕ) → AreRising ns → AreRising ms → IsPartOf ns ms → Precedes ms ns → ⊥
+not_after ns ms rn rm h (inl lt) = let le = no_longer ns ms (left_out ms ns rn rm h) in omega (arith, le, lt)
+not_after ns ms rn rm h (inr p) =
     let same : ns ≡ ms = as_long_is_same ns ms (left_out ms ns rn rm h) (sym p.0) in
     differs_once ns (subst (λ xs. DiffersBelow xs ns) (sym same) p.1)
 
@@ -96,7 +96,7 @@ pub part_is_before : (cs : List (List ℕ)) (g i : ℕ) → AreChoices cs → Is
 part_is_before cs g i are is =
     elim (cases_lt i g) [
       | inr le ↦ le
-      | inl lt ↦ absurd (not_behind is.part is.whole (are.rising g is.part is.part_there) (are.rising i is.whole is.whole_there) is.within
+      | inl lt ↦ absurd (not_after is.part is.whole (are.rising g is.part is.part_there) (are.rising i is.whole is.whole_there) is.within
           (are.ordered i g is.whole is.part lt is.whole_there is.part_there))
     ]
 

@@ -6,7 +6,7 @@ use Rattle.std.proofs.lemmas.Option.{slice_get_within, slice_get-get_or, slice_g
 use Rattle.base.proofs.Lists.{slice_get-append_left, slice_get-push, slice_get_of_push}
 use Rattle.losses.specs.FirstParts.{IsPartOf, AreChoices, IsPart, IsGroup, AreGroups}
 use Rattle.losses.specs.Keys.{key_of, other_parts, part_keys, AreWords, Lacks, IsFirstFound}
-use Rattle.losses.proofs.Parts.{left_out, leaves_part, no_longer, not_behind, part_of_itself}
+use Rattle.losses.proofs.Parts.{left_out, leaves_part, no_longer, not_after, part_of_itself}
 use Rattle.losses.proofs.Keyed.{keys_rise, key_tells, listed, listed_leaves, part_keys_rise}
 
 -- a choice with a key: at most three numbers of 32 bits
@@ -68,7 +68,7 @@ listed_key cs i keys places ns are so at small h part lt =
     let rn = are.rising h own.0 own.1 in
     let rm = are.rising i ns at in
     elim (listed own.0 ns (left_out ns own.0 rn rm within) small.few) [
-      | inl same ↦ absurd (not_behind ns own.0 rm rn (subst (λ xs. IsPartOf xs own.0) same (part_of_itself own.0)) (are.ordered h i own.0 ns lt own.1 at))
+      | inl same ↦ absurd (not_after ns own.0 rm rn (subst (λ xs. IsPartOf xs own.0) same (part_of_itself own.0)) (are.ordered h i own.0 ns lt own.1 at))
       | inr found ↦ (found.0, key_of own.0, slice_get-map key_of (other_parts ns) found.0 ∙ ap (option_map key_of) found.1, own.3)
     ]
 

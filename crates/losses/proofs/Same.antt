@@ -209,14 +209,14 @@ abbrev pub Late : List Departure → (Departure → Bool) → ℕ → Type 0
 Late ds p at = (d : Departure) (k : ℕ) → slice_get ds k ≡ Some d → p d ≡ false → at ≤ d.part.entry
 
 -- after that cut nothing arrived
-behind : (way : By) (es : List Entry) (cut bound at : ℕ) (tears : Bool) (ds : List Departure) (s i n : ℕ)
+beyond : (way : By) (es : List Entry) (cut bound at : ℕ) (tears : Bool) (ds : List Departure) (s i n : ℕ)
     → cut ≤ length es → Calm way es cut ds at → IsAdmissible way es cut bound tears ds → at + n ≤ cut
     → filter (writes ds s i) (units_before es (at + n)) ≡ filter (writes ds s i) (units_before es at)
-behind way es cut bound at tears ds s i zero inside calm admissible within = let same : at + 0 ≡ at = omega arith in ap (λ k. filter (writes ds s i) (units_before es k)) same
-behind way es cut bound at tears ds s i (suc n) inside calm admissible within =
+beyond way es cut bound at tears ds s i zero inside calm admissible within = let same : at + 0 ≡ at = omega arith in ap (λ k. filter (writes ds s i) (units_before es k)) same
+beyond way es cut bound at tears ds s i (suc n) inside calm admissible within =
     let k : ℕ = at + n in
     let next : at + suc n ≡ suc k = omega arith in
-    let rest = behind way es cut bound at tears ds s i n inside calm admissible (omega (arith, within)) in
+    let rest = beyond way es cut bound at tears ds s i n inside calm admissible (omega (arith, within)) in
     elim (slice_get_cases es k).1 [
       | inl a ↦
           let none = none_written way es cut bound tears ds k s i a.0 admissible a.2 (calm k (omega arith) (omega (arith, within))) in
@@ -292,9 +292,9 @@ marks way es cut at ds order inside calm =
 -- and no flush entry, after an entry of which something departs
 same_epoch : (way : By) (es : List Entry) (cut at bound : ℕ) (tears : Bool) (ds : List Departure) (first : Departure) → at ≤ cut → cut ≤ length es
     → IsAdmissible way es cut bound tears ds → slice_get ds 0 ≡ Some first → first.part.entry < at → epoch_at es at ≡ epoch_at es cut
-same_epoch way es cut at bound tears ds first order inside admissible there behind =
+same_epoch way es cut at bound tears ds first order inside admissible there beyond =
     still_to (λ (entry : Entry). entry.flags.flush) es at cut order inside (λ e x from to here.
-    (admissible.volatile 0 first there).flushed e x (omega (arith, behind, from)) to here)
+    (admissible.volatile 0 first there).flushed e x (omega (arith, beyond, from)) to here)
 
 pub map_same : {A B : Type 0} (f g : A → B) (xs : List A) → ((x : A) → f x ≡ g x) → map f xs ≡ map g xs
 map_same f g [] same = refl
@@ -310,7 +310,7 @@ byte way log cut bound at tears ds p s i inside order calm late admissible =
     let n : ℕ = cut - at in
     let end : at + n ≡ cut = omega (arith, order) in
     let up = alike es ds p at s i at (omega arith) (omega (arith, order, inside)) late in
-    let rest = behind way es cut bound at tears ds s i n inside calm admissible (omega (arith, end)) in
+    let rest = beyond way es cut bound at tears ds s i n inside calm admissible (omega (arith, end)) in
     let all : filter (writes (filter p ds) s i) (units_before es at) ≡ filter (writes ds s i) (units_before es cut) =
     up ∙ sym rest ∙ ap (λ k. filter (writes ds s i) (units_before es k)) end in
     ap (λ us. option_map_or (λ (u : LogUnit). slice_index (unit_content es u) i) (last_or None us) (initial_byte log.initial s i)) all
@@ -343,10 +343,10 @@ same_is_left way log cut bound tears ds w inside is admissible =
     )
 
 -- no window: the cut right after the first entry of which something departs
-behind_first : (way : By) (log : LogValue) (cut bound : ℕ) (tears : Bool) (ds : List Departure) (first : Departure) (f : ℕ)
+beyond_first : (way : By) (log : LogValue) (cut bound : ℕ) (tears : Bool) (ds : List Departure) (first : Departure) (f : ℕ)
     → first.part.entry ≡ f → cut ≤ length log.entries → HasNoWindow way log.entries cut ds → IsAdmissible way log.entries cut bound tears ds
     → slice_get ds 0 ≡ Some first → IsOfCutAfter way log cut bound tears ds f
-behind_first way log cut bound tears ds first f own inside none admissible there =
+beyond_first way log cut bound tears ds first f own inside none admissible there =
     let es = log.entries in
     let before = (admissible.volatile 0 first there).before in
     let early : f + 1 ≤ cut = omega (arith, before, own) in
@@ -418,6 +418,6 @@ before_first way log cut bound tears ds first entry f own bounds inside none adm
 
 pub nothing_else_is_lost : NothingElseIsLost
 nothing_else_is_lost way log cut bound tears ds first bounds inside none admissible there = (
-  behind_first way log cut bound tears ds first first.part.entry refl inside none admissible there,
+  beyond_first way log cut bound tears ds first first.part.entry refl inside none admissible there,
   λ entry here none_arrived. before_first way log cut bound tears ds first entry first.part.entry refl bounds inside none admissible there here none_arrived,
 )

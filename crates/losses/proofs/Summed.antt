@@ -36,8 +36,8 @@ few_more ps n (w ∷ ws) =
             let now : nat_lt k (n + 1) ≡ true = let is = low.1 in grind (arith, nat_tests, is) in
             rw (now, low.0, other.0) (omega (arith, rest))
         | inr high ↦
-            let behind : n < k = let is = high.1 in let isnt = other.1 in grind (arith, nat_tests, is, isnt) in
-            let now : nat_lt k (n + 1) ≡ false = grind (arith, nat_tests, behind) in
+            let beyond : n < k = let is = high.1 in let isnt = other.1 in grind (arith, nat_tests, is, isnt) in
+            let now : nat_lt k (n + 1) ≡ false = grind (arith, nat_tests, beyond) in
             rw (now, high.0, other.0) rest
       ]
     ]

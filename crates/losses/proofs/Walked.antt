@@ -90,12 +90,12 @@ pass n e s last ws starts ps are table here before so = record {
         let least = table.greatest i w s at (ap (slice_get starts) is ∙ here) in
         let one = (are i w at).0 in
         let place = so.final (omega (arith, one, least, before)) in
-        let behind = place.2 in
-        record { number = place.0; place = last; there = place.1; holds = record { from = omega (arith, least, before); to = omega (arith, behind, is) } }
+        let beyond = place.2 in
+        record { number = place.0; place = last; there = place.1; holds = record { from = omega (arith, least, before); to = omega (arith, beyond, is) } }
     | inr early ↦ so.done i w at early.1
   ];
   low = so.low;
-  final = λ some. let was = so.final some in (was.0, was.1, let behind = was.2 in omega (arith, behind));
+  final = λ some. let was = so.final some in (was.0, was.1, let beyond = was.2 in omega (arith, beyond));
 }
 
 -- after the last entry
@@ -106,9 +106,9 @@ whole n last ws ps are so = record {
 }
 
 -- the window of a place begins after each earlier place
-pub behind_earlier : (n : ℕ) (ws : List Window) (ps : List ℕ) (i j p q : ℕ) → AreWindows n ws → (so : ArePlaces ws ps) → i < j
+pub after_earlier : (n : ℕ) (ws : List Window) (ps : List ℕ) (i j p q : ℕ) → AreWindows n ws → (so : ArePlaces ws ps) → i < j
     → slice_get ps i ≡ Some p → (there : slice_get ps j ≡ Some q) → p < (so.each j q there).window.start
-behind_earlier n ws ps i j p q are so less here there =
+after_earlier n ws ps i j p q are so less here there =
     let nth = so.each i p here in
     let later = so.each j q there in
     let front : slice_get (take j ps) i ≡ Some p = slice_get-take ps j i less ∙ here in
@@ -138,7 +138,7 @@ pub rising : (n : ℕ) (ws : List Window) (ps : List ℕ) (i j p q : ℕ) → Ar
     → slice_get ps i ≡ Some p → slice_get ps j ≡ Some q → p < q
 rising n ws ps i j p q are so less here there =
     let later = so.each j q there in
-    let low = behind_earlier n ws ps i j p q are so less here there in
+    let low = after_earlier n ws ps i j p q are so less here there in
     let order = (are later.number later.window later.there).1 in
     let end = later.end in
     omega (arith, low, order, end)

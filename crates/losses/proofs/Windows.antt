@@ -118,10 +118,10 @@ one_more s ms k m fs f here was is =
       ];
       inside = λ i w at. elim (slice_get_of_append (windows_in fs) (own_window f) i w (ap (λ (ws : List Window). slice_get ws i) (sym (windows_more fs f)) ∙ at)) [
         | inl before ↦ was.inside i w before.1
-        | inr behind ↦ is.inside (i - length (windows_in fs)) w behind.1
+        | inr beyond ↦ is.inside (i - length (windows_in fs)) w beyond.1
       ];
       calm = λ i w p e at holds there. elim (slice_get_of_append (windows_in fs) (own_window f) i w (ap (λ (ws : List Window). slice_get ws i) (sym (windows_more fs f)) ∙ at)) [
         | inl before ↦ was.calm i w p e before.1 holds there
-        | inr behind ↦ is.calm (i - length (windows_in fs)) w p e behind.1 holds there
+        | inr beyond ↦ is.calm (i - length (windows_in fs)) w p e beyond.1 holds there
       ];
     })

@@ -22,10 +22,10 @@ ending_read said begun rest outer inner at c blank =
     }
 
 -- the first line of a text is read by its words
-pub outcome_read : (text image behind_image cut behind_cut program behind_program said more outcome : List ℕ)
-    → ReadsField text image behind_image → ReadsField behind_image cut behind_cut → ReadsField behind_cut program behind_program
-    → IsCutAt 10 behind_program said more → IsEnding said outcome → ReadsOutcome text outcome more
-outcome_read text image behind_image cut behind_cut program behind_program said more outcome first second third last ending = record { read = reads }
+pub outcome_read : (text image after_image cut after_cut program after_program said more outcome : List ℕ)
+    → ReadsField text image after_image → ReadsField after_image cut after_cut → ReadsField after_cut program after_program
+    → IsCutAt 10 after_program said more → IsEnding said outcome → ReadsOutcome text outcome more
+outcome_read text image after_image cut after_cut program after_program said more outcome first second third last ending = record { read = reads }
   where
     reads : (l : FailingLine) (rest : List ℕ) → text ≡ line_text l ++ rest → (outcome ≡ ending_text l.ending) × (more ≡ rest)
     reads l rest e =

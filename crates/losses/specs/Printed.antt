@@ -10,7 +10,7 @@ pub record EndsLine (text : List ℕ) (end : ℕ) : Type 0 where
   pub first : (xs ys : List ℕ) → lacks 10 xs ≡ true → text ≡ xs ++ 10 ∷ ys → end ≡ length xs + 1
 
 -- what stands after the first lines of a text of lines
-pub record IsBehind (text : List ℕ) (count : ℕ) (rest : List ℕ) : Type 0 where
+pub record IsAfter (text : List ℕ) (count : ℕ) (rest : List ℕ) : Type 0 where
   pub read : (ls : List FailingLine) → text ≡ flat_map line_text ls → rest ≡ flat_map line_text (drop count ls)
 
 -- the line of that number of a text of lines

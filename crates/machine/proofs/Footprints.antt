@@ -280,7 +280,7 @@ bytes_same a b (suc n) p low high first last few le within =
     (bytes_same a b n (p + 1) low high first last few (omega (arith, le)) (omega (arith, within)))
   where
     here : ((low / 512 < p / 512) ⊎ (p / 512 ≤ low / 512)) → slice_get a (p / 512) ≡ slice_get b (p / 512)
-    here (inl behind) = let e : high / 512 ≡ p / 512 = omega (arith, behind, few, le, within) in subst (λ (q : ℕ). slice_get a q ≡ slice_get b q) e last
+    here (inl beyond) = let e : high / 512 ≡ p / 512 = omega (arith, beyond, few, le, within) in subst (λ (q : ℕ). slice_get a q ≡ slice_get b q) e last
     here (inr at) = let e : low / 512 ≡ p / 512 = omega (arith, at, le) in subst (λ (q : ℕ). slice_get a q ≡ slice_get b q) e first
 
 length_parts : (n : ℕ) → is_length n ≡ true → (0 < n) × (n ≤ 512)

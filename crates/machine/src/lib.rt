@@ -43,6 +43,26 @@
 //! ```text
 //! outcome program device context 10        // what ten steps of the program end in
 //! ```
+//!
+//! # Choices
+//!
+//! - A jump to before slot 0 has as its target a number that no program has as a slot: it is then fault 80, as every
+//!   other target outside, by the same check.
+//! - Fault 84 is tested by the range of the stacks' addresses, after 83: what is mapped and in that range is a stack.
+//!
+//! # How it is proved
+//!
+//! - A form with many checks is broken at its tail: `set_and_go`, `go_on`, `store_and_go`, `load_and_go` each have
+//!   the clause `after_checks s (the rest of the list) effect`. Five checks in one function run into the limit of
+//!   `search`.
+//! - One loop serves all tests of addresses: an enum `Test` and a word `passes .. test = λ at. ..`, with four lemmas
+//!   over `all_at`. Such lemmas need their arguments written out; with `_` they stay unsolved.
+//! - Signed division needs no lemma: `cast_unsigned (int_div ..)` of the least number by minus one is the least
+//!   number by itself.
+//! - `rw (← c.self.view_is)` opens a Model in an answer. The length of one array field alone is told; that of another
+//!   goes into the Model's `invariant`.
+//! - An access to memory is carried between blocks by `map memory (addresses a n)`. With 'the same bytes at other
+//!   places' (`reading_moved` in `interp/proofs`) all tests and the number move at once.
 #![tactic(auto)]
 
 mod laws;

@@ -8,6 +8,7 @@ pub mod Known
 -- What notes say of an accepted program.
 pub mod Unreached
 pub mod Large
+pub mod LeftOut
 pub mod Breach
 pub mod Blind
 pub mod Promises

@@ -7,7 +7,7 @@ unfoldable pub promise_words : List ℕ
 promise_words = codes "note: marks that promise what nothing made durable: entries "
 
 unfoldable pub loss_words : List ℕ
-loss_words = codes "note: a write before each of them may still be lost there: it has no flush behind it, and isn't FUA\n"
+loss_words = codes "note: a write before each of them may still be lost there: it has no flush after it, and isn't FUA\n"
 
 -- one more mark
 abbrev pub next_text : ℕ → List ℕ

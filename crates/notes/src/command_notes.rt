@@ -1,20 +1,21 @@
 //! The notes of a command: what stands on standard error after a refusal, or beside an answer (docs/REFUSALS.md, Notes).
 //!
-//! `behind.rt` and `beside.rt` have the two, `headers.rt` the header of an entry that is refused for it, `breach.rt` the
+//! `after.rt` and `beside.rt` have the two, `headers.rt` the header of an entry that is refused for it, `breach.rt` the
 //! instruction at which a program is refused, `unreached.rt` the instructions that no path reaches, `blind.rt` the programs that look
 //! at nothing of what a log writes, `promises.rt` the marks that promise what nothing made durable, `large.rt` the entries that no
-//! image loses as a whole, and `forced.rt` those with FUA.
+//! image loses as a whole, `forced.rt` those with FUA, and `left_out.rt` the cases that a clean run left out.
 #![tactic(auto)]
 
-mod behind;
+mod after;
 mod beside;
 mod blind;
 mod breach;
 mod forced;
 mod headers;
 mod large;
+mod left_out;
 mod promises;
 mod unreached;
 
-pub use behind::notes_behind;
+pub use after::notes_after;
 pub use beside::notes_beside;

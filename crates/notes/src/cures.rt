@@ -77,7 +77,7 @@ pub fn verifier_cure(cause: VerifierCause) -> &'static str {
     }
 }
 
-/// The same for a program that is to be accepted with guards, whose rules are fewer (docs/VERIFIER.md, Guards).
+/// What helps a program that is to be accepted with guards, whose rules are fewer (docs/VERIFIER.md, Guards).
 pub fn guarded_cure(cause: VerifierCause) -> &'static str {
     match cause {
         VerifierCause::UnsetRegister => {

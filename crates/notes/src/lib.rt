@@ -34,7 +34,7 @@
 //!
 //! | Call | Answers |
 //! |---|---|
-//! | `notes_behind(alloc, words, files, refusal, facts)` | what the number of a refusal means there, the instruction, entry, option or file that is meant, and what most likely helps |
+//! | `notes_after(alloc, words, files, refusal, facts)` | what the number of a refusal means there, the instruction, entry, option or file that is meant, and what most likely helps |
 //! | `notes_beside(alloc, words, facts)` | beside an answer: what no run of a program reaches, which programs pass without looking at what the log writes, which marks promise what nothing made durable, how many writes never depart as a whole, and how many entries with FUA aren't torn |
 //!
 //! # What is proved
@@ -66,14 +66,20 @@
 //! The notes of a command:
 //!
 //! ```
-//! use notes::command_notes::{notes_behind, notes_beside};
+//! use notes::command_notes::{notes_after, notes_beside};
 //!
 //! // the words asked for a bound of 4, which was refused
-//! let after = notes_behind(alloc, &words, files, &refusal, &facts)?;
+//! let after = notes_after(alloc, &words, files, &refusal, &facts)?;
 //! // note: --bound is 0 to 3
 //! let beside = notes_beside(alloc, &words, &facts)?;
 //! // of another run, beside its answer
 //! ```
+//!
+//! # Choices
+//!
+//! - The note that `--guards` may accept a program stands where what is known at the refusal breaks no rule with
+//!   guards: that is so at 51 to 55, at 50 of a register that is set, and at 56 but for the length of `copy`. The
+//!   rules are asked at one slot, so it costs nothing.
 #![tactic(auto)]
 
 pub mod command_notes;

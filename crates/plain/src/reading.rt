@@ -30,7 +30,7 @@ pub(crate) fn bytes_of(size: Size) -> u8
     }
 }
 
-/// Notes a sector.
+/// Notes a sector, as a function of its own.
 #[inline(never)]
 fn note_number<const ROOM: usize>(footprint: &mut Footprint<ROOM>, number: u32)
     ensures { footprint.new ≡ footprint_with footprint.old number }
@@ -38,7 +38,7 @@ fn note_number<const ROOM: usize>(footprint: &mut Footprint<ROOM>, number: u32)
     footprint.note(number);
 }
 
-/// The same. Where nothing more is kept it does nothing.
+/// Notes a sector, if the footprint still keeps any.
 #[inline(always)]
 #[tactic(auto, using(crate::proofs::Noted::none_with))]
 pub(crate) fn note_sector<const ROOM: usize>(footprint: &mut Footprint<ROOM>, number: u32)
@@ -52,7 +52,7 @@ pub(crate) fn note_sector<const ROOM: usize>(footprint: &mut Footprint<ROOM>, nu
 /// No access from an address below this one has a byte in a sector: it has at most eight.
 const FIRST_NEAR: u64 = 0x2_FFFF_FFF8;
 
-/// Notes at which sectors that many bytes from an address on lie.
+/// Notes at which sectors that many bytes from an address on lie, as a function of its own.
 #[inline(never)]
 fn note_bytes<D: Device, const ROOM: usize>(
     footprint: &mut Footprint<ROOM>,
@@ -66,7 +66,7 @@ fn note_bytes<D: Device, const ROOM: usize>(
     footprint.look_from(device, address, count);
 }
 
-/// The same. Where nothing more is kept it does nothing.
+/// Notes at which sectors that many bytes from an address on lie, if the footprint still keeps any.
 #[inline(always)]
 #[tactic(auto, using(helpers::proofs::CallerLemmas::nothing_noted))]
 fn note_kept<D: Device, const ROOM: usize>(
@@ -83,7 +83,7 @@ fn note_kept<D: Device, const ROOM: usize>(
     }
 }
 
-/// The same. An access to the context or a stack is one test.
+/// Notes at which sectors an access of at most eight bytes lies. One to the context or a stack is one test.
 #[inline(always)]
 #[tactic(auto, using(crate::proofs::Noted::none_near))]
 pub(crate) fn note_from<D: Device, const ROOM: usize>(
@@ -127,7 +127,7 @@ impl<const COUNTS: usize, const CALLED: usize> Machine<COUNTS, CALLED> {
         }
     }
 
-    /// Notes at which sectors the helper of a number looks.
+    /// Notes at which sectors the helper of a number looks, as a function of its own.
     #[inline(never)]
     fn note_helper<D: Device, const ROOM: usize>(
         &self,
@@ -142,7 +142,7 @@ impl<const COUNTS: usize, const CALLED: usize> Machine<COUNTS, CALLED> {
         }
     }
 
-    /// The same. Where nothing more is kept it does nothing.
+    /// Notes at which sectors the helper of a number looks, if the footprint still keeps any.
     #[inline(always)]
     #[tactic(auto, using(helpers::proofs::CallerLemmas::nothing_noted))]
     pub(crate) fn note_numbered<D: Device, const ROOM: usize>(

@@ -10,7 +10,7 @@ use Rattle.ranges.specs.declared.state.State.{State}
 use Rattle.ranges.specs.SeenStates.{group_of}
 use Rattle.ranges.specs.Reading.{value}
 use Rattle.ranges.specs.After.{is_touched, after_answer, group_forgotten}
-use Rattle.ranges.specs.Changing.{group_behind, groups_behind}
+use Rattle.ranges.specs.Changing.{group_beyond, groups_after}
 
 place_mapped : {A B : Type 0} (f : ℕ → A → B) (g : ℕ) (xs : List A) (k : ℕ) (d : A) (e : B) → k < length xs
     → get_or (map_places f g xs) k e ≡ f (g + k) (get_or xs k d)
@@ -22,12 +22,12 @@ place_mapped f g (x ∷ xs) (suc k) d e small =
     rw next (place_mapped f (g + 1) xs k d e (omega arith))
 
 pub group_written : (are_set : Bool) (at n : ℕ) (groups : List GroupKind) (k : ℕ) → k < length groups
-    → group_behind are_set at n k (slice_index_or groups k (Marked [])) ≡ slice_index_or (groups_behind are_set at n groups) k (Marked [])
-unfolding groups_behind
+    → group_beyond are_set at n k (slice_index_or groups k (Marked [])) ≡ slice_index_or (groups_after are_set at n groups) k (Marked [])
+unfolding groups_after
 group_written are_set at n groups k small =
     let z : 0 + k ≡ k = omega arith in
-    let e : get_or (map_places (group_behind are_set at n) 0 groups) k (Marked []) ≡ group_behind are_set at n k (get_or groups k (Marked [])) =
-    rw z at (place_mapped (group_behind are_set at n) 0 groups k (Marked []) (Marked []) small) in
+    let e : get_or (map_places (group_beyond are_set at n) 0 groups) k (Marked []) ≡ group_beyond are_set at n k (get_or groups k (Marked [])) =
+    rw z at (place_mapped (group_beyond are_set at n) 0 groups k (Marked []) (Marked []) small) in
     sym e
 
 -- where all bytes are forgotten no group is known

@@ -14,12 +14,12 @@ use Rattle.ranges.specs.Seen.{kind_of}
 use Rattle.ranges.specs.SeenStates.{group_of}
 
 -- n bytes from a place on are written, or nothing is known of them any more
-abbrev pub group_behind : Bool → ℕ → ℕ → ℕ → GroupKind → GroupKind
-group_behind true = group_after
-group_behind false = group_forgotten
+abbrev pub group_beyond : Bool → ℕ → ℕ → ℕ → GroupKind → GroupKind
+group_beyond true = group_after
+group_beyond false = group_forgotten
 
-unfoldable pub groups_behind : Bool → ℕ → ℕ → List GroupKind → List GroupKind
-groups_behind are_set at n groups = map_places (group_behind are_set at n) 0 groups
+unfoldable pub groups_after : Bool → ℕ → ℕ → List GroupKind → List GroupKind
+groups_after are_set at n groups = map_places (group_beyond are_set at n) 0 groups
 
 abbrev pub after_change : Abstract → Change → Abstract
 after_change s change.Stays = s
@@ -27,8 +27,8 @@ after_change s (change.Register r v) = with_value s r (kind_of v)
 after_change s (change.Registers r v q w) = with_value (with_value s r (kind_of v)) q (kind_of w)
 after_change s (change.Answer v) = after_answer s (kind_of v)
 after_change s (change.Group n g) = with_groups s (slice_set s.groups n.number (group_of g))
-after_change s (change.Bytes b) = with_groups s (groups_behind b.are_set b.at b.n s.groups)
-after_change s (change.Copied b v) = after_answer (with_groups s (groups_behind b.are_set b.at b.n s.groups)) (kind_of v)
+after_change s (change.Bytes b) = with_groups s (groups_after b.are_set b.at b.n s.groups)
+after_change s (change.Copied b v) = after_answer (with_groups s (groups_after b.are_set b.at b.n s.groups)) (kind_of v)
 
 -- the state that an effect leaves, if it leaves one
 abbrev pub left_of : Abstract → Effect → Option Abstract

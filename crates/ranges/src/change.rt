@@ -5,7 +5,7 @@ ghost use Rattle.std.specs.Option.{option_map, option_map_or};
 ghost use Rattle.machine.specs.Memory.{byte_count};
 ghost use Rattle.helpers.specs.declared.helper.Helper.TheVariants as helper;
 ghost use Rattle.ranges.specs.After.{after_with, computed, after_answer, call_with, load_after, store_after, loosely_loaded, loosely_stored, groups_forgotten};
-ghost use Rattle.ranges.specs.Changing.{after_change, groups_behind, left_of};
+ghost use Rattle.ranges.specs.Changing.{after_change, groups_after, left_of};
 ghost use Rattle.ranges.specs.Groups.{Marked};
 ghost use Rattle.ranges.specs.Kinds.{Num, Unset};
 ghost use Rattle.ranges.specs.Passing.{edge_with};
@@ -24,7 +24,7 @@ use crate::spill::Spill;
 use crate::state::State;
 use crate::stretch::{GroupPlace, Stretch};
 use crate::value::Value;
-use crate::writes::group_behind;
+use crate::writes::group_beyond;
 use arithmetic::byte_count;
 use bpf_isa::instr::{Instr, Size, Source};
 use bpf_isa::register::Register;
@@ -63,7 +63,7 @@ pub enum Effect {
 
 /// What stands at a place where another place, or the same, was changed.
 #[inline(always)]
-fn value_behind(n: usize, value: Value, k: usize, other: Value) -> Value
+fn value_after(n: usize, value: Value, k: usize, other: Value) -> Value
     ensures { kind_of result ≡ (if n == k then kind_of value else kind_of other) }
 {
     if n == k { value } else { other }
@@ -71,7 +71,7 @@ fn value_behind(n: usize, value: Value, k: usize, other: Value) -> Value
 
 /// What register k holds after a call.
 #[inline(always)]
-fn answer_behind(answer: Value, k: usize, other: Value) -> Value
+fn answer_after(answer: Value, k: usize, other: Value) -> Value
     ensures { kind_of result ≡ (if k == 0 then kind_of answer else if nat_le k 5 then Unset else kind_of other) }
 {
     if k == 0 {
@@ -83,7 +83,7 @@ fn answer_behind(answer: Value, k: usize, other: Value) -> Value
     }
 }
 
-/// The same of a group.
+/// What stands in group k where group n was changed.
 #[inline(always)]
 fn group_replaced(n: usize, group: Group, k: usize, other: Group) -> Group
     ensures { group_of result ≡ (if n == k then group_of group else group_of other) }
@@ -94,9 +94,9 @@ fn group_replaced(n: usize, group: Group, k: usize, other: Group) -> Group
 /// Group k of a state's stack after a change of bytes.
 fn group_changed(bytes: Stretch, state: &State, k: usize) -> Group
     requires { k < 64 }
-    ensures { group_of result ≡ slice_index_or (groups_behind bytes.are_set bytes.at bytes.n (state_of state.now).groups) k (Marked []) }
+    ensures { group_of result ≡ slice_index_or (groups_after bytes.are_set bytes.at bytes.n (state_of state.now).groups) k (Marked []) }
 {
-    group_behind(bytes, k, state.group(k))
+    group_beyond(bytes, k, state.group(k))
 }
 
 impl Change {
@@ -114,15 +114,15 @@ impl Change {
         ensures { kind_of result ≡ value (after_change (state_of state.now) self.now) k }
     {
         match self {
-            Change::Register(r, value) => value_behind(r.number(), *value, k, state.at(k)),
-            Change::Registers(r, value, q, other) => value_behind(
+            Change::Register(r, value) => value_after(r.number(), *value, k, state.at(k)),
+            Change::Registers(r, value, q, other) => value_after(
                 q.number(),
                 *other,
                 k,
-                value_behind(r.number(), *value, k, state.at(k)),
+                value_after(r.number(), *value, k, state.at(k)),
             ),
             Change::Answer(value) | Change::Copied(_, value) => {
-                answer_behind(*value, k, state.at(k))
+                answer_after(*value, k, state.at(k))
             }
             Change::Stays | Change::Group(_, _) | Change::Bytes(_) => state.at(k),
         }
@@ -160,9 +160,9 @@ fn put(loose: bool, state: &State, register: Register, value: Option<Value>) -> 
 }
 
 /// The bytes of which nothing is known after a store whose rules are broken: those of its place in the stack, or all.
-#[tactic(auto, using(crate::proofs::Writing::all_forgotten), unfolding(crate::specs::After::groups_forgotten, crate::specs::Changing::groups_behind))]
+#[tactic(auto, using(crate::proofs::Writing::all_forgotten), unfolding(crate::specs::After::groups_forgotten, crate::specs::Changing::groups_after))]
 fn bytes_forgotten(state: &State, base: Value, offset: i16, n: u64) -> Stretch
-    ensures { groups_behind result.are_set result.at result.n (state_of state.now).groups ≡ groups_forgotten (state_of state.now).groups (place_of (kind_of base) offset n) n }
+    ensures { groups_after result.are_set result.at result.n (state_of state.now).groups ≡ groups_forgotten (state_of state.now).groups (place_of (kind_of base) offset n) n }
 {
     let _state = state;
     match place_of(base, offset, n) {
@@ -180,7 +180,7 @@ fn bytes_forgotten(state: &State, base: Value, offset: i16, n: u64) -> Stretch
 }
 
 /// A store. Outside of the stack nothing changes where no rule is broken.
-#[tactic(auto, unfolding(crate::specs::After::stored_groups, crate::specs::Changing::groups_behind, crate::specs::After::groups_after_write))]
+#[tactic(auto, unfolding(crate::specs::After::stored_groups, crate::specs::Changing::groups_after, crate::specs::After::groups_after_write))]
 fn store(
     loose: bool,
     state: &State,
@@ -241,7 +241,7 @@ fn load(
 }
 
 /// A call of helper 2, which writes bytes of the stack.
-#[tactic(auto, unfolding(crate::specs::After::call_with, crate::specs::Changing::groups_behind, crate::specs::After::groups_after_write))]
+#[tactic(auto, unfolding(crate::specs::After::call_with, crate::specs::Changing::groups_after, crate::specs::After::groups_after_write))]
 fn copy(loose: bool, state: &State) -> Change
     ensures { after_change (state_of state.now) result ≡ call_with loose (state_of state.now) helper.Copy }
 {
@@ -279,7 +279,7 @@ fn call(loose: bool, state: &State, helper: Option<Helper>) -> Change
 /// What comes of a state after an instruction that is no conditional jump. `loose` says that a rule is broken there that guards
 /// lift; where none is, it is what `after` says.
 #[tactic(auto, unfolding(crate::specs::After::after_with))]
-pub fn effect_behind(loose: bool, instr: &Instr, state: &State, sectors: u32) -> Effect
+pub fn effect_after(loose: bool, instr: &Instr, state: &State, sectors: u32) -> Effect
     ensures { left_of (state_of state.now) result ≡ after_with loose sectors (state_of state.now) instr.now }
 {
     match instr {

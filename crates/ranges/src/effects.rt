@@ -14,7 +14,7 @@ ghost use Rattle.ranges.specs.Seen.{kind_of};
 ghost use Rattle.ranges.specs.SeenStates.{group_of, state_of};
 
 use crate::bytes::is_group;
-use crate::change::effect_behind;
+use crate::change::effect_after;
 use crate::group::Group;
 use crate::moving::lead;
 use crate::place::Place;
@@ -160,7 +160,7 @@ pub fn after(instr: &Instr, state: &State, sectors: u32) -> Option<State>
     ensures { option_map state_of result ≡ after_of sectors (state_of state.now) instr.now }
 {
     let mut next = *state;
-    if lead(&effect_behind(false, instr, state, sectors), &mut next) {
+    if lead(&effect_after(false, instr, state, sectors), &mut next) {
         Some(next)
     } else {
         None

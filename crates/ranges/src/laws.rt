@@ -13,7 +13,7 @@ pub fn round_contains()
     ensures { RoundContains }
 {}
 
-/// The same of states: the join of two is the least that covers both.
+/// The join of two states is the least that covers both.
 pub fn states_join()
     ensures { StatesJoin }
 {}

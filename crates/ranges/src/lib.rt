@@ -16,7 +16,7 @@
 //! | `after(&instr, &state, sectors)` | the state after an instruction that is no conditional jump, None where no machine gets there |
 //! | `branch(&instr, taken, &state)` | the state on an edge of a conditional jump, None where no machine goes that way |
 //! | `entry(&state)` | the state at the entry of a local function that is called there |
-//! | `effect_behind(loose, &instr, &state, sectors)`, `effect_along(loose, &instr, taken, &state)` | what comes of the state there, where a rule that guards lift is broken (`loose`), or else as `after` and `branch` say |
+//! | `effect_after(loose, &instr, &state, sectors)`, `effect_along(loose, &instr, taken, &state)` | what comes of the state there, where a rule that guards lift is broken (`loose`), or else as `after` and `branch` say |
 //! | `lead(&effect, &mut state)`, `s.take_in(&t)`, `s.widen()` | makes it of the state, joins, rounds, in place |
 //! | `broken_rule(guards, &instr, &state)` | the first rule with guards or without that is broken, if one is |
 //! | `is_guarded(&instr, &state)` | whether the slot is guarded: the place of its access isn't proved |
@@ -59,7 +59,7 @@
 //! - `after_is_monotone`, `edges_are_monotone`, `passes_are_monotone`: there it is left with a smaller
 //!   state after an instruction and on the edges of a conditional jump, or with none, and passes smaller
 //!   states to the same slots.
-//! - `broken_rule` answers the first failing one of the list `rules_with`, what `effect_behind` and `effect_along` leave is
+//! - `broken_rule` answers the first failing one of the list `rules_with`, what `effect_after` and `effect_along` leave is
 //!   exactly `after_with` and `edge_with`, and `is_guarded` that of `specs/Guards.antt`.
 //! - `guarded_rules_are_weaker`: where no rule without guards is broken, none with guards is.
 //! - `guarded_rules_are_monotone`, `guarded_passes_are_monotone`, `guarded_passes_fit`: as those of acceptance without guards.
@@ -100,6 +100,39 @@
 //!     let fault = check(&load, &state).err();     // OutsideRegion, number 52: r0 isn't tested against 0
 //! }
 //! ```
+//!
+//! # Choices
+//!
+//! - Spilled values are rounded at heads as those in registers; where the join of two is unset, their bytes are
+//!   unset: the definition of a good table says so, and one rule serves both.
+//!
+//! # How it is proved
+//!
+//! - **Bounds of a `Copy` type inside an enum stand in a ghost field** (`pub ghost ordered: { low ≤ high }`). A
+//!   struct with a ghost field has its own file where it stands in a cycle of types (`ranges/src/spill.rt`), since a
+//!   ghost field takes all `ghost use` of its file.
+//! - **Written bytes are a `Change`** with their place (`Stretch`), and not with the groups that they make. What a
+//!   group is after it is asked group by group (`group_written`), and `ranges/proofs/Writing.antt` leads to the list
+//!   of the definition.
+//! - What answers a changed copy stands on what changes in place: `let mut next = *state; if lead(&effect, &mut next)
+//!   { Some(next) } else { None }` needs no file, and the rules stand once (`after`, `branch`, `State::join` of
+//!   `ranges`).
+//! - `contains` by the join ('the join of both is the first') is what a reader believes and what the code tests. The
+//!   order place by place (`Under`) is what proofs use. One law says that they are the same (`join_is_least`,
+//!   `states_join`).
+//! - **A result that may be empty is an `Option` of a state** (`after_of`), and `passed_state` passes it on. Of a
+//!   machine's step it is enough to prove `IsSomeAnd result (λ k. Describes .. k x)`. One lemma by the two cases of
+//!   the result (`result_goes` in `soundness/proofs/Computing.antt`) leads to the step, and no form of instruction
+//!   looks at what reducing does.
+//! - A group that keeps a number is under each group of marks, and one that keeps a pointer only under unset ones:
+//!   `IsTrue (is_number k) ⊎ (ys ≡ unset_marks)` (`GroupUnder` in `ranges`). The cases of k stand in four small
+//!   lemmas (`marks_met`, `value_met`, `met_under`, `met_same`).
+//! - What `search` finds by the variants of an enum may be lost when the enum gets one more (`Change::value_at`).
+//!   Cure: a lemma over the list by its first places (`answered_at` in `ranges/proofs/Writing.antt`).
+//! - **Monotone rules**: one lemma for a list of two, three, four or five checks (`four_pass` in
+//!   `ranges/proofs/SmallerRules.antt`), with an implication for each test, in which the tests before it may be used.
+//!   So the place of an access is the same for both states once it lies inside. 'Where there is a second there is a
+//!   first, under it' (`Met`) is the word for partial results that must stay, and `Related` for those that may go.
 #![tactic(auto)]
 
 mod byte_marks;
@@ -123,7 +156,7 @@ mod value;
 mod writes;
 
 pub use byte_marks::ByteMarks;
-pub use change::{Change, Effect, effect_along, effect_behind};
+pub use change::{Change, Effect, effect_after, effect_along};
 pub use edges::{branch, entry};
 pub use effects::after;
 pub use group::Group;

@@ -2,7 +2,7 @@
 
 ghost use Rattle.std.specs.Prelude.{◌≡◌, ◌<◌, ◌≤◌, ◌+◌, map};
 ghost use Rattle.ranges.specs.After.{mark_after, group_after, group_forgotten};
-ghost use Rattle.ranges.specs.Changing.{group_behind, groups_behind};
+ghost use Rattle.ranges.specs.Changing.{group_beyond, groups_after};
 ghost use Rattle.ranges.specs.Reading.{with_groups};
 ghost use Rattle.ranges.specs.SeenStates.{group_of, state_of};
 
@@ -64,9 +64,9 @@ fn group_forgotten(at: u64, n: u64, g: usize, group: Group) -> Group
 }
 
 /// Group g after a change of bytes.
-pub(crate) fn group_behind(bytes: Stretch, g: usize, group: Group) -> Group
+pub(crate) fn group_beyond(bytes: Stretch, g: usize, group: Group) -> Group
     requires { g < 64 }
-    ensures { group_of result ≡ group_behind bytes.are_set bytes.at bytes.n g (group_of group) }
+    ensures { group_of result ≡ group_beyond bytes.are_set bytes.at bytes.n g (group_of group) }
 {
     if bytes.are_set {
         group_after(bytes.at, bytes.n, g, group)
@@ -76,12 +76,12 @@ pub(crate) fn group_behind(bytes: Stretch, g: usize, group: Group) -> Group
 }
 
 /// The groups after a change of bytes.
-fn groups_behind(x: &[Group; 64], bytes: Stretch) -> [Group; 64]
-    ensures { map group_of result ≡ groups_behind bytes.are_set bytes.at bytes.n (map group_of x.now) }
+fn groups_after(x: &[Group; 64], bytes: Stretch) -> [Group; 64]
+    ensures { map group_of result ≡ groups_after bytes.are_set bytes.at bytes.n (map group_of x.now) }
 {
     let mut groups = [UNSET; 64];
     for g in 0..64 {
-        groups[g] = group_behind(bytes, g, x[g]);
+        groups[g] = group_beyond(bytes, g, x[g]);
     }
     groups
 }
@@ -90,8 +90,8 @@ fn groups_behind(x: &[Group; 64], bytes: Stretch) -> [Group; 64]
 // The new groups make its frame large.
 #[inline(never)]
 pub(crate) fn write(state: &mut State, bytes: Stretch)
-    ensures { state_of state.new ≡ with_groups (state_of state.old) (groups_behind bytes.are_set bytes.at bytes.n (state_of state.old).groups) }
+    ensures { state_of state.new ≡ with_groups (state_of state.old) (groups_after bytes.are_set bytes.at bytes.n (state_of state.old).groups) }
 {
-    let groups = groups_behind(&state.groups, bytes);
+    let groups = groups_after(&state.groups, bytes);
     state.set_groups(groups);
 }

@@ -118,14 +118,14 @@ entry_passes : (k sectors : ℕ) (bytes : List ℕ) (s units room : ℕ) (e : En
     → first_failing (raw_entry_checks k bytes sectors s units room) ≡ None
 unfolding raw_entry_checks
 entry_passes k sectors bytes s units room e times stands is recorded few fitting need =
-    let behind : data_of e ≡ data_sectors bytes s = same_data k s bytes e stands in
+    let beyond : data_of e ≡ data_sectors bytes s = same_data k s bytes e stands in
     let first : nat_le (s + bytes_in k 1) 201326592 ≡ true = grind (arith, nat_tests, need) in
     let here : nat_le (s + bytes_in k 1) (length bytes) ≡ true = grind (arith, nat_tests, stands.whole) in
     let known : nat_lt (word_at bytes s) 32 ≡ true = grind (arith, nat_tests, stands.flags, flag_word-lt e.flags) in
     let small : nat_le (units + k * count_at bytes s) 262144 ≡ true = rw (← stands.count) (grind (arith, nat_tests, few)) in
-    let fits : nat_le (512 * (1 + k * data_sectors bytes s)) room ≡ true = rw (← behind) (grind (arith, nat_tests, fitting)) in
-    let within : nat_le (s + bytes_in k (1 + data_sectors bytes s)) 201326592 ≡ true = rw (← behind) (grind (arith, nat_tests, need)) in
-    let whole : nat_le (s + bytes_in k (1 + data_sectors bytes s)) (length bytes) ≡ true = rw (← behind) (grind (arith, nat_tests, stands.whole)) in
+    let fits : nat_le (512 * (1 + k * data_sectors bytes s)) room ≡ true = rw (← beyond) (grind (arith, nat_tests, fitting)) in
+    let within : nat_le (s + bytes_in k (1 + data_sectors bytes s)) 201326592 ≡ true = rw (← beyond) (grind (arith, nat_tests, need)) in
+    let whole : nat_le (s + bytes_in k (1 + data_sectors bytes s)) (length bytes) ≡ true = rw (← beyond) (grind (arith, nat_tests, stands.whole)) in
     rw (first, here, known, length_passes k sectors bytes s e stands is, mark_passes k sectors bytes s e times stands is recorded, device_passes k sectors bytes s e times stands is, small, fits, within, whole) refl
 
 -- places by entries and by bytes
@@ -135,8 +135,8 @@ header_place k bytes es (suc i) stand h =
     let before : header k bytes i ≡ bytes_in k (place es i) = header_place k bytes es i stand (omega (arith, h)) in
     elim (slice_get_cases es i).1 [
       | inl a ↦
-          let behind : data_of a.0 ≡ data_sectors bytes (bytes_in k (place es i)) = same_data k (bytes_in k (place es i)) bytes a.0 (stand i a.0 a.2) in
-          rw (before, a.2, ← behind) (omega arith)
+          let beyond : data_of a.0 ≡ data_sectors bytes (bytes_in k (place es i)) = same_data k (bytes_in k (place es i)) bytes a.0 (stand i a.0 a.2) in
+          rw (before, a.2, ← beyond) (omega arith)
       | inr past ↦ absurd (omega (arith, past.0, h))
     ]
 
@@ -186,10 +186,10 @@ written_place k bytes es (suc i) stand h =
     let placed : header k bytes i ≡ bytes_in k (place es i) = header_place k bytes es i stand (omega (arith, h)) in
     elim (slice_get_cases es i).1 [
       | inl a ↦
-          let behind : data_of a.0 ≡ data_sectors bytes (bytes_in k (place es i)) = same_data k (bytes_in k (place es i)) bytes a.0 (stand i a.0 a.2) in
+          let beyond : data_of a.0 ≡ data_sectors bytes (bytes_in k (place es i)) = same_data k (bytes_in k (place es i)) bytes a.0 (stand i a.0 a.2) in
           let there : slice_get (map (entry_of_raw k) es) i ≡ Some (entry_of_raw k a.0) = slice_get-map (entry_of_raw k) es i ∙ rw a.2 refl in
           let kept : data_of (entry_of_raw k a.0) ≡ k * data_of a.0 = data_kept k a.0 in
-          rw (before, placed, there, ← behind, kept) (omega arith)
+          rw (before, placed, there, ← beyond, kept) (omega arith)
       | inr past ↦ absurd (omega (arith, past.0, h))
     ]
 

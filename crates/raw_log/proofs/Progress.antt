@@ -106,7 +106,7 @@ go_on bytes text k sectors limits n s u e told so w w_is passes stands fits reco
     let more : so.made ++ e ∷ [] ≡ map (entry_of_raw k) (so.raw ++ r ∷ []) =
     rw (map-append (entry_of_raw k) so.raw (r ∷ []), ← so.divided, back) refl in
     let count : e.count ≡ h.count = stands.count ∙ sym has.count in
-    let behind : data_of r ≡ data_sectors bytes s = same_data k s bytes r here in
+    let beyond : data_of r ≡ data_sectors bytes s = same_data k s bytes r here in
     let content : data_of e ≡ k * data_of r = data_divided k s bytes e stands in
     let told_d : data_bytes h ≡ 512 * data_of e = same_bytes k s bytes e h stands has in
     let placed_raw : place (so.raw ++ r ∷ []) (suc (length so.raw)) ≡ place so.raw (length so.raw) + 1 + data_of r = place-last so.raw r in
@@ -119,9 +119,9 @@ go_on bytes text k sectors limits n s u e told so w w_is passes stands fits reco
       count = omega (arith, length-append so.raw (r ∷ []), so.count);
       counted = omega (arith, length-append so.made (e ∷ []), so.counted);
       placed = rw (add-one n, ← so.count, placed_raw, so.count) (omega (arith, so.placed, content, told_d, d_is));
-      header = rw (add-one n, so.header, ← behind) (omega (arith, content, told_d, d_is));
+      header = rw (add-one n, so.header, ← beyond) (omega (arith, content, told_d, d_is));
       before = rw (add-one n, so.header, so.before, has.count) refl;
-      written = rw (add-one n, so.header, ← behind) (omega (arith, so.written, both, long, content));
+      written = rw (add-one n, so.header, ← beyond) (omega (arith, so.written, both, long, content));
       sum = sum_by_push (λ (x : Entry). x.count) so.made e ∙ (rw (so.sum, count) refl);
       size = rw (add-one n, ← so.counted, placed_made, so.counted) (omega (arith, so.size, both, long));
       canonical = ap (λ (xs : List ℕ). xs ++ entry_sectors e) so.canonical ∙ flat_map_more entry_sectors (super_sector (number_at 8 16 bytes)) so.made e;

@@ -64,7 +64,7 @@ fn entry_of(
 }
 
 /// How many bytes more a log may have that has `written` bytes.
-fn room_behind(limits: Limits, written: usize) -> usize
+fn room_after(limits: Limits, written: usize) -> usize
     requires few { written ≤ byte_limit limits }
     ensures value { result ≡ byte_limit limits - written }
     ensures few { result ≤ most_log_bytes }
@@ -95,7 +95,7 @@ pub fn import(alloc: Global, raw: &[u8], sectors: u32, limits: Limits) -> Result
     let mut start = SECTOR * times as usize;
     let mut units = 0;
     for number in 0..count {
-        let room = room_behind(limits, out.len());
+        let room = room_after(limits, out.len());
         let header = match checked_header(raw, times, start, sectors, units, room) {
             Ok(header) => header,
             Err(code) => return Err(LogFault { code, at: number }),

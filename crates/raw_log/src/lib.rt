@@ -50,6 +50,11 @@
 //! let fault = import(alloc, raw, 8, Limits::Usual).err();
 //! // the entry lies after a device of 8 sectors: Some(LogFault { code: LogCause::Device, at: 0 })
 //! ```
+//!
+//! # Choices
+//!
+//! - `import` reads 192 MiB of a raw log, with `--large` and without: the option says what may come out. A raw log of
+//!   headers alone comes out an eighth as long.
 #![tactic(auto)]
 
 mod header;

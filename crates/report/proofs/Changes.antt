@@ -2,42 +2,42 @@
 use Rattle.std.proofs.Common.{ℕ, ◌≡◌, ◌+◌, ◌-◌, ◌<◌, ◌≤◌, ◌^◌, Bool, true, false, ◌==◌, if◌then◌else◌, inl, inr, List, [], ◌∷◌, ◌++◌, length, Option, None, Some, refl, sym, ◌∙◌, arith, length-append}
 use Rattle.std.proofs.lemmas.Bool.Decides.{eqb_tells}
 use Rattle.report.specs.Line.{FailingLine}
-use Rattle.report.specs.Images.{first_image, last_behind, first_of, is_same, changes_behind}
+use Rattle.report.specs.Images.{first_image, last_after, first_of, is_same, changes_after}
 use Rattle.report.specs.Kept.{AreOf, if_any}
 
 pub first_image-append : (ls more : List FailingLine) → first_image (ls ++ more) ≡ first_of (first_image ls) (first_image more)
 first_image-append [] more = refl
 first_image-append (l ∷ ls) more = refl
 
-last_behind-append : (last : Option ℕ) (ls more : List FailingLine) → last_behind last (ls ++ more) ≡ last_behind (last_behind last ls) more
-last_behind-append last [] more = refl
-last_behind-append last (l ∷ ls) more = last_behind-append (Some l.image) ls more
+last_after-append : (last : Option ℕ) (ls more : List FailingLine) → last_after last (ls ++ more) ≡ last_after (last_after last ls) more
+last_after-append last [] more = refl
+last_after-append last (l ∷ ls) more = last_after-append (Some l.image) ls more
 
-some_last : (last : Option ℕ) (v : ℕ) (ls : List FailingLine) → last_behind (Some v) ls ≡ first_of (last_behind (Some v) ls) last
+some_last : (last : Option ℕ) (v : ℕ) (ls : List FailingLine) → last_after (Some v) ls ≡ first_of (last_after (Some v) ls) last
 some_last last v [] = refl
 some_last last v (l ∷ ls) = some_last last l.image ls
 
-last_of_both : (last : Option ℕ) (more : List FailingLine) → last_behind last more ≡ first_of (last_behind None more) last
+last_of_both : (last : Option ℕ) (more : List FailingLine) → last_after last more ≡ first_of (last_after None more) last
 last_of_both last [] = refl
 last_of_both last (l ∷ ls) = some_last last l.image ls
 
 changes-append : (last : Option ℕ) (ls more : List FailingLine)
-    → changes_behind last (ls ++ more) ≡ changes_behind last ls + changes_behind (last_behind last ls) more
+    → changes_after last (ls ++ more) ≡ changes_after last ls + changes_after (last_after last ls) more
 changes-append last [] more = omega arith
 changes-append last (l ∷ ls) more = rw (changes-append (Some l.image) ls more) (omega arith)
 
 -- after a line of its first image a list has one change less
-changes_behind_none : (last : Option ℕ) (ls : List FailingLine)
-    → changes_behind last ls + (if is_same last (first_image ls) then 1 else 0) ≡ changes_behind None ls
-changes_behind_none None [] = refl
-changes_behind_none (Some v) [] = refl
-changes_behind_none None (l ∷ ls) = omega arith
-changes_behind_none (Some v) (l ∷ ls) = elim (eqb_tells v l.image) [
+changes_after_none : (last : Option ℕ) (ls : List FailingLine)
+    → changes_after last ls + (if is_same last (first_image ls) then 1 else 0) ≡ changes_after None ls
+changes_after_none None [] = refl
+changes_after_none (Some v) [] = refl
+changes_after_none None (l ∷ ls) = omega arith
+changes_after_none (Some v) (l ∷ ls) = elim (eqb_tells v l.image) [
   | inl e ↦ rw e.0 (omega arith)
   | inr e ↦ rw e.0 (omega arith)
 ]
 
-pub few_changes : (last : Option ℕ) (ls : List FailingLine) → changes_behind last ls ≤ length ls
+pub few_changes : (last : Option ℕ) (ls : List FailingLine) → changes_after last ls ≤ length ls
 few_changes last [] = omega arith
 few_changes None (l ∷ ls) = omega (arith, few_changes (Some l.image) ls)
 few_changes (Some v) (l ∷ ls) = elim (eqb_tells v l.image) [
@@ -53,11 +53,11 @@ of_both : (ls more : List FailingLine) (first last others end : Option ℕ) (a c
     → AreOf (ls ++ more) (first_of first others) (first_of end last) (if is_same last others then a + c - 1 else a + c)
 of_both ls more first last others end a c h k = record {
   first_is = rw (h.first_is, k.first_is) (sym (first_image-append ls more));
-  last_is = rw (h.last_is, k.last_is) (sym (last_behind-append None ls more ∙ last_of_both (last_behind None ls) more));
+  last_is = rw (h.last_is, k.last_is) (sym (last_after-append None ls more ∙ last_of_both (last_after None ls) more));
   count_is =
-      let one = changes_behind_none (last_behind None ls) more in
+      let one = changes_after_none (last_after None ls) more in
       rw (h.last_is, h.count_is, k.first_is, k.count_is)
-      (count_of_both (is_same (last_behind None ls) (first_image more)) (changes_behind None ls) (changes_behind (last_behind None ls) more) (changes_behind None more) one
+      (count_of_both (is_same (last_after None ls) (first_image more)) (changes_after None ls) (changes_after (last_after None ls) more) (changes_after None more) one
       ∙ sym (changes-append None ls more));
 }
 

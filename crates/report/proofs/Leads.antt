@@ -3,37 +3,37 @@ use Rattle.std.proofs.Common.{ℕ, zero, suc, ◌≡◌, ◌+◌, ◌<◌, ◌==
 use Rattle.std.proofs.lemmas.Bool.{false≢true}
 use Rattle.std.proofs.lemmas.Bool.Decides.{eqb_tells}
 use Rattle.report.specs.Line.{FailingLine}
-use Rattle.report.specs.Images.{first_image, last_behind, is_same, changes_behind, leading_of, leading}
+use Rattle.report.specs.Images.{first_image, last_after, is_same, changes_after, leading_of, leading}
 use Rattle.report.specs.Kept.{AreOf, leads_on}
 
 -- lines of one image
 record AreAlike (v : ℕ) (ls : List FailingLine) : Type 0 where
   all : leading_of v ls ≡ ls
-  ends : last_behind (Some v) ls ≡ Some v
+  ends : last_after (Some v) ls ≡ Some v
   more : (ms : List FailingLine) → leading_of v (ls ++ ms) ≡ ls ++ leading_of v ms
 
-alike : (v : ℕ) (ls : List FailingLine) → changes_behind (Some v) ls ≡ 0 → AreAlike v ls
+alike : (v : ℕ) (ls : List FailingLine) → changes_after (Some v) ls ≡ 0 → AreAlike v ls
 alike v [] e = record { all = refl; ends = refl; more = λ ms. refl }
 alike v (l ∷ ls) e = elim (eqb_tells v l.image) [
   | inl same ↦
-      let none : 0 + changes_behind (Some l.image) ls ≡ 0 = rw same.0 at e in
-      let still : changes_behind (Some l.image) ls ≡ 0 = omega (arith, none) in
-      let rest = alike v ls (subst (λ (x : ℕ). changes_behind (Some x) ls ≡ 0) (sym same.1) still) in
+      let none : 0 + changes_after (Some l.image) ls ≡ 0 = rw same.0 at e in
+      let still : changes_after (Some l.image) ls ≡ 0 = omega (arith, none) in
+      let rest = alike v ls (subst (λ (x : ℕ). changes_after (Some x) ls ≡ 0) (sym same.1) still) in
       record {
         all = rw (same.0, rest.all) refl;
-        ends = subst (λ (x : ℕ). last_behind (Some x) ls ≡ Some v) same.1 rest.ends;
+        ends = subst (λ (x : ℕ). last_after (Some x) ls ≡ Some v) same.1 rest.ends;
         more = λ ms. rw (same.0, rest.more ms) refl;
       }
-  | inr other ↦ absurd (let some : 1 + changes_behind (Some l.image) ls ≡ 0 = rw other.0 at e in omega (arith, some))
+  | inr other ↦ absurd (let some : 1 + changes_after (Some l.image) ls ≡ 0 = rw other.0 at e in omega (arith, some))
 ]
 
-unlike : (v : ℕ) (ls ms : List FailingLine) → 0 < changes_behind (Some v) ls → leading_of v (ls ++ ms) ≡ leading_of v ls
+unlike : (v : ℕ) (ls ms : List FailingLine) → 0 < changes_after (Some v) ls → leading_of v (ls ++ ms) ≡ leading_of v ls
 unlike v [] ms some = absurd (omega (arith, some))
 unlike v (l ∷ ls) ms some = elim (eqb_tells v l.image) [
   | inl same ↦
-      let still : 0 < 0 + changes_behind (Some l.image) ls = rw same.0 at some in
-      let here : 0 < changes_behind (Some l.image) ls = omega (arith, still) in
-      rw (same.0, unlike v ls ms (subst (λ (x : ℕ). 0 < changes_behind (Some x) ls) (sym same.1) here)) refl
+      let still : 0 < 0 + changes_after (Some l.image) ls = rw same.0 at some in
+      let here : 0 < changes_after (Some l.image) ls = omega (arith, still) in
+      rw (same.0, unlike v ls ms (subst (λ (x : ℕ). 0 < changes_after (Some x) ls) (sym same.1) here)) refl
   | inr other ↦ rw other.0 refl
 ]
 
@@ -67,7 +67,7 @@ lead [] ms first last others count so here e = record { all = refl; more = refl 
 lead (l ∷ ls) ms first last others count so here e = elim (told count (is_same last others) e) [
   | inl none ↦ absurd (omega (arith, none, so.count_is))
   | inr one ↦
-      let c : changes_behind (Some l.image) ls ≡ 0 = omega (arith, one.0, so.count_is) in
+      let c : changes_after (Some l.image) ls ≡ 0 = omega (arith, one.0, so.count_is) in
       let row = alike l.image ls c in
       let same : is_same (Some l.image) (first_image ms) ≡ true = rw (← here, ← row.ends, ← so.last_is) one.1 in
       record {
@@ -76,8 +76,8 @@ lead (l ∷ ls) ms first last others count so here e = elim (told count (is_same
       }
 ]
 
-alone : (l : FailingLine) (ls ms : List FailingLine) (c : ℕ) → changes_behind (Some l.image) ls ≡ c
-    → (c ≡ 0 → is_same (last_behind (Some l.image) ls) (first_image ms) ≡ false)
+alone : (l : FailingLine) (ls ms : List FailingLine) (c : ℕ) → changes_after (Some l.image) ls ≡ c
+    → (c ≡ 0 → is_same (last_after (Some l.image) ls) (first_image ms) ≡ false)
     → leading (l ∷ ls ++ ms) ≡ leading (l ∷ ls)
 alone l ls ms zero e other =
     let row = alike l.image ls e in
@@ -91,5 +91,5 @@ pub stop : (ls ms : List FailingLine) (first last others : Option ℕ) (count : 
 stop [] ms first last others count so here e =
     absurd (let bad : true ≡ false = rw so.count_is at e in false≢true (sym bad))
 stop (l ∷ ls) ms first last others count so here e =
-    alone l ls ms (changes_behind (Some l.image) ls) refl
+    alone l ls ms (changes_after (Some l.image) ls) refl
     (λ none. rw (← here, ← so.last_is) (untold count (is_same last others) e (omega (arith, none, so.count_is))))

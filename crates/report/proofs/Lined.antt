@@ -12,12 +12,12 @@ use Rattle.report.specs.MarkReading.{IsCutAt, ReadsField, ReadsLine, ReadsLines}
 use Rattle.report.proofs.Back.{word_lacks, end_lacks, end_of, words_of}
 
 -- the first line of a text is read by its words
-pub line_read : (text image behind_image cut behind_cut program behind_program said more : List ℕ) (m n : ℕ)
-    → ReadsField text image behind_image → ReadsField behind_image cut behind_cut → ReadsField behind_cut program behind_program
-    → IsCutAt 10 behind_program said more
+pub line_read : (text image after_image cut after_cut program after_program said more : List ℕ) (m n : ℕ)
+    → ReadsField text image after_image → ReadsField after_image cut after_cut → ReadsField after_cut program after_program
+    → IsCutAt 10 after_program said more
     → ((k : ℕ) → k < 2 ^ 64 → image ≡ decimal k → m ≡ k) → ((k : ℕ) → k < 2 ^ 8 → program ≡ decimal k → n ≡ k)
     → ReadsLine text (record { image = m; program = n }) more
-line_read text image behind_image cut behind_cut program behind_program said more m n first second third last own number = record { read = reads }
+line_read text image after_image cut after_cut program after_program said more m n first second third last own number = record { read = reads }
   where
     reads : (l : FailingLine) (rest : List ℕ) → IsSmall l → text ≡ line_text l ++ rest → (record { image = m; program = n } ≡ mark_of l) × (more ≡ rest)
     reads l rest small e =

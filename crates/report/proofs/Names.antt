@@ -46,15 +46,15 @@ last_read way left text old found whole one = record { read = reads }
     reads n [] few is e = one.read n (first_is way n [] is) (e ∙ one_is way n)
     reads n (m ∷ ns) few is e = absurd (whole.none (name_text way n) (names_text way (m ∷ ns)) (name_lacks way n (first_is way n (m ∷ ns) is)) (e ∙ more_is way n m ns))
 
-one_is_whole : (way : By) (text first behind : List ℕ) → IsCutAt 44 text first behind → (n : Name) → IsName way n → text ≡ names_text way (n ∷ []) → ⊥
-one_is_whole way text first behind cut n is e = cut.some (rw (e ∙ one_is way n) (name_lacks way n is))
+one_is_whole : (way : By) (text first beyond : List ℕ) → IsCutAt 44 text first beyond → (n : Name) → IsName way n → text ≡ names_text way (n ∷ []) → ⊥
+one_is_whole way text first beyond cut n is e = cut.some (rw (e ∙ one_is way n) (name_lacks way n is))
 
-pub first_unread : (way : By) (left : ℕ) (text : List ℕ) (old : List Name) (first behind : List ℕ) → IsCutAt 44 text first behind
+pub first_unread : (way : By) (left : ℕ) (text : List ℕ) (old : List Name) (first beyond : List ℕ) → IsCutAt 44 text first beyond
     → ReadsName way first None → ReadsUpTo way left text old None
-first_unread way left text old first behind cut unread = record { read = reads }
+first_unread way left text old first beyond cut unread = record { read = reads }
   where
     reads : (n : Name) (ns : List Name) → length (n ∷ ns) ≤ left → All (IsName way) (n ∷ ns) → text ≡ names_text way (n ∷ ns) → None ≡ Some (old ++ n ∷ ns)
-    reads n [] few is e = absurd (one_is_whole way text first behind cut n (first_is way n [] is) e)
+    reads n [] few is e = absurd (one_is_whole way text first beyond cut n (first_is way n [] is) e)
     reads n (m ∷ ns) few is e =
         let parts = cut.parts (name_text way n) (names_text way (m ∷ ns)) (name_lacks way n (first_is way n (m ∷ ns) is)) (e ∙ more_is way n m ns) in
         absurd (let bad : None ≡ Some n = unread.read n (first_is way n (m ∷ ns) is) parts.0 in cc)
@@ -63,12 +63,12 @@ append_one : (old : List Name) (a n : Name) (ns : List Name) → a ≡ n → (ol
 append_one [] a n ns same = ap (λ (b : Name). b ∷ ns) same
 append_one (x ∷ old) a n ns same = ap (λ (rest : List Name). x ∷ rest) (append_one old a n ns same)
 
-pub first_read : (way : By) (left : ℕ) (text : List ℕ) (old : List Name) (found : Option (List Name)) (first behind : List ℕ) (a : Name) → IsCutAt 44 text first behind
-    → ReadsName way first (Some a) → ReadsUpTo way (left - 1) behind (old ++ a ∷ []) found → ReadsUpTo way left text old found
-first_read way left text old found first behind a cut own rest = record { read = reads }
+pub first_read : (way : By) (left : ℕ) (text : List ℕ) (old : List Name) (found : Option (List Name)) (first beyond : List ℕ) (a : Name) → IsCutAt 44 text first beyond
+    → ReadsName way first (Some a) → ReadsUpTo way (left - 1) beyond (old ++ a ∷ []) found → ReadsUpTo way left text old found
+first_read way left text old found first beyond a cut own rest = record { read = reads }
   where
     reads : (n : Name) (ns : List Name) → length (n ∷ ns) ≤ left → All (IsName way) (n ∷ ns) → text ≡ names_text way (n ∷ ns) → found ≡ Some (old ++ n ∷ ns)
-    reads n [] few is e = absurd (one_is_whole way text first behind cut n (first_is way n [] is) e)
+    reads n [] few is e = absurd (one_is_whole way text first beyond cut n (first_is way n [] is) e)
     reads n (m ∷ ns) few is e =
         let parts = cut.parts (name_text way n) (names_text way (m ∷ ns)) (name_lacks way n (first_is way n (m ∷ ns) is)) (e ∙ more_is way n m ns) in
         let given : Some a ≡ Some n = own.read n (first_is way n (m ∷ ns) is) parts.0 in

@@ -5,7 +5,7 @@ use Rattle.std.proofs.lemmas.Bool.Decides.{eqb_tells}
 use Rattle.std.specs.List.{list_any}
 use Rattle.std.specs.List.Sorted.{IsNonDecreasing}
 use Rattle.report.specs.Line.{FailingLine, first_lines}
-use Rattle.report.specs.Images.{images_of, distinct_count, failing_images, first_image, changes_behind, leading_of, leading}
+use Rattle.report.specs.Images.{images_of, distinct_count, failing_images, first_image, changes_after, leading_of, leading}
 
 abbrev AreFrom : ℕ → List FailingLine → Type 0
 AreFrom v [] = Unit {0}
@@ -64,32 +64,32 @@ first_are_leading (l ∷ ls) h =
     rw (eq-eqb l.image l.image refl) (ap (λ (xs : List FailingLine). l ∷ xs) (of_image l.image ls up.0 up.1))
 
 one_image : (l : FailingLine) (ls : List FailingLine)
-    → changes_behind (Some l.image) ls + (if list_any (λ (y : ℕ). y == l.image) (images_of ls) then 1 else 0) ≡ distinct_count (images_of ls)
-    → 1 + changes_behind (Some l.image) ls ≡ distinct_count (images_of ls) + (if list_any (λ (y : ℕ). y == l.image) (images_of ls) then 0 else 1)
+    → changes_after (Some l.image) ls + (if list_any (λ (y : ℕ). y == l.image) (images_of ls) then 1 else 0) ≡ distinct_count (images_of ls)
+    → 1 + changes_after (Some l.image) ls ≡ distinct_count (images_of ls) + (if list_any (λ (y : ℕ). y == l.image) (images_of ls) then 0 else 1)
 one_image l ls e =
-    let by_any : (b : Bool) → changes_behind (Some l.image) ls + (if b then 1 else 0) ≡ distinct_count (images_of ls)
-    → 1 + changes_behind (Some l.image) ls ≡ distinct_count (images_of ls) + (if b then 0 else 1) =
-    λ b. elim b as (λ v. changes_behind (Some l.image) ls + (if v then 1 else 0) ≡ distinct_count (images_of ls)
-    → 1 + changes_behind (Some l.image) ls ≡ distinct_count (images_of ls) + (if v then 0 else 1)) [ true ↦ λ k. omega (arith, k) | false ↦ λ k. omega (arith, k) ] in
+    let by_any : (b : Bool) → changes_after (Some l.image) ls + (if b then 1 else 0) ≡ distinct_count (images_of ls)
+    → 1 + changes_after (Some l.image) ls ≡ distinct_count (images_of ls) + (if b then 0 else 1) =
+    λ b. elim b as (λ v. changes_after (Some l.image) ls + (if v then 1 else 0) ≡ distinct_count (images_of ls)
+    → 1 + changes_after (Some l.image) ls ≡ distinct_count (images_of ls) + (if v then 0 else 1)) [ true ↦ λ k. omega (arith, k) | false ↦ λ k. omega (arith, k) ] in
     by_any (list_any (λ (y : ℕ). y == l.image) (images_of ls)) e
 
 in_front : (a b : ℕ) → 1 + a ≡ b → 0 + a + 1 ≡ b
 in_front a b e = omega (arith, e)
 
-behind : (a b : ℕ) → 1 + a ≡ b → 1 + a + 0 ≡ b
-behind a b e = omega (arith, e)
+beyond : (a b : ℕ) → 1 + a ≡ b → 1 + a + 0 ≡ b
+beyond a b e = omega (arith, e)
 
 counted : (v : ℕ) (ls : List FailingLine) → AreFrom v ls → Rise ls
-    → changes_behind (Some v) ls + (if list_any (λ (y : ℕ). y == v) (images_of ls) then 1 else 0) ≡ distinct_count (images_of ls)
+    → changes_after (Some v) ls + (if list_any (λ (y : ℕ). y == v) (images_of ls) then 1 else 0) ≡ distinct_count (images_of ls)
 counted v [] from up = refl
 counted v (l ∷ ls) from up = elim (eqb_tells v l.image) [
   | inl same ↦ rw (same.0, swapped v l.image true same.0) (in_front _ _ (one_image l ls (counted l.image ls up.0 up.1)))
   | inr other ↦
       rw (other.0, swapped v l.image false other.0, not_any v l.image ls (omega (arith, from.0, other.1)) up.0)
-      (behind _ _ (one_image l ls (counted l.image ls up.0 up.1)))
+      (beyond _ _ (one_image l ls (counted l.image ls up.0 up.1)))
 ]
 
-pub changes_are_images : (ls : List FailingLine) → IsNonDecreasing (images_of ls) → changes_behind None ls ≡ failing_images ls
+pub changes_are_images : (ls : List FailingLine) → IsNonDecreasing (images_of ls) → changes_after None ls ≡ failing_images ls
 changes_are_images [] h = refl
 changes_are_images (l ∷ ls) h =
     let up = rise (l ∷ ls) h in

@@ -21,9 +21,9 @@ first_image [] = None
 first_image (l ∷ ls) = Some l.image
 
 -- the image of the last line, after one of the image `last`
-abbrev pub last_behind : Option ℕ → List FailingLine → Option ℕ
-last_behind last [] = last
-last_behind last (l ∷ ls) = last_behind (Some l.image) ls
+abbrev pub last_after : Option ℕ → List FailingLine → Option ℕ
+last_after last [] = last
+last_after last (l ∷ ls) = last_after (Some l.image) ls
 
 -- the first of two images, each of which there may not be
 abbrev pub first_of : Option ℕ → Option ℕ → Option ℕ
@@ -37,9 +37,9 @@ is_same (Some image) None = false
 is_same (Some image) (Some other) = image == other
 
 -- how many lines are of another image than the line before, after one of the image `last`
-abbrev pub changes_behind : Option ℕ → List FailingLine → ℕ
-changes_behind last [] = 0
-changes_behind last (l ∷ ls) = (if is_same last (Some l.image) then 0 else 1) + changes_behind (Some l.image) ls
+abbrev pub changes_after : Option ℕ → List FailingLine → ℕ
+changes_after last [] = 0
+changes_after last (l ∷ ls) = (if is_same last (Some l.image) then 0 else 1) + changes_after (Some l.image) ls
 
 -- the lines up to the first of another image
 abbrev pub leading_of : ℕ → List FailingLine → List FailingLine

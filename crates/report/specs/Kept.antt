@@ -2,7 +2,7 @@
 use Rattle.std.specs.Prelude.{ℕ, ◌≡◌, ◌≤◌, ◌<◌, ◌^◌, ◌==◌, ◌&&◌, ◌||◌, Bool, if◌then◌else◌, List, [], ◌∷◌, ◌++◌, Option, None, Some, take, length}
 use Rattle.std.specs.List.{flat_map}
 use Rattle.report.specs.Line.{FailingLine}
-use Rattle.report.specs.Images.{first_image, last_behind, changes_behind, is_same, leading}
+use Rattle.report.specs.Images.{first_image, last_after, changes_after, is_same, leading}
 use Rattle.report.specs.LineText.{line_text}
 
 -- an image, where there are that many that there is one
@@ -12,8 +12,8 @@ if_any count image = if count == 0 then None else Some image
 -- the images of the first and of the last line, and how many lines begin one
 pub record AreOf (ls : List FailingLine) (first last : Option ℕ) (count : ℕ) : Type 0 where
   pub first_is : first ≡ first_image ls
-  pub last_is : last ≡ last_behind None ls
-  pub count_is : count ≡ changes_behind None ls
+  pub last_is : last ≡ last_after None ls
+  pub count_is : count ≡ changes_after None ls
 
 -- what is kept of a part: its text, of which that many bytes are that of the leading lines, and its images
 pub record IsPart (ls : List FailingLine) (text : List ℕ) (leading_end : ℕ) (first last : Option ℕ) (count : ℕ) : Type 0 where

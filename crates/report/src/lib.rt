@@ -139,6 +139,23 @@
 //! let mut out = Vec::new(alloc);
 //! lines.put(&mut out)?;           // image 3 cut 1 program 0 answer 1 codes - choice 0.0:head1
 //! ```
+//!
+//! # Choices
+//!
+//! - Where contracts compare a value that has a `Vec`, the field is a type of ours that contracts see as a list
+//!   (`Bytes`, `Lines`): clauses can then say `≡` of the whole value.
+//! - A line of the report is taken to have 528 bytes: none has more, with 16 codes and three parts, and each number
+//!   as long as it can be. How long they are hangs on what the programs answer.
+//!
+//! # How it is proved
+//!
+//! - 'Some of a list, in order' by recursion on the whole list (`AreSomeOf`), and 'the pieces of a block' as a filter
+//!   with counts as its lengths, make each step two lines.
+//! - Let a function that writes answer exactly for the lines that it was given, and lead to the definition's lines by
+//!   one lemma in the caller (`report_of_found` in `runs/proofs/Findings.antt`).
+//! - **What is kept as text is still a list of values to contracts**: `Vec<Snapshot<Line>>` takes no room for its
+//!   elements, and an invariant ties the bytes to what it says (`IsPart` in `report`). For 'unchanged where memory is
+//!   wanting' write the text apart, `reserve` one list, append, push.
 #![tactic(auto)]
 
 pub mod choice_text;

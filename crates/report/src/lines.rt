@@ -16,7 +16,7 @@
 //! of it changes no text. A part gives back by `trim` what its text doesn't take, and parts are put together
 //! without a copy.
 //!
-//! Of which image and which program a line is, its text says: `reading` reads the marks of all lines back where
+//! A line's text says which image and which program it is of: `reading` reads the marks of all lines back where
 //! they are asked for, so nothing more is kept of a line. Its words stand between blanks, and its one newline
 //! ends it (`proofs/Back.antt`). Each text is that of whole lines.
 #![tactic(auto)]

@@ -28,7 +28,6 @@ loss_checks w s =
     ∷ check place.AtMost (is_lost_asked w.at_most)
     ∷ check place.Cache (s.cache == 0)
     ∷ check place.Images (is_whole s.extent)
-    ∷ check place.First (not s.first)
     ∷ []
 
 -- the refusal of the first that a check refuses, if one does

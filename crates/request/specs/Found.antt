@@ -23,6 +23,7 @@ pub record IsEmpty (facts : Facts) : Type 0 where
   pub unreached : facts.unreached.items ≡ []
   pub breach : facts.breach ≡ None
   pub blind : facts.blind.items ≡ []
+  pub left_out : facts.left_out ≡ None
 
 -- what no run reaches of a program that is accepted for devices of that many sectors, with guards or without: where it is accepted
 -- in both ways it has the same table in both

@@ -24,4 +24,3 @@ place_number place.Parts = 18
 place_number place.Guards = 19
 place_number place.Torn = 20
 place_number place.AtMost = 21
-place_number place.First = 22

@@ -62,8 +62,8 @@ fn at_most_of(number: Option<u64>) -> Option<Option<u32>>
 /// # Errors
 ///
 /// Without `any`, 13 at 20 where `--torn` stands there, and else 13 at 21. Then 13 at 20 where the number after `--torn` isn't 1 to 3, or
-/// stands there without `--tears`; 13 at 21 where that after `--at-most` isn't 1 to 64; 13 at 4 where a cache is asked for, 13 at 17
-/// where some images alone are, and 13 at 22 where the first is.
+/// stands there without `--tears`; 13 at 21 where that after `--at-most` isn't 1 to 64; 13 at 4 where a cache is asked for, and 13 at
+/// 17 where some images alone are.
 #[tactic(auto, unfolding(crate::specs::AnyLosses::loss_checks))]
 pub fn losses_of(words: LossWords, options: &Options) -> Result<AnyLosses, Refusal>
     ensures { MatchResult result (λ l. (losses_asked words options.now ≡ l) × (losses_refusal words options.now ≡ None)) (λ r. losses_refusal words options.now ≡ Some r) }
@@ -85,9 +85,6 @@ pub fn losses_of(words: LossWords, options: &Options) -> Result<AnyLosses, Refus
     }
     if !options.extent().is_whole() {
         return Err(option_refusal_of(OptionPlace::Images));
-    }
-    if options.first() {
-        return Err(option_refusal_of(OptionPlace::First));
     }
     Ok(AnyLosses { torn, at_most })
 }

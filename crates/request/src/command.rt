@@ -88,18 +88,32 @@ pub enum Request {
     Image(OptionWords, Which),
     /// `show LOG N`, or the same.
     Show(OptionWords, Which),
+    /// `image LOG` with `--bound any`, `--cut` and `--choice`, or `show LOG`, which tells the image in words: any number of parts may
+    /// be lost. The text of the choice stands beside the request.
+    AnyImage {
+        words: OptionWords,
+        cut: u64,
+        in_words: bool,
+    },
     /// `import RAW`
     Import(Limits),
     /// `verify PROGRAM`, of which the number of sectors and the guards count; with each guarded slot or without.
-    Verify { words: OptionWords, listed: bool },
+    Verify {
+        words: OptionWords,
+        listed: bool,
+    },
     /// `check PROGRAM IMAGE`
     Check(TrialWords),
     /// `asm SOURCE`
     Asm,
     /// `join PART..`, of all parts of a run, or of some of them.
-    Join { part: bool },
+    Join {
+        part: bool,
+    },
     /// `list PROGRAM`, with the slots or without.
-    List { numbered: bool },
+    List {
+        numbered: bool,
+    },
 }
 
 /// The options that these words ask for, of which those for the cuts, the parts, the flushes and the images are good.

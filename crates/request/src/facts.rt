@@ -5,10 +5,12 @@ mod fewer;
 mod forced;
 mod found;
 mod large;
+mod left_out;
 mod promises;
 mod recording;
 
 pub use fewer::{Fewer, Smaller};
 pub use found::{Breach, Facts};
+pub use left_out::LeftOut;
 pub use promises::Promises;
 pub use recording::Recording;

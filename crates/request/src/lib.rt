@@ -114,6 +114,25 @@
 //! let (plan, images) = facts.plan(alloc, &log, &options)?;
 //! let large = facts.large;    // how many entries no image loses as a whole
 //! ```
+//!
+//! # More that is promised
+//!
+//! - **Which images.** A whole run has at most 16,777,216 images. One with `--images` has fewer than 2^63, of which
+//!   those from A to below B are judged: `Extent::is_extent`, `Extent::is_within`.
+//!
+//! # Choices
+//!
+//! - Options are tested in the order of their places: sectors, bound, workers, cache, checked. Another word for cuts,
+//!   13 at 7, and then for `--by`, 13 at 10, is tested before all of them, and all of them before the files: it is
+//!   the command line alone that can have such words; `Options::new` takes a kind of cut and of part.
+//! - A log with too many images is refused before its programs are looked at, and `Input::new` takes the number of
+//!   images that was counted then: the order of refusals asks for the first; so images are counted once a run, and
+//!   `Input::new` has nothing to refuse.
+//! - A file of `--base` that can't be read is refused 14 at the number of the other files: the places of a log and of
+//!   programs stay what they are.
+//! - Out of memory for the initial content is 11 at 0, as for a log: it is a part of what is known of the log.
+//! - A discard with FUA makes the sector of an earlier write durable, as a write with FUA does: in the model it
+//!   writes zeros, and what a later entry left for good can't be lost with the earlier one.
 #![tactic(auto)]
 
 mod any_losses;

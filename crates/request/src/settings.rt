@@ -84,8 +84,6 @@ pub enum OptionPlace {
     Torn = 20,
     /// How many parts may be lost or torn, of any number of losses.
     AtMost = 21,
-    /// The first failing image alone, beside any number of losses.
-    First = 22,
 }
 
 impl OptionPlace {

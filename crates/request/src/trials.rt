@@ -23,6 +23,8 @@ pub struct TrialWords {
     pub marks: u64,
     /// The number after `--checked`, where that stands there.
     pub checked: Option<u64>,
+    /// Whether `--guards` stands there.
+    pub guards: bool,
     /// The number after `--trace`.
     pub trace: u64,
 }
@@ -38,6 +40,8 @@ pub struct Trial {
     pub marks: u32,
     /// The limit of steps, where the verifier isn't asked.
     pub checked: Option<u64>,
+    /// Whether the program is accepted with guards, and runs with them.
+    pub guards: bool,
     /// Of how many of the last steps a line is printed.
     pub trace: u64,
 }
@@ -46,7 +50,7 @@ pub struct Trial {
 ///
 /// # Errors
 ///
-/// 13 at 15, 16 or 5, in this order, where that number is too great.
+/// 13 at 15, 16 or 5, in this order, where that number is too great; then 13 at 19 for guards beside a limit of steps.
 #[tactic(auto, unfolding(crate::specs::Trials::trial_checks))]
 pub fn trial_of(words: TrialWords) -> Result<Trial, Refusal>
     ensures { MatchResult result (λ t. AskForTrial words t) (λ r. trial_refusal words ≡ Some r) }
@@ -60,11 +64,15 @@ pub fn trial_of(words: TrialWords) -> Result<Trial, Refusal>
     if is_too_long(words.checked) {
         return Err(option_refusal_of(OptionPlace::Checked));
     }
+    if words.guards && words.checked.is_some() {
+        return Err(option_refusal_of(OptionPlace::Guards));
+    }
     Ok(Trial {
         limits: words.limits,
         epoch: words.epoch as u32,
         marks: words.marks as u32,
         checked: words.checked,
+        guards: words.guards,
         trace: words.trace,
     })
 }

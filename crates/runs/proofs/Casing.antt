@@ -1,7 +1,7 @@
 -- What is found of the cases of a run, and why they aren't told.
-use Rattle.std.proofs.Common.{ℕ, ◌≡◌, ◌<◌, ◌≤◌, ◌⊎◌, inl, inr, Bool, true, false, List, length, slice_get, Some, All, refl, sym, ◌∙◌, ap, subst, arith}
-use Rattle.std.proofs.lemmas.List.Elements.{All-get_or}
-use Rattle.std.proofs.lemmas.Option.{slice_get-get_or, slice_get_within, same_Some}
+use Rattle.std.proofs.Common.{ℕ, ◌≡◌, ◌<◌, ◌≤◌, ◌==◌, ◌||◌, ◌⊎◌, inl, inr, not, Bool, true, false, List, [], ◌∷◌, length, slice_get, Some, All, Result, IfOk, refl, sym, ◌∙◌, ap, subst, arith}
+use Rattle.std.proofs.lemmas.List.Elements.{All-head, All-tail}
+use Rattle.std.proofs.lemmas.Option.{slice_get-get_or, slice_get_within, get_or_from_slice_get}
 use Rattle.base.specs.declared.refusal.Refusal.{Refusal}
 use Rattle.base.specs.Refusals.{memory_refusal}
 use Rattle.logfmt.specs.Bounds.{LogValue}
@@ -16,15 +16,22 @@ use Rattle.case_runs.specs.declared.found.CutFound.{CutFound}
 use Rattle.case_runs.specs.declared.found.CasesFault.{CasesFault}
 use Rattle.case_runs.specs.declared.found.CasesFault.TheVariants as fault
 use Rattle.case_runs.specs.Found.{AreFoundIn, cases_in, most_cases, AreTooMany, StopsIn}
-use Rattle.case_text.specs.Text.{cases_bytes, is_any_failing}
+use Rattle.case_runs.specs.declared.found.Found.{Found}
+use Rattle.case_runs.specs.declared.first.FirstCase.{FirstCase}
+use Rattle.case_runs.specs.declared.first.Sought.{Sought}
+use Rattle.case_runs.specs.declared.leaves.FailingCase.{FailingCase}
+use Rattle.case_runs.specs.First.{NoneFailsAt, NoneFails, IsFirstFailing, PassesMostIn, IsSought, EndsIn}
+use Rattle.case_text.specs.Text.{cases_bytes, fails_at, is_any_failing}
+use Rattle.case_text.specs.First.{first_bytes}
 use Rattle.request.specs.declared.any_losses.AnyLosses.{AnyLosses}
 use Rattle.request.specs.declared.settings.Settings.{Settings}
 use Rattle.request.specs.Source.{Recording, plan_of, images_refusal, HasImages, for_plan, no_plan_memory}
 use Rattle.runs.specs.declared.task.Task.{Task}
-use Rattle.runs.specs.CaseCuts.{losses_of, case_cuts, HasTooMany}
+use Rattle.runs.specs.CaseCuts.{losses_of, case_cuts, AreMore, HasTooMany}
 use Rattle.runs.specs.CaseRefusals.{StopsFor, RefusesFor}
-use Rattle.runs.specs.Cases.{TellsCases, IsCases}
+use Rattle.runs.specs.Cases.{TellsCases, TellsFirst, of_first, of_none, TellsLosses, IsLosses}
 use Rattle.runs.specs.Judged.{takes}
+use Rattle.runs.specs.declared.explore_command.Explored.{Explored}
 use Rattle.runs.specs.declared.explore_command.Wanted.{Wanted}
 use Rattle.runs.specs.declared.explore_command.Wanted.TheVariants as wanted
 use Rattle.runs.specs.Explore.{IsProgramCount, AreCheckersOf, head_of, for_source, RefusesWanted, for_rest, for_cases}
@@ -41,11 +48,16 @@ found_within asked log way cuts checkers found n are within k d lt =
     subst (λ m. m ≤ n) (sym own) (within k 0 here)
 
 -- why they aren't told
-pub why_refused : (l : AnyLosses) (t : Task) (cuts : List ℕ) (why : CasesFault) (r : Refusal) → cuts ≡ case_cuts l t.options.now.cuts t.log.now
+pub why_refused : (l : AnyLosses) (t : Task) (cuts : List ℕ) (why : CasesFault) (r : Refusal) → t.options.now.first ≡ false → cuts ≡ case_cuts l t.options.now.cuts t.log.now
     → StopsIn (losses_of l t.options.now) t.log.now t.options.now.by cuts t.checkers.now why → StopsFor why r → RefusesFor l t r
-why_refused l t cuts fault.Memory r are stops is = inl is
-why_refused l t cuts (fault.TooMany cut) r are stops is =
-    inr (cut, is, subst (λ (cs : List ℕ). AreTooMany (losses_of l t.options.now) t.log.now t.options.now.by cs t.checkers.now cut) are stops)
+why_refused l t cuts fault.Memory r all are stops is = inl is
+why_refused l t cuts (fault.TooMany cut) r all are stops is =
+    inr (
+      cut,
+      is,
+      subst (λ b. AreMore b (losses_of l t.options.now) t.log.now t.options.now.by (case_cuts l t.options.now.cuts t.log.now) t.checkers.now cut) (sym all)
+          (subst (λ (cs : List ℕ). AreTooMany (losses_of l t.options.now) t.log.now t.options.now.by cs t.checkers.now cut) are stops),
+    )
 
 -- with what is known of the arguments
 pub stops_so : (asked own : Losses) (log : LogValue) (way by : By) (cuts : List ℕ) (checkers : List CheckerValue) (why : CasesFault) → own ≡ asked → way ≡ by
@@ -71,9 +83,73 @@ tells_found l t cuts found h asked bytes failing are those few head same text fa
   fails = fails;
 }
 
+-- the text of the first that fails, or of all, where none does
+
+any_none : (found : List CutFound) → NoneFails found → is_any_failing found ≡ false
+any_none [] none = refl
+any_none (c ∷ found) none =
+    let own = none_at c.programs.items (All-head (λ (d : CutFound). NoneFailsAt d.programs.items) c found none) in
+    let rest = any_none found (All-tail (λ (d : CutFound). NoneFailsAt d.programs.items) c found none) in
+    λ i. own i || rest i
+  where
+    none_at : (fs : List Found) → NoneFailsAt fs → fails_at fs ≡ false
+    none_at [] all = refl
+    none_at (f ∷ fs) all =
+        let here = ap (λ (xs : List FailingCase). length xs) (All-head (λ (g : Found). g.failing.items ≡ []) f fs all) in
+        let rest = none_at fs (All-tail (λ (g : Found). g.failing.items ≡ []) f fs all) in
+        λ i. not (here i == 0) || rest i
+
+pub tells_none : (l : AnyLosses) (s : Settings) (value : LogValue) (checkers : List CheckerValue) (bytes : List ℕ) (failing : Bool) (found : List CutFound) → NoneFails found
+    → failing ≡ is_any_failing found → TellsCases l s value checkers bytes failing → TellsFirst l s value checkers bytes failing
+tells_none l s value checkers bytes failing found none is tells =
+    let passes : failing ≡ false = is ∙ any_none found none in
+    subst (λ b. TellsFirst l s value checkers bytes b) (sym passes) (of_none (subst (λ b. TellsCases l s value checkers bytes b) passes tells))
+
+pub tells_first : (l : AnyLosses) (t : Task) (cuts : List ℕ) (first : FirstCase) (h : HeadValue) (asked : Losses) (bytes : List ℕ)
+    → cuts ≡ case_cuts l t.options.now.cuts t.log.now → IsFirstFailing (losses_of l t.options.now) t.log.now t.options.now.by cuts t.checkers.now first
+    → h ≡ head_of (with_first false t.options.now) t.log.now t.checkers.now → asked ≡ losses_of l t.options.now → bytes ≡ first_bytes h asked t.log.now first
+    → TellsFirst l t.options.now t.log.now t.checkers.now bytes true
+tells_first l t cuts first h asked bytes are is head same text =
+    of_first first (subst (λ (cs : List ℕ). IsFirstFailing (losses_of l t.options.now) t.log.now t.options.now.by cs t.checkers.now first) are is)
+    (text ∙ (λ i. first_bytes (head i) (same i) t.log.now first))
+
+-- the cut of the first that fails is one of the log
+pub first_within : (asked : Losses) (log : LogValue) (way : By) (cuts : List ℕ) (checkers : List CheckerValue) (first : FirstCase) (n : ℕ)
+    → IsFirstFailing asked log way cuts checkers first → All (λ cut. cut ≤ n) cuts → first.cut ≤ n
+first_within asked log way cuts checkers first n is within =
+    subst (λ m. m ≤ n) (get_or_from_slice_get cuts is.place first.cut 0 is.own) (within is.place 0 (slice_get_within cuts is.place first.cut is.own))
+
+pub sought_so : (asked own : Losses) (log : LogValue) (way by : By) (cuts : List ℕ) (checkers : List CheckerValue) (found : Sought) → own ≡ asked → way ≡ by
+    → IsSought own log way cuts checkers found → IsSought asked log by cuts checkers found
+sought_so asked own log way by cuts checkers found same kind are =
+    subst (λ (x : Losses). IsSought x log by cuts checkers found) same (subst (λ (b : By). IsSought own log b cuts checkers found) kind are)
+
+pub ends_so : (asked own : Losses) (log : LogValue) (way by : By) (cuts : List ℕ) (checkers : List CheckerValue) (why : CasesFault) → own ≡ asked → way ≡ by
+    → EndsIn own log way cuts checkers why → EndsIn asked log by cuts checkers why
+ends_so asked own log way by cuts checkers why same kind stops =
+    subst (λ (x : Losses). EndsIn x log by cuts checkers why) same (subst (λ (b : By). EndsIn own log b cuts checkers why) kind stops)
+
+-- why it isn't told
+pub first_refused : (l : AnyLosses) (t : Task) (cuts : List ℕ) (why : CasesFault) (r : Refusal) → t.options.now.first ≡ true → cuts ≡ case_cuts l t.options.now.cuts t.log.now
+    → EndsIn (losses_of l t.options.now) t.log.now t.options.now.by cuts t.checkers.now why → StopsFor why r → RefusesFor l t r
+first_refused l t cuts fault.Memory r first are stops is = inl is
+first_refused l t cuts (fault.TooMany cut) r first are stops is =
+    inr (
+      cut,
+      is,
+      subst (λ b. AreMore b (losses_of l t.options.now) t.log.now t.options.now.by (case_cuts l t.options.now.cuts t.log.now) t.checkers.now cut) (sym first)
+          (subst (λ (cs : List ℕ). PassesMostIn (losses_of l t.options.now) t.log.now t.options.now.by cs t.checkers.now cut) are stops),
+    )
+
+-- what is told is what is asked for
+pub told_as : (l : AnyLosses) (s : Settings) (value : LogValue) (checkers : List CheckerValue) (b : Bool) (r : Result Explored Refusal) → s.first ≡ b
+    → IfOk r (λ e. TellsLosses b l s value checkers e.bytes.items e.failing) → IfOk r (λ e. TellsLosses s.first l s value checkers e.bytes.items e.failing)
+told_as l s value checkers b r same told = subst (λ (x : Bool). IfOk r (λ e. TellsLosses x l s value checkers e.bytes.items e.failing)) (sym same) told
+
 -- what a run answers by cases
 pub is_cases : (l : AnyLosses) (text : Recording) (files : List (List ℕ)) (s : Settings) (log : LogValue) (checkers now : List CheckerValue) (bytes : List ℕ) (failing : Bool)
-    → IsProgramCount (length files) → HasImages text s log → AreCheckersOf s files checkers → now ≡ checkers → TellsCases l s log now bytes failing → IsCases l text files s bytes failing
+    → IsProgramCount (length files) → HasImages text s log → AreCheckersOf s files checkers → now ≡ checkers → TellsLosses s.first l s log now bytes failing
+    → IsLosses s.first l text files s bytes failing
 is_cases l text files s log checkers now bytes failing count source made same tells =
     record { count = count; value = log; source = source; checkers = now; made = subst (AreCheckersOf s files) (sym same) made; tells = tells }
 

@@ -87,8 +87,8 @@ pub record IsLineAt (program image : ℕ) (ls : List FailingLine) : Type 0 where
   pub image_is : line.image ≡ image
   pub program_is : line.program ≡ program
 
-line_behind : (program image : ℕ) (l : FailingLine) (ls : List FailingLine) → IsLineAt program image ls → IsLineAt program image (l ∷ ls)
-line_behind program image l ls is = record { place = suc is.place; line = is.line; there = is.there; image_is = is.image_is; program_is = is.program_is }
+line_after : (program image : ℕ) (l : FailingLine) (ls : List FailingLine) → IsLineAt program image ls → IsLineAt program image (l ∷ ls)
+line_after program image l ls is = record { place = suc is.place; line = is.line; there = is.there; image_is = is.image_is; program_is = is.program_is }
 
 line_of_image : (program : ℕ) (ls : List FailingLine) (i image : ℕ) → slice_get (images_failing program ls) i ≡ Some image → IsLineAt program image ls
 line_of_image program [] i image at = absurd (let bad : None ≡ Some image = at in cc)
@@ -100,8 +100,8 @@ line_of_image program (l ∷ ls) i image at = by_test (λ j there. line_of_image
     by_test inner true e zero at =
         let same : Some l.image ≡ Some image = at in
         record { place = 0; line = l; there = refl; image_is = cc; program_is = grind (arith, eqb_tells, e) }
-    by_test inner true e (suc i) at = line_behind program image l ls (inner i at)
-    by_test inner false e i at = line_behind program image l ls (inner i at)
+    by_test inner true e (suc i) at = line_after program image l ls (inner i at)
+    by_test inner false e i at = line_after program image l ls (inner i at)
 
 -- they rise
 images_rise : (program : ℕ) (ls : List FailingLine) → ((i j : ℕ) (a b : FailingLine) → i < j → slice_get ls i ≡ Some a → slice_get ls j ≡ Some b → Precedes a b)
@@ -120,10 +120,10 @@ images_rise program (l ∷ ls) order i j n m lt ati atj =
         let same : Some l.image ≡ Some n = ati in
         let is : l.image ≡ n = cc in
         let own : l.program ≡ program = grind (arith, eqb_tells, e) in
-        let behind = line_of_image program ls j m atj in
-        let image_is = behind.image_is in
-        let program_is = behind.program_is in
-        elim (order 0 (suc behind.place) l behind.line (omega arith) refl behind.there) [
+        let beyond = line_of_image program ls j m atj in
+        let image_is = beyond.image_is in
+        let program_is = beyond.program_is in
+        elim (order 0 (suc beyond.place) l beyond.line (omega arith) refl beyond.there) [
           | inl less ↦ omega (arith, less, is, image_is)
           | inr less ↦ absurd (let below = less.1 in omega (arith, below, own, program_is))
         ]

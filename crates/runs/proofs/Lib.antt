@@ -8,6 +8,7 @@ pub mod Fitting
 pub mod Runs
 pub mod Casing
 pub mod Losing
+pub mod ToldFail
 pub mod Explained
 pub mod Missed
 pub mod Pages

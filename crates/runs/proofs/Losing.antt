@@ -74,7 +74,7 @@ last_there l s value last all within is =
     (it.0, ap (λ (cs : List ℕ). slice_get cs it.0) (all_cuts l s value all) ∙ it.1)
 
 -- a list as long as another has an element at the same place
-there_too : {A B : Type 0} (xs : List A) (ys : List B) (i : ℕ) (x : A) → length ys ≡ length xs → slice_get xs i ≡ Some x → (y : B) × (slice_get ys i ≡ Some y)
+pub there_too : {A B : Type 0} (xs : List A) (ys : List B) (i : ℕ) (x : A) → length ys ≡ length xs → slice_get xs i ≡ Some x → (y : B) × (slice_get ys i ≡ Some y)
 there_too [] ys i x long at = absurd (let bad : None ≡ Some x = at in cc)
 there_too (a ∷ xs) [] i x long at = absurd (omega (arith, long))
 there_too (a ∷ xs) (b ∷ ys) zero x long at = (b, refl)

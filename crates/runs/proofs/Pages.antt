@@ -49,9 +49,9 @@ uncured_more program fs n count one now f within is so_far more few sum =
     (omega (arith, whole, so_far.0, more, sum), omega (arith, so_far.1, few, sum))
 
 -- a window of the failures of a program is one of all failures
-behind : (ws : List Window) (w : Window) (o : Option Window) → ((j : ℕ) × (slice_get ws j ≡ Some w)) → (j : ℕ) × (slice_get (if_window o ++ ws) j ≡ Some w)
-behind ws w None was = was
-behind ws w (Some v) was = (suc was.0, was.1)
+beyond : (ws : List Window) (w : Window) (o : Option Window) → ((j : ℕ) × (slice_get ws j ≡ Some w)) → (j : ℕ) × (slice_get (if_window o ++ ws) j ≡ Some w)
+beyond ws w None was = was
+beyond ws w (Some v) was = (suc was.0, was.1)
 
 front : (own ws : List Window) (w : Window) → ((k : ℕ) → slice_get own k ≡ Some w → (j : ℕ) × (slice_get ws j ≡ Some w)) → (o : Option Window) (i : ℕ)
     → slice_get (if_window o ++ own) i ≡ Some w → (j : ℕ) × (slice_get (if_window o ++ ws) j ≡ Some w)
@@ -66,7 +66,7 @@ own_there p (f ∷ fs) i w at = by_test (λ k there. own_there p fs k w there) (
     by_test : ((k : ℕ) → slice_get (windows_in (filter p fs)) k ≡ Some w → (j : ℕ) × (slice_get (windows_in fs) j ≡ Some w)) → (b : Bool)
         → slice_get (windows_in (if b then f ∷ filter p fs else filter p fs)) i ≡ Some w → (j : ℕ) × (slice_get (if_window f.window ++ windows_in fs) j ≡ Some w)
     by_test inner true here = front (windows_in (filter p fs)) (windows_in fs) w inner f.window i here
-    by_test inner false here = behind (windows_in fs) w f.window (inner i here)
+    by_test inner false here = beyond (windows_in fs) w f.window (inner i here)
 
 -- so they lie in the log, too
 own_inside : (n program : ℕ) (fs : List Failure) → AreWindows n (windows_in fs) → AreWindows n (windows_in (own_failures program fs))

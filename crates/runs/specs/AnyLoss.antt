@@ -50,3 +50,13 @@ pub record AnyLossIsTold : Type 0 where
       → IsOfAll l s → (cut : ℕ) (choice : Choice) (program : ℕ) (checker : CheckerValue) → cut ≤ length h.value.entries → slice_get h.checkers program ≡ Some checker
       → IsChoice s.tears choice → count_by (λ (p : Part). is_torn (choice p)) (parts_at_risk s.by h.value.entries cut) ≤ l.torn
       → fails (judged_at h.value s.by cut checker choice) ≡ true → IsInFailing s h.value h.tells.found cut choice program checker
+
+-- Each choice of a failing case that is told has an image on which its program fails, and ends as the case says. So a program fails exactly
+-- on the images of its cases that are told, and on those of which `AnyLossIsTold` says nothing.
+abbrev pub ToldCasesFail : Type 0
+ToldCasesFail =
+    (l : AnyLosses) (text : Recording) (files : List (List ℕ)) (s : Settings) (bytes : List ℕ) (failing : Bool) (h : IsCases l text files s bytes failing)
+    → (place : ℕ) (at : CutFound) (program : ℕ) (own : Found) (checker : CheckerValue) (number : ℕ) (f : FailingCase) (choice : Choice) → at.cut ≤ length h.value.entries
+    → slice_get h.tells.found place ≡ Some at → slice_get at.programs.items program ≡ Some own → slice_get h.checkers program ≡ Some checker
+    → slice_get own.failing.items number ≡ Some f → Includes choice (case_of s.tears (parts_of (record { log = h.value; way = s.by; cut = at.cut })) f.sets.items)
+    → (judged_at h.value s.by at.cut checker choice ≡ ending_of f.outcome) × (fails (ending_of f.outcome) ≡ true)

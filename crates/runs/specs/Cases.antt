@@ -1,9 +1,12 @@
 -- What a run tells of any number of losses, by cases (docs/OUTPUT.md, The text of cases).
-use Rattle.std.specs.Prelude.{ℕ, ◌≡◌, ◌≤◌, Bool, false, List, length}
+use Rattle.std.specs.Prelude.{ℕ, ◌≡◌, ◌≤◌, Bool, true, false, List, length}
 use Rattle.logfmt.specs.Bounds.{LogValue}
 use Rattle.checker.specs.Checker.{CheckerValue}
 use Rattle.case_runs.specs.declared.found.CutFound.{CutFound}
+use Rattle.case_runs.specs.declared.first.FirstCase.{FirstCase}
 use Rattle.case_runs.specs.Found.{AreFoundIn, cases_in, most_cases}
+use Rattle.case_runs.specs.First.{IsFirstFailing}
+use Rattle.case_text.specs.First.{first_bytes}
 use Rattle.case_text.specs.Text.{cases_bytes, is_any_failing}
 use Rattle.request.specs.declared.any_losses.AnyLosses.{AnyLosses}
 use Rattle.request.specs.declared.settings.Settings.{Settings}
@@ -21,11 +24,27 @@ pub record TellsCases (l : AnyLosses) (s : Settings) (value : LogValue) (checker
   pub text : bytes ≡ cases_bytes (head_of (with_first false s) value checkers) (losses_of l s) value found
   pub fails : failing ≡ is_any_failing found
 
--- the bytes tell of the programs which cases of the log fail, whatever is lost
-pub record IsCases (l : AnyLosses) (text : Recording) (files : List (List ℕ)) (s : Settings) (bytes : List ℕ) (failing : Bool) : Type 0 where
+-- the first of them alone: within 16,777,216 cases it is the first that fails, and the text has its line and no other; or none of all cases
+-- fails, and the text is that of all
+pub data TellsFirst (l : AnyLosses) (s : Settings) (value : LogValue) (checkers : List CheckerValue) (bytes : List ℕ) : Bool → Type 0 where
+  of_first : (first : FirstCase) → IsFirstFailing (losses_of l s) value s.by (case_cuts l s.cuts value) checkers first
+      → bytes ≡ first_bytes (head_of (with_first false s) value checkers) (losses_of l s) value first → TellsFirst l s value checkers bytes true
+  of_none : TellsCases l s value checkers bytes false → TellsFirst l s value checkers bytes false
+
+-- what is told of cases: of each that fails, or of the first alone
+abbrev pub TellsLosses : Bool → AnyLosses → Settings → LogValue → List CheckerValue → List ℕ → Bool → Type 0
+TellsLosses false l s value checkers bytes failing = TellsCases l s value checkers bytes failing
+TellsLosses true l s value checkers bytes failing = TellsFirst l s value checkers bytes failing
+
+-- the bytes tell of the programs which cases of the log fail, or which first, whatever is lost
+pub record IsLosses (first : Bool) (l : AnyLosses) (text : Recording) (files : List (List ℕ)) (s : Settings) (bytes : List ℕ) (failing : Bool) : Type 0 where
   pub count : IsProgramCount (length files)
   pub value : LogValue
   pub source : HasImages text s value
   pub checkers : List CheckerValue
   pub made : AreCheckersOf s files checkers
-  pub tells : TellsCases l s value checkers bytes failing
+  pub tells : TellsLosses first l s value checkers bytes failing
+
+-- which cases fail
+abbrev pub IsCases : AnyLosses → Recording → List (List ℕ) → Settings → List ℕ → Bool → Type 0
+IsCases l text files s bytes failing = IsLosses false l text files s bytes failing

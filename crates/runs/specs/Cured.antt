@@ -18,7 +18,7 @@ use Rattle.runs.specs.declared.explore_command.Wanted.{Wanted}
 use Rattle.runs.specs.declared.explore_command.Wanted.TheVariants as wanted
 use Rattle.runs.specs.Explore.{IsRun, subject_of, head_of}
 use Rattle.runs.specs.Why.{IsTold, with_first}
-use Rattle.runs.specs.Cases.{IsCases}
+use Rattle.runs.specs.Cases.{IsLosses}
 
 -- the failing lines of a run of a log
 abbrev pub run_lines : Settings → List CheckerValue → LogValue → List FailingLine
@@ -72,8 +72,8 @@ pub record TellsCure (s : Settings) (value : LogValue) (checkers : List CheckerV
 abbrev pub IsCured : Recording → List (List ℕ) → Settings → List ℕ → Bool → Type 0
 IsCured text files s bytes failing = IsRun TellsCure text files s bytes failing
 
--- what a run answers that is asked for this: what is told of it, where flushes are missing, run by run, or which cases fail
+-- what a run answers that is asked for this: what is told of it, where flushes are missing, run by run, or which cases fail, or which first
 abbrev pub IsAnswered : Wanted → Recording → List (List ℕ) → Settings → List ℕ → Bool → Type 0
 IsAnswered (wanted.Told t) text files s bytes failing = IsTold t text files s bytes failing
 IsAnswered wanted.Cured text files s bytes failing = IsCured text files s bytes failing
-IsAnswered (wanted.Cases l) text files s bytes failing = IsCases l text files s bytes failing
+IsAnswered (wanted.Cases l) text files s bytes failing = IsLosses s.first l text files s bytes failing

@@ -181,7 +181,7 @@ fn has_last_context(plan: &Plan<'_>, place: usize) -> bool
     is_same_context(plan, last, cut)
 }
 
-/// The same, after wanted cuts at which it was so. At a cut with the epoch and the marks of the one before it no run is made: what
+/// Whether a checker is blind up to one more wanted cut, after cuts at which it was. At a cut with the epoch and the marks of the one before it no run is made: what
 /// the checker looked at there, no entry changed.
 fn is_blind_next(
     alloc: Global,

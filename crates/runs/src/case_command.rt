@@ -1,22 +1,45 @@
 //! From the checkers of a run to the text of its failing cases, whatever is lost.
 
-ghost use Rattle.std.specs.Prelude.{◌≡◌, ◌≤◌, length, min, All, IfOk, IfErr};
+ghost use Rattle.std.specs.Prelude.{◌≡◌, ◌≤◌, length, min, true, false, All, IfOk, IfErr};
 ghost use Rattle.base.specs.Refusals.{memory_refusal};
 ghost use Rattle.checker.specs.Checker.{AreFor};
 ghost use Rattle.case_runs.specs.Found.{AreFoundIn, cases_in, most_cases};
-ghost use Rattle.runs.specs.CaseCuts.{losses_of, is_all, are_last_enough, first_wanted, last_wanted, case_cuts};
-ghost use Rattle.runs.specs.Cases.{TellsCases};
+ghost use Rattle.case_runs.specs.First.{AllPass, IsSought, IsFirstFailing};
+ghost use Rattle.case_text.specs.Text.{is_any_failing};
+ghost use Rattle.runs.specs.CaseCuts.{losses_of, is_all, are_last_enough, first_wanted, last_wanted, case_cuts, left_out_of};
+ghost use Rattle.runs.specs.Cases.{TellsCases, TellsFirst, TellsLosses};
 ghost use Rattle.runs.specs.CaseRefusals.{StopsFor, RefusesFor};
 
 use crate::explore_command::{Explored, head_of_run};
 use crate::task::Task;
 use base::causes::RequestCause;
 use base::refusal::{Cause, Refusal};
-use case_runs::{CasesFault, CutFound, Losses, explored_cuts, find_failing};
-use case_text::{is_any_failing, write_cases};
+use case_runs::{
+    CaseGate, CasesFault, CutFound, FirstCase, Losses, Sought, explored_cuts, find_failing,
+    find_first,
+};
+use case_text::{is_any_failing, left_out, write_cases, write_first};
 use epochs::{CutKind, Cuts};
+use request::facts::LeftOut;
 use request::{AnyLosses, Options};
 use std::alloc::{AllocError, Global};
+use workers::Gate;
+
+/// The gate of a run, told of cases one by one: before each run of a program, and after each case, as of a block.
+#[derive(Drop)]
+struct CasesOf<'g, G> {
+    gate: &'g G,
+}
+
+impl<'g, G: Gate> CaseGate for CasesOf<'g, G> {
+    fn run(&self) {
+        self.gate.before(0, 0);
+    }
+
+    fn case(&self) {
+        self.gate.after(0, 0);
+    }
+}
 
 /// What is asked of the cases of a run.
 fn losses_of(losses: AnyLosses, options: &Options) -> Losses
@@ -103,8 +126,9 @@ fn refusal_of(fault: CasesFault) -> Refusal
 }
 
 /// The failing cases at some cuts.
-fn cases_at(
+fn cases_at<G: Gate>(
     alloc: Global,
+    gate: &G,
     task: &Task<'_>,
     losses: AnyLosses,
     cuts: &[u32],
@@ -112,6 +136,7 @@ fn cases_at(
     requires cuts { cuts.now ≡ case_cuts losses task.now.options.now.cuts task.now.log.now }
     requires within { All (λ cut. cut ≤ length task.now.log.now.entries) cuts.now }
     requires verified { AreFor task.now.options.now.sectors task.now.checkers.now }
+    requires all { task.now.options.now.first ≡ false }
     ensures found { IfOk result (λ found. AreFoundIn (losses_of losses task.now.options.now) task.now.log.now task.now.options.now.by cuts.now task.now.checkers.now found.items) }
     ensures few { IfOk result (λ found. cases_in found.items ≤ most_cases) }
     ensures refused { IfErr result (RefusesFor losses task.now) }
@@ -119,6 +144,7 @@ fn cases_at(
     let asked = losses_of(losses, task.options);
     match find_failing(
         alloc,
+        &CasesOf { gate },
         task.plan,
         task.log,
         task.options.by(),
@@ -131,21 +157,36 @@ fn cases_at(
     }
 }
 
-/// The text of what was found.
+/// How many cases were left out, where none that was found fails.
+fn left_out_of(found: &[CutFound]) -> Option<LeftOut>
+    ensures { result ≡ left_out_of found.now }
+{
+    if is_any_failing(found) {
+        return None;
+    }
+    let (torn, lost) = left_out(found);
+    Some(LeftOut { torn, lost })
+}
+
+/// The text of what was found, and how many cases were left out.
 fn text_of(
     alloc: Global,
     task: &Task<'_>,
     losses: AnyLosses,
     cuts: &[u32],
     found: &[CutFound],
+    out: &mut Option<LeftOut>,
 ) -> Result<Explored, AllocError>
     requires cuts { cuts.now ≡ case_cuts losses task.now.options.now.cuts task.now.log.now }
     requires within { All (λ cut. cut ≤ length task.now.log.now.entries) cuts.now }
     requires found { AreFoundIn (losses_of losses task.now.options.now) task.now.log.now task.now.options.now.by cuts.now task.now.checkers.now found.now }
     requires few { cases_in found.now ≤ most_cases }
-    ensures { IfOk result (λ e. TellsCases losses task.now.options.now task.now.log.now task.now.checkers.now e.bytes.items e.failing) }
+    ensures told { IfOk result (λ e. TellsCases losses task.now.options.now task.now.log.now task.now.checkers.now e.bytes.items e.failing) }
+    ensures failing { IfOk result (λ e. e.failing ≡ is_any_failing found.now) }
+    ensures left_out { out.new ≡ left_out_of found.now }
 {
     let _cuts = cuts;
+    *out = left_out_of(found);
     let head = head_of_run(alloc, task, false)?;
     let asked = losses_of(losses, task.options);
     let bytes = write_cases(alloc, &head, task.log, task.plan, asked, found)?;
@@ -156,23 +197,166 @@ fn text_of(
     })
 }
 
-/// The failing cases of a task, told as a text.
-pub(crate) fn told_cases(
+/// The first failing case at some cuts, or what was found there, where none fails.
+fn first_at<G: Gate>(
+    alloc: Global,
+    gate: &G,
+    task: &Task<'_>,
+    losses: AnyLosses,
+    cuts: &[u32],
+) -> Result<Sought, Refusal>
+    requires cuts { cuts.now ≡ case_cuts losses task.now.options.now.cuts task.now.log.now }
+    requires within { All (λ cut. cut ≤ length task.now.log.now.entries) cuts.now }
+    requires verified { AreFor task.now.options.now.sectors task.now.checkers.now }
+    requires first { task.now.options.now.first ≡ true }
+    ensures found { IfOk result (IsSought (losses_of losses task.now.options.now) task.now.log.now task.now.options.now.by cuts.now task.now.checkers.now) }
+    ensures refused { IfErr result (RefusesFor losses task.now) }
+{
+    let asked = losses_of(losses, task.options);
+    match find_first(
+        alloc,
+        &CasesOf { gate },
+        task.plan,
+        task.log,
+        task.options.by(),
+        cuts,
+        task.checkers,
+        asked,
+    ) {
+        Ok(sought) => Ok(sought),
+        Err(fault) => Err(refusal_of(fault)),
+    }
+}
+
+/// The text of the first failing case.
+fn first_text_of(
     alloc: Global,
     task: &Task<'_>,
     losses: AnyLosses,
+    cuts: &[u32],
+    first: &FirstCase,
+) -> Result<Explored, AllocError>
+    requires cuts { cuts.now ≡ case_cuts losses task.now.options.now.cuts task.now.log.now }
+    requires within { All (λ cut. cut ≤ length task.now.log.now.entries) cuts.now }
+    requires first { IsFirstFailing (losses_of losses task.now.options.now) task.now.log.now task.now.options.now.by cuts.now task.now.checkers.now first.now }
+    ensures { IfOk result (λ e. TellsFirst losses task.now.options.now task.now.log.now task.now.checkers.now e.bytes.items e.failing) }
+{
+    let _cuts = cuts;
+    let head = head_of_run(alloc, task, false)?;
+    let asked = losses_of(losses, task.options);
+    let bytes = write_first(alloc, &head, task.log, task.plan, asked, first)?;
+    Ok(Explored {
+        bytes,
+        hits: 0,
+        failing: true,
+    })
+}
+
+/// The text of what was found, of which no case fails.
+fn passing_text_of(
+    alloc: Global,
+    task: &Task<'_>,
+    losses: AnyLosses,
+    cuts: &[u32],
+    found: &[CutFound],
+    out: &mut Option<LeftOut>,
+) -> Result<Explored, AllocError>
+    requires cuts { cuts.now ≡ case_cuts losses task.now.options.now.cuts task.now.log.now }
+    requires within { All (λ cut. cut ≤ length task.now.log.now.entries) cuts.now }
+    requires passing { AllPass (losses_of losses task.now.options.now) task.now.log.now task.now.options.now.by cuts.now task.now.checkers.now found.now }
+    ensures { IfOk result (λ e. TellsFirst losses task.now.options.now task.now.log.now task.now.checkers.now e.bytes.items e.failing) }
+{
+    let explored = text_of(alloc, task, losses, cuts, found, out)?;
+    Ok(explored)
+}
+
+/// The text of what was found where the first failing case was looked for.
+fn sought_text_of(
+    alloc: Global,
+    task: &Task<'_>,
+    losses: AnyLosses,
+    cuts: &[u32],
+    sought: &Sought,
+    out: &mut Option<LeftOut>,
+) -> Result<Explored, AllocError>
+    requires cuts { cuts.now ≡ case_cuts losses task.now.options.now.cuts task.now.log.now }
+    requires within { All (λ cut. cut ≤ length task.now.log.now.entries) cuts.now }
+    requires found { IsSought (losses_of losses task.now.options.now) task.now.log.now task.now.options.now.by cuts.now task.now.checkers.now sought.now }
+    ensures { IfOk result (λ e. TellsFirst losses task.now.options.now task.now.log.now task.now.checkers.now e.bytes.items e.failing) }
+{
+    match sought {
+        Sought::Passing(found) => {
+            passing_text_of(alloc, task, losses, cuts, found.as_slice(), out)
+        }
+        Sought::Failing(first) => first_text_of(alloc, task, losses, cuts, first),
+    }
+}
+
+/// All failing cases at some cuts, told as a text.
+fn all_told<G: Gate>(
+    alloc: Global,
+    gate: &G,
+    task: &Task<'_>,
+    losses: AnyLosses,
+    cuts: &[u32],
+    out: &mut Option<LeftOut>,
+) -> Result<Explored, Refusal>
+    requires cuts { cuts.now ≡ case_cuts losses task.now.options.now.cuts task.now.log.now }
+    requires within { All (λ cut. cut ≤ length task.now.log.now.entries) cuts.now }
+    requires verified { AreFor task.now.options.now.sectors task.now.checkers.now }
+    requires all { task.now.options.now.first ≡ false }
+    ensures told { IfOk result (λ e. TellsCases losses task.now.options.now task.now.log.now task.now.checkers.now e.bytes.items e.failing) }
+    ensures refused { IfErr result (RefusesFor losses task.now) }
+{
+    let found = cases_at(alloc, gate, task, losses, cuts)?;
+    match text_of(alloc, task, losses, cuts, found.as_slice(), out) {
+        Ok(explored) => Ok(explored),
+        Err(_error) => Err(Refusal::of_memory()),
+    }
+}
+
+/// The first failing case at some cuts, told as a text.
+fn first_told<G: Gate>(
+    alloc: Global,
+    gate: &G,
+    task: &Task<'_>,
+    losses: AnyLosses,
+    cuts: &[u32],
+    out: &mut Option<LeftOut>,
+) -> Result<Explored, Refusal>
+    requires cuts { cuts.now ≡ case_cuts losses task.now.options.now.cuts task.now.log.now }
+    requires within { All (λ cut. cut ≤ length task.now.log.now.entries) cuts.now }
+    requires verified { AreFor task.now.options.now.sectors task.now.checkers.now }
+    requires first { task.now.options.now.first ≡ true }
+    ensures told { IfOk result (λ e. TellsFirst losses task.now.options.now task.now.log.now task.now.checkers.now e.bytes.items e.failing) }
+    ensures refused { IfErr result (RefusesFor losses task.now) }
+{
+    let sought = first_at(alloc, gate, task, losses, cuts)?;
+    match sought_text_of(alloc, task, losses, cuts, &sought, out) {
+        Ok(explored) => Ok(explored),
+        Err(_error) => Err(Refusal::of_memory()),
+    }
+}
+
+/// The failing cases of a task, told as a text; or the first of them alone, where that is asked for. Where none fails, it is found how
+/// many were left out.
+pub(crate) fn told_cases<G: Gate>(
+    alloc: Global,
+    gate: &G,
+    task: &Task<'_>,
+    losses: AnyLosses,
+    out: &mut Option<LeftOut>,
 ) -> Result<Explored, Refusal>
     requires verified { AreFor task.now.options.now.sectors task.now.checkers.now }
-    ensures told { IfOk result (λ e. TellsCases losses task.now.options.now task.now.log.now task.now.checkers.now e.bytes.items e.failing) }
+    ensures told { IfOk result (λ e. TellsLosses task.now.options.now.first losses task.now.options.now task.now.log.now task.now.checkers.now e.bytes.items e.failing) }
     ensures refused { IfErr result (RefusesFor losses task.now) }
 {
     let cuts = match cuts_of_cases(alloc, task, losses) {
         Ok(cuts) => cuts,
         Err(_error) => return Err(Refusal::of_memory()),
     };
-    let found = cases_at(alloc, task, losses, cuts.as_slice())?;
-    match text_of(alloc, task, losses, cuts.as_slice(), found.as_slice()) {
-        Ok(explored) => Ok(explored),
-        Err(_error) => Err(Refusal::of_memory()),
+    if task.options.first() {
+        return first_told(alloc, gate, task, losses, cuts.as_slice(), out);
     }
+    all_told(alloc, gate, task, losses, cuts.as_slice(), out)
 }

@@ -297,7 +297,7 @@ fn report_of(alloc: Global, findings: &Findings<'_>) -> Result<Vec<u8>, AllocErr
     }
 }
 
-/// In which form it is told why programs fail.
+/// The form in which it is told why programs fail.
 #[derive(Clone, Copy)]
 pub(crate) enum Form {
     /// As a text.
@@ -532,7 +532,7 @@ fn make_run<G: Gate + Sync, R: Threads + Wait + Sync>(
                 options,
                 span: span_of(question, images),
             };
-            told_cases(alloc, &task, losses)
+            told_cases(alloc, gate, &task, losses, &mut facts.left_out)
         }
     }
 }

@@ -6,7 +6,7 @@ ghost use Rattle.runs.specs.Inputs.{with_byte, file_bytes, inputs_number, number
 
 use request::Extent;
 
-/// By which the bytes of the inputs are joined to one number.
+/// The factor by which the bytes of the inputs are joined to one number.
 const INPUT_FACTOR: u64 = 1_099_511_628_211;
 
 /// A number with one more byte.

@@ -1,9 +1,9 @@
 //! What is noticed of programs, and what cases tell: laws, by functions that do nothing.
 
-ghost use Rattle.runs.specs.AnyLoss.{AnyLossIsTold};
+ghost use Rattle.runs.specs.AnyLoss.{AnyLossIsTold, ToldCasesFail};
 ghost use Rattle.runs.specs.Blind.{BlindProgramsPass};
 
-use case_runs::losses_are_judged;
+use case_runs::{losses_are_judged, their_images_fail};
 use checker::agreeing_devices_are_judged_alike;
 use images::{covering_tells, images_are_devices};
 use workers::lines_are_set;
@@ -26,4 +26,11 @@ pub fn any_loss_is_told()
     ensures { AnyLossIsTold }
 {
     losses_are_judged();
+}
+
+/// On each image of a failing case that the text tells of its program fails, and ends as the case says.
+pub fn told_cases_fail()
+    ensures { ToldCasesFail }
+{
+    their_images_fail();
 }

@@ -18,7 +18,7 @@
 //! | `run_with(rt, alloc, gate, question, facts)` | one of the four, or the failing cases of any number of losses (`case_command.rt`), by what is wanted |
 //! | `cure_run(rt, alloc, gate, question, facts)` | where flushes are missing, and what is left with them, run by run (`curing.rt`) |
 //! | `blind_programs_pass()` | a law, by a function that does nothing: what it means that a program is blind (`blind.rt`) |
-//! | `any_loss_is_told()` | a law: on which images of any cut a program fails, by the text of cases |
+//! | `any_loss_is_told()`, `told_cases_fail()` | laws: on which images of any cut a program fails, by the text of cases |
 //!
 //! # What is proved
 //!
@@ -42,9 +42,12 @@
 //!
 //! Where cases are wanted, one thread looks for them at the cuts of `specs/CaseCuts.antt`: at the last ones of the range and its end, or at
 //! each that is wanted where not all cuts are or `--at-most` is given. The answer has each failing case of each program, and no other
-//! (`IsCases` in `specs/Cases.antt`). The run is refused at the cut with which there are more than 16,777,216 cases. The law
+//! (`IsCases` in `specs/Cases.antt`). The run is refused at the cut with which there are more than 16,777,216 cases. With the option
+//! `first` the answer has the first of them alone, or where none fails that of all (`TellsFirst`); it is refused where none of the first
+//! 16,777,216 cases fails, and there are more. The gate is told of each run of a program and of each case, as of a block. The law
 //! `any_loss_is_told` says what this means where all cuts are wanted, and nothing bounds the losses: each image of any cut on which a
-//! program fails, with as few torn parts as is asked, is one of a failing case that is told.
+//! program fails, with as few torn parts as is asked, is one of a failing case that is told. The law `told_cases_fail` says the other
+//! direction: on each image of a case that is told its program fails, and ends as the case says.
 //!
 //! What `run_with` and `cure_run` find for the notes is that of `specs/Finds.antt`: of the log how many entries no image loses as a
 //! whole and how many have FUA, of each program that is verified what no run reaches, and of a refused one the instruction and what is
@@ -83,6 +86,10 @@
 //! // program 0 slots 2 limit 2
 //! // images 1 failing 0 lines 0
 //! ```
+//!
+//! # Choices
+//!
+//! - `hits` of `explore_with` has no clause: what lies under a lock no contract names; tests show it.
 #![tactic(auto)]
 
 mod basis;
@@ -100,4 +107,4 @@ mod task;
 
 pub use curing::cure_run;
 pub use explore_command::{Explored, Question, Wanted, explore, explore_with, page, run_with, why};
-pub use laws::{any_loss_is_told, blind_programs_pass};
+pub use laws::{any_loss_is_told, blind_programs_pass, told_cases_fail};

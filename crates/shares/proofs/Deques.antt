@@ -41,15 +41,15 @@ none_held [] zero e = (refl, refl)
 none_held [] (suc m) e = absurd (omega (arith, ap length e))
 none_held (b ∷ bs) m e = absurd (omega (arith, ap length e))
 
-block_behind : (waiting : List ℕ) (marks b : ℕ) → marks ≡ 0 → blocks_and_marks waiting marks ++ Block b ∷ [] ≡ blocks_and_marks (waiting ++ b ∷ []) marks
-block_behind [] zero b e = refl
-block_behind [] (suc m) b e = absurd (omega (arith, e))
-block_behind (x ∷ xs) marks b e = ap (λ (hs : List Held). Block x ∷ hs) (block_behind xs marks b e)
+block_beyond : (waiting : List ℕ) (marks b : ℕ) → marks ≡ 0 → blocks_and_marks waiting marks ++ Block b ∷ [] ≡ blocks_and_marks (waiting ++ b ∷ []) marks
+block_beyond [] zero b e = refl
+block_beyond [] (suc m) b e = absurd (omega (arith, e))
+block_beyond (x ∷ xs) marks b e = ap (λ (hs : List Held). Block x ∷ hs) (block_beyond xs marks b e)
 
-mark_behind : (waiting : List ℕ) (marks : ℕ) → blocks_and_marks waiting marks ++ Mark ∷ [] ≡ blocks_and_marks waiting (marks + 1)
-mark_behind [] zero = refl
-mark_behind [] (suc m) = let more : suc m + 1 ≡ suc (m + 1) = omega arith in rw more (ap (λ (hs : List Held). Mark ∷ hs) (mark_behind [] m))
-mark_behind (x ∷ xs) marks = ap (λ (hs : List Held). Block x ∷ hs) (mark_behind xs marks)
+mark_beyond : (waiting : List ℕ) (marks : ℕ) → blocks_and_marks waiting marks ++ Mark ∷ [] ≡ blocks_and_marks waiting (marks + 1)
+mark_beyond [] zero = refl
+mark_beyond [] (suc m) = let more : suc m + 1 ≡ suc (m + 1) = omega arith in rw more (ap (λ (hs : List Held). Mark ∷ hs) (mark_beyond [] m))
+mark_beyond (x ∷ xs) marks = ap (λ (hs : List Held). Block x ∷ hs) (mark_beyond xs marks)
 
 -- what stands at the front of a deque is its first block, or a mark where there is no block
 pub record BlockFirst (waiting : List ℕ) (marks : ℕ) (x : Held) (items : List Held) : Type 0 where
@@ -304,7 +304,7 @@ takes_in blocks workers id v block owner_is some_part unmarked lower items ports
         given = h.given;
         waiting = h.waiting ++ block ∷ [];
         marks = h.marks;
-        holding = ap (λ (hs : List Held). hs ++ Block block ∷ []) h.holding ∙ block_behind h.waiting h.marks block no_marks;
+        holding = ap (λ (hs : List Held). hs ++ Block block ∷ []) h.holding ∙ block_beyond h.waiting h.marks block no_marks;
         some_port = omega (arith, length_set ports id after, h.some_port);
         in_order = λ owner there. ⊎_elim
             (λ (x : (0 ≡ id) × (after ≡ owner)). ap (λ (p : Port). p.pushed) (sym x.1) ∙ ap (λ (l : List ℕ). l ++ block ∷ []) (h.in_order v here) ∙ append_assoc h.given h.waiting (block ∷ []))
@@ -333,7 +333,7 @@ takes_mark blocks workers id v owner_is some_part items ports h at =
         given = h.given;
         waiting = h.waiting;
         marks = h.marks + 1;
-        holding = ap (λ (hs : List Held). hs ++ Mark ∷ []) h.holding ∙ mark_behind h.waiting h.marks;
+        holding = ap (λ (hs : List Held). hs ++ Mark ∷ []) h.holding ∙ mark_beyond h.waiting h.marks;
         some_port = omega (arith, length_set ports id after, h.some_port);
         in_order = same_owner (λ (p : Port). p.pushed) ports id v after (h.given ++ h.waiting) at refl h.in_order;
         each_once = λ x. omega (arith, total_set (λ (p : Port). times x p.got) ports id v after at, h.each_once x);
@@ -424,7 +424,7 @@ merges blocks workers id v other w owner_is some_part items ports h at apart the
 -- a deque that is emptied into a list
 pub record IsDraining (blocks : ℕ) (first : DequeValue) (before : List ℕ) (now : DequeValue) (after : List ℕ) : Type 0 where
   pub left : List ℕ
-  pub behind : after ≡ before ++ left
+  pub beyond : after ≡ before ++ left
   pub same : now ≡ with_got first left
   pub below : Below blocks left
   pub closed : 0 < first.marks_got → left ≡ []
@@ -432,7 +432,7 @@ pub record IsDraining (blocks : ℕ) (first : DequeValue) (before : List ℕ) (n
 pub draining_begins : (blocks : ℕ) (first : DequeValue) (before : List ℕ) → IsDraining blocks first before first before
 draining_begins blocks first before = record {
   left = [];
-  behind = sym (append-nil before);
+  beyond = sym (append-nil before);
   same = ap (λ (got : List ℕ). deque_value first.name (port first.parts first.pushed got first.marks_pushed first.marks_got)) (sym (append-nil first.got));
   below = λ i d within. absurd (omega (arith, within));
   closed = λ some_mark. refl;
@@ -442,7 +442,7 @@ pub draining_next : (blocks : ℕ) (first now next : DequeValue) (before after l
     → longer ≡ after ++ block ∷ [] → block < blocks → now.marks_got ≡ 0 → IsDraining blocks first before next longer
 draining_next blocks first now next before after longer block h is pushed lower unmarked = record {
   left = h.left ++ block ∷ [];
-  behind = pushed ∙ ap (λ (l : List ℕ). l ++ block ∷ []) h.behind ∙ append_assoc before h.left (block ∷ []);
+  beyond = pushed ∙ ap (λ (l : List ℕ). l ++ block ∷ []) h.beyond ∙ append_assoc before h.left (block ∷ []);
   same = is ∙ ap (λ (d : DequeValue). with_got d (block ∷ [])) h.same
       ∙ ap (λ (got : List ℕ). deque_value first.name (port first.parts first.pushed got first.marks_pushed first.marks_got)) (append_assoc first.got h.left (block ∷ []));
   below = All-append (λ (x : ℕ). x < blocks) h.left (block ∷ []) h.below (one_below blocks block lower);
@@ -452,7 +452,7 @@ draining_next blocks first now next before after longer block h is pushed lower 
 pub draining_ends : (blocks : ℕ) (first now : DequeValue) (before after : List ℕ) → IsDraining blocks first before now after → IsAllGot now.pushed now.got → AddsLeft blocks first before after
 draining_ends blocks first now before after h all = record {
   left = h.left;
-  behind = h.behind;
+  beyond = h.beyond;
   together = λ x. omega (arith, ap (λ (d : DequeValue). times x d.pushed) h.same, ap (λ (d : DequeValue). times x d.got) h.same, all x, times_append x first.got h.left);
   below = h.below;
   closed = h.closed;

@@ -152,13 +152,13 @@ module _ (names : List DequeName) (made : ℕ) (deques : List DequeValue) (other
   others_here : others_at names (length names - 1 - made) ≡ h.served ++ rest
   others_here =
       let place : length names - 1 - made ≡ length rest = omega (arith, ap length names_split, length-append rest (own ∷ h.served), h.count) in
-      let behind : drop (length rest + 1) (rest ++ (own ∷ h.served)) ≡ h.served = behind_one rest in
+      let beyond : drop (length rest + 1) (rest ++ (own ∷ h.served)) ≡ h.served = after_one rest in
       let front : take (length rest) (rest ++ (own ∷ h.served)) ≡ rest = take-append_seam rest (own ∷ h.served) in
-      ap (others_at names) place ∙ ap (λ ns. others_at ns (length rest)) names_split ∙ (λ i. behind i ++ front i)
+      ap (others_at names) place ∙ ap (λ ns. others_at ns (length rest)) names_split ∙ (λ i. beyond i ++ front i)
     where
-      behind_one : (xs : List DequeName) → drop (length xs + 1) (xs ++ (own ∷ h.served)) ≡ h.served
-      behind_one [] = refl
-      behind_one (x ∷ xs) = let more : length (x ∷ xs) + 1 ≡ suc (length xs + 1) = omega arith in rw more (behind_one xs)
+      after_one : (xs : List DequeName) → drop (length xs + 1) (xs ++ (own ∷ h.served)) ≡ h.served
+      after_one [] = refl
+      after_one (x ∷ xs) = let more : length (x ∷ xs) + 1 ≡ suc (length xs + 1) = omega arith in rw more (after_one xs)
 
   pub dealing_next : (after turned : List DequeValue) (own_others : List OtherValue) → after ≡ map with_less (take (length deques - 1) deques) ++ drop (length deques - 1) deques
       → turned ≡ drop (length after - 1) after ++ take (length after - 1) after → own_others ≡ map (λ (d : DequeValue). new_other d.name) (take (length deques - 1) deques)
@@ -520,12 +520,12 @@ module _ (first : List DequeValue) (all : List (List OtherValue)) (deques : List
       let is : map (λ (o : OtherValue). o.name) own ≡ others_at (map (λ (d : DequeValue). d.name) first) (length front) = names (length front) (map (λ (o : OtherValue). o.name) own) (rw all_split (own_there front)) in
       let place : length front ≡ length (map (λ (d : DequeValue). d.name) wait) = sym wait_count ∙ sym (length_names wait) in
       is ∙ (λ i. others_at (first_split i) (place i))
-      ∙ (λ i. behind (map (λ (d : DequeValue). d.name) wait) i ++ take-append_seam (map (λ (d : DequeValue). d.name) wait) (its.name ∷ map (λ (d : DequeValue). d.name) h.back) i)
+      ∙ (λ i. beyond (map (λ (d : DequeValue). d.name) wait) i ++ take-append_seam (map (λ (d : DequeValue). d.name) wait) (its.name ∷ map (λ (d : DequeValue). d.name) h.back) i)
       ∙ sym (map-append (λ (d : DequeValue). d.name) h.back wait)
     where
-      behind : (xs : List DequeName) → drop (length xs + 1) (xs ++ (its.name ∷ map (λ (d : DequeValue). d.name) h.back)) ≡ map (λ (d : DequeValue). d.name) h.back
-      behind [] = refl
-      behind (x ∷ xs) = let more : length (x ∷ xs) + 1 ≡ suc (length xs + 1) = omega arith in rw more (behind xs)
+      beyond : (xs : List DequeName) → drop (length xs + 1) (xs ++ (its.name ∷ map (λ (d : DequeValue). d.name) h.back)) ≡ map (λ (d : DequeValue). d.name) h.back
+      beyond [] = refl
+      beyond (x ∷ xs) = let more : length (x ∷ xs) + 1 ≡ suc (length xs + 1) = omega arith in rw more (beyond xs)
 
   back_split : deques ≡ (h.back ++ wait) ++ its ∷ []
   back_split = h.deques_are ∙ ap (λ ds. h.back ++ ds) wait_is ∙ sym (append_assoc h.back wait (its ∷ []))
@@ -626,13 +626,13 @@ module _ (first : List DequeValue) (all : List (List OtherValue)) (deques : List
 -- what is left in deques
 
 pub nothing_left : (blocks : ℕ) (list : List ℕ) → AddsAllLeft blocks [] list list
-nothing_left blocks list = record { left = []; behind = sym (append-nil list); together = λ x. refl; below = All-nil (λ (x : ℕ). x < blocks); closed = λ none. refl }
+nothing_left blocks list = record { left = []; beyond = sym (append-nil list); together = λ x. refl; below = All-nil (λ (x : ℕ). x < blocks); closed = λ none. refl }
 
 pub left_next : (blocks : ℕ) (deques : List DequeValue) (deque : DequeValue) (first before after : List ℕ) → AddsAllLeft blocks deques first before → AddsLeft blocks deque before after
     → AddsAllLeft blocks (deques ++ deque ∷ []) first after
 left_next blocks deques deque first before after h own = record {
   left = h.left ++ own.left;
-  behind = own.behind ∙ ap (λ xs. xs ++ own.left) h.behind ∙ append_assoc first h.left own.left;
+  beyond = own.beyond ∙ ap (λ xs. xs ++ own.left) h.beyond ∙ append_assoc first h.left own.left;
   together = λ x. omega (arith, h.together x, own.together x, times_append x h.left own.left, total_snoc (λ (d : DequeValue). times x d.pushed) deques deque, total_snoc (λ (d : DequeValue). times x d.got) deques deque);
   below = All-append (λ (x : ℕ). x < blocks) h.left own.left h.below own.below;
   closed = λ none.
@@ -645,7 +645,7 @@ left_next blocks deques deque first before after h own = record {
 pub all_left : (blocks workers : ℕ) (hands : List HandValue) (lists : List ℕ) (deques whole : List DequeValue) (others : List (List OtherValue)) (left : List ℕ)
     → AreApart hands lists deques others → AreWhole workers deques others whole → AddsAllLeft blocks whole lists left → AreLeft hands left
 all_left blocks workers hands lists deques whole others left a w l = record {
-  together = λ x. omega (arith, a.lists x, a.pushed x, a.got x, w.pushed x, w.got x, l.together x, ap (times x) l.behind, times_append x lists l.left);
+  together = λ x. omega (arith, a.lists x, a.pushed x, a.got x, w.pushed x, w.got x, l.together x, ap (times x) l.beyond, times_append x lists l.left);
 }
 
 -- where all hands are shut, nothing is left
@@ -654,7 +654,7 @@ pub none_left : (blocks workers : ℕ) (hands : List HandValue) (lists : List �
 none_left blocks workers hands lists deques whole others left a w l all =
     let shut = a.closed all in
     let none = l.closed (omega (arith, shut.1, w.closed)) in
-    l.behind ∙ (λ i. shut.0 i ++ none i)
+    l.beyond ∙ (λ i. shut.0 i ++ none i)
 
 -- what hands say together
 

@@ -66,7 +66,7 @@ late_numbers : (more blocks : ℕ) (steps : List SeatStep) → ((b : ℕ) → b 
 late_numbers zero blocks steps once = omega arith
 late_numbers (suc more) blocks steps once =
     let here : draws blocks steps ≡ 1 = once blocks (omega arith) in
-    let behind = late_numbers more (blocks + 1) steps (λ b lt. once b (omega arith)) in
+    let beyond = late_numbers more (blocks + 1) steps (λ b lt. once b (omega arith)) in
     omega (arith, late_draws_from blocks steps)
 
 pub seen_within : (blocks next : ℕ) (steps : List SeatStep) → blocks ≤ next → DrewBelow next (λ b. draws b steps) → next_seen steps ≤ next → next_seen steps ≤ blocks + late_draws blocks steps

@@ -74,7 +74,7 @@ pub record AreWhole (workers : ℕ) (before : List DequeValue) (others : List (L
 -- what deques pushed and did not get is after the list now
 pub record AddsAllLeft (blocks : ℕ) (deques : List DequeValue) (before after : List ℕ) : Type 0 where
   pub left : List ℕ
-  pub behind : after ≡ before ++ left
+  pub beyond : after ≡ before ++ left
   pub together : (x : ℕ) → total (λ (d : DequeValue). times x d.pushed) deques ≡ total (λ (d : DequeValue). times x d.got) deques + times x left
   pub below : All (λ (x : ℕ). x < blocks) left
   pub closed : unmarked_count deques ≡ 0 → left ≡ []

@@ -36,7 +36,7 @@ other_value name got marks_got = record { name = name; got = got; marks_got = ma
 -- what was pushed and not got is after the list now, each as often
 pub record AddsLeft (blocks : ℕ) (deque : DequeValue) (before after : List ℕ) : Type 0 where
   pub left : List ℕ
-  pub behind : after ≡ before ++ left
+  pub beyond : after ≡ before ++ left
   pub together : (x : ℕ) → times x deque.pushed ≡ times x deque.got + times x left
   pub below : All (λ (x : ℕ). x < blocks) left
   -- all blocks were given out before a mark

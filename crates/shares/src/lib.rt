@@ -123,6 +123,38 @@
 //! own.close()                             // true
 //! own.rest()                              // None
 //! ```
+//!
+//! # Choices
+//!
+//! - A seat that has drawn none keeps that it has ended, and makes no further step in `draw`: the word of the next
+//!   block then can't wrap, however often `draw` is called.
+//! - The number of blocks of a deque's rule stands in a type parameter of the hands (`Deal`), and `take` asks that
+//!   its board has as many: the rule is a part of the deque's type; the board is an argument of each call.
+//! - What a hand popped and what it stole are one list in contracts, in no order of time: a clause says how often it
+//!   got each block, and no caller asks where from.
+//! - A worker asks its hand at most as often as there are blocks, and then draws alone: its loop ends without a law
+//!   on what a stealer gets; no hand gives more, since it gives each block once.
+//! - Blocks of a hand's own list are taken from its front: they rise, as those of its deque do, and with `--first`
+//!   lower images are judged first.
+//!
+//! # How it is proved
+//!
+//! - A board under `atomic_table` has one list of steps in the view, and sums, greatest and least over it. Each has
+//!   lemmas for one step more, for two lists, and for one view changed, by recursion and `omega`
+//!   (`shares/proofs/Lists.antt`). One lemma for all kinds of step (`moved` in `shares/proofs/Moves.antt`) takes the
+//!   step, the words after it, and how it counts.
+//! - **What an empty deque tells lasts only by marks.** A pop that finds it empty tells a fact of its own port, and
+//!   changes none, so no later moment knows of it. An owner that pushes no more pushes closing marks instead, one for
+//!   each worker. A stealer may get as many as it has parts, one, so together they get fewer, and the owner finds
+//!   one. The rule over items is 'blocks, and that many marks after them' (`blocks_and_marks`): what stands in front
+//!   is a block or a mark by one lemma (`front` in `shares/proofs/Deques.antt`), and each kind of step is one record.
+//! - What a step tells is a word by cases over the list of what left (`Pops`, `Steals`, `Drains` in
+//!   `shares/specs/Deques.antt`). It computes in the arms of a `match` on the answer, so these arms need no answer by
+//!   hand.
+//! - 'Each has a mark' over a list that is turned and merged is a sum (`unmarked_count`): it stays at 0 by the same
+//!   lemmas as the other sums.
+//! - A part with a Model of its own (`Other` in `shares/src/owned.rt`, seen as its port) keeps clauses over a vector
+//!   of such parts short (`flat_map (λ o. o.got)`).
 #![tactic(auto)]
 
 mod board;

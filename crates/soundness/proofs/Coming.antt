@@ -17,7 +17,7 @@ use Rattle.bpf_shape.specs.Rules.{IsShaped}
 use Rattle.bpf_shape.specs.Laws.{AgainHasForm}
 use Rattle.bpf_shape.proofs.Kept.{at_past}
 use Rattle.bpf_shape.proofs.Ranges.{any_at}
-use Rattle.soundness.proofs.Halves.{half_behind}
+use Rattle.soundness.proofs.Halves.{half_after}
 
 pub inside : (program : List (Option Instr)) (s : ℕ) (i : Instr) → at program s ≡ Some i → s < length program
 inside program s i there =
@@ -68,7 +68,7 @@ next_is program s t (instr.LoadImmediate dst x) j p there e before =
     let found : Some (s + 2) ≡ Some t = e in
     let same : s + 2 ≡ t = cc in
     let place : t - 1 ≡ suc s = omega (arith, same) in
-    let none : at program (t - 1) ≡ None = rw place (half_behind program s dst x p there) in
+    let none : at program (t - 1) ≡ None = rw place (half_after program s dst x p there) in
     let bad : None ≡ Some j = sym none ∙ before in
     absurd (cc)
 next_is program s t i j p there e before =

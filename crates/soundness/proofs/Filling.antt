@@ -11,7 +11,7 @@ use Rattle.ranges.specs.States.{Abstract}
 use Rattle.ranges.specs.Order.{Each}
 use Rattle.soundness.specs.Meaning.{Means, GroupMeans, CoversFrame, frame_number, last_stack, bare}
 use Rattle.soundness.specs.Machines.{IsStack, first_caller, IsMachine}
-use Rattle.soundness.specs.Callers.{registers_behind, Waits, AreWaiting}
+use Rattle.soundness.specs.Callers.{registers_after, Waits, AreWaiting}
 use Rattle.soundness.specs.Laws.{IsKnown}
 
 -- stacks
@@ -72,7 +72,7 @@ waits_filled program sectors table frame entry enters stack c w = record {
   registers = w.registers;
   known = w.known;
   listed = w.listed;
-  covers = λ x lt. frame_filled sectors frame w.known (registers_behind c x) stack (w.covers x lt);
+  covers = λ x lt. frame_filled sectors frame w.known (registers_after c x) stack (w.covers x lt);
 }
 
 waiting_filled : (program : List (Option Instr)) (sectors : ℕ) (table : List (Option Abstract)) (frame entry : ℕ) (frames : List Frame) (slot : ℕ)

@@ -15,7 +15,7 @@ use Rattle.ranges.specs.Order.{Each}
 use Rattle.soundness.specs.Machines.{AreRegisters, IsStack, first_caller, IsMachine}
 use Rattle.soundness.specs.Callers.{Waits, AreWaiting}
 use Rattle.soundness.proofs.Standing.{Parts, machine, frames_of, all_frames, number_is}
-use Rattle.soundness.proofs.Programs.{behind_call}
+use Rattle.soundness.proofs.Programs.{after_call}
 
 -- the last frame of a list
 
@@ -124,9 +124,9 @@ module _ (program : List (Option Instr)) (sectors : ℕ) (table : List (Option A
     pub waits : Waits program sectors table n from enters f.stack c
     pub waiting : AreWaiting program sectors table frame entry (below ++ f ∷ []) c.slot
 
-  behind : (n from enters : ℕ) (stack : List (Option ℕ)) (c : Caller) → Waits program sectors table n from enters stack c → Reaches (control program) from c.slot
-  behind n from enters stack c w =
-      rw w.back (reaches_more (control program) from w.call (w.call + 1) w.reached (behind_call program w.call enters w.calls))
+  beyond : (n from enters : ℕ) (stack : List (Option ℕ)) (c : Caller) → Waits program sectors table n from enters stack c → Reaches (control program) from c.slot
+  beyond n from enters stack c w =
+      rw w.back (reaches_more (control program) from w.call (w.call + 1) w.reached (after_call program w.call enters w.calls))
 
   pub waiting_popped : (frame entry n : ℕ) (below : List Frame) (f g : Frame) (c : Caller) (slot : ℕ) → n ≡ frame + length below
       → AreWaiting program sectors table frame entry ((below ++ f ∷ []) ++ g ∷ []) slot → g.caller ≡ Some c → Popped frame entry n below f c
@@ -136,7 +136,7 @@ module _ (program : List (Option Instr)) (sectors : ℕ) (table : List (Option A
       let same : w.0 ≡ c = cc in
       let one : Waits program sectors table n entry w.1 f.stack w.0 = subst (λ (k : ℕ). Waits program sectors table k entry w.1 f.stack w.0) here w.3 in
       let two : Waits program sectors table n entry w.1 f.stack c = subst (λ (d : Caller). Waits program sectors table n entry w.1 f.stack d) same one in
-      record { from = entry; enters = w.1; waits = two; waiting = behind n entry w.1 f.stack c two }
+      record { from = entry; enters = w.1; waits = two; waiting = beyond n entry w.1 f.stack c two }
   waiting_popped frame entry n (a ∷ []) f g c slot place w e =
       let p = waiting_popped (frame + 1) w.1 n [] f g c slot (omega (arith, place)) w.4 e in
       record { from = p.from; enters = p.enters; waits = p.waits; waiting = (w.0, w.1, w.2, w.3, p.waiting) }

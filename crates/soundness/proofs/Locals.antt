@@ -30,13 +30,13 @@ use Rattle.ranges.specs.After.{after_answer, after_with}
 use Rattle.ranges.specs.Passing.{passes, argument_kind, entry_state, passed_with}
 use Rattle.soundness.specs.Meaning.{Means, GroupMeans, CoversFrame}
 use Rattle.soundness.specs.Machines.{AreRegisters, IsStack, first_caller, IsMachine}
-use Rattle.soundness.specs.Callers.{registers_behind, AreWaiting}
+use Rattle.soundness.specs.Callers.{registers_after, AreWaiting}
 use Rattle.soundness.specs.Laws.{IsKnown, Enters, Returns, IsCovered}
 use Rattle.soundness.proofs.Checks.{pass_one, pass_two, two_tell, tested_passes}
 use Rattle.soundness.proofs.Meanings.{word_in}
 use Rattle.soundness.proofs.Standing.{Parts, machine, number, frames_of, all_frames, number_is, last_is, Stands, covers_machine, answered_stands, reads_set}
 use Rattle.soundness.proofs.Computing.{Site}
-use Rattle.soundness.proofs.Programs.{callee_is, behind_call, entry_begins, no_entry, no_limit_behind}
+use Rattle.soundness.proofs.Programs.{callee_is, after_call, entry_begins, no_entry, no_limit_after}
 use Rattle.soundness.proofs.Frames.{split_last, caller_is, without_last, length_of, each_below, each_pushed, first_pushed, waiting_popped, alone, not_deeper}
 
 -- the stack of a new frame
@@ -133,7 +133,7 @@ eleven (a ∷ b ∷ c ∷ d ∷ f ∷ g ∷ h ∷ i ∷ j ∷ k ∷ l ∷ q ∷ 
 
 -- the frame that waits, after its call
 restored_stands : (sectors : ℕ) (known : Abstract) (m : Parts) (x : ℕ) → Site sectors known m → x < 2 ^ 64
-    → Stands sectors (number m) (after_answer known (Num any_word)) (registers_behind (saved_caller (machine m)) x) m.stack
+    → Stands sectors (number m) (after_answer known (Num any_word)) (registers_after (saved_caller (machine m)) x) m.stack
 restored_stands sectors known m x site lt =
     let word : Means sectors (number m) (Num any_word) (Some x) = (x, refl, word_in 0 (2 ^ 64 - 1) x (omega arith) (omega arith) (omega (arith, lt))) in
     subst (λ (rs : List (Option ℕ)). Stands sectors (number m) (after_answer known (Num any_word)) rs m.stack) (eleven m.registers x site.stands.words.long)
@@ -206,16 +206,16 @@ has_below (f ∷ rest) caller stack c none e = omega arith
 -- the machine after the call, where the frames below the one that ends are these
 returned : (program : List (Option Instr)) (sectors : ℕ) (table : List (Option Abstract)) (m : Parts) (below : List Frame) (f : Frame) (c : Caller) (x : ℕ)
     → IsShaped program → IsMachine (machine m) → AreWaiting program sectors table 0 0 (all_frames m) m.slot → m.below ≡ below ++ f ∷ [] → m.caller ≡ Some c → x < 2 ^ 64
-    → IsKnown program sectors table (record { slot = c.slot; registers = registers_behind c x; frames = below ++ f ∷ []; turns = m.turns; codes = m.codes })
+    → IsKnown program sectors table (record { slot = c.slot; registers = registers_after c x; frames = below ++ f ∷ []; turns = m.turns; codes = m.codes })
 returned program sectors table m below f c x shaped whole waiting is called lt =
     let g : Frame = record { stack = m.stack; caller = m.caller } in
     let there : AreWaiting program sectors table 0 0 ((below ++ f ∷ []) ++ g ∷ []) m.slot =
     subst (λ (fs : List Frame). AreWaiting program sectors table 0 0 (fs ++ g ∷ []) m.slot) is waiting in
     let p = waiting_popped program sectors table 0 0 (length below) below f g c m.slot (omega arith) there called in
     let w = p.waits in
-    let leads : Leads (control program w.call) c.slot = subst (λ (s : ℕ). Leads (control program w.call) s) (sym w.back) (behind_call program w.call p.enters w.calls) in
+    let leads : Leads (control program w.call) c.slot = subst (λ (s : ℕ). Leads (control program w.call) s) (sym w.back) (after_call program w.call p.enters w.calls) in
     let known : Abstract = w.known in
-    let covers : CoversFrame sectors (length below) known (registers_behind c x) f.stack = w.covers x lt in
+    let covers : CoversFrame sectors (length below) known (registers_after c x) f.stack = w.covers x lt in
     let had = length_of m.below g in
     let same : length m.below ≡ length (below ++ f ∷ []) = ap (λ (fs : List Frame). length fs) is in
     let has = length_of below f in
@@ -235,7 +235,7 @@ returned program sectors table m below f c x shaped whole waiting is called lt =
       };
       limit = λ k again set.
           let before : limit_before program (w.call + 1) ≡ Some k = ap (λ (s : ℕ). limit_before program s) (sym w.back) ∙ set in
-          absurd (no_limit_behind program w.call p.enters k w.calls before);
+          absurd (no_limit_after program w.call p.enters k w.calls before);
       here = edges_begin program shaped.targets shaped.ends w.call c.slot leads;
       waiting = p.waiting;
     }
@@ -272,13 +272,13 @@ exit_set program context device sectors table m arrivals shaped words whole wait
     by (Some c) e =
         let split = split_last m.below (has_below m.below m.caller m.stack c whole.outermost e) in
         let g : Frame = record { stack = m.stack; caller = m.caller } in
-        let to : State = record { slot = c.slot; registers = registers_behind c x; frames = split.below ++ split.last ∷ []; turns = m.turns; codes = m.codes } in
+        let to : State = record { slot = c.slot; registers = registers_after c x; frames = split.below ++ split.last ∷ []; turns = m.turns; codes = m.codes } in
         let known_there = returned program sectors table m split.below split.last c x shaped whole waiting split.is e small in
         let frames : take (length (all_frames m) - 1) (all_frames m) ≡ split.below ++ split.last ∷ [] = without_last m.below g ∙ split.is in
         let list_passes = pass_two fault.UnsetRegister fault.NoInstruction (list_all (λ r. is_some (get_or m.registers r None)) (0 ∷ [])) (is_some (at program c.slot)) reads known_there.here in
         let same : exit_frame (machine m) (Some c) ≡ Next to =
         ap (λ (r : Option ℕ). Next (record { slot = c.slot; registers = r ∷ None ∷ None ∷ None ∷ None ∷ None ∷ c.registers; frames = take (length (all_frames m) - 1) (all_frames m); turns = m.turns; codes = m.codes })) there
-        ∙ ap (λ (fs : List Frame). Next (record { slot = c.slot; registers = registers_behind c x; frames = fs; turns = m.turns; codes = m.codes })) frames in
+        ∙ ap (λ (fs : List Frame). Next (record { slot = c.slot; registers = registers_after c x; frames = fs; turns = m.turns; codes = m.codes })) frames in
         let had = length_of m.below g in
         let shorter : length m.below ≡ length (split.below ++ split.last ∷ []) = ap (λ (fs : List Frame). length fs) split.is in
         let returns : Returns program sectors table (machine m) to = record {

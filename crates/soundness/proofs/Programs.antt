@@ -257,9 +257,9 @@ unfolding callee callee_of
 callee_is program s distance e = ap (λ (o : Option Instr). option_and_then (callee_of s) o) e
 
 -- control goes on after it
-pub behind_call : (program : List (Option Instr)) (s t : ℕ) → callee program s ≡ Some t → Leads (control program s) (s + 1)
+pub after_call : (program : List (Option Instr)) (s t : ℕ) → callee program s ≡ Some t → Leads (control program s) (s + 1)
 unfolding edges_of
-behind_call program s t e =
+after_call program s t e =
     let call = callee_there program s t e in
     leads_at program s (s + 1) (instr.CallLocal call.distance) call.there (inl refl)
 
@@ -284,9 +284,9 @@ no_entry program s t shaped e calls =
     cc
 
 -- after it no limit is set
-pub no_limit_behind : (program : List (Option Instr)) (s t k : ℕ) → callee program s ≡ Some t → limit_before program (s + 1) ≡ Some k → ⊥
+pub no_limit_after : (program : List (Option Instr)) (s t k : ℕ) → callee program s ≡ Some t → limit_before program (s + 1) ≡ Some k → ⊥
 unfolding limit_of
-no_limit_behind program s t k e is =
+no_limit_after program s t k e is =
     let call = callee_there program s t e in
     let bad : None ≡ Some k = limit_is program s k (instr.CallLocal call.distance) call.there is in
     cc

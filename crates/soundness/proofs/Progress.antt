@@ -366,14 +366,14 @@ module _ (program : List (Option Instr)) (context : List ℕ) (device : List (Li
           let equal : Some c ≡ Some w.caller = sym e.caller ∙ last in
           let same : c ≡ w.caller = cc in
           let slot : t.slot ≡ w.caller.slot = e.slot ∙ ap (λ (x : Caller). x.slot) same in
-          let behind : t.slot ≡ w.call + 1 = slot ∙ w.back in
+          let beyond : t.slot ≡ w.call + 1 = slot ∙ w.back in
           let width : length t.registers ≡ 6 + length w.caller.registers = e.width ∙ ap (λ (x : Caller). 6 + length x.registers) same in
           let front : callers t.frames ≡ w.front = ap callers e.frames ∙ taken_callers s.frames w.front (Some w.caller) w.are in
           record {
             arrived = record {
               registers = (let five = w.width in omega (arith, width, five));
               counts = ap length e.counts ∙ r.arrived.counts;
-              limit = λ k calls limit. absurd (no_limit w.call k w.distance w.there (rw behind at limit));
+              limit = λ k calls limit. absurd (no_limit w.call k w.distance w.there (rw beyond at limit));
             };
             framed = record {
               number = n;
@@ -384,7 +384,7 @@ module _ (program : List (Option Instr)) (context : List ℕ) (device : List (Li
               here = rw slot w.here;
             };
             pending = 0;
-            waits = λ x test. absurd (no_test w.call x w.distance w.there (rw behind at test));
+            waits = λ x test. absurd (no_test w.call x w.distance w.there (rw beyond at test));
             total = total_of w.here.room w.under w.sum;
           }
         where

@@ -22,8 +22,8 @@ same_end (a ∷ xs) [] x y e =
 same_end (a ∷ xs) (b ∷ ys) x y e =
     let whole : a ∷ (xs ++ x ∷ []) ≡ b ∷ (ys ++ y ∷ []) = e in
     let first : a ≡ b = cc in
-    let behind : xs ++ x ∷ [] ≡ ys ++ y ∷ [] = cc in
-    let rest = same_end xs ys x y behind in
+    let beyond : xs ++ x ∷ [] ≡ ys ++ y ∷ [] = cc in
+    let rest = same_end xs ys x y beyond in
     (rw (first, rest.0) refl, rest.1)
 
 -- the last frame, and what the others saved

@@ -110,7 +110,7 @@ untouched sectors frame (Spilled k) bytes stack p g long lt m out = (
   where
     apart : (i : ℕ) → i < 8 → (8 * g + 8 ≤ p) ⊎ (p + length bytes ≤ 8 * g) → (8 * g + i < p) ⊎ (p + length bytes ≤ 8 * g + i)
     apart i small (inl before) = inl (omega (arith, small, before))
-    apart i small (inr behind) = inr (omega (arith, behind))
+    apart i small (inr beyond) = inr (omega (arith, beyond))
 
     same : number_at 8 (8 * g) (map bare (filled stack p bytes)) ≡ number_at 8 (8 * g) (map bare stack)
     same =
@@ -159,7 +159,7 @@ group_written sectors frame gk bytes stack at n g count fits long lt m = by (is_
       where
         out : (at < 8 * g + 8) ⊎ (8 * g + 8 ≤ at) → (8 * g < at + n) ⊎ (at + n ≤ 8 * g) → (8 * g + 8 ≤ at) ⊎ (at + length bytes ≤ 8 * g)
         out (inr before) other = inl before
-        out (inl near) (inr behind) = inr (omega (arith, behind, count))
+        out (inl near) (inr beyond) = inr (omega (arith, beyond, count))
         out (inl near) (inl there) = absurd (let bad : (nat_lt at (8 * g + 8) && nat_lt (8 * g) (at + n)) ≡ false = t in grind (arith, nat_tests))
 
 pub places_at : {A B : Type 0} (f : ℕ → A → B) (n : ℕ) (xs : List A) (i : ℕ) (d : A) (e : B) → i < length xs → get_or (map_places f n xs) i e ≡ f (n + i) (get_or xs i d)

@@ -31,7 +31,7 @@ use Rattle.verifier.specs.Tables.{state_at, CoversAll, AreStates, arrival, broke
 use Rattle.verifier.specs.Good.{IsGood}
 use Rattle.soundness.specs.Meaning.{Means, CoversFrame, Covers, frame_number, last_stack}
 use Rattle.soundness.specs.Machines.{IsSetting, IsStack, IsMachine, HasLimit}
-use Rattle.soundness.specs.Callers.{registers_behind, CoversWaiting, Waits, AreWaiting}
+use Rattle.soundness.specs.Callers.{registers_after, CoversWaiting, Waits, AreWaiting}
 use Rattle.soundness.specs.Reaching.{Reached}
 use Rattle.soundness.specs.Laws.{IsSent, GoesOn, Enters, IsCovered, IsKnown, StepIsCovered, Follows, IsSafe, StepIsSafe, TableCovers}
 use Rattle.soundness.proofs.Meanings.{frame_under, covers_under}
@@ -134,7 +134,7 @@ call_covered program sectors device context table known m distance set site whol
       registers = h.registers;
       arrives = sent_rounded (λ k. Covers sectors k call.to) (heads program) sent call.to.slot (λ k l under. covers_under sectors k l call.to under) fits h.arrives;
       waits = sent_rounded (λ k. CoversWaiting sectors frame k stack h.caller) (heads program) sent h.caller.slot
-          (λ k l under c x lt. frame_under sectors frame k l (registers_behind h.caller x) stack under (c x lt)) fits h.waits;
+          (λ k l under c x lt. frame_under sectors frame k l (registers_after h.caller x) stack under (c x lt)) fits h.waits;
     } in
     subst (IsCovered program sectors table (map (arrival (heads program)) sent) (machine m)) (sym call.is) (inr (inl rounded))
 
@@ -281,7 +281,7 @@ way_safe program sectors device context table s sent set states fits edges known
         let frame : ℕ = frame_number s.frames in
         let stack : List (Option ℕ) = last_stack s.frames in
         let back = look_up (λ k. CoversWaiting sectors frame k stack g.caller) table sent g.caller.slot
-        (λ k l under c x lt. frame_under sectors frame k l (registers_behind g.caller x) stack under (c x lt)) states fits edges g.waits in
+        (λ k l under c x lt. frame_under sectors frame k l (registers_after g.caller x) stack under (c x lt)) states fits edges g.waits in
         let split = split_last s.frames known.whole.some in
         let new : Frame = record { stack = unset_stack; caller = Some g.caller } in
         let place : frame ≡ 0 + length split.below = ap frame_number split.is ∙ number_is split.below split.last ∙ omega arith in

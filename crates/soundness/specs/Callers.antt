@@ -12,13 +12,13 @@ use Rattle.soundness.specs.Meaning.{CoversFrame}
 use Rattle.soundness.specs.Machines.{AreRegisters}
 
 -- the registers of a frame after its local call, where the function answered x
-abbrev pub registers_behind : Caller → ℕ → List (Option ℕ)
-registers_behind c x = Some x ∷ None ∷ None ∷ None ∷ None ∷ None ∷ c.registers
+abbrev pub registers_after : Caller → ℕ → List (Option ℕ)
+registers_after c x = Some x ∷ None ∷ None ∷ None ∷ None ∷ None ∷ c.registers
 
 -- an abstract state covers a waiting frame with this number, this stack, and what its call saved, whichever
 -- word the function answers
 abbrev pub CoversWaiting : ℕ → ℕ → Abstract → List (Option ℕ) → Caller → Type 0
-CoversWaiting sectors frame known stack c = (x : ℕ) → x < 2 ^ 64 → CoversFrame sectors frame known (registers_behind c x) stack
+CoversWaiting sectors frame known stack c = (x : ℕ) → x < 2 ^ 64 → CoversFrame sectors frame known (registers_after c x) stack
 
 -- A frame waits that runs the function at `entry`: it is at a local call, which it reached from there, of the
 -- function at `enters`, and what the table knows after the call covers it.
@@ -27,7 +27,7 @@ pub record Waits (program : List (Option Instr)) (sectors : ℕ) (table : List (
   pub reached : Reaches (control program) entry call
   pub calls : callee program call ≡ Some enters
   pub back : c.slot ≡ call + 1
-  pub registers : (x : ℕ) → x < 2 ^ 64 → AreRegisters (registers_behind c x)
+  pub registers : (x : ℕ) → x < 2 ^ 64 → AreRegisters (registers_after c x)
   pub known : Abstract
   pub listed : state_at table c.slot ≡ Some known
   pub covers : CoversWaiting sectors frame known stack c

@@ -30,8 +30,8 @@ GuardedStepIsCovered = (program : List (Option Instr)) (sectors : ℕ) (device :
     → IsCoveredWithGuards program sectors table (is_guarded_at program table s.slot) (sent_with true program sectors table s.slot) s
     (guarded_step program (context_bytes context) device s)
 
--- The same over a table that is good with guards: the machine goes on to one that the table covers again, without an
--- unset byte.
+-- A step with guards over a table that is good with guards: the machine goes on to one that the table covers again, without
+-- an unset byte.
 pub record IsSafeWithGuards (program : List (Option Instr)) (sectors : ℕ) (table : List (Option Abstract)) (s : State) (stepped : Option Stepped) : Type 0 where
   pub strays : stepped ≡ None → is_guarded_at program table s.slot ≡ true
   pub sound : (x : Stepped) → stepped ≡ Some x → IsNoFault x

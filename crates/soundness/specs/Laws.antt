@@ -16,7 +16,7 @@ use Rattle.verifier.specs.Tables.{state_at, AreStates, rule_at, sent_from}
 use Rattle.verifier.specs.Good.{IsGood}
 use Rattle.soundness.specs.Meaning.{Means, Covers, frame_number, last_stack}
 use Rattle.soundness.specs.Machines.{IsSetting, AreRegisters, IsMachine, HasLimit}
-use Rattle.soundness.specs.Callers.{registers_behind, CoversWaiting, AreWaiting}
+use Rattle.soundness.specs.Callers.{registers_after, CoversWaiting, AreWaiting}
 use Rattle.soundness.specs.Reaching.{Reached}
 
 -- a state that knows less covers what one does that knows more
@@ -70,7 +70,7 @@ pub record Enters (program : List (Option Instr)) (sectors : ℕ) (arrivals : Li
   pub caller : Caller
   pub back : caller.slot ≡ s.slot + 1
   pub frames : t.frames ≡ s.frames ++ record { stack = unset_stack; caller = Some caller } ∷ []
-  pub registers : (x : ℕ) → x < 2 ^ 64 → AreRegisters (registers_behind caller x)
+  pub registers : (x : ℕ) → x < 2 ^ 64 → AreRegisters (registers_after caller x)
   pub arrives : Arrives sectors arrivals t
   pub waits : IsSent (λ known. CoversWaiting sectors (frame_number s.frames) known (last_stack s.frames) caller) caller.slot arrivals
 

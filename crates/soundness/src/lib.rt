@@ -92,6 +92,56 @@
 //! // mov64 r1, 2; call 3; jeq r0, 0, +1; ja -4; exit
 //! // budget: one more than K = 2, times the 5 slots of the longest path, which is 15 steps
 //! ```
+//!
+//! # More that is promised
+//!
+//! - A good table covers each state that the machine reaches, and each frame that waits. A program of right shape
+//!   whose run meets no fault ends within its budget: `worked_loops`.
+//!
+//! # Choices
+//!
+//! - The soundness of the verifier is a crate of laws above `verifier`: it speaks of the machine, which the crates of
+//!   ranges and tables need not know; and its proofs are checked apart from theirs.
+//!
+//! # Notes on the proofs
+//!
+//! - A step's law is one lemma a form of instruction, `.._goes`, over a record of plain parts (`machine m` in
+//!   `soundness/proofs/Standing.antt`), with a goal by cases on the step (a fault is ⊥). At the top `λ d. record { ..
+//!   frames = split.is d .. }` makes any machine one of such parts.
+//! - Frames: the parts have the list `below` of the frames that wait, so each lemma of a form speaks of the frame at
+//!   hand, and says that `below` stays. That frame has the number `length m.below`. Lists of frames are `below ++ f ∷
+//!   []`; `split_last` makes one, and `number_is`, `last_is`, `last_got`, `without_last` (`Frames.antt`) lead to what
+//!   the machine's definition says by `length frames - 1`.
+//! - What waits is a recursion over adjacent frames (`AreWaiting`), with three clauses in each lemma: one frame, two,
+//!   and more (`[]`, `a ∷ []`, `a ∷ b ∷ rest` for those below), since `rest ++ f ∷ []` doesn't compute. An index that
+//!   grows with the frames is a variable with an equation, `n ≡ frame + length below`.
+//! - 'Sent to a slot, with a property' (`IsSent holds slot arrivals`) serves the machine that goes on and the frame
+//!   that waits alike. Rounding and looking it up in a table need only that the property passes to states that know
+//!   less.
+//! - `Means k c` in two clauses, of which the first says nothing of Unset. With the operands' words for all values
+//!   (`Has (words k) (word s r)`) arithmetic needs no case on numbers.
+//! - Checks that pass: `pass_two` to `pass_five` and `two_tell` to `five_tell` over plain Booleans
+//!   (`soundness/proofs/Checks.antt`); write the list of checks out, `_` stays unsolved.
+//! - Memory: one lemma for a test at each of n addresses (`all_pass`), one for what is loaded (`loaded_is`), and a
+//!   plain recursion for a stack in which bytes are stored (`filled`). `grind (arith, ints, nat_tests)` proves
+//!   `(start + o + cast_unsigned w64 d) % 2 ^ 64 ≡ start + at` from `pos o +ℤ d ≡ pos at`.
+//! - Where a computed value stands in a type, a local `by` over it with `refl` for its equation. `unfolding` stands
+//!   under the outer signature, and `where` takes it over.
+//! - To analyse a step take `step .. ≡ Next t` as the premise: then no check has to be looked at (`in_next` in
+//!   `soundness/proofs/Taken.antt`).
+//! - A room for each frame that waits is a recursion over their number whose step is a record with the rest as a
+//!   parameter (`WaitsBelow`, `Waiting` in `soundness/proofs/Room.antt`). Of the frames only the list of what their
+//!   calls saved is kept, which no store changes. A function that goes by cases on such a number takes the parts as
+//!   arguments: `rw` of a field inside a record of the same value is refused (motive).
+//! - A recursion whose step has cases: give the case function the recursive call as an argument. A worked run of 29
+//!   steps is one `auto` with an `unfolding(..)` line.
+//! - **A step with guards is the machine's own step with tests round it** (`guarded`), so no form is proved twice.
+//!   Where no rule without guards is broken, `step_covered` serves as it is, and only that the step writes its own
+//!   frame is new (`own_kept`). Where one is broken a form says that it writes its own frame and goes on, or strays
+//!   (`LooselyGoes` in `soundness/proofs/Loose.antt`).
+//! - A run with guards goes on as `filled t`, where t is what the machine's own step leads to. What covers t covers
+//!   that too (`known_filled`). What bounds a run hangs on no stack (`runs_filled`), so `progress` serves both
+//!   machines.
 #![tactic(auto)]
 
 mod accepted;

@@ -5,7 +5,7 @@ ghost use Rattle.std.specs.Prelude.{◌≡◌, ◌≤◌, length};
 use arrayvec::ArrayVec;
 use interp::{Outcome, Verdict};
 
-/// The same outcome, for those who put one into a shard and keep one. It takes no memory.
+/// A copy of an outcome, for those who put one into a shard and keep one. It takes no memory.
 pub fn copy_of(outcome: &Outcome) -> Outcome
     ensures { result ≡ outcome.now }
 {
@@ -23,7 +23,7 @@ pub fn copy_of(outcome: &Outcome) -> Outcome
     }
 }
 
-/// The same codes.
+/// A copy of the codes.
 fn copy_codes(codes: &[u64]) -> ArrayVec<u64, 16>
     requires { length codes.now ≤ 16 }
     ensures { result.items ≡ codes.now }

@@ -81,6 +81,16 @@
 //!     }
 //! }
 //! ```
+//!
+//! # Choices
+//!
+//! - `Shard` needs the plan and the checkers of the run alone in its parameter (`Run`); a caller picks them at one
+//!   call: what a shard keeps speaks of nothing else.
+//!
+//! # How it is proved
+//!
+//! - `lru`: `peek`, then `promote`; `put(..).is_err()` after the tests `contains` and `len`. State an invariant of
+//!   all entries over `Contains entries (key, value)`, of which its caller lemmas speak.
 #![tactic(auto)]
 
 mod copying;

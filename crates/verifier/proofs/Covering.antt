@@ -15,9 +15,9 @@ abbrev pub AtBoth : Bool → List (Option Abstract) → List Bool → ℕ → �
 AtBoth guards table heads sectors slot s i = CoversAll table (map (arrival heads) (passes_with guards sectors s slot i))
 
 -- where what goes to the next slot is contained, all is where what goes to the target is
-pub covered_behind : (guards : Bool) (table : List (Option Abstract)) (heads : List Bool) (sectors slot : ℕ) (s : Abstract) (i : Instr) {b : Bool}
+pub covered_after : (guards : Bool) (table : List (Option Abstract)) (heads : List Bool) (sectors slot : ℕ) (s : Abstract) (i : Instr) {b : Bool}
     → At edge.Next guards table heads sectors slot s i → (IsTrue b ↔ At edge.Target guards table heads sectors slot s i) → (IsTrue b ↔ AtBoth guards table heads sectors slot s i)
-covered_behind guards table heads sectors slot s i next target = (
+covered_after guards table heads sectors slot s i next target = (
   λ h. subst (λ ps. CoversAll table ps) (by_edges guards heads sectors slot s i) (covers_both table _ _ next (target.0 h)),
   λ all. target.1 (covers_last table (Along edge.Next guards heads sectors slot s i) _ (subst (λ ps. CoversAll table ps) (sym (by_edges guards heads sectors slot s i)) all)),
 )

@@ -144,8 +144,8 @@ and_false : (b : Bool) → (b && false) ≡ false
 and_false true = refl
 and_false false = refl
 
-out_behind : (at n g : ℕ) → n ≡ 8 → at + 8 ≤ 8 * g → is_touched at n g ≡ false
-out_behind at n g e behind = let past : nat_lt (8 * g) (at + n) ≡ false = grind (arith, nat_tests) in rw past (and_false (nat_lt at (8 * g + 8)))
+out_after : (at n g : ℕ) → n ≡ 8 → at + 8 ≤ 8 * g → is_touched at n g ≡ false
+out_after at n g e beyond = let past : nat_lt (8 * g) (at + n) ≡ false = grind (arith, nat_tests) in rw past (and_false (nat_lt at (8 * g + 8)))
 
 out_before : (at n g : ℕ) → 8 * g + 8 ≤ at → is_touched at n g ≡ false
 out_before at n g before = let past : nat_lt at (8 * g + 8) ≡ false = grind (arith, nat_tests) in rw past refl
@@ -158,9 +158,9 @@ touched_at at n g e place =
 
 untouched : (at n g : ℕ) (groups : List GroupKind) → n ≡ 8 → at + 8 ≤ 8 * g → EachUnder GroupUnder groups (map_places (group_after at n) g groups)
 unfolding map_places group_after
-untouched at n g [] e behind = tt
-untouched at n g (x ∷ xs) e behind =
-    (rw (out_behind at n g e behind) (group_self x), untouched at n (g + 1) xs e (omega (arith, behind)))
+untouched at n g [] e beyond = tt
+untouched at n g (x ∷ xs) e beyond =
+    (rw (out_after at n g e beyond) (group_self x), untouched at n (g + 1) xs e (omega (arith, beyond)))
 
 kept_below : (at n i g : ℕ) (x : Limits) (groups : List GroupKind) → n ≡ 8 → at ≡ 8 * (g + i)
     → EachUnder GroupUnder (set groups i (Spilled (Num x))) (map_places (group_after at n) g groups)

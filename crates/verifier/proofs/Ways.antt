@@ -13,7 +13,7 @@ use Rattle.ranges.specs.States.{Abstract, round_state}
 use Rattle.ranges.specs.Order.{IsState}
 use Rattle.ranges.specs.Reading.{value, with_value, with_groups}
 use Rattle.ranges.specs.After.{group_after, is_touched}
-use Rattle.ranges.specs.Changing.{group_behind, groups_behind, left_of}
+use Rattle.ranges.specs.Changing.{group_beyond, groups_after, left_of}
 use Rattle.ranges.specs.SeenStates.{state_of}
 use Rattle.ranges.proofs.Arrays.{mapped_set}
 use Rattle.ranges.proofs.Writing.{group_written}
@@ -53,13 +53,13 @@ pub group_left : (s : Abstract) (m n : ℕ) (g : GroupKind) → (n ≡ m → ⊥
     → slice_index_or s.groups n (Marked []) ≡ slice_index_or (with_groups s (slice_set s.groups m g)).groups n (Marked [])
 group_left s m n g other = sym (get_or-set_other s.groups m n g (Marked []) other)
 
-apart : (are_set : Bool) (at k n : ℕ) (g : GroupKind) → is_touched at k n ≡ false → g ≡ group_behind are_set at k n g
+apart : (are_set : Bool) (at k n : ℕ) (g : GroupKind) → is_touched at k n ≡ false → g ≡ group_beyond are_set at k n g
 unfolding group_after
 apart true at k n g e = rw e refl
 apart false at k n g e = rw e refl
 
 pub bytes_left : (s : Abstract) (are_set : Bool) (at k n : ℕ) → is_touched at k n ≡ false → n < length s.groups
-    → slice_index_or s.groups n (Marked []) ≡ slice_index_or (groups_behind are_set at k s.groups) n (Marked [])
+    → slice_index_or s.groups n (Marked []) ≡ slice_index_or (groups_after are_set at k s.groups) n (Marked [])
 bytes_left s are_set at k n e inside = apart are_set at k n (slice_index_or s.groups n (Marked [])) e ∙ group_written are_set at k s.groups n inside
 
 -- one part is told

@@ -135,7 +135,7 @@ pub fn check_table_with(
     check_good(&scene, table)
 }
 
-/// The same without guards.
+/// Whether a table is good without guards; else the first breach, as `check_table_with` tells it.
 pub fn check_table(
     program: &Program,
     shape: &Shape,

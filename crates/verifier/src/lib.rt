@@ -100,6 +100,54 @@
 //! // with guards it is accepted, and a run tests its load at slot 2
 //! let guarded = verify_with(alloc, &other, 4, true).ok();
 //! ```
+//!
+//! # More that is promised
+//!
+//! - **Tables.** A table is found good exactly where it is, else its first breach is told. One that is good without
+//!   signed bounds stays good under today's rules: `good_has_no_breach`, `unsigned_stays_good`.
+//! - **Guarded slots** are those with a load, a store or a call of `copy` whose place the least table doesn't prove.
+//!   A program that is accepted without guards is accepted with them, by the same budget and table, and has none. So
+//!   none of its runs strays, and on each image of its size it is judged alike with them: the same end, and the same
+//!   sectors that it looks at: `good_needs_no_guards`.
+//!
+//! # Choices
+//!
+//! - A round first lists what is passed and then lets it arrive: no table has to be copied; a table of 4,096 states
+//!   has 10 MB.
+//! - The start isn't rounded where slot 0 is a head: it has no ranges, so its rounding is itself.
+//! - The search joins only the parts of a state that a slot learned or changes, and all parts the first time that
+//!   something is passed along an edge: what else arrives is known there already; an edge that no value took may open
+//!   later.
+//!
+//! # How it is proved
+//!
+//! - A round is `fold receive t (passed t)` over a list of what is passed. The loop that lets it arrive keeps one
+//!   record, `Arrived old prefix now changed`. That its flag is exact is one lemma (`same_covers`), which needs that
+//!   the order of states is transitive (`verifier/proofs/Chains.antt`).
+//! - Work that may be left out: state 'what is left out would change nothing' as the invariant (`IsMarked` in
+//!   `verifier`). One lemma over `fold` and `flat_map` with a test for each place (`all_left_out` in
+//!   `verifier/proofs/Marks.antt`) then gives the whole round, and nothing is said about how marks arise.
+//! - A relation between two states that is reflexive and composes (`Kept`, with `kept_self` and `kept_more`) serves
+//!   the single step and the loop, whose invariant is the relation from the call to now.
+//! - In a contract of a private function a relation over all good tables is a record (`IsBelowGood`), since `search`
+//!   doesn't pass a Π type on.
+//! - Lists of what is passed are compared by `SentUnder`: each of the first stands in the second, in order, at the
+//!   same slot and under it. An edge that isn't taken is then one skipped element.
+//! - **A test that only spares work has no contract.** Where `tell_group` of `verifier` learns nothing it needs no
+//!   reason, so `holds` compares numbers where they lie, without a clause.
+//! - An enum with bounds is copied in pieces, the tag apart. Reading the copy as a whole waits for the pieces (store
+//!   forwarding): compare by reference (`holds`).
+//! - **What waits is free too**: which parts a slot passes on at once (`news`) is picked by what heads learned, and
+//!   no contract speaks of it. Short phases in a scratch copy (`FIRST` 7, `NARROW` 400, a sample of a third of the
+//!   slots) try it on small random programs. The answers are to stay, and no search may end without a breach in a
+//!   table that isn't good.
+//! - **One of two ways is enough.** Where two ways meet, a group that no instruction on them changed comes from the
+//!   same slot by both (`origins`). So while the search hurries on, one is told, and the slots on the other learn it
+//!   when all is told again. What a slot told on some of its edges alone it owes (`owed` in `news`). Without that
+//!   list the search ends in a table that isn't good. Fewer visits don't bring their share: those that are left wait
+//!   for memory. Looking at all groups of the target first, so that they come from memory together, made it slower.
+//! - A method on an element of an array of a type with a Model, `self.stacks[i].write(..)`, leaves `slice_set stacks
+//!   i c.write.new.self` by itself.
 #![tactic(auto)]
 
 mod agenda;

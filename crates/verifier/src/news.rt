@@ -232,8 +232,8 @@ impl News {
         }
         match scene.program.at(slot) {
             Some(instr) => {
-                let next = self.needed_behind(scene, edges_of(slot, &instr).next);
-                let target = self.needed_behind(scene, target_of(slot, &instr));
+                let next = self.needed_after(scene, edges_of(slot, &instr).next);
+                let target = self.needed_after(scene, target_of(slot, &instr));
                 let next = next.without(self.origins.spared(slot, Edge::Next));
                 let target = target.without(self.origins.spared(slot, Edge::Target));
                 needed_before(&instr, next.and(target))
@@ -243,7 +243,7 @@ impl News {
     }
 
     /// The parts that arrive at a slot, of which it learned something, and on which hangs what a head learned.
-    fn needed_behind(&self, scene: &Scene, slot: Option<usize>) -> Parts {
+    fn needed_after(&self, scene: &Scene, slot: Option<usize>) -> Parts {
         let Some(slot) = slot else {
             return Parts::NONE;
         };

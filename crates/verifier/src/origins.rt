@@ -95,7 +95,7 @@ pub(crate) struct Origins {
 
 impl Origin {
     /// What comes from a slot whose instruction makes some groups.
-    fn behind(self, slot: usize, made: Parts) -> Origin
+    fn beyond(self, slot: usize, made: Parts) -> Origin
         requires { slot < 4096 }
     {
         let mut origin = self;
@@ -182,7 +182,7 @@ impl Origins {
             return;
         }
         for place in 0..scene.program.slots() {
-            self.find_behind(scene, gone, order.slot(place));
+            self.find_after(scene, gone, order.slot(place));
         }
     }
 
@@ -204,7 +204,7 @@ impl Origins {
     }
 
     /// Goes along the edges of a slot.
-    fn find_behind(&mut self, scene: &Scene, gone: &Gone, slot: usize) {
+    fn find_after(&mut self, scene: &Scene, gone: &Gone, slot: usize) {
         if 4096 <= slot {
             return;
         }
@@ -214,7 +214,7 @@ impl Origins {
         let Some(origin) = self.origin_at(scene, slot) else {
             return;
         };
-        let brought = origin.behind(slot, made_by(&instr));
+        let brought = origin.beyond(slot, made_by(&instr));
         let edges = edges_of(slot, &instr);
         let mut spared = Spared {
             next: Parts::NONE,

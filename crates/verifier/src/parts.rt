@@ -245,14 +245,14 @@ pub(crate) fn changed_by(instr: &Instr) -> Parts {
 }
 
 /// The parts in front of an instruction on which these parts after it hang.
-pub(crate) fn needed_before(instr: &Instr, behind: Parts) -> Parts {
+pub(crate) fn needed_before(instr: &Instr, beyond: Parts) -> Parts {
     let changed = changed_by(instr);
     match instr {
-        Instr::CallHelper { .. } | Instr::CallLocal { .. } => behind,
-        _ => if behind.meets(changed) {
-            behind.without(changed).and(looked_at(instr))
+        Instr::CallHelper { .. } | Instr::CallLocal { .. } => beyond,
+        _ => if beyond.meets(changed) {
+            beyond.without(changed).and(looked_at(instr))
         } else {
-            behind
+            beyond
         },
     }
 }

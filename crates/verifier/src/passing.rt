@@ -15,7 +15,7 @@ use base::causes::VerifierCause;
 use bpf_isa::instr::Instr;
 use bpf_isa::program::Program;
 use bpf_shape::{Shape, callee_of, edges_of};
-use ranges::{Effect, State, broken_rule, effect_along, effect_behind, lead};
+use ranges::{Effect, State, broken_rule, effect_after, effect_along, lead};
 use std::alloc::AllocError;
 
 /// The two edges of a slot: to the next one, and to the target of a jump or the entry of a local function.
@@ -83,7 +83,7 @@ pub(crate) fn effect_on(scene: &Scene, edge: Edge, instr: &Instr, state: &State)
     let loose = is_loose(scene.guards, instr, state);
     match (edge, instr) {
         (Edge::Next, Instr::Branch { .. }) => effect_along(loose, instr, false, state),
-        (Edge::Next, _) => effect_behind(loose, instr, state, scene.sectors),
+        (Edge::Next, _) => effect_after(loose, instr, state, scene.sectors),
         (Edge::Target, Instr::CallLocal { .. }) => Effect::Entered,
         (Edge::Target, _) => effect_along(loose, instr, true, state),
     }

@@ -40,7 +40,7 @@ fn push_passed(
     push_sent(waiting, scene, table, slot)
 }
 
-/// The same of a slot with a mark; nothing, where it has none.
+/// Pushes what a slot with a mark passes on, and nothing where it has none.
 fn push_marked(
     waiting: &mut Vec<Arrival>,
     scene: &Scene,

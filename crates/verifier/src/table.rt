@@ -157,7 +157,7 @@ impl Table {
         }
     }
 
-    /// The same of a group that is no number, or may change on the way.
+    /// Tells a group that is no number, or may change on the way.
     // Few groups are such in a long search, and the loop over the others is quicker without their copies.
     #[inline(never)]
     #[tactic(auto, using(crate::proofs::Ways::along_self, crate::proofs::Tables::all_states))]

@@ -37,7 +37,7 @@ impl Worklist {
         self.take_in(self.blocks)
     }
 
-    /// The same of the slots from one on.
+    /// Takes the mark off the lowest slot from `slot` on that has one; None where none has.
     pub(crate) fn take_from(&mut self, slot: usize) -> Option<usize>
         requires { slot < 4096 }
     {

@@ -91,13 +91,13 @@ adds_passed s block image before after keeps lt passed found = record {
   block_is = refl;
   adds = λ ps h.
       more s after ps (record { block = block; found = Passed image }) (keeps_posts s before after ps keeps h) lt tt
-      (λ all. absurd (let bad : false ≡ true = sym (ap (λ b. b && nat_lt image (64 * block)) all) ∙ passed in cc)) (behind s.first (nat_lt image (64 * block)) refl passed, found);
+      (λ all. absurd (let bad : false ≡ true = sym (ap (λ b. b && nat_lt image (64 * block)) all) ∙ passed in cc)) (beyond s.first (nat_lt image (64 * block)) refl passed, found);
 }
   where
-    behind : (a b : Bool) → nat_lt image (64 * block) ≡ b → (a && b) ≡ true → image < 64 * block
-    behind true true e h = grind (arith, nat_tests, e)
-    behind true false e h = absurd (let bad : false ≡ true = h in cc)
-    behind false b e h = absurd (let bad : false ≡ true = h in cc)
+    beyond : (a b : Bool) → nat_lt image (64 * block) ≡ b → (a && b) ≡ true → image < 64 * block
+    beyond true true e h = grind (arith, nat_tests, e)
+    beyond true false e h = absurd (let bad : false ≡ true = h in cc)
+    beyond false b e h = absurd (let bad : false ≡ true = h in cc)
 
 pub full_more : (s : Subject) (block : ℕ) (steps : List SeatStep) (ps : List PieceValue) → HandsOver s steps ps → block < block_count s → HandsOver s steps (ps ++ piece_of s block ∷ [])
 full_more s block steps ps h lt = more s steps ps (piece_of s block) h lt refl (λ all. refl) tt

@@ -174,12 +174,12 @@ in_options f a (suc n) p l low high h = elim (eqb_tells a p) [
   | inr there ↦
       let lt : a < p = omega (arith, low, there.1) in
       let rest = in_options f (a + 1) n p l (omega (arith, lt)) (omega (arith, high)) h in
-      behind (f a) (filter_map f (range_with_len (a + 1) n)) rest.0 l rest.1
+      beyond (f a) (filter_map f (range_with_len (a + 1) n)) rest.0 l rest.1
 ]
   where
-    behind : (o : Option FailingLine) (ls : List FailingLine) (i : ℕ) (l : FailingLine) → slice_get ls i ≡ Some l → (j : ℕ) × (slice_get (cons_option o ls) j ≡ Some l)
-    behind None ls i l h = (i, h)
-    behind (Some m) ls i l h = (suc i, h)
+    beyond : (o : Option FailingLine) (ls : List FailingLine) (i : ℕ) (l : FailingLine) → slice_get ls i ≡ Some l → (j : ℕ) × (slice_get (cons_option o ls) j ≡ Some l)
+    beyond None ls i l h = (i, h)
+    beyond (Some m) ls i l h = (suc i, h)
 
 in_lists : (f : ℕ → List FailingLine) (a n p i : ℕ) (l : FailingLine) → a ≤ p → p < a + n → slice_get (f p) i ≡ Some l → (j : ℕ) × (slice_get (flat_map f (range_with_len a n)) j ≡ Some l)
 in_lists f a zero p i l low high h = absurd (omega (arith, low, high))

@@ -136,13 +136,13 @@ good_less s p most count i good le = λ n j ranked lt. good n j ranked (omega (a
 not_told : (told : Option (List ℕ)) (part x : ℕ) (next : Option ℕ) → tells told part ≡ false → IsNextTold told part next → part ≤ x
     → ((n : ℕ) → next ≡ Some n → x < n) → tells told x ≡ false
 not_told told part x next own is low high = elim (cases_lt part x) [
-  | inl more ↦ behind next is more high
+  | inl more ↦ beyond next is more high
   | inr less ↦ let same : part ≡ x = omega (arith, low, less) in subst (λ y. tells told y ≡ false) same own
 ]
   where
-    behind : (o : Option ℕ) → IsNextTold told part o → part < x → ((n : ℕ) → o ≡ Some n → x < n) → tells told x ≡ false
-    behind None is more high = is x more
-    behind (Some n) is more high = is.2 x more (high n refl)
+    beyond : (o : Option ℕ) → IsNextTold told part o → part < x → ((n : ℕ) → o ≡ Some n → x < n) → tells told x ≡ false
+    beyond None is more high = is x more
+    beyond (Some n) is more high = is.2 x more (high n refl)
 
 last_is : (picks front : List Pick) (own last : Pick) (at : ℕ) → picks ≡ front ++ own ∷ [] → at + 1 ≡ length picks → slice_get picks at ≡ Some last → (at ≡ length front) × (own ≡ last)
 last_is picks front own last at e long there =

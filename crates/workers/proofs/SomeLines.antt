@@ -11,9 +11,9 @@ some_append : (front some all : List FailingLine) → AreSomeOf some all → Are
 some_append [] some all h = h
 some_append (l ∷ ls) some all h = inr (ls ++ some, refl, some_append ls some all h)
 
-some_behind : (front some all : List FailingLine) → AreSomeOf some all → AreSomeOf some (front ++ all)
-some_behind [] some all h = h
-some_behind (l ∷ ls) some all h = inl (some_behind ls some all h)
+some_beyond : (front some all : List FailingLine) → AreSomeOf some all → AreSomeOf some (front ++ all)
+some_beyond [] some all h = h
+some_beyond (l ∷ ls) some all h = inl (some_beyond ls some all h)
 
 some_filter : (test : FailingLine → Bool) (some all : List FailingLine) → AreSomeOf some all → AreSomeOf (filter test some) (filter test all)
 some_filter test some [] h = rw h refl
@@ -113,7 +113,7 @@ some_of_blocks f g a (suc n) h =
     step : (own rest : List FailingLine) → (own ≡ g a) ⊎ ((own ≡ []) × ((c : ℕ) × (c < a) × (f c ≢ []))) → AreSomeOf rest (flat_map g (range_with_len (a + 1) n))
         → AreSomeOf (own ++ rest) (g a ++ flat_map g (range_with_len (a + 1) n))
     step own rest (inl e) some = rw e (some_append (g a) rest (flat_map g (range_with_len (a + 1) n)) some)
-    step own rest (inr e) some = rw e.0 (some_behind (g a) rest (flat_map g (range_with_len (a + 1) n)) some)
+    step own rest (inr e) some = rw e.0 (some_beyond (g a) rest (flat_map g (range_with_len (a + 1) n)) some)
 
 -- the lines of block b are of its images, where the first block begins with that image
 abbrev pub AreIn : ℕ → ℕ → List FailingLine → Type 0

@@ -132,7 +132,7 @@ impl BlockLines {
         }
     }
 
-    /// The same, without the room that no line takes.
+    /// The lines without the room that no line takes.
     pub(crate) fn trim(self) -> BlockLines
         ensures { result ≡ self }
     {

@@ -242,7 +242,7 @@ impl<'a> Input<'a> {
     }
 
     /// How far an image that is judged lies after the first one.
-    pub(crate) fn behind_first(&self, image: u64) -> u64
+    pub(crate) fn beyond_first(&self, image: u64) -> u64
         requires { (self.now.from ≤ image) × (image < self.now.to) }
         ensures value { self.now.from + result ≡ image }
         ensures few { result < 16777216 }

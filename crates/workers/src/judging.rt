@@ -63,7 +63,7 @@ pub(crate) enum Finding {
 }
 
 impl Finding {
-    /// By what it ends in, if that is known.
+    /// What tells its end, if that is known.
     fn of(outcome: Option<Outcome>) -> Finding
         ensures { result ≡ finding_of outcome }
     {

@@ -156,6 +156,23 @@
 //! let pieces = vec![in alloc; Piece::passed(1, 50), piece]?;
 //! let lines = collect(alloc, pieces, 100, blocks)?;           // the same line
 //! ```
+//!
+//! # Choices
+//!
+//! - The type parameter that names a run stands in shards alone, and is picked inside `workers`: what a piece has is
+//!   told by the contracts of the calls that lead to it, so `Input` and `Piece` need none.
+//! - A piece has no type parameter for its run; `collect` speaks of the pieces' values, and a law says what pieces of
+//!   a run collect to: a piece is a value that its maker hands over with what it is, so no type has to carry it.
+//!   Shards do have the parameter, since a lock tells nothing but a type.
+//! - A worker posts the first failing image of each block also without `--first`: one atomic step for a failing block
+//!   costs nothing beside its images, and one rule serves both.
+//! - A worker that finds no memory comes back with its seat and without its pieces, and the others go on: the answer
+//!   is then 72, before the board is asked; no worker waits for another.
+//! - A gate is told of a passed block too, before and after: every block that is drawn passes through the gate,
+//!   whatever becomes of it.
+//! - What is kept is of one cut, and by its place in the plan: the context and the parts that may be lost are the
+//!   cut's own, and a worker goes from cut to cut.
+//! - A choice with as many departures as the bound allows is run and not kept: no other choice would ask for it.
 #![tactic(auto)]
 
 mod block_lines;

@@ -51,7 +51,7 @@ fn first_failing(input: &Input<'_>, piece: &Piece) -> Option<u64>
     ensures few { IfSome result (λ image. image < 16777216) }
 {
     match piece.least_image() {
-        Some(image) => Some(input.behind_first(image)),
+        Some(image) => Some(input.beyond_first(image)),
         None => None,
     }
 }

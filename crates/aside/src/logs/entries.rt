@@ -75,7 +75,7 @@ const TWO_SLOTS_RIGHT: [Item; 12] = [
     Mark("commit 3"),
 ];
 
-/// The same without the flush between payload and slot.
+/// Two slots, without the flush between payload and slot.
 const TWO_SLOTS_WRONG: [Item; 12] = [
     Write(3, Payload(1)),
     Write(1, Slot(1)),
@@ -147,7 +147,7 @@ const PAGES_RIGHT: [Item; 12] = [
     Mark("commit 3"),
 ];
 
-/// The same without the flush between page and header.
+/// Pages, without the flush between page and header.
 const PAGES_WRONG: [Item; 12] = [
     WriteAll(16, Page(1)),
     Write(0, Header(1)),
@@ -184,7 +184,7 @@ const TREE_RIGHT: [Item; 16] = [
     Mark("commit 3"),
 ];
 
-/// The same without the flush between nodes and header.
+/// A tree, without the flush between nodes and header.
 const TREE_WRONG: [Item; 16] = [
     Write(1, Leaf(1, 0xd1)),
     Write(2, Leaf(1, 0xe1)),
@@ -243,7 +243,7 @@ const DOUBLE_WRITE_RIGHT: [Item; 15] = [
     Mark("commit 3"),
 ];
 
-/// The same without the flush between buffer and places.
+/// Double writes, without the flush between buffer and places.
 const DOUBLE_WRITE_WRONG: [Item; 15] = [
     WriteAll(8, TwoPages(0, 1)),
     WriteAll(0, SmallPage(0, 1)),

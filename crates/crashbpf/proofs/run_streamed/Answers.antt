@@ -4,10 +4,10 @@ use Rattle.crashbpf.proofs.run_streamed.Goals as goal
 
 pub returns-in-Ok : goal.returns-in-Ok
 returns-in-Ok g c =
-    let given = given_as_read (λ (f : Vec ℕ Global). f.items) c.contents-files.result.now c.base.result.now c.args.inputs.now c.contents-files.ensures c.base.ensures in
+    let given = given_as_read (λ (f : Vec ℕ Global). f.items) c.contents-files.result.now c.base.result.now c.choice-choice.result.now c.args.words.now.choice c.args.inputs.now c.contents-files.ensures c.base.ensures c.choice-choice.ensures in
     ends_written _ _ _ _ _ _ _ _ c.requires given c.in-Ok.is c.perform_export-ended.ensures.all
 
 pub returns-in-Err : goal.returns-in-Err
 returns-in-Err g c =
-    let given = given_as_read (λ (f : Vec ℕ Global). f.items) c.contents-files.result.now c.base.result.now c.args.inputs.now c.contents-files.ensures c.base.ensures in
+    let given = given_as_read (λ (f : Vec ℕ Global). f.items) c.contents-files.result.now c.base.result.now c.choice-choice.result.now c.args.words.now.choice c.args.inputs.now c.contents-files.ensures c.base.ensures c.choice-choice.ensures in
     ends_stopped _ _ _ _ _ _ _ _ _ c.requires given c.in-Err.is c.perform_export-ended.ensures.stopped c.print_stopped-status.ensures

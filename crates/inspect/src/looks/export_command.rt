@@ -108,7 +108,7 @@ fn refusal_of(why: Stopped) -> Refusal
     }
 }
 
-/// The same text as bytes.
+/// The text of `write_images`, as bytes.
 ///
 /// # Errors
 ///

@@ -59,7 +59,7 @@ fn image_bytes<'x>(
 
 /// How a crash image is told.
 #[derive(Clone, Copy)]
-pub(crate) enum Form {
+pub enum Form {
     /// As the bytes of its sectors.
     Bytes,
     /// In words.

@@ -99,7 +99,7 @@ fn put_parts(out: &mut String, images: u64, parts: Option<u64>) -> Result<(), Al
     }
 }
 
-/// The same with how the run is laid out in parts, where that is asked for.
+/// The text of the images, with how the run is laid out in parts where that is asked for.
 fn text_with_parts(
     alloc: Global,
     plan: &Plan<'_>,

@@ -2,9 +2,8 @@
 
 ghost use Rattle.std.specs.Prelude.{◌≡◌};
 ghost use Rattle.machine.specs.Memory.{context_bytes};
-ghost use Rattle.machine.specs.Outcome.{outcome, steps_end};
-ghost use Rattle.machine.specs.State.{start};
 ghost use Rattle.interp.specs.Ending.{ending_of};
+ghost use Rattle.interp.specs.Walks.{outcome_as, start_as, steps_end_as};
 ghost use Rattle.inspect.specs.Trace.{ending_of_halt, steps_made};
 
 use arrayvec::ArrayVec;
@@ -30,13 +29,14 @@ fn outcome_of<D: Device>(walk: &Walk<'_, D>, halt: Halt) -> Outcome
             Outcome::Verdict(Verdict { answer, codes })
         }
         Halt::Fault { code, slot } => Outcome::Fault { code, slot },
+        Halt::Stray(slot) => Outcome::Stray(slot),
     }
 }
 
 /// Makes at most that many steps.
 fn follow<D: Device>(walk: &mut Walk<'_, D>, limit: u64) -> Course
-    ensures outcome { ending_of result.outcome ≡ steps_end walk.old.program walk.old.context walk.old.device limit walk.old.state }
-    ensures steps { result.steps ≡ steps_made walk.old.program walk.old.context walk.old.device limit walk.old.state }
+    ensures outcome { ending_of result.outcome ≡ steps_end_as walk.old.guards walk.old.program walk.old.context walk.old.device limit walk.old.state }
+    ensures steps { result.steps ≡ steps_made walk.old.guards walk.old.program walk.old.context walk.old.device limit walk.old.state }
 {
     for made in 0..limit {
         if let Some(halt) = walk.step() {
@@ -52,17 +52,18 @@ fn follow<D: Device>(walk: &mut Walk<'_, D>, limit: u64) -> Course
     }
 }
 
-/// What a program comes to in a context and on a device within that many steps, and how many it makes.
-#[tactic(auto, unfolding(machine::specs::Outcome::outcome))]
+/// What a program comes to in a context and on a device within that many steps, with guards or without, and how many it makes.
+#[inline(never)]
 pub(crate) fn course_of<D: Device>(
     program: &Program,
     context: &Context,
     device: &D,
+    guards: bool,
     limit: u64,
 ) -> Course
-    ensures outcome { ending_of result.outcome ≡ outcome program.now (D.content device.now) context.now limit }
-    ensures steps { result.steps ≡ steps_made program.now (context_bytes context.now) (D.content device.now) limit start }
+    ensures outcome { ending_of result.outcome ≡ outcome_as guards program.now (D.content device.now) context.now limit }
+    ensures steps { result.steps ≡ steps_made guards program.now (context_bytes context.now) (D.content device.now) limit (start_as guards) }
 {
-    let mut walk = Walk::new(program, context, device);
+    let mut walk = Walk::new(program, context, device, guards);
     follow(&mut walk, limit)
 }

@@ -1,16 +1,20 @@
 //! The steps of a run in words.
 
-ghost use Rattle.std.specs.Prelude.{◌≡◌, ◌+◌, ◌-◌, ◌++◌, OnOk, IfOk, string_bytes, if◌then◌else◌, []};
+ghost use Rattle.std.specs.Prelude.{◌≡◌, ◌<◌, ◌+◌, ◌-◌, ◌++◌, OnOk, IfOk, string_bytes, if◌then◌else◌, [], Some};
+ghost use Rattle.std.specs.Option.{option_and_then};
+ghost use Rattle.helpers.specs.Helper.{helper_of};
 ghost use Rattle.machine.specs.Memory.{context_bytes};
-ghost use Rattle.machine.specs.State.{start};
-ghost use Rattle.machine.specs.Step.{step};
-ghost use Rattle.interp.specs.Walks.{stepped_to, with_state};
-ghost use Rattle.inspect.specs.Trace.{place_text, sector_end, word_text, held_text, is_same, change_text, registers_of, changes_text, step_text, trace_text};
+ghost use Rattle.machine.specs.State.{word};
+ghost use Rattle.interp.specs.Walks.{start_as, step_as, stepped_to, with_state};
+ghost use Rattle.inspect.specs.Trace.{call_touches, came_text, place_text, sector_end, word_text, held_text, is_same, change_text, registers_of, changes_text, step_text, stray_text, strayed_by, strayed_bytes, touch_text, touch_at, touch_here, touches, trace_text};
 
+use arithmetic::{byte_count, plain_size};
 use base::limits::Limits;
 use bpf_asm::put_instr;
+use bpf_isa::instr::Instr;
 use bpf_isa::program::Program;
-use helpers::{Context, Device};
+use bpf_isa::register::Register;
+use helpers::{Context, Device, Helper};
 use interp::{Halt, Walk};
 use request::Trial;
 use std::alloc::AllocError;
@@ -21,6 +25,15 @@ const CONTEXT_START: u64 = 0x1_0000_0000;
 const STACK_START: u64 = 0x2_0000_0000;
 
 const SECTOR_START: u64 = 0x3_0000_0000;
+
+/// A place that an instruction reads or writes, and by which register.
+#[derive(Clone, Copy)]
+pub(crate) struct Touch {
+    pub(crate) register: usize,
+    pub(crate) address: u64,
+    /// The number of bytes.
+    pub(crate) count: u64,
+}
 
 /// The end of the addresses of the sectors of a largest device within these limits.
 fn sector_end(limits: Limits) -> u64
@@ -133,6 +146,138 @@ fn put_changes(
     Ok(())
 }
 
+/// The word in a register, or 0.
+fn word_in<D: Device>(walk: &Walk<'_, D>, number: usize) -> u64
+    requires { number < 11 }
+    ensures { result ≡ word walk.now.state number }
+{
+    walk.register(number).unwrap_or(0)
+}
+
+/// The place at a distance from the word in a register.
+fn touch_at<D: Device>(walk: &Walk<'_, D>, base: Register, offset: i16, count: u64) -> Touch
+    ensures { result ≡ touch_at walk.now.state base offset count }
+{
+    let word = word_in(walk, base.number());
+    Touch {
+        register: base.number(),
+        address: word.wrapping_add(i64::from(offset).cast_unsigned()),
+        count,
+    }
+}
+
+/// The place that a helper writes, by its number.
+fn call_touches<D: Device>(walk: &Walk<'_, D>, number: u32) -> Option<Touch>
+    ensures { result ≡ option_and_then (call_touches walk.now.state) (helper_of number) }
+{
+    match Helper::of(number) {
+        Some(Helper::Copy) => Some(Touch {
+            register: 2,
+            address: word_in(walk, 2),
+            count: word_in(walk, 3),
+        }),
+        _ => None,
+    }
+}
+
+/// The place that the next instruction reads or writes, if it does.
+#[tactic(auto, unfolding(crate::specs::Trace::touch_here))]
+fn touch_here<D: Device>(walk: &Walk<'_, D>) -> Option<Touch>
+    ensures { result ≡ touch_here walk.now.program walk.now.state }
+{
+    match walk.instr() {
+        Some(instr) => touches(walk, &instr),
+        None => None,
+    }
+}
+
+/// The place that an instruction reads or writes, if it does.
+fn touches<D: Device>(walk: &Walk<'_, D>, instr: &Instr) -> Option<Touch>
+    ensures { result ≡ touches walk.now.state instr.now }
+{
+    match instr {
+        Instr::Load {
+            size,
+            base,
+            offset,
+            ..
+        } => Some(touch_at(walk, *base, *offset, byte_count(*size))),
+        Instr::LoadSigned {
+            size,
+            base,
+            offset,
+            ..
+        } => Some(touch_at(walk, *base, *offset, byte_count(plain_size(*size)))),
+        Instr::StoreImmediate {
+            size,
+            base,
+            offset,
+            ..
+        } => Some(touch_at(walk, *base, *offset, byte_count(*size))),
+        Instr::Store {
+            size,
+            base,
+            offset,
+            ..
+        } => Some(touch_at(walk, *base, *offset, byte_count(*size))),
+        Instr::CallHelper { number } => call_touches(walk, number.cast_unsigned()),
+        _ => None,
+    }
+}
+
+/// Appends by which register a step strayed.
+#[tactic(auto, unfolding(crate::specs::Trace::strayed_by))]
+fn put_strayed_by(out: &mut String, register: usize) -> Result<(), AllocError>
+    ensures { OnOk result (string_bytes out.new ≡ string_bytes out.old ++ strayed_by register) }
+{
+    write!(out, "; stray by r{register} at ")
+}
+
+/// Appends how many bytes a step that strayed would have read or written.
+#[tactic(auto, unfolding(crate::specs::Trace::strayed_bytes))]
+fn put_strayed_bytes(out: &mut String, count: u64) -> Result<(), AllocError>
+    ensures { OnOk result (string_bytes out.new ≡ string_bytes out.old ++ strayed_bytes count) }
+{
+    write!(out, " bytes {count}")
+}
+
+/// Appends the place at which a step strayed.
+fn put_touch(out: &mut String, limits: Limits, touch: Touch) -> Result<(), AllocError>
+    ensures { OnOk result (string_bytes out.new ≡ string_bytes out.old ++ touch_text limits touch) }
+{
+    put_strayed_by(out, touch.register)?;
+    put_word(out, limits, touch.address)?;
+    put_strayed_bytes(out, touch.count)
+}
+
+/// Appends where a step strayed.
+fn put_stray(out: &mut String, limits: Limits, touch: Option<Touch>) -> Result<(), AllocError>
+    ensures { OnOk result (string_bytes out.new ≡ string_bytes out.old ++ stray_text limits touch) }
+{
+    match touch {
+        Some(touch) => put_touch(out, limits, touch),
+        None => Ok(()),
+    }
+}
+
+/// Appends what is said of a step that came to this, before which these were in the registers and this was the place.
+fn put_came<D: Device>(
+    out: &mut String,
+    limits: Limits,
+    before: &[Option<u64>; 11],
+    touch: Option<Touch>,
+    end: Option<Halt>,
+    walk: &Walk<'_, D>,
+) -> Result<(), AllocError>
+    ensures { OnOk result (string_bytes out.new ≡ string_bytes out.old ++ came_text limits before.now touch (stepped_to walk.now end)) }
+{
+    match end {
+        None => put_changes(out, limits, before, &registers_of(walk)),
+        Some(Halt::Stray(_)) => put_stray(out, limits, touch),
+        Some(Halt::Verdict(_) | Halt::Fault { .. }) => Ok(()),
+    }
+}
+
 /// Makes a step, and appends its line. Answers what the run ended in, if it did.
 #[tactic(auto, unfolding(crate::specs::Trace::step_text))]
 fn put_step<D: Device>(
@@ -141,8 +286,8 @@ fn put_step<D: Device>(
     number: u64,
     walk: &mut Walk<'_, D>,
 ) -> Result<Option<Halt>, AllocError>
-    ensures line { OnOk result (string_bytes out.new ≡ string_bytes out.old ++ step_text limits walk.old.program number walk.old.state (step walk.old.program walk.old.context walk.old.device walk.old.state)) }
-    ensures made { IfOk result (λ end. stepped_to walk.new end ≡ step walk.old.program walk.old.context walk.old.device walk.old.state) }
+    ensures line { OnOk result (string_bytes out.new ≡ string_bytes out.old ++ step_text limits walk.old.program number walk.old.state (step_as walk.old.guards walk.old.program walk.old.context walk.old.device walk.old.state)) }
+    ensures made { IfOk result (λ end. stepped_to walk.new end ≡ step_as walk.old.guards walk.old.program walk.old.context walk.old.device walk.old.state) }
     ensures same { walk.new ≡ with_state walk.old walk.new.state }
 {
     write!(out, "step {number} slot {} ", walk.slot())?;
@@ -150,10 +295,9 @@ fn put_step<D: Device>(
         put_instr(out, &instr)?;
     }
     let before = registers_of(walk);
+    let touch = touch_here(walk);
     let end = walk.step();
-    if end.is_none() {
-        put_changes(out, limits, &before, &registers_of(walk))?;
-    }
+    put_came(out, limits, &before, touch, end, walk)?;
     write!(out, "\n")?;
     Ok(end)
 }
@@ -166,8 +310,8 @@ fn trace_step<D: Device>(
     wanted: bool,
     walk: &mut Walk<'_, D>,
 ) -> Result<Option<Halt>, AllocError>
-    ensures line { OnOk result (string_bytes out.new ≡ string_bytes out.old ++ (if wanted then step_text limits walk.old.program number walk.old.state (step walk.old.program walk.old.context walk.old.device walk.old.state) else [])) }
-    ensures made { IfOk result (λ end. stepped_to walk.new end ≡ step walk.old.program walk.old.context walk.old.device walk.old.state) }
+    ensures line { OnOk result (string_bytes out.new ≡ string_bytes out.old ++ (if wanted then step_text limits walk.old.program number walk.old.state (step_as walk.old.guards walk.old.program walk.old.context walk.old.device walk.old.state) else [])) }
+    ensures made { IfOk result (λ end. stepped_to walk.new end ≡ step_as walk.old.guards walk.old.program walk.old.context walk.old.device walk.old.state) }
     ensures same { walk.new ≡ with_state walk.old walk.new.state }
 {
     if wanted {
@@ -179,6 +323,7 @@ fn trace_step<D: Device>(
 
 /// Makes that many steps, or fewer where the run ends, and appends the lines of those whose numbers are above another. The first step has
 /// number 1.
+#[inline(never)]
 fn put_trace<D: Device>(
     out: &mut String,
     limits: Limits,
@@ -186,7 +331,7 @@ fn put_trace<D: Device>(
     steps: u64,
     above: u64,
 ) -> Result<(), AllocError>
-    ensures { OnOk result (string_bytes out.new ≡ string_bytes out.old ++ trace_text limits walk.old.program walk.old.context walk.old.device steps 1 above walk.old.state) }
+    ensures { OnOk result (string_bytes out.new ≡ string_bytes out.old ++ trace_text limits walk.old.guards walk.old.program walk.old.context walk.old.device steps 1 above walk.old.state) }
 {
     for made in 0..steps {
         let number = made + 1;
@@ -198,7 +343,8 @@ fn put_trace<D: Device>(
     Ok(())
 }
 
-/// Appends the lines of the last steps of a run of a program, as many as are asked for. The run makes that many steps.
+/// Appends the lines of the last steps of a run of a program, with guards or without, as many as are asked for. The run makes that
+/// many steps.
 pub(crate) fn put_last<D: Device>(
     out: &mut String,
     program: &Program,
@@ -207,9 +353,9 @@ pub(crate) fn put_last<D: Device>(
     asked: &Trial,
     steps: u64,
 ) -> Result<(), AllocError>
-    ensures { OnOk result (string_bytes out.new ≡ string_bytes out.old ++ trace_text asked.now.limits program.now (context_bytes context.now) (D.content device.now) steps 1 (steps - asked.now.trace) start) }
+    ensures { OnOk result (string_bytes out.new ≡ string_bytes out.old ++ trace_text asked.now.limits asked.now.guards program.now (context_bytes context.now) (D.content device.now) steps 1 (steps - asked.now.trace) (start_as asked.now.guards)) }
 {
-    let mut walk = Walk::new(program, context, device);
+    let mut walk = Walk::new(program, context, device, asked.guards);
     let above = steps.saturating_sub(asked.trace);
     put_trace(out, asked.limits, &mut walk, steps, above)
 }

@@ -6,7 +6,7 @@ ghost use Rattle.base.specs.Sizes.{most_sectors};
 ghost use Rattle.interp.specs.Ending.{ending_of};
 ghost use Rattle.report.specs.Line.{fails};
 ghost use Rattle.inspect.specs.TrialImage.{sectors_of};
-ghost use Rattle.inspect.specs.TrialText.{context_of, ending_of_trial, Allows, bound_text, context_text, head_text, program_text, end_text, trial_text, IsTried, RefusesLimit, RefusesTrial};
+ghost use Rattle.inspect.specs.TrialText.{context_of, ending_of_trial, Allows, Bound, bound_of, bound_text, context_text, guarded_count_text, head_text, program_text, end_text, trial_text, IsTried, RefusesLimit, RefusesTrial};
 
 use crate::trial::course::course_of;
 use crate::trial::image::{Image, is_image, sectors_of};
@@ -21,7 +21,7 @@ use report::lines::put_outcome;
 use request::facts::Facts;
 use request::{Trial, bytes_refusal_of, unreadable};
 use std::alloc::{AllocError, Global};
-use verifier::verify_known;
+use verifier::{Verified, guarded_slots, verify_with};
 
 /// What is said of a run, and whether the program rejects the image.
 #[derive(Drop)]
@@ -41,26 +41,57 @@ fn unaccepted_refusal_of(fault: Fault) -> Refusal
     }
 }
 
-/// The most steps of a run on an image. What is found on the way is put into `facts`.
+/// The most steps of a run, and with guards how many slots are guarded.
+#[derive(Clone, Copy)]
+struct Bounds {
+    limit: u64,
+    guarded: Option<usize>,
+}
+
+/// How an accepted program is bounded.
+fn bounds_of(alloc: Global, verified: &Verified<'_>) -> Result<Bounds, AllocError>
+    ensures { IfOk result (λ b. record { limit = b.limit; guarded = b.guarded } ≡ bound_of verified.now) }
+{
+    let limit = verified.budget();
+    if !verified.has_guards() {
+        return Ok(Bounds {
+            limit,
+            guarded: None,
+        });
+    }
+    let slots = guarded_slots(alloc, verified)?;
+    Ok(Bounds {
+        limit,
+        guarded: Some(slots.len()),
+    })
+}
+
+/// How a run on an image is bounded. What is found on the way is put into `facts`.
 fn limit_of(
     alloc: Global,
     program: &Program,
     image: &[u8],
     asked: &Trial,
     facts: &mut Facts,
-) -> Result<u64, Refusal>
+) -> Result<Bounds, Refusal>
     requires some { 512 ≤ length image.now }
     requires few { length image.now ≤ 512 * most_sectors }
-    ensures allowed { IfOk result (Allows program.now image.now asked.now) }
+    ensures allowed { IfOk result (λ b. Allows program.now image.now asked.now (record { limit = b.limit; guarded = b.guarded })) }
     ensures refused { IfErr result (RefusesLimit program.now image.now asked.now) }
 {
     if let Some(limit) = asked.checked {
-        return Ok(limit);
+        return Ok(Bounds {
+            limit,
+            guarded: None,
+        });
     }
-    match verify_known(alloc, program, sectors_of(image)) {
+    match verify_with(alloc, program, sectors_of(image), asked.guards) {
         Ok(verified) => {
             facts.accept(&verified);
-            Ok(verified.budget())
+            match bounds_of(alloc, &verified) {
+                Ok(bounds) => Ok(bounds),
+                Err(_error) => Err(Refusal::of_memory()),
+            }
         }
         Err(unaccepted) => {
             facts.refuse(program, &unaccepted);
@@ -102,19 +133,31 @@ fn put_bound(out: &mut String, checked: Option<u64>) -> Result<(), AllocError>
     }
 }
 
-/// Appends the line of a program: its number of slots, and its limit or budget.
+/// Appends how many slots are guarded, with guards.
+fn put_guarded(out: &mut String, guarded: Option<usize>) -> Result<(), AllocError>
+    ensures { OnOk result (string_bytes out.new ≡ string_bytes out.old ++ guarded_count_text guarded) }
+{
+    match guarded {
+        Some(count) => write!(out, " guards {count}"),
+        None => Ok(()),
+    }
+}
+
+/// Appends the line of a program: its number of slots, its limit or budget, and with guards how many slots are guarded.
 #[tactic(auto, unfolding(crate::specs::TrialText::program_text))]
 fn put_program(
     out: &mut String,
     checked: Option<u64>,
     slots: usize,
-    limit: u64,
+    bounds: Bounds,
 ) -> Result<(), AllocError>
-    ensures { OnOk result (string_bytes out.new ≡ string_bytes out.old ++ program_text checked slots limit) }
+    ensures { OnOk result (string_bytes out.new ≡ string_bytes out.old ++ program_text checked slots (record { limit = bounds.limit; guarded = bounds.guarded })) }
 {
     write!(out, "program slots {slots}")?;
     put_bound(out, checked)?;
-    write!(out, "{limit}\n")
+    write!(out, "{}", bounds.limit)?;
+    put_guarded(out, bounds.guarded)?;
+    write!(out, "\n")
 }
 
 /// Appends the lines before the steps.
@@ -124,13 +167,13 @@ fn put_head(
     context: &Context,
     checked: Option<u64>,
     slots: usize,
-    limit: u64,
+    bounds: Bounds,
 ) -> Result<(), AllocError>
-    ensures { OnOk result (string_bytes out.new ≡ string_bytes out.old ++ head_text context.now checked slots limit) }
+    ensures { OnOk result (string_bytes out.new ≡ string_bytes out.old ++ head_text context.now checked slots (record { limit = bounds.limit; guarded = bounds.guarded })) }
 {
     write!(out, "crash check 1\n")?;
     put_context(out, context)?;
-    put_program(out, checked, slots, limit)
+    put_program(out, checked, slots, bounds)
 }
 
 /// Appends how many steps a run made, and what it came to.
@@ -160,18 +203,18 @@ fn report_of(
     program: &Program,
     image: &[u8],
     asked: &Trial,
-    limit: u64,
+    bounds: Bounds,
 ) -> Result<TrialReport, AllocError>
     requires some { 512 ≤ length image.now }
     requires few { length image.now ≤ 512 * most_sectors }
-    ensures text { IfOk result (λ report. report.bytes.items ≡ trial_text program.now image.now asked.now limit) }
-    ensures failing { IfOk result (λ report. report.failing ≡ fails (ending_of_trial program.now image.now asked.now limit)) }
+    ensures text { IfOk result (λ report. report.bytes.items ≡ trial_text program.now image.now asked.now (record { limit = bounds.limit; guarded = bounds.guarded })) }
+    ensures failing { IfOk result (λ report. report.failing ≡ fails (ending_of_trial program.now image.now asked.now bounds.limit)) }
 {
     let device = Image::of(alloc, image, sectors_of(image))?;
     let context = context_of(image, asked);
-    let course = course_of(program, &context, &device, limit);
+    let course = course_of(program, &context, &device, asked.guards, bounds.limit);
     let mut out = String::new(alloc);
-    put_head(&mut out, &context, asked.checked, program.slots(), limit)?;
+    put_head(&mut out, &context, asked.checked, program.slots(), bounds)?;
     put_last(&mut out, program, &context, &device, asked, course.steps)?;
     put_end(&mut out, course.steps, &course.outcome)?;
     Ok(TrialReport {
@@ -186,7 +229,7 @@ fn report_of(
 /// # Errors
 ///
 /// 14 at 1 for the size of the image; the first fault of the program's bytes; then, where no limit is given, why the verifier refuses the
-/// program, each at its slot; or want of memory. What is found on the way takes the place of what `facts` held.
+/// program with guards or without, each at its slot; or want of memory. What is found on the way takes the place of what `facts` held.
 pub fn try_image(
     alloc: Global,
     code: &[u8],
@@ -205,11 +248,11 @@ pub fn try_image(
         Ok(program) => program,
         Err(fault) => return Err(bytes_refusal_of(fault)),
     };
-    let limit = match limit_of(alloc, &program, image, asked, facts) {
-        Ok(limit) => limit,
+    let bounds = match limit_of(alloc, &program, image, asked, facts) {
+        Ok(bounds) => bounds,
         Err(refusal) => return Err(refusal),
     };
-    match report_of(alloc, &program, image, asked, limit) {
+    match report_of(alloc, &program, image, asked, bounds) {
         Ok(report) => Ok(report),
         Err(_error) => Err(Refusal::of_memory()),
     }

@@ -4,7 +4,7 @@ ghost use Rattle.std.specs.Prelude.{◌≡◌, ◌≤◌, ◌++◌, ◌∷◌, [
 ghost use Rattle.std.specs.List.{flat_map};
 ghost use Rattle.report.specs.Line.{FailingLine};
 ghost use Rattle.report.specs.LineText.{line_text};
-ghost use Rattle.losses.specs.Printed.{EndsLine, IsBehind, IsPrinted};
+ghost use Rattle.losses.specs.Printed.{EndsLine, IsAfter, IsPrinted};
 ghost use Rattle.losses.specs.CureText.{uncured_at, uncured_text};
 
 use crate::cure::failure::Failure;
@@ -25,8 +25,8 @@ fn line_len(text: &[u8]) -> usize
 }
 
 /// What stands after that many lines of a text.
-fn behind_lines(text: &[u8], count: usize) -> &[u8]
-    ensures { IsBehind text.now count result.now }
+fn after_lines(text: &[u8], count: usize) -> &[u8]
+    ensures { IsAfter text.now count result.now }
 {
     let mut rest = text;
     for _line in 0..count {
@@ -39,7 +39,7 @@ fn behind_lines(text: &[u8], count: usize) -> &[u8]
 fn line_at(text: &[u8], number: usize) -> &[u8]
     ensures { IsPrinted text.now number result.now }
 {
-    let rest = behind_lines(text, number);
+    let rest = after_lines(text, number);
     &rest[..line_len(rest)]
 }
 

@@ -77,7 +77,7 @@ fn below(keys: &[u128], key: u128) -> usize
     requires { IsNonDecreasing keys.now }
     ensures bound { result ≤ length keys.now }
     ensures before { (k d : ℕ) → k < result → slice_index_or keys.now k d < key }
-    ensures behind { (k d : ℕ) → result ≤ k → k < length keys.now → key ≤ slice_index_or keys.now k d }
+    ensures beyond { (k d : ℕ) → result ≤ k → k < length keys.now → key ≤ slice_index_or keys.now k d }
 {
     keys.partition_point(|other| *other < key)
 }

@@ -51,10 +51,10 @@ fn outcome_in(said: &str) -> &str
 fn read_outcome(text: &str) -> (&str, &str)
     ensures { ReadsOutcome text.now result.0.now result.1.now }
 {
-    let (_image, behind_image) = field(text);
-    let (_cut, behind_cut) = field(behind_image);
-    let (_program, behind_program) = field(behind_cut);
-    let (said, more) = cut(behind_program, '\n');
+    let (_image, after_image) = field(text);
+    let (_cut, after_cut) = field(after_image);
+    let (_program, after_program) = field(after_cut);
+    let (said, more) = cut(after_program, '\n');
     (outcome_in(said), more)
 }
 

@@ -17,7 +17,7 @@ fn below(numbers: &[u64], bound: u64) -> usize
     requires { IsNonDecreasing numbers.now }
     ensures bound { result ≤ length numbers.now }
     ensures before { (k d : ℕ) → k < result → slice_index_or numbers.now k d < bound }
-    ensures behind { (k d : ℕ) → result ≤ k → k < length numbers.now → bound ≤ slice_index_or numbers.now k d }
+    ensures beyond { (k d : ℕ) → result ≤ k → k < length numbers.now → bound ≤ slice_index_or numbers.now k d }
 {
     numbers.partition_point(|number| *number < bound)
 }
@@ -31,8 +31,8 @@ fn between(numbers: &[u64], first: u64, end: u64) -> (usize, &[u64])
     ensures within { result.0 + length result.1.now ≤ length numbers.now }
 {
     let begin = below(numbers, first);
-    let behind = below(numbers, end);
-    (begin, &numbers[begin..behind])
+    let beyond = below(numbers, end);
+    (begin, &numbers[begin..beyond])
 }
 
 /// What fails at the wanted cut of a place.

@@ -3,6 +3,7 @@
 use crate::command_notes::blind::put_blind;
 use crate::command_notes::forced::put_forced;
 use crate::command_notes::large::put_large;
+use crate::command_notes::left_out::put_left_out;
 use crate::command_notes::promises::put_promises;
 use crate::command_notes::unreached::put_unreached;
 use crate::put_note;
@@ -86,9 +87,12 @@ pub fn notes_beside(alloc: Global, words: &Words, facts: &Facts) -> Result<Strin
             put_mark_notes(&mut out, facts)?;
             put_survey_notes(&mut out, options, facts)?
         }
-        Request::Cases(_options, _losses) => {
+        Request::Cases(_options, losses) => {
             put_explored_notes(&mut out, facts)?;
-            put_mark_notes(&mut out, facts)?
+            put_mark_notes(&mut out, facts)?;
+            if let Some(left) = &facts.left_out {
+                put_left_out(&mut out, &losses, left)?;
+            }
         }
         Request::Export(options) => put_survey_notes(&mut out, options, facts)?,
         Request::Images(options, _) => put_survey_notes(&mut out, options, facts)?,

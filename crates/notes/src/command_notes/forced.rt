@@ -19,7 +19,7 @@ fn put_words(out: &mut String) -> Result<(), AllocError>
     ensures { OnOk result (string_bytes out.new ≡ string_bytes out.old ++ forced_words) }
 {
     out.push_str(
-        "; no image loses or tears one, though a crash may while it is in flight (docs/CRASH-MODEL.md, What a clean report doesn't say)\n",
+        "; no image loses or tears one, though a crash may while it is in flight; 'crashbpf explore --bound any' does (docs/CRASH-MODEL.md, What a clean report doesn't say)\n",
     )
 }
 

@@ -22,7 +22,7 @@ fn put_loss(out: &mut String) -> Result<(), AllocError>
     ensures { OnOk result (string_bytes out.new ≡ string_bytes out.old ++ loss_words) }
 {
     out.push_str(
-        "note: a write before each of them may still be lost there: it has no flush behind it, and isn't FUA\n",
+        "note: a write before each of them may still be lost there: it has no flush after it, and isn't FUA\n",
     )
 }
 

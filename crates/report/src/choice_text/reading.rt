@@ -80,12 +80,12 @@ fn part(by: By, word: &str) -> Option<(u32, u32)>
 fn name(by: By, word: &str) -> Option<Name>
     ensures { ReadsName by word.now result }
 {
-    let (front, behind) = cut(word, ':')?;
+    let (front, beyond) = cut(word, ':')?;
     let (entry, place) = part(by, front)?;
     Some(Name {
         entry,
         place,
-        fate: fate(behind.as_bytes())?,
+        fate: fate(beyond.as_bytes())?,
     })
 }
 
@@ -109,12 +109,12 @@ fn read_on(mut names: ArrayVec<Name, 3>, by: By, left: u8, text: &str) -> Option
     if left == 0 {
         return None;
     }
-    let Some((first, behind)) = cut(text, ',') else {
+    let Some((first, beyond)) = cut(text, ',') else {
         return read_last(names, by, text);
     };
     let first = name(by, first)?;
     names.push(first);
-    read_on(names, by, left - 1, behind)
+    read_on(names, by, left - 1, beyond)
 }
 
 /// The names that a text says, if it is the text of any; and perhaps some where it isn't.

@@ -121,7 +121,7 @@ impl Lines {
         self.leading.len()
     }
 
-    /// Of which image and which program each line is, read back from the text.
+    /// The image and the program of each line, read back from the text.
     ///
     /// # Errors
     ///

@@ -1,11 +1,11 @@
-//! Of which images lines are.
+//! The images of lines.
 
 ghost use Rattle.std.specs.Prelude.{◌≡◌, ◌+◌, ◌-◌, ◌<◌, ◌^◌, ◌++◌, ◌∷◌, [], if◌then◌else◌, List};
 ghost use Rattle.report.specs.Line.{FailingLine};
 ghost use Rattle.report.specs.Images.{is_same};
 ghost use Rattle.report.specs.Kept.{AreOf, leads_on, if_any};
 
-/// Of which images some lines in a row are.
+/// The images of some lines in a row.
 #[derive(Clone, Copy, Drop)]
 pub(crate) struct Images {
     /// The image of the first line, and 0 where there is none.

@@ -1,6 +1,6 @@
-//! Of which image and which program lines are.
+//! The image and the program of a line.
 
-/// Of which image and which program a failing line is.
+/// The image and the program of a failing line.
 #[derive(Clone, Copy, Drop)]
 pub struct Mark {
     /// The number of the image.

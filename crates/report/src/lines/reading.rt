@@ -55,10 +55,10 @@ fn read_mark(text: &str) -> (Mark, &str)
     ensures line { ReadsLine text.now result.0 result.1.now }
     ensures shorter { length result.1.now ≤ length text.now - 1 }
 {
-    let (image, behind_image) = field(text);
-    let (_cut, behind_cut) = field(behind_image);
-    let (program, behind_program) = field(behind_cut);
-    let (_said, more) = cut(behind_program, '\n');
+    let (image, after_image) = field(text);
+    let (_cut, after_cut) = field(after_image);
+    let (program, after_program) = field(after_cut);
+    let (_said, more) = cut(after_program, '\n');
     let mark = Mark {
         image: number(image),
         program: program_number(program),

@@ -1,4 +1,4 @@
-//! With what a log that has too many crash images has fewer.
+//! What makes a log with too many crash images have fewer.
 
 ghost use Rattle.std.specs.Prelude.{◌≡◌, ◌≤◌, IfOk, MatchOption};
 ghost use Rattle.request.specs.Extents.{most_images};
@@ -17,12 +17,12 @@ pub struct Smaller {
     pub images: u64,
 }
 
-/// With what a log has fewer images.
+/// What makes a log have fewer images.
 #[derive(Clone, Copy)]
 pub struct Fewer {
     /// How many it has with the cuts of `--cuts flush`; none where these are too many as well.
     pub flush: Option<u64>,
-    /// The same with those of `--cuts mark`.
+    /// How many it has with the cuts of `--cuts mark`; none where these are too many as well.
     pub mark: Option<u64>,
     /// The greatest smaller bound with which it hasn't too many.
     pub smaller: Option<Smaller>,
@@ -39,7 +39,7 @@ fn images_of(plan: &Plan<'_>, bound: u8, tears: bool, most: u64) -> Option<u64>
     }
 }
 
-/// The same of a log, with cuts of that kind.
+/// How many images a log has with cuts of a kind; none where these are too many.
 fn images_with(
     alloc: Global,
     log: &Log,
@@ -73,7 +73,7 @@ fn smaller_bound(plan: &Plan<'_>, below: u8, tears: bool, most: u64) -> Option<S
     None
 }
 
-/// With what a log has fewer images than by the options.
+/// What makes a log have fewer images.than by the options.
 pub(crate) fn fewer_of(alloc: Global, log: &Log, options: &Options) -> Result<Fewer, AllocError>
     ensures { IfOk result (AreFewer options.now log.now) }
 {

@@ -8,6 +8,7 @@ ghost use Rattle.request.specs.Fewer.{AreFewer};
 ghost use Rattle.request.specs.Found.{IsEmpty, AddsUnreached, HasBreach, KeepsLog, KeepsPrograms};
 
 use crate::facts::fewer::{Fewer, fewer_of};
+use crate::facts::left_out::LeftOut;
 use crate::facts::promises::Promises;
 use crate::{Options, plan_of};
 use arrayvec::ArrayVec;
@@ -39,7 +40,7 @@ pub struct Facts {
     pub forced: usize,
     /// Which marks of its log promise what nothing made durable; none where there was no memory to find them.
     pub promises: Option<Promises>,
-    /// With what its log has fewer images, where it has too many.
+    /// What makes its log have fewer images, where it has too many.
     pub fewer: Option<Fewer>,
     /// What no run reaches of each program that the verifier accepts, one after the other.
     pub unreached: ArrayVec<Option<Unreached>, 8>,
@@ -47,6 +48,8 @@ pub struct Facts {
     pub breach: Option<Breach>,
     /// Of each program of a run that is told of, one after the other, whether it passes without looking at what the log writes.
     pub blind: ArrayVec<bool, 8>,
+    /// How many cases a run of any number of losses left out, where none that it judged fails.
+    pub left_out: Option<LeftOut>,
 }
 
 impl Facts {
@@ -62,6 +65,7 @@ impl Facts {
             unreached: ArrayVec::new(),
             breach: None,
             blind: ArrayVec::new(),
+            left_out: None,
         }
     }
 

@@ -7,8 +7,8 @@ use Rattle.bpf_asm.proofs.outline.split_line.Goals as goal
 pub returns-then-c-eq10-clause-more : goal.returns-then-c-eq10-clause-more
 returns-then-c-eq10-clause-more c =
     let text = c.args.text.now in
-    let behind : drop 1 (drop c.loop-i.i text) ≡ drop (c.loop-i.i + 1) text = drop-drop 1 c.loop-i.i text in
-    rw (c.split_at.ensures.front, c.split_at-then-c-eq10.ensures.back, c.split_at.ensures.back, behind)
+    let beyond : drop 1 (drop c.loop-i.i text) ≡ drop (c.loop-i.i + 1) text = drop-drop 1 c.loop-i.i text in
+    rw (c.split_at.ensures.front, c.split_at-then-c-eq10.ensures.back, c.split_at.ensures.back, beyond)
     (split_there text c.loop-i.i c.loop-i-test.true c.if-c-eq10.true c.loop-i.invariant)
 
 pub loop-i-preserved : goal.loop-i-preserved

@@ -1,5 +1,4 @@
-use Rattle.std.proofs.Common.{ℕ, ◌≡◌, ◌+◌, ◌≤◌, List, All, length, sym, subst, ◌∙◌, ap, refl, arith}
-use Rattle.logfmt.specs.declared.entry.Entry.{Entry}
+use Rattle.std.proofs.Common.{◌+◌, refl, arith}
 use Rattle.case_runs.specs.Cuts.{is_explored}
 use Rattle.case_runs.proofs.Cutting.{kept_more, explored_told}
 use Rattle.case_runs.proofs.cuts.explored_cuts.Goals as goal

@@ -5,7 +5,7 @@ use Rattle.case_runs.proofs.Finding.{begun_of}
 use Rattle.case_runs.proofs.found.find_within.Goals as goal
 
 pub returns-then-found-left-clause-many : goal.returns-then-found-left-clause-many
-returns-then-found-left-clause-many c =
+returns-then-found-left-clause-many g c =
     let own : IsFoundAt c.args.asked c.args.cut.now c.args.checker.now c.in-Some.found =
     subst (λ (o : Option Found). MatchOption o (IsBegunAt c.args.asked c.args.cut.now c.args.checker.now (c.args.left.now + 1)) (IsFoundAt c.args.asked c.args.cut.now c.args.checker.now)) c.in-Some.is
     c.in_ok-found.ensures in

@@ -1,4 +1,4 @@
-use Rattle.std.proofs.Common.{◌≡◌, ◌++◌, Bool}
+use Rattle.std.proofs.Common.{◌≡◌, Bool}
 use Rattle.std.specs.List.{flat_map, range_with_len}
 use Rattle.case_runs.specs.Images.{formed_of}
 use Rattle.case_runs.proofs.image.form.Given as goal

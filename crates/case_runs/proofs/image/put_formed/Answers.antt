@@ -1,4 +1,4 @@
-use Rattle.std.proofs.Common.{refl, sym, ◌∙◌, arith}
+use Rattle.std.proofs.Common.{arith}
 use Rattle.case_runs.proofs.Imaging.{formed_one}
 use Rattle.case_runs.proofs.image.put_formed.Goals as goal
 

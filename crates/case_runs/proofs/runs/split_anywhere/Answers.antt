@@ -1,5 +1,4 @@
-use Rattle.std.proofs.Common.{ℕ, ◌≡◌, ◌<◌, arith}
-use Rattle.std.proofs.lemmas.Option.{MatchOption-at_none}
+use Rattle.std.proofs.Common.{◌<◌, arith}
 use Rattle.case_runs.proofs.Running.{split_found, split_more, split_none}
 use Rattle.case_runs.proofs.runs.split_anywhere.Goals as goal
 

@@ -2,5 +2,5 @@ use Rattle.std.proofs.Common.{◌≡◌, ◌-◌, None, drop, length}
 use Rattle.choices.specs.Steps.{following}
 use Rattle.choices.proofs.step.last_step.Given as goal
 
-abbrev pub invariant-loop-behind : goal.invariant-loop-behind
-invariant-loop-behind l = following l.fates l.parts (drop (length l.picks - l.behind) l.picks) ≡ None
+abbrev pub invariant-loop-beyond : goal.invariant-loop-beyond
+invariant-loop-beyond l = following l.fates l.parts (drop (length l.picks - l.beyond) l.picks) ≡ None

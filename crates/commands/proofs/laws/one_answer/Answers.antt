@@ -9,4 +9,5 @@ returns c =
       verdicts = c.one_verdict.ensures;
       sources = c.one_source.ensures;
       findings = c.finding_is_one.ensures;
+      first = c.first_is_one.ensures;
     })

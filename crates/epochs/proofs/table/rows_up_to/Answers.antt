@@ -9,8 +9,8 @@ returns-clause-before c =
     let point = IsPartitionPoint-from_clause (λ (row : Row). leb row.start c.args.part) _ _ c.partition_point.ensures.partitioned parted (λ a r q k. search rules) in
     λ k d h. leb-true _ _ (point.0 k d (omega arith) h)
 
-pub returns-clause-behind : goal.returns-clause-behind
-returns-clause-behind c =
+pub returns-clause-beyond : goal.returns-clause-beyond
+returns-clause-beyond c =
     let parted = IsPartitionedBy-leb (λ (row : Row). row.start) _ c.args.part c.requires in
     let point = IsPartitionPoint-from_clause (λ (row : Row). leb row.start c.args.part) _ _ c.partition_point.ensures.partitioned parted (λ a r q k. search rules) in
     λ k d h lt. leb-false _ _ (point.1 k d h lt)

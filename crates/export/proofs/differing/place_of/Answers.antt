@@ -8,8 +8,8 @@ returns-clause-before c = λ rises.
     let point = IsPartitionPoint-from_clause (λ (n : ℕ). ltb n c.args.number) _ _ c.partition_point.ensures.partitioned parted (λ a r q k. search rules) in
     λ k d h. ltb-true _ _ (point.0 k d (omega arith) h)
 
-pub returns-clause-behind : goal.returns-clause-behind
-returns-clause-behind c = λ rises.
+pub returns-clause-beyond : goal.returns-clause-beyond
+returns-clause-beyond c = λ rises.
     let parted = IsPartitionedBy-ltb (λ (n : ℕ). n) _ c.args.number rises in
     let point = IsPartitionPoint-from_clause (λ (n : ℕ). ltb n c.args.number) _ _ c.partition_point.ensures.partitioned parted (λ a r q k. search rules) in
     λ k d h lt. ltb-false _ _ (point.1 k d h lt)

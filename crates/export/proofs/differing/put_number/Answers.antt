@@ -24,7 +24,7 @@ returns-then-there c = λ p count lt is.
     ∙ number_put p count n place c.is_at-there.result xs lt is
     (subst (λ ys. place ≤ length ys) c.as_slice.ensures.value c.place_of-place.ensures.bound)
     (subst (λ ys. lower ys place n) c.as_slice.ensures.value (c.place_of-place.ensures.before risen))
-    (subst (λ ys. upper ys place n) c.as_slice.ensures.value (c.place_of-place.ensures.behind risen))
+    (subst (λ ys. upper ys place n) c.as_slice.ensures.value (c.place_of-place.ensures.beyond risen))
     (c.is_at-there.ensures ∙ ap (λ ys. option_map_or (λ (m : ℕ). m == n) (slice_get ys place) false) c.as_slice-2.ensures.value)
 
 pub returns : goal.returns
@@ -38,5 +38,5 @@ returns c = λ p count lt is.
     ∙ number_put p count n place c.is_at-there.result xs lt is
     (subst (λ ys. place ≤ length ys) c.as_slice.ensures.value c.place_of-place.ensures.bound)
     (subst (λ ys. lower ys place n) c.as_slice.ensures.value (c.place_of-place.ensures.before risen))
-    (subst (λ ys. upper ys place n) c.as_slice.ensures.value (c.place_of-place.ensures.behind risen))
+    (subst (λ ys. upper ys place n) c.as_slice.ensures.value (c.place_of-place.ensures.beyond risen))
     (c.is_at-there.ensures ∙ ap (λ ys. option_map_or (λ (m : ℕ). m == n) (slice_get ys place) false) c.as_slice-2.ensures.value)

@@ -21,7 +21,7 @@ returns-in-Some c = λ base image count sector lt is told.
     ∙ relisted_is base image count n place c.is_at-there.result sector xs c.args.change lt is told
     (subst (λ ys. place ≤ length ys) c.as_slice.ensures.value c.place_of-place.ensures.bound)
     (subst (λ ys. lower ys place n) c.as_slice.ensures.value c.place_of-place.ensures.before)
-    (subst (λ ys. upper ys place n) c.as_slice.ensures.value c.place_of-place.ensures.behind)
+    (subst (λ ys. upper ys place n) c.as_slice.ensures.value c.place_of-place.ensures.beyond)
     (c.is_at-there.ensures ∙ ap (λ ys. option_map_or (λ (s : ChangedValue). s.number == n) (slice_get ys place) false) c.as_slice-2.ensures.value)
 
 pub returns-in_ok-insert-in-Some-2 : goal.returns-in_ok-insert-in-Some-2
@@ -35,7 +35,7 @@ returns-in_ok-insert-in-Some-2 c = λ base image count sector lt is told.
     ∙ relisted_is base image count n place c.is_at-there.result sector xs c.args.change lt is told
     (subst (λ ys. place ≤ length ys) c.as_slice.ensures.value c.place_of-place.ensures.bound)
     (subst (λ ys. lower ys place n) c.as_slice.ensures.value c.place_of-place.ensures.before)
-    (subst (λ ys. upper ys place n) c.as_slice.ensures.value c.place_of-place.ensures.behind)
+    (subst (λ ys. upper ys place n) c.as_slice.ensures.value c.place_of-place.ensures.beyond)
     (c.is_at-there.ensures ∙ ap (λ ys. option_map_or (λ (s : ChangedValue). s.number == n) (slice_get ys place) false) c.as_slice-2.ensures.value)
 
 pub returns-in-None : goal.returns-in-None
@@ -49,7 +49,7 @@ returns-in-None c = λ base image count sector lt is told.
     ∙ relisted_is base image count n place c.is_at-there.result sector xs c.args.change lt is told
     (subst (λ ys. place ≤ length ys) c.as_slice.ensures.value c.place_of-place.ensures.bound)
     (subst (λ ys. lower ys place n) c.as_slice.ensures.value c.place_of-place.ensures.before)
-    (subst (λ ys. upper ys place n) c.as_slice.ensures.value c.place_of-place.ensures.behind)
+    (subst (λ ys. upper ys place n) c.as_slice.ensures.value c.place_of-place.ensures.beyond)
     (c.is_at-there.ensures ∙ ap (λ ys. option_map_or (λ (s : ChangedValue). s.number == n) (slice_get ys place) false) c.as_slice-2.ensures.value)
 
 pub returns-else-there-2 : goal.returns-else-there-2
@@ -62,5 +62,5 @@ returns-else-there-2 c = λ base image count sector lt is told.
     ∙ relisted_is base image count n place c.is_at-there.result sector xs c.args.change lt is told
     (subst (λ ys. place ≤ length ys) c.as_slice.ensures.value c.place_of-place.ensures.bound)
     (subst (λ ys. lower ys place n) c.as_slice.ensures.value c.place_of-place.ensures.before)
-    (subst (λ ys. upper ys place n) c.as_slice.ensures.value c.place_of-place.ensures.behind)
+    (subst (λ ys. upper ys place n) c.as_slice.ensures.value c.place_of-place.ensures.beyond)
     (c.is_at-there.ensures ∙ ap (λ ys. option_map_or (λ (s : ChangedValue). s.number == n) (slice_get ys place) false) c.as_slice-2.ensures.value)

@@ -11,8 +11,8 @@ pub returns-in-Err-checked_header-clause-fault : goal.returns-in-Err-checked_hea
 returns-in-Err-checked_header-clause-fault c =
     let super = c.in-Ok.ensures in
     let long : c.len.result ≡ length c.loop-number.out.items = search rules in
-    let room = c.room_behind-room.ensures.value ∙ ap (λ (n : ℕ). byte_limit c.args.limits - n) long in
-    inr (fault_here _ _ _ _ _ _ _ _ c.in-Err-checked_header.code super.stands.told super.exact (omega arith) c.loop-number.invariant c.room_behind-room.result room c.in-Err-checked_header.ensures.exact)
+    let room = c.room_after-room.ensures.value ∙ ap (λ (n : ℕ). byte_limit c.args.limits - n) long in
+    inr (fault_here _ _ _ _ _ _ _ _ c.in-Err-checked_header.code super.stands.told super.exact (omega arith) c.loop-number.invariant c.room_after-room.result room c.in-Err-checked_header.ensures.exact)
 
 pub loop-number-init : goal.loop-number-init
 loop-number-init c =
@@ -25,9 +25,9 @@ loop-number-preserved c =
     let made = c.in_ok-entry.ensures in
     let found = c.in-Ok-checked_header.ensures in
     let long : c.len.result ≡ length c.loop-number.out.items = search rules in
-    let room = c.room_behind-room.ensures.value ∙ ap (λ (n : ℕ). byte_limit c.args.limits - n) long in
+    let room = c.room_after-room.ensures.value ∙ ap (λ (n : ℕ). byte_limit c.args.limits - n) long in
     rw c.in_ok-put_entry.ensures
-    (go_on _ _ _ _ _ _ _ _ c.in_ok-entry.entry super.told c.loop-number.invariant c.room_behind-room.result room found.exact made.stands made.fits made.recorded
+    (go_on _ _ _ _ _ _ _ _ c.in_ok-entry.entry super.told c.loop-number.invariant c.room_after-room.result room found.exact made.stands made.fits made.recorded
     c.in-Ok-checked_header.header found.stands found.within c.data_bytes.result c.data_bytes.ensures (omega (arith, found.room)) (omega (arith, found.need)) made.text)
 
 pub returns-clause-imported : goal.returns-clause-imported

@@ -256,3 +256,11 @@ returns-in-Cured-clause-found g c =
     (c.in_ok-checkers.ensures.others.large ∙ c.in_ok-plan.ensures.large ∙ c.in_ok-log.ensures.large)
     (c.in_ok-checkers.ensures.others.forced ∙ c.in_ok-plan.ensures.forced ∙ c.in_ok-log.ensures.forced)
     c.as_slice.ensures.value c.in_ok-decoded.ensures.decoded c.in_default.not-Some c.in_ok-checkers.ensures.unreached)
+
+pub returns-in-Cases-clause-found : goal.returns-in-Cases-clause-found
+returns-in-Cases-clause-found g c =
+    of_any_ok c.told_cases.result _
+    (finds_all _ _ c.args.question.now.options.now c.in_ok-log.log _ _ c.as_slice.result.now _ c.in_ok-log.ensures.log
+    (c.in_ok-checkers.ensures.others.large ∙ c.in_ok-plan.ensures.large ∙ c.in_ok-log.ensures.large)
+    (c.in_ok-checkers.ensures.others.forced ∙ c.in_ok-plan.ensures.forced ∙ c.in_ok-log.ensures.forced)
+    c.as_slice.ensures.value c.in_ok-decoded.ensures.decoded c.in_default.not-Some c.in_ok-checkers.ensures.unreached)

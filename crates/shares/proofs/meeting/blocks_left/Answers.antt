@@ -30,4 +30,4 @@ returns-clause-closed g c = λ all.
 pub returns-clause-below : goal.returns-clause-below
 returns-clause-below g c =
     let l = c.in_ok-drain_all.ensures in
-    subst (All (λ (b : ℕ). b < g.H.Deal.blocks)) (sym l.behind) (All-append (λ (b : ℕ). b < g.H.Deal.blocks) c.in_ok-left.field-0.left.items l.left c.in_ok-left.ensures.below l.below)
+    subst (All (λ (b : ℕ). b < g.H.Deal.blocks)) (sym l.beyond) (All-append (λ (b : ℕ). b < g.H.Deal.blocks) c.in_ok-left.field-0.left.items l.left c.in_ok-left.ensures.below l.below)

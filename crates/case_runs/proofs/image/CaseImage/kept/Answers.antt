@@ -1,6 +1,6 @@
-use Rattle.std.proofs.Common.{ℕ, ◌≡◌, Some, slice_get, sym, subst, refl, ap, true, false, ◌∙◌, arith}
+use Rattle.std.proofs.Common.{subst, refl}
 use Rattle.std.proofs.lemmas.Option.{slice_get-get_or}
-use Rattle.case_runs.specs.Images.{ImageValue, sectors_in, IsImage}
+use Rattle.case_runs.specs.Images.{ImageValue, IsImage}
 use Rattle.case_runs.proofs.Imaging.{found_bytes, none_listed}
 use Rattle.case_runs.proofs.image.CaseImage.kept.Goals as goal
 

@@ -1,6 +1,5 @@
-use Rattle.std.proofs.Common.{ℕ, List, ◌≡◌, Option, None, slice_get, sym, subst, arith}
-use Rattle.std.proofs.lemmas.Option.{slice_get_past}
-use Rattle.case_runs.specs.Images.{ImageValue, sectors_in, count_sectors}
+use Rattle.std.proofs.Common.{ℕ, List, ◌≡◌, Option, None, slice_get, subst}
+use Rattle.case_runs.specs.Images.{ImageValue, sectors_in}
 use Rattle.case_runs.proofs.Imaging.{past_sectors}
 use Rattle.case_runs.proofs.image.CaseImageDevice.sector.Goals as goal
 

@@ -9,5 +9,5 @@ returns-clause-ranked c = λ plan bound n front last h can.
     let P : PickedValue → Type 0 = λ p. IsRanked plan bound c.args.tears (n + c.args.count) p in
     subst P
     (sym (passed_on inside c.args.self.now front last _ _ _ _ _ _ _ _ c.self.view_is can.is c.as_slice-picks.ensures.value c.fates_of.ensures.value
-    c.behind-next.ensures c.truncate.ensures.items c.push.ensures.items))
+    c.beyond-next.ensures c.truncate.ensures.items c.push.ensures.items))
     (pass_leads plan bound c.args.tears n c.args.self.now front last c.args.count h can)

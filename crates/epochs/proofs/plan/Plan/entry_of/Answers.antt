@@ -16,7 +16,7 @@ overflow_sub-result c =
     let plan = whole _ _ _ _ c.self.view_is c.self.invariant in
     let P : List Row → Type 0 = λ rows. Splits rows c.args.number c.rows_up_to.result in
     let told : Splits c.as_slice.result.now c.args.number c.rows_up_to.result =
-    record { bound = c.rows_up_to.ensures.bound; before = c.rows_up_to.ensures.before; behind = c.rows_up_to.ensures.behind } in
+    record { bound = c.rows_up_to.ensures.bound; before = c.rows_up_to.ensures.before; beyond = c.rows_up_to.ensures.beyond } in
     (some_row _ _ _ _ _ plan.table c.requires (subst P c.as_slice.ensures.value told)).0
 
 pub returns : goal.returns
@@ -24,5 +24,5 @@ returns c =
     let plan = whole _ _ _ _ c.self.view_is c.self.invariant in
     let P : List Row → Type 0 = λ rows. Splits rows c.args.number c.rows_up_to.result in
     let told : Splits c.as_slice.result.now c.args.number c.rows_up_to.result =
-    record { bound = c.rows_up_to.ensures.bound; before = c.rows_up_to.ensures.before; behind = c.rows_up_to.ensures.behind } in
+    record { bound = c.rows_up_to.ensures.bound; before = c.rows_up_to.ensures.before; beyond = c.rows_up_to.ensures.beyond } in
     found _ _ _ _ _ _ plan.table c.requires (subst P c.as_slice.ensures.value told) refl

@@ -20,5 +20,5 @@ returns c =
     let cut = c.requires.cut in
     let row = c.row_of-row.ensures ∙ c.self.invariant.filled c.args.number in
     versions_before log.entries (length log.entries) c.args.cut c.args.number c.count_before.result _ row (omega (arith, long, cut)) (omega arith)
-    c.count_before.ensures.bound c.count_before.ensures.before c.count_before.ensures.behind
+    c.count_before.ensures.bound c.count_before.ensures.before c.count_before.ensures.beyond
     ∙ ap (λ (l : LogValue). versions l.entries c.args.cut c.args.number) c.self.view_is

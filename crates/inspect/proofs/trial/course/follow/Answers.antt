@@ -8,11 +8,11 @@ loop-made-init g c = begin c.args.walk.now c.args.limit
 pub returns-in-Some-clause-outcome : goal.returns-in-Some-clause-outcome
 returns-in-Some-clause-outcome g c =
     c.outcome_of.ensures
-    ∙ (ended c.args.walk.now c.args.limit c.loop-made.made c.loop-made.walk c.step.new.self c.step.result c.in-Some.halt c.loop-made-test.true c.loop-made.invariant c.in-Some.is c.step.ensures.made).0
+    ∙ (ended c.args.walk.now c.args.limit c.loop-made.made c.loop-made.walk c.step.new.self c.step.result c.in-Some.halt c.loop-made-test.true c.loop-made.invariant c.in-Some.is c.step.ensures.made c.step.ensures.slot).0
 
 pub returns-in-Some-clause-steps : goal.returns-in-Some-clause-steps
 returns-in-Some-clause-steps g c =
-    (ended c.args.walk.now c.args.limit c.loop-made.made c.loop-made.walk c.step.new.self c.step.result c.in-Some.halt c.loop-made-test.true c.loop-made.invariant c.in-Some.is c.step.ensures.made).1
+    (ended c.args.walk.now c.args.limit c.loop-made.made c.loop-made.walk c.step.new.self c.step.result c.in-Some.halt c.loop-made-test.true c.loop-made.invariant c.in-Some.is c.step.ensures.made c.step.ensures.slot).1
 
 pub loop-made-preserved : goal.loop-made-preserved
 loop-made-preserved g c =

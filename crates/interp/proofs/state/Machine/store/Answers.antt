@@ -1,6 +1,6 @@
 use Rattle.std.proofs.Common.{refl, arith}
 use Rattle.interp.proofs.Stacks.{stored_is}
-use Rattle.interp.proofs.Opened.{change_behind}
+use Rattle.interp.proofs.Opened.{change_after}
 use Rattle.interp.proofs.state.Machine.store.Goals as goal
 
 pub returns-then-spot-eq0 : goal.returns-then-spot-eq0
@@ -18,6 +18,6 @@ returns-else-spot-eq0 g c = λ a lies.
     rw (
       ← c.self.view_is,
       stored_is c.args.bytes.now _ there.found a c.args.spot.frame c.args.spot.place there.there there.long there.few there.start there.fits,
-      change_behind c.args.spot.frame _ _ _ (omega (arith, c.if-spot-eq0.false)),
+      change_after c.args.spot.frame _ _ _ (omega (arith, c.if-spot-eq0.false)),
       c.write_above.ensures,
     ) refl

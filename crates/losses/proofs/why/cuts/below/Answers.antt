@@ -8,8 +8,8 @@ returns-clause-before c =
     let point = IsPartitionPoint-from_clause (λ (k : ℕ). ltb k c.args.bound) _ _ c.partition_point.ensures.partitioned parted (λ a r q k. search rules) in
     λ k d h. ltb-true _ _ (point.0 k d (omega arith) h)
 
-pub returns-clause-behind : goal.returns-clause-behind
-returns-clause-behind c =
+pub returns-clause-beyond : goal.returns-clause-beyond
+returns-clause-beyond c =
     let parted = IsPartitionedBy-ltb (λ (k : ℕ). k) _ c.args.bound c.requires in
     let point = IsPartitionPoint-from_clause (λ (k : ℕ). ltb k c.args.bound) _ _ c.partition_point.ensures.partitioned parted (λ a r q k. search rules) in
     λ k d h lt. ltb-false _ _ (point.1 k d h lt)

@@ -1,0 +1,140 @@
+-- The first failing case of some cuts with some checkers: by cut, by checker, and in the order of the tree.
+use Rattle.std.specs.Prelude.{ℕ, ◌≡◌, ◌+◌, ◌<◌, ◌≤◌, List, [], ◌∷◌, ◌++◌, map, slice_get, Some, All}
+use Rattle.logfmt.specs.Bounds.{LogValue}
+use Rattle.epochs.specs.declared.part.By.{By}
+use Rattle.checker.specs.Checker.{CheckerValue}
+use Rattle.cases.specs.AtCut.{CutValue}
+use Rattle.cases.specs.Search.{LeafValue, BegunCases}
+use Rattle.case_runs.specs.declared.found.Losses.{Losses}
+use Rattle.case_runs.specs.declared.found.Found.{Found}
+use Rattle.case_runs.specs.declared.found.CutFound.{CutFound}
+use Rattle.case_runs.specs.declared.found.CasesFault.{CasesFault}
+use Rattle.case_runs.specs.declared.found.CasesFault.TheVariants as fault
+use Rattle.case_runs.specs.declared.first.FirstCase.{FirstCase}
+use Rattle.case_runs.specs.declared.first.Met.{Met}
+use Rattle.case_runs.specs.declared.first.Met.TheVariants as met
+use Rattle.case_runs.specs.declared.first.MetAt.{MetAt}
+use Rattle.case_runs.specs.declared.first.MetAt.TheVariants as met_at
+use Rattle.case_runs.specs.declared.first.Sought.{Sought}
+use Rattle.case_runs.specs.declared.first.Sought.TheVariants as sought
+use Rattle.case_runs.specs.declared.leaves.FailingCase.{FailingCase}
+use Rattle.case_runs.specs.Leaves.{failing_value, failing_from}
+use Rattle.case_runs.specs.Laws.{subject_at}
+use Rattle.case_runs.specs.Found.{IsFoundAt, AreFoundAt, AreFoundIn, AreFirstAt, AreFirstIn, KnownCase, known_case, cases_at, cases_in, most_cases}
+
+-- no case fails, of those that were found at a cut, and at some cuts
+abbrev pub NoneFailsAt : List Found → Type 0
+NoneFailsAt found = All (λ (f : Found). f.failing.items ≡ []) found
+
+abbrev pub NoneFails : List CutFound → Type 0
+NoneFails found = All (λ (c : CutFound). NoneFailsAt c.programs.items) found
+
+-- of the first leaves of a cut, in the order of the tree, the last one alone fails with a checker
+pub record FailsFirst (asked : Losses) (at : CutValue) (checker : CheckerValue) (f : FailingCase) : Type 0 where
+  pub leaves : List LeafValue
+  pub those : BegunCases (subject_at at.log at.way at.cut checker asked.torn asked.lost) asked.tears at [] leaves (f.number + 1)
+  pub failing : failing_from 0 leaves ≡ failing_value f ∷ []
+
+-- the first `most` leaves of a cut pass with a checker, and there is one more
+pub record PassesMost (asked : Losses) (at : CutValue) (checker : CheckerValue) (most : ℕ) : Type 0 where
+  pub leaves : List LeafValue
+  pub last : LeafValue
+  pub those : BegunCases (subject_at at.log at.way at.cut checker asked.torn asked.lost) asked.tears at [] (leaves ++ last ∷ []) (most + 1)
+  pub passing : failing_from 0 leaves ≡ []
+
+-- the first failing case at a cut, within the first `left` cases there: with the checkers before its own no case fails
+pub record FailsFirstAt (asked : Losses) (at : CutValue) (checkers : List CheckerValue) (left : ℕ) (first : FirstCase) : Type 0 where
+  pub before : List Found
+  pub are : AreFirstAt asked at checkers first.program before
+  pub none : NoneFailsAt before
+  pub checker : CheckerValue
+  pub own : slice_get checkers first.program ≡ Some checker
+  pub rest : ℕ
+  pub counted : left ≡ rest + cases_at before
+  pub fails : FailsFirst asked at checker first.case
+  pub few : first.case.number < rest
+
+-- the first `left` cases at a cut pass, and there is one more
+pub record PassesMostAt (asked : Losses) (at : CutValue) (checkers : List CheckerValue) (left : ℕ) : Type 0 where
+  pub number : ℕ
+  pub before : List Found
+  pub are : AreFirstAt asked at checkers number before
+  pub none : NoneFailsAt before
+  pub checker : CheckerValue
+  pub own : slice_get checkers number ≡ Some checker
+  pub rest : ℕ
+  pub counted : left ≡ rest + cases_at before
+  pub past : PassesMost asked at checker rest
+
+-- The first failing case of some cuts, within the first `most_cases` cases: at the cuts before its own no case fails.
+pub record IsFirstFailing (asked : Losses) (log : LogValue) (way : By) (cuts : List ℕ) (checkers : List CheckerValue) (first : FirstCase) : Type 0 where
+  pub place : ℕ
+  pub own : slice_get cuts place ≡ Some first.cut
+  pub before : List CutFound
+  pub are : AreFirstIn asked log way cuts checkers place before
+  pub none : NoneFails before
+  pub rest : ℕ
+  pub counted : most_cases ≡ rest + cases_in before
+  pub fails : FailsFirstAt asked (record { log = log; way = way; cut = first.cut }) checkers rest first
+
+-- the first `most_cases` cases of some cuts pass, and there is one more, at this cut
+pub record PassesMostIn (asked : Losses) (log : LogValue) (way : By) (cuts : List ℕ) (checkers : List CheckerValue) (cut : ℕ) : Type 0 where
+  pub place : ℕ
+  pub own : slice_get cuts place ≡ Some cut
+  pub before : List CutFound
+  pub are : AreFirstIn asked log way cuts checkers place before
+  pub none : NoneFails before
+  pub rest : ℕ
+  pub counted : most_cases ≡ rest + cases_in before
+  pub past : PassesMostAt asked (record { log = log; way = way; cut = cut }) checkers rest
+
+-- all cases of some cuts, of which none fails
+pub record AllPass (asked : Losses) (log : LogValue) (way : By) (cuts : List ℕ) (checkers : List CheckerValue) (found : List CutFound) : Type 0 where
+  pub are : AreFoundIn asked log way cuts checkers found
+  pub none : NoneFails found
+  pub few : cases_in found ≤ most_cases
+
+-- what is met at a cut with a checker, of which `left` cases may be met
+abbrev pub MeetsOne : Losses → CutValue → CheckerValue → ℕ → Met → Type 0
+MeetsOne asked at checker left (met.Passing found) = IsFoundAt asked at checker found × (found.failing.items ≡ []) × (found.cases ≤ left)
+MeetsOne asked at checker left (met.Failing f) = FailsFirst asked at checker f × (f.number < left)
+
+-- how many cases may still be met after it
+abbrev pub TakesOne : ℕ → ℕ → Met → Type 0
+TakesOne left now (met.Passing found) = left ≡ now + found.cases
+TakesOne left now (met.Failing f) = Unit {0}
+
+-- what is met at a cut with some checkers
+abbrev pub MeetsAt : Losses → CutValue → List CheckerValue → ℕ → MetAt → Type 0
+MeetsAt asked at checkers left (met_at.Passing found) = (found.cut ≡ at.cut) × AreFoundAt asked at checkers found.programs.items × NoneFailsAt found.programs.items
+MeetsAt asked at checkers left (met_at.Failing first) = (first.cut ≡ at.cut) × FailsFirstAt asked at checkers left first
+
+abbrev pub TakesAt : ℕ → ℕ → MetAt → Type 0
+TakesAt left now (met_at.Passing found) = left ≡ now + cases_at found.programs.items
+TakesAt left now (met_at.Failing first) = Unit {0}
+
+-- what is found where the first failing case of some cuts is looked for: it, or all cases, of which none fails
+abbrev pub IsSought : Losses → LogValue → By → List ℕ → List CheckerValue → Sought → Type 0
+IsSought asked log way cuts checkers (sought.Passing found) = AllPass asked log way cuts checkers found.items
+IsSought asked log way cuts checkers (sought.Failing first) = IsFirstFailing asked log way cuts checkers first
+
+-- why it wasn't found: for memory, or there are too many before it
+abbrev pub EndsAtOne : Losses → CutValue → CheckerValue → ℕ → CasesFault → Type 0
+EndsAtOne asked at checker left fault.Memory = Unit {0}
+EndsAtOne asked at checker left (fault.TooMany cut) = (cut ≡ at.cut) × PassesMost asked at checker left
+
+abbrev pub EndsAt : Losses → CutValue → List CheckerValue → ℕ → CasesFault → Type 0
+EndsAt asked at checkers left fault.Memory = Unit {0}
+EndsAt asked at checkers left (fault.TooMany cut) = (cut ≡ at.cut) × PassesMostAt asked at checkers left
+
+abbrev pub EndsIn : Losses → LogValue → By → List ℕ → List CheckerValue → CasesFault → Type 0
+EndsIn asked log way cuts checkers fault.Memory = Unit {0}
+EndsIn asked log way cuts checkers (fault.TooMany cut) = PassesMostIn asked log way cuts checkers cut
+
+-- At a cut with a checker one case fails first, and it is the first of those that fail there. It doesn't stand among leaves that pass.
+pub record FirstIsOne : Type 0 where
+  pub same : (asked : Losses) (at : CutValue) (checker : CheckerValue) (f g : FailingCase) → FailsFirst asked at checker f → FailsFirst asked at checker g
+      → known_case at asked.tears f ≡ known_case at asked.tears g
+  pub found : (asked : Losses) (at : CutValue) (checker : CheckerValue) (f : FailingCase) (found : Found) → FailsFirst asked at checker f → IsFoundAt asked at checker found
+      → (rest : List KnownCase) × (map (known_case at asked.tears) found.failing.items ≡ known_case at asked.tears f ∷ rest)
+  pub after : (asked : Losses) (at : CutValue) (checker : CheckerValue) (f : FailingCase) (most : ℕ) → FailsFirst asked at checker f → PassesMost asked at checker most → most ≤ f.number

@@ -1,0 +1,83 @@
+//! Who is told how far a search for cases is.
+
+ghost use Rattle.std.specs.Prelude.{◌≡◌, [], map};
+ghost use Rattle.case_runs.specs.Leaves.{failing_value, failing_from};
+
+use crate::judge::CaseJudge;
+use crate::leaves::FailingCase;
+use cases::{Cut, Judge, KnownRows, Parted};
+use std::alloc::AllocError;
+use std::marker::Model;
+
+/// Is told of each run of a checker and of each case, one after the other. It changes nothing of what is found.
+pub trait CaseGate {
+    /// A checker is run on the image of a case.
+    fn run(&self);
+
+    /// A case is found.
+    fn case(&self);
+}
+
+/// A checker as a judge, whose runs and leaves a gate is told of.
+#[derive(Drop)]
+pub(crate) struct Watched<'c, 'p, 'g, G> {
+    judge: CaseJudge<'c, 'p>,
+    gate: &'g G,
+}
+
+impl<'c, 'p, 'g, G> Model for Watched<'c, 'p, 'g, G> {
+    ghost use Rattle.case_runs.specs.Leaves.{JudgeValue};
+
+    ghost Value = { JudgeValue };
+
+    ghost view = { λ w. w.judge };
+}
+
+impl<'c, 'p, 'g, G: CaseGate> Watched<'c, 'p, 'g, G> {
+    /// A judge with its gate.
+    pub(crate) fn new(judge: CaseJudge<'c, 'p>, gate: &'g G) -> Watched<'c, 'p, 'g, G>
+        ensures { result ≡ judge.entry }
+    {
+        Watched { judge, gate }
+    }
+
+    /// The judge.
+    pub(crate) fn judge(&self) -> &CaseJudge<'c, 'p>
+        ensures { result.now ≡ self.now }
+    {
+        &self.judge
+    }
+
+    /// The leaves that fail, in order.
+    pub(crate) fn into_failing(self) -> Vec<FailingCase>
+        ensures { map failing_value result.items ≡ failing_from 0 self.entry.leaves }
+    {
+        self.judge.into_failing()
+    }
+}
+
+impl<'c, 'p, 'g, G: CaseGate> Judge for Watched<'c, 'p, 'g, G> {
+    ghost use Rattle.case_runs.specs.Judges.{program_of};
+
+    ghost program = { λ w. program_of w.checker w.context };
+
+    ghost ending = { λ w. w.ending };
+
+    ghost looked = { λ w. w.looked };
+
+    ghost leaves = { λ w. w.leaves };
+
+    fn look(&mut self, rows: &KnownRows<'_>, tears: bool, sets: &[u16]) -> Result<(), AllocError> {
+        self.gate.run();
+        self.judge.look(rows, tears, sets)
+    }
+
+    fn split(&self, rows: &mut KnownRows<'_>, sets: &[u16]) -> Result<Option<Parted>, AllocError> {
+        self.judge.split(rows, sets)
+    }
+
+    fn tell(&mut self, cut: &Cut<'_>, sets: &[u16]) -> Result<(), AllocError> {
+        self.gate.case();
+        self.judge.tell(cut, sets)
+    }
+}

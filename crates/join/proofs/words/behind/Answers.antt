@@ -1,5 +1,0 @@
-use Rattle.join.proofs.Texts.{fronted}
-use Rattle.join.proofs.words.behind.Goals as goal
-
-pub returns : goal.returns
-returns c = fronted c.args.front.now c.args.text.now _ c.strip_prefix.ensures.cases

@@ -1,9 +1,0 @@
-use Rattle.losses.proofs.Newlines.{behind_start, behind_slice}
-use Rattle.losses.proofs.cure.printed.behind_lines.Goals as goal
-
-pub loop-line-init : goal.loop-line-init
-loop-line-init c = behind_start c.args.text.now
-
-pub loop-line-preserved : goal.loop-line-preserved
-loop-line-preserved c =
-    behind_slice c.args.text.now c.loop-line._line c.loop-line.rest.now c.line_len.result c.loop-line.invariant c.line_len.ensures.line c.line_len.ensures.within
