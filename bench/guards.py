@@ -25,11 +25,11 @@ OPTIONS = "--sectors 8 --workers 1"
 LOG = [entry for turn in range(4) for entry in [*(W(turn + at, 1, 1 + 3 * turn + at) for at in range(3)), F]]
 
 
-def loop(before, turn, behind=""):
+def loop(before, turn, after=""):
     """A checker that makes these instructions 60,000 times, and answers 0."""
     count = turn.count("\n")
     lines = f"mov64 r6, 0\nmov64 r1, 60000\ncall 3\njeq r0, 0, +{count + 1}\n{turn}ja -{count + 4}\nmov64 r0, 0\nexit\n"
-    return before + lines + behind
+    return before + lines + after
 
 
 FROM_CONTEXT, FROM_STACK = "mov64 r7, r1\n", "mov64 r7, r10\nstdw [r10-8], 0\n"

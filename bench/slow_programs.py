@@ -112,13 +112,13 @@ def needed(numbers, room):
     copies = range(numbers, 63)
     body += [slot(0x7B, 10, 3, place(copy)) for copy in copies]
     steps = [it for number in range(numbers) for it in stepped(number)]
-    behind = 3 * len(copies) + len(steps)
-    while len(body) + len(WAYS) + behind + 16 <= room:
+    after = 3 * len(copies) + len(steps)
+    while len(body) + len(WAYS) + after + 16 <= room:
         body += WAYS
     body += [slot(0x79, 3, 10, place(numbers))]
     for copy in copies:
-        body += [slot(0x79, 4, 10, place(copy)), slot(0x6D, 3, 4, behind - 2), slot(0xCD, 3, 4, behind - 3)]
-        behind -= 3
+        body += [slot(0x79, 4, 10, place(copy)), slot(0x6D, 3, 4, after - 2), slot(0xCD, 3, 4, after - 3)]
+        after -= 3
     body += steps + [put(register, 0) for register in (2, 3, 4)]
     return body + again(len(body))
 
@@ -174,7 +174,7 @@ def loop(numbers, room, filled):
     for number in range(numbers):
         body += [slot(0x79, 2, 10, place(number)), slot(0x0F, 3, 2)]
     if filled is None:
-        body += backwards(room - len(body) - 7, lambda behind: 1)
+        body += backwards(room - len(body) - 7, lambda after: 1)
     while filled and len(body) + len(filled) + 6 <= room:
         body += filled
     body += [put(register, 0) for register in (2, 3, 4)]
@@ -222,7 +222,7 @@ def program(kind, slots, numbers, refused):
     if kind == "heads":
         return heads(begin, slots, numbers, last)
     if kind == "backward":
-        return [*begin, put(3, 0), *backwards(room - 2, lambda behind: 1 << min(24, behind)), *last]
+        return [*begin, put(3, 0), *backwards(room - 2, lambda after: 1 << min(24, after)), *last]
     sys.exit(__doc__)
 
 

@@ -22,11 +22,11 @@ CRATES = "base limits lanes bpf_isa helpers arithmetic intervals ranges bpf_shap
 RUSTC = ["rustc", "--edition", "2024", "-A", "warnings", "-C", "opt-level=3", "-C", "target-cpu=x86-64-v2", "-C", "codegen-units=1"]
 ALONE = ["chrt", "-f", "10", "taskset", "-c", "0"]
 TURNS = 1_048_576
-# the kernels of `lanes` are written with std::simd, which stable compilers have behind this switch
+# the kernels of `lanes` are written with std::simd, for which stable compilers want this switch
 ENVIRONMENT = {**os.environ, "RUSTC_BOOTSTRAP": "1"}
 
 
-def behind(text, start, opening, closing):
+def end_of(text, start, opening, closing):
     """Returns the place after the bracket that closes the first one from a place on."""
     depth = 0
     for place in range(start, len(text)):
@@ -40,7 +40,7 @@ def without(text, begin, opening, closing, tail=""):
     """Takes out each piece that begins as said, up to the bracket that closes its first one and what follows of tail."""
     while found := re.search(begin, text):
         start = text.index(opening, found.end() - 1 if text[found.end() - 1] == opening else found.end())
-        end = behind(text, start, opening, closing)
+        end = end_of(text, start, opening, closing)
         while tail and end < len(text) and text[end] in tail:
             end += 1
         text = text[: found.start()] + text[end:]

@@ -23,7 +23,7 @@ from dataclasses import dataclass, field
 
 sys.dont_write_bytecode = True
 
-from model import HEADS, TAILS, Checker, Image, Run, kept
+from model import HEADS, TAILS, Checker, Image, Run, departed, kept, place_of, shown_lines
 from notation import FLUSH, FUA, MARK, SECTOR, random_entry
 
 PIECES, PIECE = 8, SECTOR // 8
@@ -199,10 +199,14 @@ class Cut:
     def explore(self, checker, losses):
         """All cases, depth first."""
         found = Found()
-        self.explore_case(Case(self, {}), checker, losses, found)
+        found.leaves.extend(self.walk(checker, losses, found))
         return found
 
-    def explore_case(self, case, checker, losses, found):
+    def walk(self, checker, losses, found=None):
+        """The leaves, one after the other, each with what the checker ends in there and whether that is good."""
+        yield from self.walk_case(Case(self, {}), checker, losses, Found() if found is None else found)
+
+    def walk_case(self, case, checker, losses, found):
         if case.torn() > losses.most_torn(self.run):
             found.torn_beyond += 1
             return
@@ -213,11 +217,11 @@ class Cut:
         outcome = ended(checker.judge(view))
         split = self.split(case, list(view.looked))
         if split is None:
-            found.leaves.append((case, *outcome))
+            yield (case, *outcome)
             return
         part, groups = split
         for group in groups:
-            self.explore_case(case.with_part(part, group), checker, losses, found)
+            yield from self.walk_case(case.with_part(part, group), checker, losses, found)
 
 
 def first_gone(case):
@@ -282,9 +286,57 @@ def cases(run, checkers, losses=ANY):
     return "crash cases 1\n" + head(run, checkers, losses) + lines + totals
 
 
+def first_case(run, checkers, losses=ANY):
+    """What `explore --bound any --first` prints: the text up to its first line of a case, and which case that is; where no case fails, the
+    whole text. No case after it is looked at."""
+    for cut in (Cut(run, number) for number in judged_cuts(run, losses)):
+        for program, checker in enumerate(checkers):
+            for number, (case, ending, good) in enumerate(cut.walk(checker, losses)):
+                if not good:
+                    line = case_line(case, program, number, ending)
+                    last = f"first cut {cut.number} program {program} case {number}\n"
+                    return "crash cases 1\n" + head(run, checkers, losses) + line + last
+    return cases(run, checkers, losses)
+
+
 def status(text):
     """The exit status beside a text of cases."""
     return 0 if " failing 0 torn" in text else 1
+
+
+# One image of any number of losses
+
+
+def image_said(run, cut, said):
+    """The image of the choice at a cut that is printed so, of any number of the parts at risk there; None where no choice is, or the cut
+    isn't a wanted one."""
+    if cut not in run.wanted_cuts():
+        return None
+    names = {part.name: part for part in at_risk(run, cut)}
+    fates = TORN if run.tears else LOST
+    words = [] if said == "-" else [it.partition(":") for it in said.split(",")]
+    if any(name not in names or fate not in fates[1:] for name, _colon, fate in words):
+        return None
+    image = View(None, cut, tuple((part, dict((name, fate) for name, _colon, fate in words)[part.name]) for part in names.values() if part.name in [it[0] for it in words]), run)
+    return image if image.choice() == said else None
+
+
+def is_in_flight(run, cut, entry):
+    """Whether an entry is the last before a cut, and forced to the device with its data."""
+    return entry == cut - 1 and bool(run.entries[entry].flags & FUA)
+
+
+def any_shown(run, image):
+    """What `show --bound any` prints of an image."""
+    cut, found = image.cut, list(shown_lines(run, image))
+    departures = len(image.departures)
+    found[0] = found[0].replace(f" bound {run.bound} ", " bound any ")
+    for number, (part, fate) in enumerate(image.departures, 2):
+        found[number] = departed(part, fate, ", in flight" * is_in_flight(run, cut, part.entry))
+    volatile = min(32, len(run.volatile(cut)))
+    last = run.entries[cut - 1] if cut and is_in_flight(run, cut, cut - 1) else None
+    found.insert(3 + departures + volatile, f"in flight: {place_of(cut - 1, last.sector, last.count) if last and last.count else 'none'}")
+    return "".join(f"{it}\n" for it in found)
 
 
 # What a reader of the text is told of choices

@@ -5,7 +5,7 @@
 
 PROGRAM is as in run.py; N is 2,000 where it isn't given, S is 1. A run has a log of entries of every kind, of which writes differ by
 pieces, what the device held before, one or two checkers, and options picked at random: `--tears` and `--torn`, `--at-most`, `--cuts`,
-`--from` and `--to`, `--by`, `--flush`, `--base`, `--checked` and `--guards`. It is expected that the program prints the text of
+`--from` and `--to`, `--by`, `--flush`, `--base`, `--checked`, `--guards` and `--first`. It is expected that the program prints the text of
 cases_model.py, ends with status 1 exactly where a case fails, and says nothing else but notes.
 
 A checker looks at a few sectors, and at which ones hangs on what it found: by loads, by `zero`, `mix`, `same` and `copy`, in turns of
@@ -22,7 +22,7 @@ from pathlib import Path
 
 sys.dont_write_bytecode = True
 
-from cases_model import Losses, cases, some_entry, status
+from cases_model import Losses, cases, first_case, some_entry, status
 from footprint_soak import end_of_checker, look
 from machine_model import judged
 from model import Checker, Run
@@ -109,10 +109,12 @@ class CasesSoak(Soak):
         Path(self.folder, "base").write_bytes(run.base)
         words = ["log", *files, *run.options().replace("--bound 1", losses.options()).split()]
         words += (["--checked", str(limit)] if limit is not None else []) + ["--guards"] * guards + chance.choice([[], [], ["--workers", "4"]])
+        is_first = chance.random() < 0.3
         try:
-            text = cases(run, checkers, losses)
+            text = (first_case if is_first else cases)(run, checkers, losses)
         except TooLong:
             return None
+        words += ["--first"] * is_first
         self.failing, self.cases = self.failing + status(text), self.cases + MOST_RUNS - left[0]
         ended, out, error = self.called(["explore", *words])
         quiet = all(line.startswith("note: ") for line in error.splitlines())

@@ -144,8 +144,8 @@ def judge(document, program):
     for at, block in enumerate(found):
         if at in ran:
             status, printed, errors = ran[at]
-            behind = next((it for it in range(at + 1, len(found)) if found[it].kind != ""), len(found))
-            shown = found[at + 1 : behind]
+            after = next((it for it in range(at + 1, len(found)) if found[it].kind != ""), len(found))
+            shown = found[at + 1 : after]
             missing = [first_missing(printed, it.text) for it in shown]
             wrong = [f"doesn't print {it!r}" for it in missing if it is not None]
             wrong += [f"says {errors[:500]!r}"] if status > 1 else []

@@ -26,10 +26,14 @@ Then each run of LARGE, in which every image fails, is given no more room than t
 as the system counts a process's addresses (`ulimit -v`): it has to print the same report as without that limit, whose last
 line is known. Runs by many workers have to print the same bytes where no thread can be started, as a user who may have no
 more processes, and in a room in which no thread's stack finds a place; and where there is room for some of them alone, the
-same bytes or a refusal for want of memory. And a run by one worker has to end within STACK KiB of stack, where the words and
+same bytes or a refusal for want of memory. And a run by one worker has to end within STACK KiB of stack, and `check` within STACK_OF_CHECK, where the words and
 the surroundings take little of it.
 What is printed is as in run.py: a line for each row that failed, and last `N passed, M failed`.
 """
+# These calls never answer that memory ran out: all of `lanes`, `helpers`, `intervals` and `ranges`, and all of `choices` but
+# `Starts::new`; the calls of a `Plan` after it was made (`epochs`), `History::view`, `View::context` (`images`), `Input::new`
+# (`workers`), `Options::new` (`request`), `Jobs::new` (`explore_core`); `check_table` (`verifier`), `run_checked` (`interp`),
+# `Checker::judge` (`checker`), `Shard::look`, `Shard::hits` (`verdict_cache`), and the calls of a `Board` after it was made (`shares`).
 import filecmp
 import json
 import os
@@ -56,8 +60,9 @@ WANT_OF_MEMORY = re.compile(rb"refused (11|26|35|60|66|72) at 0(?: of program ([
 MOST = 1200
 STEP = 7
 
-# The stack of a run by one worker, in KiB.
+# The stack of a run by one worker, and of `check`, in KiB.
 STACK = 128
+STACK_OF_CHECK = 192
 
 # The notes after want of memory for the work, the second of them in a run by several workers alone.
 NO_MEMORY = b"note: there is no memory for the work\n"
@@ -68,65 +73,70 @@ MANY = ". 11 26.0 60.0 72"
 
 ROWS = {
     "no word at all: the stored run": (48, "72 . 72 26.0 72 ."),
-    "empty_log_bad": (309, "72 . 72 11 72 26.0 72 26.0 72 60.0 72 ."),
-    "empty_log_bad, first": (313, "72 . 72 11 72 26.0 72 26.0 72 60.0 72 ."),
-    "torn_sector": (328, "72 . 72 11 72 26.0 72 11 72 26.0 72 60.0 72 . 72 ."),
-    "torn_sector, first": (332, "72 . 72 11 72 26.0 72 11 72 26.0 72 60.0 72 . 72 ."),
-    "torn_sector, within 9 steps": (334, "72 . 72 11 72 26.0 72 11 72 26.0 72 . 72 ."),
-    "pairs_of_drops": (253, "72 . 72 11 72 11 72 ."),
-    "pairs_of_drops, each choice": (415, "72 . 72 11 72 26.0 72 11 72 26.0 72 60.0 72 . 72 . 72 . 72 . 72 . 72 ."),
-    "sixteen_codes": (419, "72 . 72 11 72 26.0 72 11 72 26.0 72 60.0 72 . 72 . 72 . 72 . 72 . 72 ."),
-    "sixteen_codes, first": (365, "72 . 72 11 72 26.0 72 11 72 26.0 72 60.0 72 . 72 . 72 ."),
-    "eight programs": (507, "72 . 72 11 72 26.0 26.1 26.2 26.3 72 26.4 26.5 26.6 26.7 72 26.0 72 26.1 26.2 26.3 26.4 72 26.5 26.6 26.7 60.0 72 60.1 60.2 60.3 60.4 72 60.5 60.6 60.7 72 . 72 ."),
+    "empty_log_bad": (311, "72 . 72 11 72 26.0 72 26.0 72 60.0 72 ."),
+    "empty_log_bad, first": (315, "72 . 72 11 72 26.0 72 26.0 72 60.0 72 ."),
+    "torn_sector": (330, "72 . 72 11 72 26.0 72 11 72 26.0 72 60.0 72 . 72 ."),
+    "torn_sector, first": (334, "72 . 72 11 72 26.0 72 11 72 26.0 72 60.0 72 . 72 ."),
+    "torn_sector, within 9 steps": (336, "72 . 72 11 72 26.0 72 11 72 26.0 72 . 72 ."),
+    "pairs_of_drops": (255, "72 . 72 11 72 11 72 ."),
+    "pairs_of_drops, each choice": (417, "72 . 72 11 72 26.0 72 11 72 26.0 72 60.0 72 . 72 . 72 . 72 . 72 . 72 ."),
+    "sixteen_codes": (421, "72 . 72 11 72 26.0 72 11 72 26.0 72 60.0 72 . 72 . 72 . 72 . 72 . 72 ."),
+    "sixteen_codes, first": (367, "72 . 72 11 72 26.0 72 11 72 26.0 72 60.0 72 . 72 . 72 ."),
+    "eight programs": (509, "72 . 72 11 72 26.0 26.1 26.2 26.3 72 26.4 26.5 26.6 26.7 72 26.0 72 26.1 26.2 26.3 26.4 72 26.5 26.6 26.7 60.0 72 60.1 60.2 60.3 60.4 72 60.5 60.6 60.7 72 . 72 ."),
     "torn_sector, 2 workers, cache 16": (None, MANY),
     "marks, 2 workers, cache 16": (None, MANY),
     "sixteen_codes, 2 workers, cache 16": (None, MANY),
     "sixteen_codes, 4 workers, with progress": (None, MANY),
-    "two_epochs": (244, "72 . 72 11 72 11 72 ."),
-    "a mark after a write": (238, "72 . 72 11 72 11 . 72 ."),
-    "two_epochs, image 20": (242, "72 . 72 11 72 11 72 ."),
-    "overwritten_sector, bound 1, image 34": (253, "72 . 72 11 72 11 72 ."),
-    "two_slots, wrong, survey": (258, "72 . 72 11 72 11 . 72 ."),
-    "export: run 2": (296, "72 . 72 11 72 11 72 ."),
-    "journal, image 17": (263, "72 . 72 11 72 11 . 72 ."),
-    "journal/wrong, image 17 in words": (280, "72 . 72 11 72 11 . 72 ."),
-    "pages/wrong, --cut 10 --choice 8:drop in words": (326, "72 . 72 11 72 11 . 72 ."),
-    "image: a tear without --tears": (257, "72 . 72 11 72 11 72 ."),
-    "why: two_slots/wrong": (460, "72 . 72 11 72 26.0 72 11 . 72 26.0 72 60.0 72 . 72 . 72 . 72 . 72 . 72 ."),
-    "why: journal/wrong": (412, "72 . 72 11 72 26.0 72 11 . 72 26.0 72 60.0 72 . 72 ."),
+    "two_epochs": (246, "72 . 72 11 72 11 72 ."),
+    "a mark after a write": (240, "72 . 72 11 72 11 . 72 ."),
+    "two_epochs, image 20": (244, "72 . 72 11 72 11 72 ."),
+    "overwritten_sector, bound 1, image 34": (255, "72 . 72 11 72 11 72 ."),
+    "two_slots, wrong, survey": (260, "72 . 72 11 72 11 . 72 ."),
+    "export: run 2": (298, "72 . 72 11 72 11 72 ."),
+    "journal, image 17": (265, "72 . 72 11 72 11 . 72 ."),
+    "journal/wrong, image 17 in words": (282, "72 . 72 11 72 11 . 72 ."),
+    "pages/wrong, --cut 10 --choice 8:drop in words": (329, "72 . 72 11 72 11 . 72 ."),
+    "image: a tear without --tears": (260, "72 . 72 11 72 11 72 ."),
+    "why: two_slots/wrong": (462, "72 . 72 11 72 26.0 72 11 . 72 26.0 72 60.0 72 . 72 . 72 . 72 . 72 . 72 ."),
+    "why: journal/wrong": (414, "72 . 72 11 72 26.0 72 11 . 72 26.0 72 60.0 72 . 72 ."),
     "why: journal, wrong, two lost or torn, by 4 workers": (None, MANY),
-    "cure: two_slots, wrong": (410, "72 . 72 11 72 26.0 72 11 . 72 26.0 72 60.0 72 . 72 ."),
-    "cure: journal, wrong": (428, "72 . 72 11 72 26.0 72 11 . 72 26.0 72 60.0 72 . 72 . 72 ."),
+    "cure: two_slots, wrong": (412, "72 . 72 11 72 26.0 72 11 . 72 26.0 72 60.0 72 . 72 ."),
+    "cure: journal, wrong": (430, "72 . 72 11 72 26.0 72 11 . 72 26.0 72 60.0 72 . 72 . 72 ."),
     "cure: two_slots, wrong, 4 workers, with progress": (None, MANY),
-    "page: journal/wrong": (502, "72 . 72 11 72 26.0 72 11 . 72 26.0 72 60.0 72 . 72 ."),
-    "page: markup in a mark": (672, "72 . 72 11 72 26.0 26.1 72 11 . 72 26.0 72 26.1 60.0 72 60.1 72 . 72 . 72 . 72 ."),
-    "asm report_codes, with labels": (218, "72 . 72 35 72 35 72 ."),
-    "asm masked_index": (220, "72 . 72 35 72 35 72 ."),
-    "two_slots/checker, assembled": (230, "72 . 72 35 72 35 72 ."),
-    "text: 'ja x\\nlddw r0, 0\\nx:\\nexit'": (207, "72 . 72 35 72 35 72 ."),
-    "list": (206, "72 . 72 26 72 26 72 ."),
-    "list masked_index": (215, "72 . 72 26 72 26 72 ."),
-    "asm and list: every instruction in one program": (225, "72 . 72 26 72 26 72 ."),
-    "verify first_byte": (244, "72 . 72 26 72 26 60 72 ."),
-    "verify byte_64": (244, "72 . 72 26 72 26 60 72 ."),
-    "verify ends_agree": (246, "72 . 72 26 72 26 60 72 ."),
-    "verify marks_passed": (242, "72 . 72 26 72 26 60 72 ."),
-    "verify report_codes": (246, "72 . 72 26 72 26 60 72 ."),
-    "verify sum_words": (248, "72 . 72 26 72 26 60 72 ."),
-    "verify nested_loops": (246, "72 . 72 26 72 26 60 72 ."),
-    "verify masked_index": (248, "72 . 72 26 72 26 60 72 ."),
-    "verify two_slots/checker_c": (250, "72 . 72 26 72 26 60 72 ."),
-    "verify journal/checker": (250, "72 . 72 26 72 26 60 72 ."),
-    "verify checkers/type_counts": (250, "72 . 72 26 72 26 60 72 ."),
-    "verify checkers/journal_scan": (250, "72 . 72 26 72 26 60 72 ."),
-    "check: first_byte, step by step": (251, "72 . 72 26 72 26 60 72 ."),
-    "check: turns": (231, "72 . 72 26 72 26 72 ."),
+    "page: journal/wrong": (504, "72 . 72 11 72 26.0 72 11 . 72 26.0 72 60.0 72 . 72 ."),
+    "page: markup in a mark": (674, "72 . 72 11 72 26.0 26.1 72 11 . 72 26.0 72 26.1 60.0 72 60.1 72 . 72 . 72 . 72 ."),
+    "asm report_codes, with labels": (220, "72 . 72 35 72 35 72 ."),
+    "asm masked_index": (222, "72 . 72 35 72 35 72 ."),
+    "two_slots/checker, assembled": (232, "72 . 72 35 72 35 72 ."),
+    "text: 'ja x\\nlddw r0, 0\\nx:\\nexit'": (209, "72 . 72 35 72 35 72 ."),
+    "list": (208, "72 . 72 26 72 26 72 ."),
+    "list masked_index": (217, "72 . 72 26 72 26 72 ."),
+    "asm and list: every instruction in one program": (227, "72 . 72 26 72 26 72 ."),
+    "verify first_byte": (246, "72 . 72 26 72 26 60 72 ."),
+    "verify byte_64": (246, "72 . 72 26 72 26 60 72 ."),
+    "verify ends_agree": (248, "72 . 72 26 72 26 60 72 ."),
+    "verify marks_passed": (244, "72 . 72 26 72 26 60 72 ."),
+    "verify report_codes": (248, "72 . 72 26 72 26 60 72 ."),
+    "verify sum_words": (250, "72 . 72 26 72 26 60 72 ."),
+    "verify nested_loops": (248, "72 . 72 26 72 26 60 72 ."),
+    "verify masked_index": (250, "72 . 72 26 72 26 60 72 ."),
+    "verify two_slots/checker_c": (252, "72 . 72 26 72 26 60 72 ."),
+    "verify journal/checker": (252, "72 . 72 26 72 26 60 72 ."),
+    "verify checkers/type_counts": (252, "72 . 72 26 72 26 60 72 ."),
+    "verify checkers/journal_scan": (252, "72 . 72 26 72 26 60 72 ."),
+    "check: first_byte, step by step": (258, "72 . 72 26 72 26 60 72 ."),
+    "check: turns": (238, "72 . 72 26 72 26 72 ."),
+    "check: accepted without guards": (248, "72 . 72 26 72 26 60 72 ."),
     "every image of sixteen writes fails, 16 workers": (None, MANY),
-    "cases: tree, wrong, root, --sectors 8 --cuts all --bound any": (390, "72 . 72 11 72 26.0 72 11 . 72 26.0 72 60.0 72 ."),
-    "cases: flushed, --sectors 2 --cuts all --bound any --at-most 1 --by write": (597, "72 . 72 11 72 26.0 26.1 26.2 72 11 72 26.0 72 26.1 26.2 60.0 72 60.1 60.2 72 ."),
-    "a part: two_slots: --sectors 4 --cuts all --bound 2 --tears --images 236..354": (397, "72 . 72 11 72 26.0 72 11 . 72 26.0 72 60.0 72 . 72 . 72 . 72 ."),
-    "joined in the midst: torn_over_torn --sectors 4 --cuts all --bound 1 --tears": (772, "72 . 72 66 72 66 ."),
-    "joined in steps: torn_over_torn --sectors 4 --cuts all --bound 1 --tears": (1176, "72 . 72 66 72 66 ."),
+    "cases: tree, wrong, root, --sectors 8 --cuts all --bound any": (392, "72 . 72 11 72 26.0 72 11 . 72 26.0 72 60.0 72 ."),
+    "cases: tree, wrong, root, first, --sectors 8 --cuts all --bound any --first": (341, "72 . 72 11 72 26.0 72 11 . 72 26.0 72 60.0 72 ."),
+    "cases: tree, right, root, first, --sectors 8 --cuts all --bound any --first": (396, "72 . 72 11 72 26.0 72 11 . 72 26.0 72 60.0 72 ."),
+    "image any: tree/wrong, case 0, cut 4 and choice 1.0:drop, --sectors 8 --cuts all --bound any": (300, "72 . 72 11 72 11 . 72 ."),
+    "show any: tree/wrong, case 0, cut 4 and choice 1.0:drop, --sectors 8 --cuts all --bound any": (306, "72 . 72 11 72 11 . 72 ."),
+    "cases: flushed, --sectors 2 --cuts all --bound any --at-most 1 --by write": (599, "72 . 72 11 72 26.0 26.1 26.2 72 11 72 26.0 72 26.1 26.2 60.0 72 60.1 60.2 72 ."),
+    "a part: two_slots: --sectors 4 --cuts all --bound 2 --tears --images 236..354": (399, "72 . 72 11 72 26.0 72 11 . 72 26.0 72 60.0 72 . 72 . 72 . 72 ."),
+    "joined in the midst: torn_over_torn --sectors 4 --cuts all --bound 1 --tears": (774, "72 . 72 66 72 66 ."),
+    "joined in steps: torn_over_torn --sectors 4 --cuts all --bound 1 --tears": (1178, "72 . 72 66 72 66 ."),
 }
 
 # A run by sixteen workers, which all have blocks of images to judge: 3,213 images in 51 blocks.
@@ -356,10 +366,10 @@ def swept(program, library, row, wanted, assembler):
     if others:
         found.append(f"with all from one on refused also {', '.join(sorted(others))}")
     if re.search(r"--workers (?!1\b)\d", row.words):
-        behind = {split_notes(error_of(done, row))[1] for done in each if cause_of(done, row) == "72"}
-        if not behind <= {b"", NO_MEMORY, NO_MEMORY + FEWER_WORKERS}:
+        said = {split_notes(error_of(done, row))[1] for done in each if cause_of(done, row) == "72"}
+        if not said <= {b"", NO_MEMORY, NO_MEMORY + FEWER_WORKERS}:
             found.append("other notes after 72")
-        if NO_MEMORY + FEWER_WORKERS not in behind:
+        if NO_MEMORY + FEWER_WORKERS not in said:
             found.append("no note after 72 says that fewer workers take less")
     if each[-1].asked >= each[-1].number or onwards[-1].asked >= onwards[-1].number:
         found.append("no end of the allocations")
@@ -413,8 +423,11 @@ THREAD = 8 << 20
 NARROW = 9 << 20
 ROOMS = [12 << 20, 20 << 20, 32 << 20, 64 << 20, 128 << 20]
 
-# Runs with a small stack.
-SMALL_STACKS = ["sixteen_codes", "torn_sector", "page: markup in a mark", "verify nested_loops", "check: turns", "why: journal/wrong"]
+# Runs with a small stack, and how many KiB it has.
+SMALL_STACKS = {
+    **dict.fromkeys(["sixteen_codes", "torn_sector", "page: markup in a mark", "verify nested_loops", "why: journal/wrong"], STACK),
+    **dict.fromkeys(["check: turns", "check: accepted without guards"], STACK_OF_CHECK),
+}
 
 # The first of the users who have no process, one for each run.
 LONELY = 3_000_000
@@ -467,8 +480,8 @@ def starved(rows):
         yield f"{name}, no room for a thread", rows[name], lambda: in_room(NARROW), ["."]
         for room in ROOMS:
             yield f"{name}, in {room >> 20} MiB", rows[name], lambda room=room: in_room(room), [".", "72"]
-    for name in SMALL_STACKS:
-        yield f"{name}, with {STACK} KiB of stack", rows[name], lambda: with_stack(STACK << 10), ["."]
+    for name, size in SMALL_STACKS.items():
+        yield f"{name}, with {size} KiB of stack", rows[name], lambda size=size: with_stack(size << 10), ["."]
 
 
 def built_program(words, place, name):

@@ -301,7 +301,7 @@ def promise_notes(run):
     more = f" and {len(found) - 8} more" if len(found) > 8 else ""
     return [
         f"marks that promise what nothing made durable: entries {', '.join(str(it) for it in found[:8])}{more}",
-        "a write before each of them may still be lost there: it has no flush behind it, and isn't FUA",
+        "a write before each of them may still be lost there: it has no flush after it, and isn't FUA",
     ]
 
 
@@ -310,7 +310,7 @@ def forced_notes(run):
     forced = sum(1 for it in run.entries if it.flags & FUA and it.count)
     if not (run.tears and run.bound and forced):
         return []
-    words = "no image loses or tears one, though a crash may while it is in flight (docs/CRASH-MODEL.md, What a clean report doesn't say)"
+    words = "no image loses or tears one, though a crash may while it is in flight; 'crashbpf explore --bound any' does (docs/CRASH-MODEL.md, What a clean report doesn't say)"
     return [f"entries with FUA: {forced}; {words}"]
 
 
@@ -433,16 +433,20 @@ def entry_line(run, number):
     return text + (f' text "{escaped(entry.text)}"' if entry.flags & MARK else "")
 
 
+def place_of(entry, sector, count):
+    where = f"sector {sector}" if count == 1 else f"{count} sectors from {sector} on"
+    return f"entry {entry}, {where}"
+
+
 def place(part):
-    count = len(part.content) // SECTOR
-    where = f"sector {part.sector}" if count == 1 else f"{count} sectors from {part.sector} on"
-    return f"entry {part.entry}, {where}"
+    return place_of(part.entry, part.sector, len(part.content) // SECTOR)
 
 
-def departed(part, fate):
+def departed(part, fate, more=""):
+    """The line of a lost or torn part, with more that is said of its place."""
     some = len(part.content) // 8 * int(fate[-1]) if fate != "drop" else 0
     arrived = "nothing of it" if fate == "drop" else f"only its {'first' if fate in HEADS else 'last'} {some} bytes"
-    return f"departed: {place(part)}: {arrived} arrived"
+    return f"departed: {place(part)}{more}: {arrived} arrived"
 
 
 def row(number, content, start):

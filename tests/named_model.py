@@ -5,7 +5,7 @@ their order, and the versions of each sector. Of each there is a number of what 
 files that a crash could have left so far, with the number of marks: a map of paths to contents, where a folder has none.
 
 The second half reads a log by docs/CRASH-MODEL.md, by sector and with any number of losses, and lays the files of each of its
-images out by 'The device' of docs/RECORDING.md.
+images out by the head of examples/record/named_layout.py.
 """
 import itertools
 import struct

@@ -214,7 +214,8 @@ class Row:
     notes   the notes on standard error, each without `note: ` and the newline; None where nothing is asked of them
     before  the notes with which standard error begins, before the run and what `--progress` says; `notes` and `error` are the rest
     images  how many images the line of `--progress` ends with, judged and in all, or a list of them where there are
-            several runs; standard error begins with these lines, and `error` is the rest. None where there is no such line
+            several runs, or of a run of cases a text such as "3 cases"; standard error begins with these lines, and `error` is
+            the rest. None where there is no such line
     """
 
     name: str

@@ -57,6 +57,7 @@ GIVEN = {
     "torn": "&[arrayvec::ArrayVec<u32, 3>]",
     "blocks": "Vec<Vec<explore_core::Job>>",
     "whole": "images::View<'a>",
+    "gate": "crate::Silent",
 }
 # The refusals that an example may pass on by `?`.
 REFUSALS = (
@@ -77,6 +78,17 @@ impl<T: Drop> From<std::alloc::AllocFailed<T>> for Refused {
     fn from(_: std::alloc::AllocFailed<T>) -> Refused {
         Refused
     }
+}
+"""
+# A gate that does nothing where it is told of a case.
+GATE = """
+#[derive(Clone, Copy)]
+pub struct Silent;
+
+impl case_runs::CaseGate for Silent {
+    fn run(&self) {}
+
+    fn case(&self) {}
 }
 """
 HEAD = "pub fn example_{number}<'a, R: Files + AllocGlobal + Print + Threads + Wait + Sync>({given}) -> Result<(), Refused> {{"
@@ -128,7 +140,8 @@ def root_of(names, libraries):
     known = [it for it in REFUSALS if it.split("::")[0] in there]
     refusals = "".join(f"\nimpl From<{it}> for Refused {{\n    fn from(_: {it}) -> Refused {{\n        Refused\n    }}\n}}\n" for it in known)
     modules = "\n".join(f"pub mod page_{it};" for it in names)
-    return f"#![tactic(auto)]\n\n{modules}\n\npub struct Refused;\n{refusals}{GROWTH}"
+    gate = GATE if "case_runs" in there else ""
+    return f"#![tactic(auto)]\n\n{modules}\n\npub struct Refused;\n{refusals}{GROWTH}{gate}"
 
 
 def needed(libraries, modules):

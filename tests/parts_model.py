@@ -38,8 +38,8 @@ class WideRun(Run):
         return self.over.get(number, [])
 
     def volatile(self, cut):
-        behind = max((number for number in range(cut) if self.entries[number].flags & FLUSH), default=0)
-        return [it for it in self.parts if behind <= it.entry < cut and not self.entries[it.entry].flags & FUA]
+        durable = max((number for number in range(cut) if self.entries[number].flags & FLUSH), default=0)
+        return [it for it in self.parts if durable <= it.entry < cut and not self.entries[it.entry].flags & FUA]
 
 
 def number_of(files):
@@ -95,9 +95,9 @@ def departures_at(parts, count, fates, number):
     while most - least > 1:
         middle = (least + most) // 2
         least, most = (middle, most) if before(middle) <= number else (least, middle)
-    behind = number - before(least)
+    beyond = number - before(least)
     others = departing(len(parts) - least - 1, count - 1, len(fates))
-    fate, rest = divmod(behind, others)
+    fate, rest = divmod(beyond, others)
     return ((parts[least], fates[fate]), *departures_at(parts[least + 1 :], count - 1, fates, rest))
 
 

@@ -15,6 +15,7 @@ used, or that the search of the verifier ends soon. What would stay proved witho
 What counts is the least ratio of three turns, each of two runs one after the other, so no machine is too slow for it. It
 prints a line for each ratio that is too great, and last `N passed, M failed`. It takes some seconds.
 """
+# Seen to fail for planted bugs: footprints used at small cuts alone; a second operand at which the search doesn't look.
 import math
 import os
 import resource

@@ -5,7 +5,7 @@
    So a run costs neither a new process image nor a shell, and thousands of them take seconds.
 
    SWEEP="FIRST LAST STEP ONWARDS"  the runs: in each one number is refused, from FIRST to LAST by STEP, and with ONWARDS 1
-                                    all that follow it too. The runs end early behind the first that asks for fewer
+                                    all that follow it too. The runs end early after the first that asks for fewer
                                     allocations than its number. A number 0 refuses none.
    SWEPT=FILE                       gets what became of the runs: for each a line of decimal numbers and its outputs,
 

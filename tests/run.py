@@ -14,7 +14,7 @@ the run takes too long (`seconds` of notation.py). Rows run side by side.
 
 A pair is two runs that differ in one option, and the places where what they print has to differ.
 
-Behind the rows it looks whether docs/crashbpf.1 is what the program's help says, whether the tables of docs/ that
+After the rows it looks whether docs/crashbpf.1 is what the program's help says, whether the tables of docs/ that
 tools/document_tables.py makes are those of the help and the sources, and whether text on a page has enough contrast. It also looks
 whether each command and each option of the help is tried: by a pair, and by an output that can't be written.
 
@@ -52,6 +52,7 @@ Where the rows stand
     rows/small_logs.py  every image of small logs, what their cuts leave open, accepted programs with and without checks
     rows/export.py      all images of a log as bytes, against the model
     rows/shown.py       images in words, by number and by cut and choice, against the model
+    rows/any_images.py  images of any number of losses, by cut and choice, as bytes and in words, against the model
     rows/why.py         why checkers fail, of many logs and of the designs, against the model
     rows/cure.py        where flushes are missing, of many logs and of the designs, against the model
     rows/cases.py       every loss of any number of writes, as cases: options, refusals, many logs and the designs, against the model
@@ -106,6 +107,7 @@ import man_page
 from notation import SECONDS, TOP, Assembly, Folder, Hole, Link, Locked, Long, Pair, Printable, Something
 from rows import (
     answers,
+    any_images,
     arithmetic,
     based,
     blind,
@@ -170,6 +172,7 @@ TABLES = [
     modelled,
     small_logs,
     shown,
+    any_images,
     export,
     why,
     cure,
@@ -291,7 +294,7 @@ def output_differs(what, found, wanted):
 
 
 # What `--progress` says of a run: a line that is written again, and its end.
-PROGRESS = re.compile(rb"(progress: \d+ of \d+ images\r)*(?P<last>progress: \d+ of \d+ images\n)")
+PROGRESS = re.compile(rb"(progress: \d+( of \d+ images| cases)\r)*(?P<last>progress: \d+( of \d+ images| cases)\n)")
 
 
 def split_progress(error):
@@ -303,7 +306,9 @@ def split_progress(error):
 
 
 def progress_of(images):
-    """The last line of the progress of each run, by how many images it has."""
+    """The last line of the progress of each run, by how many images it has; or of one run of cases, by what it says."""
+    if isinstance(images, str):
+        return f"progress: {images}\n"
     return "".join(f"progress: {it} of {it} images\n" for it in ([images] if isinstance(images, int) else images) if it)
 
 

@@ -42,7 +42,7 @@ TAKEN = [W(0, 1, 0xAA), D(1, 2), M("taken"), Entry(flags=FLUSH | METADATA), W(3,
 
 FILES = {
     "data": DATA,
-    "taken.log": log(TAKEN) + b"behind the last entry",
+    "taken.log": log(TAKEN) + b"after the last entry",
     "short": log(TAKEN)[:-1],
     "headless": super_block(2) + header(),
     "empty": b"",

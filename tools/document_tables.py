@@ -4,9 +4,8 @@
     tools/document_tables.py [--check]
 
 writes what stands in the documents of TABLES between each two marks `<!-- made: NAME -->` and `<!-- end: NAME -->`. The options are taken from the
-helps in docs/crashbpf.1, which tests/run.py compares with the program's own. The refusals, the places of refused options and
-the faults of the machine are taken from the crates' sources: a number, and the sentence that its note says, or else that of
-its docstring. With --check nothing is written: each table that isn't as it would be written is named, and the status is then
+helps in docs/crashbpf.1, which tests/run.py compares with the program's own. The refusals and the places of refused options are
+taken from the crates' sources: a number, and the sentence that its note says, or else that of its docstring. With --check nothing is written: each table that isn't as it would be written is named, and the status is then
 1. tests/run.py looks at the same.
 """
 import re
@@ -22,9 +21,16 @@ TOP = Path(__file__).resolve().parent.parent
 PAGE = TOP / "docs/crashbpf.1"
 CAUSES = TOP / "crates/base/src/causes.rt"
 PLACES = TOP / "crates/request/src/settings.rt"
-RULES = TOP / "crates/notes/src/command_notes/behind.rt"
+RULES = TOP / "crates/notes/src/command_notes/after.rt"
 # The types of causes, with what each refuses, in the order of their numbers.
 KINDS = {"Log": "log", "Request": "request", "Code": "program", "Asm": "text", "Verifier": "verifier", "Join": "join", "Work": "work"}
+# What the place of a refusal counts, where it isn't 0.
+COUNTED = {
+    **dict.fromkeys(range(5, 10), "entry"), 10: "entry, or 0 of the log as a whole", 12: "cut", 13: "[option](#places)",
+    14: "[file](#places)", 15: "entry or cut", 32: "line, or 0 of a text without instructions", 59: "slot, or 0", 73: "missing seats",
+    **dict.fromkeys([20, *range(22, 26), *range(40, 45), *range(50, 59)], "slot"), **dict.fromkeys([30, 31, 33, 34], "line"),
+    **dict.fromkeys(range(61, 66), "file"), **dict.fromkeys([70, 71], "block"),
+}
 # What goes without an option, where that isn't `none` and the help names no default.
 ABSENT = {"--images": "all images"}
 
@@ -32,7 +38,7 @@ ABSENT = {"--images": "all images"}
 def with_options_marked(text):
     """Returns a text with options in backticks, but for those of a command between quotes."""
     parts = re.split(r"((?<!\w)'[^']*')", text)
-    return "".join(it if it.startswith("'") else re.sub(r"(?<!\S)(--[a-z]+)", r"`\1`", it) for it in parts)
+    return "".join(it if it.startswith("'") else re.sub(r"(?<!\S)(--[a-z]+(?:-[a-z]+)*)", r"`\1`", it) for it in parts)
 
 
 def table(head, rows):
@@ -107,11 +113,12 @@ def lowered(says):
 def refusals_table():
     source = CAUSES.read_text()
     rows = [
-        [str(number), kind, *split(lowered(says))]
+        [str(number), kind, says, COUNTED.get(number, "0"), rule]
         for name, kind in KINDS.items()
-        for number, says in variants(source, f"{name}Cause")
+        for number, note in variants(source, f"{name}Cause")
+        for says, rule in [split(lowered(note))]
     ]
-    return table(["No", "Of", "Says", "Rule"], sorted(rows, key=lambda row: int(row[0])))
+    return table(["No", "Of", "Says", "At", "Rule"], sorted(rows, key=lambda row: int(row[0])))
 
 
 def places_table():
@@ -123,15 +130,9 @@ def places_table():
     return table(["Place", "Says"], [[str(number), lowered(says.get(str(number), says["_"]))] for number in sorted(numbers)])
 
 
-def faults_table():
-    found = variants(CAUSES.read_text(), "MachineFault")
-    return table(["No", "Fault"], [[str(number), split(lowered(says))[0]] for number, says in found])
-
-
 # The tables of each document.
 TABLES = {
     "docs/COMMANDS.md": {"options": options_table},
-    "docs/OUTPUT.md": {"faults": faults_table},
     "docs/REFUSALS.md": {"refusals": refusals_table, "places": places_table},
 }
 

@@ -1,4 +1,4 @@
-//! What stands in the place of `arrayvec` in plain Rust: a list with room for so many. No time hangs on it, since the verifier has
+//! What stands in the place of `arrayvec` in plain Rust: a list with room for a fixed number. No time hangs on it, since the verifier has
 //! none.
 
 #[derive(Clone, Debug)]

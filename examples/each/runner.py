@@ -18,7 +18,7 @@ from program import Gone, run
 TOLD = struct.Struct("<QQQIIQ")
 # Whether it is a refusal, the kind and the number of the verdict, whether processes were left, and the length of words.
 ANSWER = struct.Struct("<?BQ?I")
-# By which a process becomes the parent of those that its children leave behind.
+# By which a process becomes the parent of those that its children leave.
 PR_SET_CHILD_SUBREAPER = 36
 SAYS_MORE = b"\n[crashbpf-each: %d bytes more were printed]\n"
 

@@ -139,7 +139,7 @@ HEADER = """\
 
 #include "checker.h"
 
-/* Behind each file a sector is free and zeros, so a number that begins within a file never ends in another. */
+/* After each file a sector is free and zeros, so a number that begins within a file never ends in another. */
 #define FILE_READ_(name, start, length, kind, read) \\
 	INLINED kind name##_##read(u64 at) {{ return at < (length) ? read((start) + at) : 0; }}
 #define FILE_READS_(name, start, length) \\

@@ -1,7 +1,16 @@
 """Where files with names and sizes lie on the device of a log, the map of it, and the files of an image.
 
 The device has in this order: a sector for each set of names, and one for the size of each file; the bytes of the files, as in
-`layout.py`; and the copies of the names, one for each state that a set was in. docs/RECORDING.md has the bytes of these.
+`layout.py`; and the copies of the names, one for each state that a set was in. Numbers are little-endian.
+
+- The sector of a set of names: bytes 0 to 7 are the first sector of the copy that is in force. `ordered` and `writeback` have one
+  set, `strict` one for each name and those that a rename ties to it.
+- The sector of a file: bytes 0 to 7 are its size, bytes 8 to 15 the first sector of its bytes.
+- Bytes: a range for each file, and one more for each time that it gets shorter. A range begins at a multiple of eight sectors, and
+  after it a sector is free.
+- A copy of names: for each folder sectors of its own, with eight names of 64 bytes in each. Of a name bytes 0 to 3 are 0 where it
+  isn't taken, 1 for a file, 2 for a folder. Bytes 4 to 7 are the sector of the file's size, or the number of the folder; the
+  folder $FILES is 0. Bytes 8 to 63 are the name, with zeros after it. A name has one place in all copies of its set.
 """
 import os
 import re

@@ -13,6 +13,26 @@ On the device of the log are three kinds of places, each a sector that holds one
 What no name and no size shows is lost without a trace. So by `ordered` the bytes of a new block are written as durable right
 before the size that shows them: whoever sees the size sees them.
 
+Which entries a call makes, a write below being a write entry that is in flight until what makes it durable, and sectors of names
+and sizes being written as a whole:
+
+- open with O_CREAT and creat that make a file, mkdir, link, rename, unlink, rmdir: a write of the sector of the names.
+- write: of the bytes; where they are in a block that the append begins, by `ordered` a FUA write, since no image shows them before
+  the size. Then, where the size grew, a write of the sector of the size: at each multiple of 4,096 bytes that it passed, and at
+  its end.
+- ftruncate, truncate, fallocate to a larger size: a write of the sector of the size.
+- ftruncate, truncate, O_TRUNC to a smaller size: zeros are written to the rest of the last block that is kept. Then a write of
+  the sector of the size, by which the bytes lie in other sectors from now on. These hold at first what was durable of the part
+  that is kept. What is in flight of that part is written there, too.
+- a write to a block that the file had before it got shorter: where the old size may still be there, the bytes are written to where
+  that size shows them, too.
+- fallocate that makes a hole, or zeros: a write of the bytes.
+- fsync, fdatasync, sync, and a write with O_DSYNC after its own entries: where nothing else is in flight that an image could show,
+  a flush. Else FUA writes of what it makes durable, and after these a write of what came later.
+
+Left out are writes that no image shows: to a file without a name, where no crash can bring its name back, and of bytes where none
+can bring their size back.
+
 docs/RECORDING.md has the tables with their sources. `tests/named_model.py` has the same as plain sets.
 """
 import struct

@@ -364,8 +364,8 @@ class Tracing:
     def landed(self, call, flight, file, start, end):
         """Refuses a change of a file where another one, of the same sectors, was made while it was in flight."""
         first, last = start // SECTOR, -(-end // SECTOR)
-        for other, behind in file.changed[flight.changes :]:
-            if other < last and first < behind:
+        for other, until in file.changed[flight.changes :]:
+            if other < last and first < until:
                 raise Refused(f"{call}: another call wrote the same sectors at once, and which was first isn't known")
 
     def end_write(self, call, process, flight):

@@ -65,7 +65,7 @@ MANY = {
     "a flush more": Run([F] * (FEW + 1), 4, "flush", 0),
     "flushes, and a mark more": Run([*[F] * FEW, M("m")], 4, "all", 0),
     "marks, and a flush more": Run([*[M("m")] * FEW, F], 4, "mark", 0),
-    "a flush more behind the last cut": Run([F] * (FEW + 1), 4, "all", 0, last=FEW),
+    "a flush more after the last cut": Run([F] * (FEW + 1), 4, "all", 0, last=FEW),
 }
 WIDE = {
     "a flush more, at sixteen times as many cuts": Run([*[F] * (FEW + 1), *[D(5, 1)] * (15 * (FEW + 1) - 1)], 8, "all", 0),

@@ -10,7 +10,7 @@ from rows.modelled import CHECKERS, PROGRAMS, any_fails, runs
 from rows.why import FEW, PAGES, RECORDS, SLOTS, TWO_TORN
 
 # A mark whose text would be markup, and a write of which the text of an image is too long.
-MARKUP = [W(0, 1, 1), M("</a><script>alert('1')</script> & more"), W(0, 60, 2), M("behind")]
+MARKUP = [W(0, 1, 1), M("</a><script>alert('1')</script> & more"), W(0, 60, 2), M("after")]
 
 
 # Marks that are UTF-8, with control characters and without, and one that isn't.

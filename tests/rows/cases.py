@@ -7,7 +7,7 @@ from itertools import product
 from math import comb
 
 import model
-from cases_model import ANY, Losses, at_risk, cases, judged_cuts, status
+from cases_model import ANY, Losses, at_risk, cases, first_case, judged_cuts, status
 from designs import DESIGNS, EXAMPLES, JOURNAL_AT_ONCE, JOURNAL_RIGHT, JOURNAL_WRONG, JUDGES, checker_of, data, double_write, folder_of, tree, two_slots
 from designs import LOGS as STORED
 from machine_model import Ended, judged
@@ -349,6 +349,119 @@ ENDINGS = [
 assert all(word in row.out for word, row in zip(["stray at slot 7", "fault 83 slot 7", "out of steps", "out of steps"], ENDINGS))
 
 
+# The first failing case alone
+
+
+def first(row, run, programs, checkers, losses=ANY, more=""):
+    """A row of a run by --first: what `told` gives, and what the model says of the first."""
+    text = first_case(run, checkers, losses)
+    whole = told(row, run, programs, checkers, losses)
+    # the text of all, where none fails; else its beginning, up to and with its first line of a case
+    head = text[: text.rindex("first cut ")] if whole.status else whole.out
+    assert whole.out.startswith(head), f"{row}: the first isn't the first of all"
+    assert "complete" not in text or not whole.status, row
+    return told(f"{row}, first", run, programs, checkers, losses, f" --first{more}", text)
+
+
+def firsts():
+    """Runs by the model, of each kind above."""
+    yield from (first(name, run, checker[0], [checker[1]]) for name, run, checker, _count, _failing in TABLE)
+    for number, (name, run, losses) in enumerate(runs()):
+        if number % 4 == 0:
+            yield first(name, run, PROGRAMS, CHECKERS, losses, ["", " --workers 4"][number % 8 // 4])
+    for number, (name, run) in enumerate(NARROW.items()):
+        made = [(program(text), Checker(about, judge)) for text, about, judge in NARROW_CHECKERS.values()]
+        losses = [ANY, Losses(None, 2)][number % 2]
+        run = Run(run.recorded, run.sectors, ["all", run.cuts][number % 2], run.bound, run.tears, run.by)
+        yield first(f"{name}, all", run, [it[0] for it in made], [it[1] for it in made], losses)
+    yield first("60 writes in flight, of which three are looked at", SIXTY, READS_THREE[0], [READS_THREE[1]])
+    yield first("60 writes in flight, one torn", Run(SIXTY.entries, 64, tears=True), READS_THREE[0], [READS_THREE[1]])
+    yield first("large", LARGE_RUNS[3], MIXES, [LARGE_CHECKER], ANY, " --large")
+    yield first("strays", INDEXES, program(INDEXED), [Checker("slots 9 budget 7 guards 1", indexed("stray at slot 7"))], Losses(2, None), " --guards")
+
+
+# Of 2^25 cases the second fails, and 2^25 more cases come after it: a run of all is refused 12 after minutes.
+TWENTY_FIVE = Run([W(it, 1, 1) for it in range(25)], 32)
+# the sum of the first bytes is looked at, and it is to be 25
+SUMS = "; ".join(["mov64 r6, 0", *(f"mov64 r1, {it}; call 1; jeq r0, 0, +2; ldxb r1, [r0+0]; add64 r6, r1" for it in range(25)), "mov64 r0, r6; sub64 r0, 25; exit"])
+ALL_ARRIVE = program(SUMS), Checker("slots 129 budget 129", lambda view: (sum(view.sector(it)[0] for it in range(25)) - 25 & 2**64 - 1, ()))
+FIRSTS = [
+    *firsts(),
+    told(
+        "of more cases than a run may have, first",
+        TWENTY_FIVE,
+        ALL_ARRIVE[0],
+        [ALL_ARRIVE[1]],
+        ANY,
+        " --first",
+        first_case(TWENTY_FIVE, [ALL_ARRIVE[1]]),
+    ),
+    written(
+        "the first of two programs",
+        "--bound any --first",
+        ORDERED,
+        [MARKS, IN_ORDER],
+        """
+        sectors 4 entries 4 cuts all bound any tears no
+        program 0 slots 2 budget 2
+        program 1 slots 12 budget 10
+        cut 3 epoch 0 marks 0 program 1 case 1 answer 1 codes 7 choice 0.0:drop kept 1.0 free 1 flush 1..1
+        first cut 3 program 1 case 1
+        """,
+    ),
+    written(
+        "none fails, and some are left out",
+        "--bound any --first --at-most 1 --cuts mark",
+        BOTH + [M("m")],
+        program("mov64 r1, 0; call 5; mov64 r1, 1; call 5; mov64 r0, 0; exit"),
+        """
+        sectors 4 entries 3 cuts mark bound any tears no at-most 1
+        program 0 slots 6 budget 6
+        cuts 1 cases 3 failing 0 torn beyond 0 lost beyond 1
+        """,
+    ),
+]
+
+
+# What is said of how far a run is: how many cases are found, by all programs at all cuts, or up to the first that fails
+
+
+def counted(name, run, programs, checkers, more, count):
+    text = first_case(run, checkers) if "--first" in more else None
+    row = told(f"{name}, with progress", run, programs, checkers, ANY, f"{more} --progress", text)
+    return replace(row, images=f"{count} cases")
+
+
+PROGRESS = [
+    *(counted(name, run, checker[0], [checker[1]], "", count) for name, run, checker, count, _failing in TABLE[:3]),
+    counted(TABLE[0][0], TABLE[0][1], ROOT[0], [ROOT[1]], " --first", 2),
+    counted("60 writes in flight", SIXTY, READS_THREE[0], [READS_THREE[1]], " --workers 4", 8),
+    replace(written("no cut, with progress", "--bound any --cuts mark --progress", BOTH, ZERO, WRITTEN[8].out.split("\n", 1)[1])),
+]
+
+
+# What is noted beside a text without failing cases that isn't complete
+
+
+def noted_beside(name, options, entries, notes):
+    """A row of a checker that answers 0 and looks at sectors 0 and 1, with the notes beside its text."""
+    checked = Checker("slots 6 budget 6", lambda view: (0 * len(view.sector(0) + view.sector(1)), ()))
+    looks = program("mov64 r1, 0; call 5; mov64 r1, 1; call 5; mov64 r0, 0; exit")
+    words = dict(zip(*[iter(options.split())] * 2))
+    run = Run(entries, 4, tears="tears" in name)
+    losses = Losses(int(words["--torn"]) if "--torn" in words else None, int(words["--at-most"]) if "--at-most" in words else None)
+    row = told(f"notes, {name}", run, looks, [checked], losses)
+    return replace(row, notes=notes)
+
+
+NOTED = [
+    noted_beside("complete", "", BOTH, []),
+    noted_beside("tears, complete", "--torn 2", BOTH, []),
+    noted_beside("tears", "", BOTH, ["cases with more torn parts than 1 are left out: 196", "every loss is covered, with at most 1 of the parts torn"]),
+    noted_beside("lost", "--at-most 1", BOTH, ["cases with more lost or torn parts than 1 are left out: 1", "without --at-most every loss is covered"]),
+]
+
+
 # What is refused, and where, beside the rows of commands.py
 
 GOOD = code("b7000000000000009500000000000000")
@@ -356,6 +469,8 @@ REFUSED = {
     "--bound 1 --torn 1 --tears": 20,
     "--torn 9 --cache 5": 20,
     "--bound 2 --at-most 1 --first": 21,
+    "--bound any --first --torn 0": 20,
+    "--bound any --first --cache 9": 4,
     "--bound any --tears --torn 0 --at-most 0": 20,
     "--bound any --images 0..0": 17,
     # what the other options are comes first
@@ -372,7 +487,8 @@ FILES = files(BOTH, GOOD)
 REFUSALS = [
     *(refused(f"cases: refused, {words}", f"explore log p0 --sectors 4 {words}", FILES, f"refused 13 at {place}") for words, place in REFUSED.items()),
     # and before the files, the log and the programs
-    refused("cases: options before files", "explore log p0 --sectors 4 --bound any --first", {}, "refused 13 at 22"),
+    refused("cases: options before files", "explore log p0 --sectors 4 --bound any --first --images 0..1", {}, "refused 13 at 17"),
+    refused("cases: the first, no file", "explore log p0 --sectors 4 --bound any --first", {}, "refused 14 at 0"),
     refused("cases: no file", "explore log p0 --sectors 4 --bound any", {}, "refused 14 at 0"),
     refused("cases: no program", "explore log p0 --sectors 4 --bound any", files(BOTH), "refused 14 at 1"),
     refused("cases: no log", "explore log p0 --sectors 4 --bound any", {"log": b"", "p0": GOOD}, "refused 1 at 0"),
@@ -400,4 +516,4 @@ FAULTY = [
 ]
 FAULTS = [Row(f"cases: fault of the command line: {words}", words, FILES, status=2, error=Something()) for words in FAULTY]
 
-ROWS = [*DESIGN_ROWS, *WRITTEN, *MODELLED, *MANY, *ENDINGS, *REFUSALS, *FAULTS]
+ROWS = [*DESIGN_ROWS, *WRITTEN, *MODELLED, *MANY, *ENDINGS, *FIRSTS, *PROGRESS, *NOTED, *REFUSALS, *FAULTS]

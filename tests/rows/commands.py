@@ -284,7 +284,6 @@ ANY_LOSSES = {
     "--bound any --at-most 4294967297": 21,
     "--bound any --cache 1": 4,
     "--bound any --images 0..1": 17,
-    "--bound any --first": 22,
     "--torn 1": 20,
     "--tears --torn 1": 20,
     "--tears --torn 9 --bound 1": 20,

@@ -1,4 +1,5 @@
 """Where flushes are missing: what `cure` prints of many logs, compared with the model (model.py), and of the designs of examples/."""
+# Seen to fail for planted bugs of the line of progress: the last image in place of their number, a number that isn't set back.
 from dataclasses import replace
 
 from model import Checker, Run, cure_rounds, cured

@@ -1,5 +1,6 @@
 """Each option of each command: two runs that differ in it alone, and where what they print differs. So no option is ignored in
 silence. The commands and their options are those of the program's own help: one without a pair here is told by tests/run.py."""
+# Seen to fail for planted bugs: `--from` and `--to` without a parser, `--list` without `--guards`, an option of another name.
 import re
 
 from model import Run
@@ -153,6 +154,9 @@ PAIRS["guards"] = {
 }
 PAIRS["guards"]["verify"] = dict(
     two=["verify null --sectors 4", "verify null --sectors 4 --guards"], statuses=(2, 0), differ=("out", "error"), holds=("accepted budget 4 guards 1\n",)
+)
+PAIRS["guards"]["check"] = dict(
+    two=["check null image", "check null image --guards"], statuses=(2, 0), differ=("out", "error"), holds=("budget 4 guards 1\n",)
 )
 PAIRS["list"] = {
     "verify": dict(two=["verify null --sectors 4 --guards", "verify null --sectors 4 --guards --list"], differ=("out 2",), holds=("2: ldxb r0, [r0+0]\n",))

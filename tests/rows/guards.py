@@ -213,7 +213,6 @@ FAULTY = [
     "verify p0 --sectors 4 --list",
     "verify p0 --sectors 4 --guards 1",
     "explore log p0 --sectors 4 --guards --list",
-    "check p0 log --guards",
     "images log --sectors 4 --guards",
     "image log 0 --sectors 4 --guards",
     "list p0 --guards",

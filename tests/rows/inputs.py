@@ -1,5 +1,6 @@
 """Each file that a command takes, as it may be no good: one byte too long, as long as may be, unreadable, and of another kind. Each
 such run ends with the number of its refusal and its place, and prints nothing; where it answers, the answer is the model's."""
+# Seen to fail for planted bugs: a length in slots, an unreadable `--base` that is taken for an empty one.
 import os
 from dataclasses import replace
 
@@ -202,7 +203,7 @@ SHORTER = Run(RUN.recorded, 4, base=HELD[:-1])
 AS_IMAGE = Run(RUN.recorded, 4, base=KINDS["a program"])
 
 
-def behind(row):
+def place_of_base(row):
     """The number of a command's other files, which is the place of the file of --base."""
     return sum(it in row.files and it != "base" for it in row.words.split()[1:])
 
@@ -211,7 +212,7 @@ AS_BASE = [
     row
     for it in ANSWERS.values()
     for row in [
-        *unreadable(it, "base", f"refused 14 at {behind(it)}"),
+        *unreadable(it, "base", f"refused 14 at {place_of_base(it)}"),
         no_answer(it, "a byte more than the device", "base", HELD + b"\0", "refused 13 at 14"),
         no_answer(it, "1 GiB", "base", Hole(1 << 30), "refused 13 at 14"),
     ]

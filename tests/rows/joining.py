@@ -1,5 +1,6 @@
 """Runs in parts: the text of each part, what `join` makes of them in any order and in steps, every misuse of `join`, how a run is laid
 out, and the images of runs that no process judges alone. All is compared with the model (parts_model.py)."""
+# Seen to fail for planted bugs of the line of progress: the last image in place of their number, a number that isn't set back.
 from dataclasses import replace
 from functools import cache
 from math import comb
@@ -563,7 +564,7 @@ WRITES = [
 WIDE = WideRun([*WRITES, F], 63, "flush", 3, True)
 BY_WRITE = WideRun([M("begun"), *WRITES[:400], S(0, noise("forced", 2), FUA | FLUSH), *WRITES[400:]], 63, "all", 3, True, "write")
 
-# Sectors that are discarded, of which so many may be on their way that a cut has close to 2^63 images.
+# Sectors that are discarded. The number that may be on their way gives a cut close to 2^63 images.
 DEVICE = 16384
 LIMIT = 2**63
 

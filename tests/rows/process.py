@@ -1,4 +1,5 @@
 """The process itself: files that can't be read, and a standard output that can't be written."""
+# Seen to fail for planted bugs: causes 30 and 31 swapped; for each command of the help, a failed write without an end.
 from model import Checker, Run, explored, one, zero
 from notation import LIMITED, F, Folder, Long, Printable, Row, W, code, files, program, refused, report
 from parts_model import part

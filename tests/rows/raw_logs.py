@@ -128,11 +128,11 @@ LIMITS = [
 ]
 
 # Within the limits of --large: a device of 131,072 sectors of 4,096 bytes, and a log of more than 64 MiB.
-BEHIND = raw(LARGE, [(2048, 1, 0, content(1)), (131071, 1, FLUSH, content(1, 5)), (131000, 72, DISCARD, b"")])
+BEYOND = raw(LARGE, [(2048, 1, 0, content(1)), (131071, 1, FLUSH, content(1, 5)), (131000, 72, DISCARD, b"")])
 LONG = [(0, 2048, 0, bytes(8 * MIB))] * 8
 WITHIN = [
-    Row("import: on a large device", "import raw --large", {"raw": BEHIND}, small([(2048, 1, 0, content(1)), (131071, 1, FLUSH, content(1, 5)), (131000, 72, DISCARD, b"")])),
-    refused("import: on a large device, without --large", "import raw", {"raw": BEHIND}, "refused 9 at 0"),
+    Row("import: on a large device", "import raw --large", {"raw": BEYOND}, small([(2048, 1, 0, content(1)), (131071, 1, FLUSH, content(1, 5)), (131000, 72, DISCARD, b"")])),
+    refused("import: on a large device, without --large", "import raw", {"raw": BEYOND}, "refused 9 at 0"),
     refused("import: after a large device", "import raw --large", {"raw": raw(LARGE, [(131071, 2, DISCARD, b"")])}, "refused 9 at 0"),
     Row("import: a long log", "import raw --large", {"raw": Long(lambda: raw(LARGE, LONG))}, Long(lambda: small(LONG))),
     refused("import: a long log, without --large", "import raw", {"raw": Long(lambda: raw(LARGE, LONG))}, "refused 10 at 7"),

@@ -5,7 +5,7 @@ from notation import FLUSH, M, Row, S, W, files, refused
 from rows.modelled import COMMITS, DISCARDED, MARKED, PAGED, TORN_OVER_TORN, noise
 
 # More than 32 parts on their way, and a first flush far after.
-MANY = [S(0, noise(1), FLUSH), S(0, noise(2, 40)), M("behind")]
+MANY = [S(0, noise(1), FLUSH), S(0, noise(2, 40)), M("after")]
 
 RUNS = [
     Run(TORN_OVER_TORN, tears=True, bound=2),

@@ -183,9 +183,9 @@ def survey(states, cuts):
     return text + f"total {sum(states[cut][0] + 1 for cut in cuts)}\n"
 
 
-def cuts_of(name, entries, states, before_flush, behind_mark, units):
+def cuts_of(name, entries, states, before_flush, after_mark, units):
     log, last = files(entries), len(entries)
-    wanted = {"all": range(len(states)), "flush": before_flush, "mark": behind_mark}
+    wanted = {"all": range(len(states)), "flush": before_flush, "mark": after_mark}
     for kind, cuts in wanted.items():
         yield Row(f"cuts of {name}: {kind}", f"images log --sectors 4 --cuts {kind}", log, survey(states, cuts))
     for unit in units:

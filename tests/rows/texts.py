@@ -1,4 +1,5 @@
 """Assembly texts that are programs, with their bytes, and texts that are refused, each with its number and line."""
+# Seen to fail for a planted bug: causes 30 and 31 swapped.
 from notation import Row, code, refused
 
 EXIT = "9500000000000000"

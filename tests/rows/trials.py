@@ -252,6 +252,105 @@ STEPS = [
     *(worded(word, shown, " --large") for word, shown in LARGE_WORDS.items()),
 ]
 
+# With guards: where a run strays, by which register, and what a local has that wasn't written
+POINTED = "mov64 r1, r10; callf +1; exit; "
+GUARDED = [
+    tried(
+        "a read past a sector's end strays",
+        "mov64 r1, 0; call 1; ldxdw r2, [r0+508]; mov64 r0, 0; exit",
+        "--guards --trace 9",
+        """
+        sectors 4 epoch 0 marks 0
+        program slots 5 budget 5 guards 1
+        step 1 slot 0 mov64 r1, 0; r1 0
+        step 2 slot 1 call 1; r0 sector 0+0; r1 unset
+        step 3 slot 2 ldxdw r2, [r0+508]; stray by r0 at sector 0+508 bytes 8
+        steps 3
+        stray at slot 2
+        """,
+        1,
+    ),
+    tried(
+        "a read with its sign at address 0 strays",
+        "mov64 r1, 4; call 1; ldxsh r2, [r0+1]; mov64 r0, 0; exit",
+        "--guards --trace 1",
+        """
+        sectors 4 epoch 0 marks 0
+        program slots 5 budget 5 guards 1
+        step 3 slot 2 ldxsh r2, [r0+1]; stray by r0 at 1 bytes 2
+        steps 3
+        stray at slot 2
+        """,
+        1,
+    ),
+    tried(
+        "a store to the frame of a caller strays",
+        POINTED + "stb [r1-1], 5; mov64 r0, 0; exit",
+        "--guards --trace 2",
+        """
+        sectors 4 epoch 0 marks 0
+        program slots 6 budget 6 guards 1
+        step 2 slot 1 callf +1; r10 stack 1+512
+        step 3 slot 3 stb [r1-1], 5; stray by r1 at stack 0+511 bytes 1
+        steps 3
+        stray at slot 3
+        """,
+        1,
+    ),
+    tried(
+        "a store to the context strays",
+        "stxw [r1+8], r1; mov64 r0, 0; exit",
+        "--guards --trace 2",
+        """
+        sectors 4 epoch 0 marks 0
+        program slots 3 budget 3 guards 1
+        step 1 slot 0 stxw [r1+8], r1; stray by r1 at context+8 bytes 4
+        steps 1
+        stray at slot 0
+        """,
+        1,
+    ),
+    tried(
+        "a copy to the frame of a caller strays",
+        POINTED + "mov64 r2, r1; sub64 r2, 16; mov64 r1, 0; mov64 r3, 16; call 2; exit",
+        "--guards --trace 1",
+        """
+        sectors 4 epoch 0 marks 0
+        program slots 9 budget 9 guards 1
+        step 7 slot 7 call 2; stray by r2 at stack 0+496 bytes 16
+        steps 7
+        stray at slot 7
+        """,
+        1,
+    ),
+    # the caller reads what it wrote; no local of a frame is left of an earlier call
+    tried(
+        "a local that wasn't written is 0",
+        "callf +3; callf +2; ldxdw r0, [r10-8]; exit; ldxdw r0, [r10-8]; stdw [r10-8], 7; exit",
+        "--guards --trace 20",
+        """
+        sectors 4 epoch 0 marks 0
+        program slots 7 budget 10 guards 0
+        step 1 slot 0 callf +3; r10 stack 1+512
+        step 2 slot 4 ldxdw r0, [r10-8]; r0 0
+        step 3 slot 5 stdw [r10-8], 7
+        step 4 slot 6 exit; r1 unset; r10 stack 0+512
+        step 5 slot 1 callf +2; r0 unset; r10 stack 1+512
+        step 6 slot 4 ldxdw r0, [r10-8]; r0 0
+        step 7 slot 5 stdw [r10-8], 7
+        step 8 slot 6 exit; r10 stack 0+512
+        step 9 slot 2 ldxdw r0, [r10-8]
+        step 10 slot 3 exit
+        steps 10
+        answer 0 codes -
+        """,
+        0,
+    ),
+    ended("accepted without guards", named("first_byte"), "--guards", (NONE_PASSED, "7 budget 5 guards 0"), 5, "answer 51 codes -", FIFTY_ONE),
+    ended("no trace of a stray", "ldxb r0, [r10+0]; exit", "--guards", (NONE_PASSED, "2 budget 2 guards 1"), 1, "stray at slot 0"),
+    refused("check: with guards too it is refused", "check p image --guards", {"p": UNSAFE, "image": ZEROS}, "refused 50 at 0"),
+]
+
 # Words that ask for what isn't there, on a good program and a good image, and the refusal
 REFUSED = {
     "check p image --epoch 65537": "13 at 15",
@@ -316,6 +415,7 @@ FAULTY = [
     "check p image --trace all",
     "check p image --trace 18446744073709551616",
     "check p image --checked",
+    "check p image --checked 5 --guards",
     "check p image --workers 1",
     "check p image --cuts all",
     "check p image --tears",
@@ -331,6 +431,7 @@ ROWS = [
     *ANSWERS,
     *LIMITS,
     *STEPS,
+    *GUARDED,
     *(refused(f"refused: {words}", words, BOTH, f"refused {error}") for words, error in REFUSED.items()),
     *(refused(f"check: an image of {it} bytes", "check p image", {"p": GOOD, "image": bytes(it)}, "refused 14 at 1") for it in SIZES),
     *(refused(f"check: {name}", "check p image", {"p": p, "image": image}, f"refused {error}") for name, (p, image, error) in FAULTS.items()),
