@@ -54,7 +54,7 @@ _crashbpf() {
     *\ verify\ --sectors) return ;;
     *\ verify\ *) [[ $word != -* ]] || words='--sectors --large --guards --list -h --help' ;;
     *\ check\ --epoch|*\ check\ --marks|*\ check\ --checked|*\ check\ --trace) return ;;
-    *\ check\ *) [[ $word != -* ]] || words='--large --epoch --marks --checked --trace -h --help' ;;
+    *\ check\ *) [[ $word != -* ]] || words='--large --epoch --marks --checked --guards --trace -h --help' ;;
     *\ asm\ *) [[ $word != -* ]] || words='-h --help' ;;
     *\ list\ *) [[ $word != -* ]] || words='--slots -h --help' ;;
     *\ join\ *) [[ $word != -* ]] || words='--part -h --help' ;;
