@@ -35,6 +35,7 @@ request_number request.TooManyImages = 12
 request_number request.Option = 13
 request_number request.File = 14
 request_number request.NotInLog = 15
+request_number request.NotReport = 16
 
 abbrev pub code_number : CodeCause → ℕ
 code_number code.Length = 20

@@ -54,6 +54,8 @@ pub enum RequestCause {
     File = 14,
     /// An entry or a cut is named that the log doesn't have.
     NotInLog = 15,
+    /// A report is given that isn't one of the log with these options.
+    NotReport = 16,
 }
 
 impl RequestCause {

@@ -184,8 +184,8 @@ Asks p (Some verb.List) r = r ≡ asks.List p.slots
 Asks p (Some verb.Join) r = r ≡ asks.Join p.part
 Asks p None r = r ≡ asks.StoredRun
 
--- the files that are named: a log, a source text or a program, then the image of a program, then the programs of a run, or the
--- texts of parts
+-- the files that are named: a log, a source text or a program, then the image of a program and its lines of C, then the programs of a
+-- run, or the texts of parts
 abbrev pub first_file : Option (List ℕ) → List (List ℕ)
 first_file None = []
 first_file (Some file) = file ∷ []
@@ -195,7 +195,7 @@ program_files None = []
 program_files (Some programs) = map (λ w. w.now) programs.now
 
 abbrev pub files_named : Parsed → List (List ℕ)
-files_named p = first_file (word_bytes p.file) ++ first_file (word_bytes p.image) ++ program_files p.programs ++ program_files p.texts
+files_named p = first_file (word_bytes p.file) ++ first_file (word_bytes p.image) ++ first_file (word_bytes p.lines) ++ program_files p.programs ++ program_files p.texts
 
 -- the number that the text after an option is
 pub record IsWritten (found : Found) (option : List ℕ) (number : ℕ) : Type 0 where
@@ -222,6 +222,7 @@ pub record IsFlagOf (found : Found) (option : List ℕ) (flag : Bool) : Type 0 w
 pub record IsRead (found : Found) (p : Parsed) : Type 0 where
   pub file : word_bytes p.file ≡ first_value found (codes "file")
   pub image : word_bytes p.image ≡ first_value found (codes "image")
+  pub lines : word_bytes p.lines ≡ first_value found (codes "lines")
   pub programs : option_map (λ ws. map (λ w. w.now) ws.now) p.programs ≡ option_map raw_values (matched_of found (codes "programs"))
   pub sectors : IsNumberOf found (codes "sectors") p.sectors
   pub large : IsFlagOf found (codes "large") p.large

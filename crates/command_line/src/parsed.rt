@@ -29,6 +29,8 @@ pub struct Parsed<'a> {
     pub file: Option<&'a str>,
     /// The image on which a program is run.
     pub image: Option<&'a str>,
+    /// The name after `--lines`.
+    pub lines: Option<&'a str>,
     /// The programs of a run.
     pub programs: Option<&'a [&'a str]>,
     /// The number after `--sectors`.
@@ -292,6 +294,7 @@ impl<'a> Parsed<'a> {
             command,
             file: matches.get_str("file"),
             image: matches.get_str("image"),
+            lines: matches.get_str("lines"),
             programs: matches.get_strs("programs"),
             sectors: number_of(matches, "sectors")?,
             large: flag_of(matches, "large"),
@@ -504,8 +507,8 @@ impl<'a> Parsed<'a> {
         }
     }
 
-    /// The files that are named: a log, a source text or a program, then the image of a program, then the programs of a run, or the
-    /// texts of parts.
+    /// The files that are named: a log, a source text or a program, then the image of a program and its lines of C, then the programs
+    /// of a run, or the texts of parts.
     ///
     /// # Errors
     ///
@@ -519,6 +522,9 @@ impl<'a> Parsed<'a> {
         }
         if let Some(image) = self.image {
             files.push(image.to_string(alloc)?)?;
+        }
+        if let Some(lines) = self.lines {
+            files.push(lines.to_string(alloc)?)?;
         }
         if let Some(programs) = self.programs {
             put_names(alloc, &mut files, programs)?;

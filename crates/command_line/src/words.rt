@@ -173,12 +173,13 @@ const AFTER_CHECK: &str =
 codes that it reported, or with --checked a fault and its slot. With --trace each of the last steps has a
 line before that: its slot, its instruction and the registers that it changed. With --guards the program runs
 as 'explore --guards' runs it: it may end as 'stray at slot S', and the line of that step says at which place
-and by which register.
+and by which register. With --lines ' # FILE:LINE' follows each slot whose line of C is known, as
+' # check.c:41'.
 
 Examples: crashbpf check check.bpf good.img --trace 20
           crashbpf image disk.log 202 --sectors 64 --tears > broken.img
           crashbpf check check.bpf broken.img --epoch 3 --marks 1
-          crashbpf check check.bpf broken.img --guards --trace 20
+          crashbpf check check.bpf broken.img --guards --trace 20 --lines check.lines
 
 Exit status: 0 where the answer is 0, 1 where it isn't or there is none, 2 for a refusal.";
 
@@ -613,6 +614,14 @@ fn image_file<'a>(alloc: Global) -> Arg<'a> {
         .help("The bytes of a device: 1 to 16384 sectors of 512, with --large to 1048576")
 }
 
+/// The option that names the lines of C of a program.
+fn lines_option<'a>(alloc: Global) -> Arg<'a> {
+    Arg::new(alloc, "lines")
+        .long("lines")
+        .value_name("FILE")
+        .help("Name the lines of C by FILE, which crashbpf-cc writes beside the program")
+}
+
 /// The command `check`.
 fn check_command<'a>(alloc: Global) -> Result<Command<'a>, AllocError> {
     let command = file_command(alloc, "check", "PROGRAM", "A BPF program, as bytes")?
@@ -636,6 +645,7 @@ fn check_command<'a>(alloc: Global) -> Result<Command<'a>, AllocError> {
             "trace",
             "Print the last N steps, each with the registers that it changed [default: 0]",
         ))?
+        .arg(lines_option(alloc))?
         .arg(image_file(alloc))
 }
 

@@ -15,20 +15,24 @@ use Rattle.request.specs.Trials.{AskForTrial}
 use Rattle.runs.specs.declared.explore_command.Wanted.{Wanted}
 use Rattle.base.specs.declared.causes.JoinCause.TheVariants as joining
 use Rattle.commands.specs.Acting.{join_refusal, most_texts, RefusesTexts, RefusesParts, for_no_part, for_many_parts, for_unread_part, for_parts, for_part_memory}
-use Rattle.commands.specs.Acting.{second_held, RefusesCheck, for_program_file, for_image_file}
+use Rattle.commands.specs.Acting.{second_held, lines_held, RefusesCheck, for_program_file, for_image_file, for_lines_file}
 use Rattle.commands.specs.Acting.{Files, first_held, initial_of, unread, RefusesFile, for_file, RefusesRecording, for_log_file, for_base_file, for_recording, RefusesFiles, for_unread, for_base, for_memory}
 
 -- the first file can't be read
 pub unread_file : (files : Files) (Rest : List ℕ → Refusal → Type 0) (r : Refusal) → (first_held files ≡ None) × (r ≡ file_refusal 0) → RefusesFile files Rest r
 unread_file files Rest r h = rw h.1 (for_file h.0)
 
--- the program of a run on one image can't be read, and the image can't be
+-- the program of a run on one image can't be read, the image can't be, and the lines of C can't be
 pub no_program_file : (w : TrialWords) (files : Files) (r : Refusal) (t : Trial) → AskForTrial w t → (first_held files ≡ None) × (r ≡ file_refusal 0) → RefusesCheck w files r
 no_program_file w files r t asked h = rw h.1 (for_program_file t asked h.0)
 
 pub no_image_file : (w : TrialWords) (files : Files) (r : Refusal) (t : Trial) (program : List ℕ) → AskForTrial w t → first_held files ≡ Some program
     → (second_held files ≡ None) × (r ≡ file_refusal 1) → RefusesCheck w files r
 no_image_file w files r t program asked read h = rw h.1 (for_image_file t program asked read h.0)
+
+pub no_lines_file : (w : TrialWords) (files : Files) (r : Refusal) (t : Trial) (program image : List ℕ) → AskForTrial w t → first_held files ≡ Some program
+    → second_held files ≡ Some image → (lines_held files ≡ None) × (r ≡ file_refusal 2) → RefusesCheck w files r
+no_lines_file w files r t program image asked read shown h = rw h.1 (for_lines_file t program image asked read shown h.0)
 
 -- the log of a recording can't be read, and what the device held before it can't be
 pub no_log_file : (files : Files) (Rest : Recording → Refusal → Type 0) (r : Refusal) → (first_held files ≡ None) × (r ≡ file_refusal 0) → RefusesRecording files Rest r

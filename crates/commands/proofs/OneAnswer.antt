@@ -246,13 +246,15 @@ same_bound laws guards p q sectors None m n same a b =
     a.is ∙ ap bound_of all ∙ sym b.is
 same_bound laws guards p q sectors (Some most) m n same a b = a ∙ sym b
 
-one_trial : Laws → (program image : List ℕ) (t : Trial) (bytes others : List ℕ) (failing rejects : Bool)
-    → IsTried program image t bytes failing → IsTried program image t others rejects → (bytes ≡ others) × (failing ≡ rejects)
-one_trial laws program image t bytes others failing rejects a b =
+one_trial : Laws → (program image lines : List ℕ) (t : Trial) (bytes others : List ℕ) (failing rejects : Bool)
+    → IsTried program image lines t bytes failing → IsTried program image lines t others rejects → (bytes ≡ others) × (failing ≡ rejects)
+one_trial laws program image lines t bytes others failing rejects a b =
+    let both : Some a.table ≡ Some b.table = sym a.lined.tells ∙ b.lined.tells in
+    let table : a.table ≡ b.table = cc in
     let slots = laws.programs program a.slots b.slots a.spelled b.spelled in
     let bound : a.bound ≡ b.bound = same_bound laws t.guards a.slots b.slots (image_sectors image) t.checked a.bound b.bound slots a.allowed b.allowed in
     let limit : a.bound.limit ≡ b.bound.limit = ap (λ (x : Bound). x.limit) bound in
-    let text : trial_text a.slots image t a.bound ≡ trial_text b.slots image t b.bound = λ i. trial_text (slots i) image t (bound i) in
+    let text : trial_text a.slots image a.table t a.bound ≡ trial_text b.slots image b.table t b.bound = λ i. trial_text (slots i) image (table i) t (bound i) in
     let ending : fails (ending_of_trial a.slots image t a.bound.limit) ≡ fails (ending_of_trial b.slots image t b.bound.limit) = λ i. fails (ending_of_trial (slots i) image t (limit i)) in
     (a.says ∙ text ∙ sym b.says, a.ends ∙ ending ∙ sym b.ends)
 
@@ -261,16 +263,17 @@ pub same_held : (file : Option (List ℕ)) (xs ys : List ℕ) → file ≡ Some 
 same_held file xs ys a b = let both : Some xs ≡ Some ys = sym a ∙ b in cc
 
 -- what is tried is the same under other names
-pub tried_alike : {text : List ℕ} {failing : Bool} (p q i j : List ℕ) (t u : Trial) → p ≡ q → i ≡ j → t ≡ u → IsTried p i t text failing → IsTried q j u text failing
-tried_alike {text} {failing} p q i j t u program image trial h =
-    subst (λ (x : Trial). IsTried q j x text failing) trial
-    (subst (λ (x : List ℕ). IsTried q x t text failing) image (subst (λ (x : List ℕ). IsTried x i t text failing) program h))
+pub tried_alike : {text : List ℕ} {failing : Bool} (p q i j k l : List ℕ) (t u : Trial) → p ≡ q → i ≡ j → k ≡ l → t ≡ u → IsTried p i k t text failing → IsTried q j l u text failing
+tried_alike {text} {failing} p q i j k l t u program image lines trial h =
+    subst (λ (x : Trial). IsTried q j l x text failing) trial
+    (subst (λ (x : List ℕ). IsTried q j x t text failing) lines
+    (subst (λ (x : List ℕ). IsTried q x k t text failing) image (subst (λ (x : List ℕ). IsTried x i k t text failing) program h)))
 
 trial_once : Laws → (w : TrialWords) (files : Files) (bytes others : List ℕ) (status ended : ℕ)
     → AnswersTrial w files bytes status → AnswersTrial w files others ended → Same bytes others status ended
 trial_once laws w files bytes others status ended a b =
-    let tried = tried_alike b.program a.program b.image a.image b.trial a.trial (same_held _ _ _ b.read a.read) (same_held _ _ _ b.shown a.shown) (b.asked.asked ∙ sym a.asked.asked) b.tried in
-    let same = one_trial laws a.program a.image a.trial bytes others a.failing b.failing a.tried tried in
+    let tried = tried_alike b.program a.program b.image a.image b.lines a.lines b.trial a.trial (same_held _ _ _ b.read a.read) (same_held _ _ _ b.shown a.shown) (same_held _ _ _ b.named a.named) (b.asked.asked ∙ sym a.asked.asked) b.tried in
+    let same = one_trial laws a.program a.image a.lines a.trial bytes others a.failing b.failing a.tried tried in
     (same.0, a.ends ∙ ap status_of same.1 ∙ sym b.ends)
 
 join_once : (part : Bool) (files : Files) (bytes others : List ℕ) (status ended : ℕ) → AnswersJoin part files bytes status → AnswersJoin part files others ended → Same bytes others status ended

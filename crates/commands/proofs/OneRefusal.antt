@@ -61,10 +61,11 @@ use Rattle.commands.specs.Acting.{Files, initial_of, recording, first_held, unre
 use Rattle.request.specs.declared.trials.Trial.{Trial}
 use Rattle.request.specs.declared.trials.TrialWords.{TrialWords}
 use Rattle.inspect.specs.TrialImage.{sectors_of}
+use Rattle.notes.specs.SourceLines.{LineOfC, AreLines, NoLines}
 use Rattle.inspect.specs.TrialText as trials
 use Rattle.inspect.specs.TrialText.{Bound, IsBoundBy, IsTried, RefusesLimit, RefusesTrial}
 use Rattle.commands.specs.Acting.{AnswersAny, RefusesAny, for_any_losses, for_any_recording, form_of}
-use Rattle.commands.specs.Acting.{AnswersTrial, RefusesCheck, for_trial_words, for_program_file, for_image_file, for_trial}
+use Rattle.commands.specs.Acting.{AnswersTrial, RefusesCheck, for_trial_words, for_program_file, for_image_file, for_lines_file, for_trial}
 use Rattle.commands.specs.Acting.{AnswersJoin, JoinsTexts, RefusesTexts, for_texts, RefusesParts, for_no_part, for_many_parts, for_unread_part, for_parts, for_part_memory}
 use Rattle.commands.specs.Laws.{IsOfMemory}
 use Rattle.commands.proofs.OneJoin.{joined_or_refused}
@@ -296,31 +297,38 @@ accepted_trial : (guards : Bool) (p : List (Option Instr)) (sectors : ℕ) (chec
 accepted_trial guards p sectors None b none h = h
 accepted_trial guards p sectors (Some most) b none h = absurd (let bad : Some most ≡ None = none in cc)
 
-of_limit : Below → (program image : List ℕ) (t : Trial) (bytes : List ℕ) (failing : Bool) (slots : List (Option Instr)) (r : Refusal) → (h : IsTried program image t bytes failing)
+of_limit : Below → (program image lines : List ℕ) (t : Trial) (bytes : List ℕ) (failing : Bool) (slots : List (Option Instr)) (r : Refusal) → (h : IsTried program image lines t bytes failing)
     → slots ≡ h.slots → RefusesLimit slots image t r → IsOfMemory r.code
-of_limit below program image t bytes failing slots _ h same (trials.with_verifier_fault cause slot none refused) =
+of_limit below program image lines t bytes failing slots _ h same (trials.with_verifier_fault cause slot none refused) =
     let by = accepted_trial t.guards h.slots (sectors_of image) t.checked h.bound none h.allowed in
     absurd (below.verdicts.not_both by.verified cause slot by.accepted
     (refused_as by.verified t.guards (sectors_of image) slots cause slot by.guards (same ∙ sym by.program) by.sectors refused))
-of_limit below program image t bytes failing slots _ h same (trials.no_verifier_memory none) = refl
-of_limit below program image t bytes failing slots _ h same trials.no_count_memory = refl
+of_limit below program image lines t bytes failing slots _ h same (trials.no_verifier_memory none) = refl
+of_limit below program image lines t bytes failing slots _ h same trials.no_count_memory = refl
 
-of_tried : Below → (program image : List ℕ) (t : Trial) (bytes : List ℕ) (failing : Bool) (r : Refusal) → IsTried program image t bytes failing → RefusesTrial program image t r
+-- what has lines of C has some
+unlined : (lines : List ℕ) (table : List LineOfC) → AreLines lines table → NoLines lines → ⊥
+unlined lines table h (inl none) = none h.characters
+unlined lines table h (inr none) = let bad : None ≡ Some table = sym none ∙ h.tells in cc
+
+of_tried : Below → (program image lines : List ℕ) (t : Trial) (bytes : List ℕ) (failing : Bool) (r : Refusal) → IsTried program image lines t bytes failing → RefusesTrial program image lines t r
     → IsOfMemory r.code
-of_tried below program image t bytes failing _ h (trials.for_size small) = absurd (let bad : false ≡ true = sym small ∙ h.whole in cc)
-of_tried below program image t bytes failing _ h (trials.with_code_fault cause slot whole fault) = absurd (below.spelled program h.slots h.spelled cause slot fault)
-of_tried below program image t bytes failing _ h (trials.no_code_memory whole) = refl
-of_tried below program image t bytes failing _ h (trials.for_limit slots r whole spelled why) =
-    of_limit below program image t bytes failing slots r h (below.programs program slots h.slots spelled h.spelled) why
-of_tried below program image t bytes failing _ h (trials.no_memory whole) = refl
+of_tried below program image lines t bytes failing _ h (trials.for_size small) = absurd (let bad : false ≡ true = sym small ∙ h.whole in cc)
+of_tried below program image lines t bytes failing _ h (trials.for_lines whole none) = absurd (unlined lines h.table h.lined none)
+of_tried below program image lines t bytes failing _ h (trials.with_code_fault table cause slot whole lined fault) = absurd (below.spelled program h.slots h.spelled cause slot fault)
+of_tried below program image lines t bytes failing _ h (trials.no_code_memory whole) = refl
+of_tried below program image lines t bytes failing _ h (trials.for_limit table slots r whole lined spelled why) =
+    of_limit below program image lines t bytes failing slots r h (below.programs program slots h.slots spelled h.spelled) why
+of_tried below program image lines t bytes failing _ h (trials.no_memory whole) = refl
 
 of_trial : Below → (w : TrialWords) (files : Files) (bytes : List ℕ) (status : ℕ) (r : Refusal) → AnswersTrial w files bytes status → RefusesCheck w files r → IsOfMemory r.code
 of_trial below w files bytes status _ h (for_trial_words r bad) = absurd (let none : None ≡ Some r = sym h.asked.good ∙ bad in cc)
 of_trial below w files bytes status _ h (for_program_file t asked none) = absurd (let bad : None ≡ Some h.program = sym none ∙ h.read in cc)
 of_trial below w files bytes status _ h (for_image_file t program asked read none) = absurd (let bad : None ≡ Some h.image = sym none ∙ h.shown in cc)
-of_trial below w files bytes status _ h (for_trial t program image r asked read shown why) =
-    let tried = tried_alike h.program program h.image image h.trial t (same_held _ _ _ h.read read) (same_held _ _ _ h.shown shown) (h.asked.asked ∙ sym asked.asked) h.tried in
-    of_tried below program image t bytes h.failing r tried why
+of_trial below w files bytes status _ h (for_lines_file t program image asked read shown none) = absurd (let bad : None ≡ Some h.lines = sym none ∙ h.named in cc)
+of_trial below w files bytes status _ h (for_trial t program image lines r asked read shown named why) =
+    let tried = tried_alike h.program program h.image image h.lines lines h.trial t (same_held _ _ _ h.read read) (same_held _ _ _ h.shown shown) (same_held _ _ _ h.named named) (h.asked.asked ∙ sym asked.asked) h.tried in
+    of_tried below program image lines t bytes h.failing r tried why
 
 of_texts : (part : Bool) (texts : List (List ℕ)) (bytes : List ℕ) (status : ℕ) (r : Refusal) → JoinsTexts part texts bytes status → RefusesTexts part texts r → IsOfMemory r.code
 of_texts part texts bytes status _ h (for_texts fault why first) = joined_or_refused part texts bytes h.failing fault h.short h.joined why

@@ -1,6 +1,6 @@
 -- What a command answers on what its files hold, and when it is refused (docs/COMMANDS.md, Commands; docs/REFUSALS.md, Refusals
 -- in their order).
-use Rattle.std.specs.Prelude.{ℕ, ◌≡◌, ◌⊎◌, ◌<◌, ◌≤◌, ◌^◌, Bool, true, if◌then◌else◌, List, [], ◌∷◌, length, map, position, is_none, Option, None, Some}
+use Rattle.std.specs.Prelude.{ℕ, ◌≡◌, ◌⊎◌, ◌<◌, ◌≤◌, ◌^◌, Bool, true, if◌then◌else◌, List, [], ◌∷◌, length, map, position, slice_get, is_none, Option, None, Some}
 use Rattle.std.specs.Option.{option_map}
 use Rattle.base.specs.declared.causes.JoinCause.TheVariants as joining
 use Rattle.base.specs.declared.refusal.Cause.TheVariants.{Join}
@@ -77,6 +77,14 @@ second_file (file ∷ files) = first_file files
 
 abbrev pub second_held : Files → Option (List ℕ)
 second_held files = second_file files.named
+
+-- what the third file holds, lines of C: no bytes where it isn't named; none where it can't be read
+abbrev pub lines_in : Option (Option (List ℕ)) → Option (List ℕ)
+lines_in None = Some []
+lines_in (Some held) = held
+
+abbrev pub lines_held : Files → Option (List ℕ)
+lines_held files = lines_in (slice_get files.named 2)
 
 -- of what the device held before entry 0 the bytes, none of them without --base; none where the file can't be read
 abbrev pub initial_of : Option (Option (List ℕ)) → Option (List ℕ)
@@ -168,16 +176,18 @@ pub record AnswersWith (w : OptionWords) (Is : Settings → List ℕ → List �
   pub asked : AskFor w settings
   pub answers : AnswersFile (Is settings) files bytes status
 
--- what the first file, a program, comes to on the second one, an image, and the status
+-- what the first file, a program, comes to on the second one, an image, with the lines of C that the third one has, and the status
 pub record AnswersTrial (w : TrialWords) (files : Files) (bytes : List ℕ) (status : ℕ) : Type 0 where
   pub trial : Trial
   pub asked : AskForTrial w trial
   pub program : List ℕ
   pub image : List ℕ
   pub read : first_held files ≡ Some program
+  pub lines : List ℕ
   pub shown : second_held files ≡ Some image
+  pub named : lines_held files ≡ Some lines
   pub failing : Bool
-  pub tried : IsTried program image trial bytes failing
+  pub tried : IsTried program image lines trial bytes failing
   pub ends : status ≡ status_of failing
 
 -- how many texts of parts are joined at most
@@ -267,14 +277,16 @@ pub data RefusesAny (cut : ℕ) (files : Files) (s : Settings) : Refusal → Typ
   for_any_recording : (r : Refusal) → losses_refusal any_words s ≡ None → RefusesRecording files (λ text. RefusesAnyImage text s cut files.choice) r → RefusesAny cut files s r
 
 -- the refusals of a program on an image: of the words; of good words, that the program's file can't be read; that it can be, and the
--- image's can't be; then those of what they hold
+-- image's can't be; that both can be, and that of the lines of C can't be; then those of what they hold
 pub data RefusesCheck (w : TrialWords) (files : Files) : Refusal → Type 0 where
   for_trial_words : (r : Refusal) → trial_refusal w ≡ Some r → RefusesCheck w files r
   for_program_file : (t : Trial) → AskForTrial w t → first_held files ≡ None → RefusesCheck w files (file_refusal 0)
   for_image_file : (t : Trial) (program : List ℕ) → AskForTrial w t → first_held files ≡ Some program → second_held files ≡ None
       → RefusesCheck w files (file_refusal 1)
-  for_trial : (t : Trial) (program image : List ℕ) (r : Refusal) → AskForTrial w t → first_held files ≡ Some program → second_held files ≡ Some image
-      → RefusesTrial program image t r → RefusesCheck w files r
+  for_lines_file : (t : Trial) (program image : List ℕ) → AskForTrial w t → first_held files ≡ Some program → second_held files ≡ Some image
+      → lines_held files ≡ None → RefusesCheck w files (file_refusal 2)
+  for_trial : (t : Trial) (program image lines : List ℕ) (r : Refusal) → AskForTrial w t → first_held files ≡ Some program → second_held files ≡ Some image
+      → lines_held files ≡ Some lines → RefusesTrial program image lines t r → RefusesCheck w files r
 
 -- the refusal of texts that aren't joined
 abbrev pub join_refusal : JoinFault → Refusal

@@ -7,7 +7,7 @@ ghost use Rattle.request.specs.declared.command.Request.TheVariants as asks;
 ghost use Rattle.runs.specs.Explore.{RefusesWanted};
 ghost use Rattle.request.specs.Refusals.{file_refusal};
 ghost use Rattle.runs.specs.declared.explore_command.Wanted.TheVariants as wants;
-ghost use Rattle.commands.specs.Acting.{first_held, second_held, files_of, held_by, initial_of, recording, status_of, HoldsRecording, RefusesRecording, AnswersRun, AnswersFiles, AnswersExplore, AnswersCases, AnswersAny, RefusesAny, any_words, form_of, Shows, AnswersOf, Answers, JoinsTexts, RefusesTexts, join_refusal, most_texts, RefusesWith, RefusesCases, RefusesLook, RefusesToAct, RefusesFiles};
+ghost use Rattle.commands.specs.Acting.{first_held, second_held, lines_held, files_of, held_by, initial_of, recording, status_of, HoldsRecording, RefusesRecording, AnswersRun, AnswersFiles, AnswersExplore, AnswersCases, AnswersAny, RefusesAny, any_words, form_of, Shows, AnswersOf, Answers, JoinsTexts, RefusesTexts, join_refusal, most_texts, RefusesWith, RefusesCases, RefusesLook, RefusesToAct, RefusesFiles};
 ghost use Rattle.commands.specs.Stored.{stored_log, stored_programs, stored_settings};
 ghost use Rattle.request.specs.declared.settings.Telling.TheVariants as tells;
 
@@ -80,6 +80,18 @@ impl<'x> Held<'x> {
         match self.named {
             [_, Some(bytes), ..] => Ok(bytes.as_slice()),
             _ => Err(unreadable(1)),
+        }
+    }
+
+    /// What the third file holds: lines of C, and no bytes where it isn't named.
+    fn lines(&self) -> Result<&'x [u8], Refusal>
+        ensures { MatchResult result (λ bytes. lines_held (held_by self.now) ≡ Some bytes.now)
+            (λ r. (lines_held (held_by self.now) ≡ None) × (r ≡ file_refusal 2)) }
+    {
+        match self.named {
+            [_, _, Some(bytes), ..] => Ok(bytes.as_slice()),
+            [_, _, None, ..] => Err(unreadable(2)),
+            _ => Ok(&[]),
         }
     }
 
@@ -389,7 +401,8 @@ fn act_check(
     let trial = trial_of(words)?;
     let code = files.first()?;
     let image = files.second()?;
-    let report = try_image(alloc, code, image, &trial, facts)?;
+    let lines = files.lines()?;
+    let report = try_image(alloc, code, image, lines, &trial, facts)?;
     let status = status_of(report.failing);
     Ok((report.bytes, status))
 }

@@ -1,5 +1,5 @@
 -- Texts of a list, element after element: what is written, before what is still to come.
-use Rattle.std.proofs.Common.{ℕ, zero, suc, ◌≡◌, ◌+◌, ◌-◌, ◌<◌, ◌≤◌, ◌==◌, ◌&&◌, Bool, true, All, List, [], ◌∷◌, ◌++◌, length, append_assoc, drop, get_or, slice_get, Some, None, refl, sym, ap, ◌∙◌, arith}
+use Rattle.std.proofs.Common.{ℕ, zero, suc, ◌≡◌, ◌+◌, ◌-◌, ◌<◌, ◌≤◌, ◌==◌, Bool, true, All, List, [], ◌∷◌, ◌++◌, length, append_assoc, drop, get_or, slice_get, Some, None, refl, sym, ap, ◌∙◌, arith}
 use Rattle.std.proofs.lemmas.Option.{same_Some, slice_get_read}
 use Rattle.std.proofs.lemmas.List.{append-nil}
 use Rattle.logfmt.specs.declared.entry.Entry.{Entry}
@@ -13,7 +13,7 @@ use Rattle.crash_page.specs.Html.{sided_byte, sided_from}
 use Rattle.crash_page.specs.Lacking.{named_text, named_from}
 use Rattle.crash_page.specs.Cells.{cut_cell, strip_from}
 use Rattle.crash_page.specs.Entries.{cells_text}
-use Rattle.crash_page.specs.Groups.{shown_of, showing, cut_text, cuts_text}
+use Rattle.crash_page.specs.Groups.{shown_of, one_failing, showing, listed_text, cuts_text}
 use Rattle.crash_page.specs.Page.{program_text, programs_text, IsOfRun}
 
 drop_next : {A : Type 0} → (xs : List A) (n : ℕ) (x : A) → slice_get xs n ≡ Some x → drop n xs ≡ x ∷ drop (n + 1) xs
@@ -52,21 +52,21 @@ pub strip_end : (es : List Entry) (program : ℕ) (ms : List MissingFlush) (from
 strip_end es program ms from n cs start before now past so_far is =
     is ∙ ap (λ (rest : List CutFailures). before ++ strip_from es program ms from rest) (sym (drop_all cs n past)) ∙ so_far
 
-pub cuts_more : (s : StartsValue) (outcomes : List (List ℕ)) (program : ℕ) (is_first next_first : Bool) (left less n : ℕ) (cs : List CutFailures) (c : CutFailures) (how : Showing) (start before now : List ℕ)
-    → n < length cs → c ≡ get_or cs n c → how ≡ showing program is_first left c → less ≡ left - how.groups → next_first ≡ (is_first && c.failing == 0)
-    → before ++ cuts_text s outcomes program is_first left (drop n cs) ≡ start ++ cuts_text s outcomes program true 500 cs → now ≡ before ++ cut_text s outcomes how c
-    → now ++ cuts_text s outcomes program next_first less (drop (n + 1) cs) ≡ start ++ cuts_text s outcomes program true 500 cs
-cuts_more s outcomes program is_first next_first left less n cs c how start before now within is told lower later so_far written =
+pub cuts_more : (s : StartsValue) (outcomes : List (List ℕ)) (program most lines fewer left less n : ℕ) (cs : List CutFailures) (c : CutFailures) (how : Showing) (start before now : List ℕ)
+    → n < length cs → c ≡ get_or cs n c → how ≡ showing program lines left c → less ≡ left - how.groups → fewer ≡ lines - one_failing c
+    → before ++ cuts_text s outcomes program lines left (drop n cs) ≡ start ++ cuts_text s outcomes program 1000 most cs → now ≡ before ++ listed_text s outcomes lines how c
+    → now ++ cuts_text s outcomes program fewer less (drop (n + 1) cs) ≡ start ++ cuts_text s outcomes program 1000 most cs
+cuts_more s outcomes program most lines fewer left less n cs c how start before now within is told lower later so_far written =
     let split : drop n cs ≡ c ∷ drop (n + 1) cs = drop_next cs n c (slice_get_read cs (length cs) n c refl within is) in
-    let opened : before ++ (cut_text s outcomes (showing program is_first left c) c ++ cuts_text s outcomes program (is_first && c.failing == 0) (left - shown_of left c) (drop (n + 1) cs)) ≡ start ++ cuts_text s outcomes program true 500 cs =
-    ap (λ (rest : List CutFailures). before ++ cuts_text s outcomes program is_first left rest) (sym split) ∙ so_far in
+    let opened : before ++ (listed_text s outcomes lines (showing program lines left c) c ++ cuts_text s outcomes program (lines - one_failing c) (left - shown_of left c) (drop (n + 1) cs)) ≡ start ++ cuts_text s outcomes program 1000 most cs =
+    ap (λ (rest : List CutFailures). before ++ cuts_text s outcomes program lines left rest) (sym split) ∙ so_far in
     rw (lower ∙ ap (λ (h : Showing). left - h.groups) told, later)
-    (next_piece start before (cut_text s outcomes (showing program is_first left c) c) now _ _ opened (written ∙ ap (λ (h : Showing). before ++ cut_text s outcomes h c) told))
+    (next_piece start before (listed_text s outcomes lines (showing program lines left c) c) now _ _ opened (written ∙ ap (λ (h : Showing). before ++ listed_text s outcomes lines h c) told))
 
-pub cuts_end : (s : StartsValue) (outcomes : List (List ℕ)) (program : ℕ) (is_first : Bool) (left n : ℕ) (cs : List CutFailures) (start before : List ℕ) → length cs ≤ n
-    → before ++ cuts_text s outcomes program is_first left (drop n cs) ≡ start ++ cuts_text s outcomes program true 500 cs → before ≡ start ++ cuts_text s outcomes program true 500 cs
-cuts_end s outcomes program is_first left n cs start before past so_far =
-    sym (ap (λ (rest : List CutFailures). before ++ cuts_text s outcomes program is_first left rest) (drop_all cs n past) ∙ append-nil before) ∙ so_far
+pub cuts_end : (s : StartsValue) (outcomes : List (List ℕ)) (program most lines left n : ℕ) (cs : List CutFailures) (start before : List ℕ) → length cs ≤ n
+    → before ++ cuts_text s outcomes program lines left (drop n cs) ≡ start ++ cuts_text s outcomes program 1000 most cs → before ≡ start ++ cuts_text s outcomes program 1000 most cs
+cuts_end s outcomes program most lines left n cs start before past so_far =
+    sym (ap (λ (rest : List CutFailures). before ++ cuts_text s outcomes program lines left rest) (drop_all cs n past) ∙ append-nil before) ∙ so_far
 
 pub named_more : (program count n : ℕ) (ms : List MissingFlush) (m : MissingFlush) (start before now : List ℕ) → n < length ms → m ≡ get_or ms n m
     → before ++ named_from program count n (drop n ms) ≡ start ++ named_from program count 0 ms → now ≡ before ++ named_text program count n m

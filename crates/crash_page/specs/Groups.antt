@@ -1,5 +1,5 @@
 -- What is said of a cut at which images fail: its first groups, each with the image of its example in words.
-use Rattle.std.specs.Prelude.{ℕ, ◌-◌, ◌==◌, ◌&&◌, nat_le, Bool, false, if◌then◌else◌, List, [], ◌∷◌, ◌++◌, length, take, slice_get}
+use Rattle.std.specs.Prelude.{ℕ, ◌-◌, ◌==◌, nat_le, Bool, false, if◌then◌else◌, List, [], ◌∷◌, ◌++◌, length, take, slice_get}
 use Rattle.std.specs.Fmt.{decimal}
 use Rattle.std.specs.List.{flat_map}
 use Rattle.std.specs.Option.{option_map_or}
@@ -18,6 +18,7 @@ use Rattle.crash_page.specs.declared.cut.Showing.{Showing}
 use Rattle.crash_page.specs.Html.{html, side_by_side}
 use Rattle.crash_page.specs.Shares.{share_of, share_class}
 use Rattle.crash_page.specs.Cells.{place_name, count_text}
+use Rattle.crash_page.specs.Blocks.{most_cells, more_name}
 
 -- the image of a choice's cut where nothing departs
 abbrev pub whole_view : StartsValue → ChoiceValue → ViewValue
@@ -126,12 +127,25 @@ cut_shown s outcomes how c =
 abbrev pub cut_text : StartsValue → List (List ℕ) → Showing → CutFailures → List ℕ
 cut_text s outcomes how c = if c.failing == 0 then [] else cut_shown s outcomes how c
 
--- how a cut is shown, where that many groups may still be, and no cut before it failed or one did
-abbrev pub showing : ℕ → Bool → ℕ → CutFailures → Showing
-showing program is_first left c = record { program = program; is_open = is_first; groups = shown_of left c }
+-- how many cuts a cut at which images fail is
+abbrev pub one_failing : CutFailures → ℕ
+one_failing c = if c.failing == 0 then 0 else 1
 
--- the cuts of a program, of which the first failing one is open
-abbrev pub cuts_text : StartsValue → List (List ℕ) → ℕ → Bool → ℕ → List CutFailures → List ℕ
-cuts_text s outcomes program is_first left [] = []
-cuts_text s outcomes program is_first left (c ∷ cs) =
-    cut_text s outcomes (showing program is_first left c) c ++ cuts_text s outcomes program (is_first && c.failing == 0) (left - shown_of left c) cs
+-- how a cut is shown, where that many failing cuts may still be listed, and that many groups shown; the first failing cut is open
+abbrev pub showing : ℕ → ℕ → ℕ → CutFailures → Showing
+showing program lines left c = record { program = program; is_open = lines == most_cells; groups = shown_of left c }
+
+-- a cut that is listed
+abbrev pub listed_text : StartsValue → List (List ℕ) → ℕ → Showing → CutFailures → List ℕ
+listed_text s outcomes lines how c = if lines == 0 then [] else cut_text s outcomes how c
+
+-- the cuts of a program, of which that many failing ones may still be listed
+abbrev pub cuts_text : StartsValue → List (List ℕ) → ℕ → ℕ → ℕ → List CutFailures → List ℕ
+cuts_text s outcomes program lines left [] = []
+cuts_text s outcomes program lines left (c ∷ cs) =
+    listed_text s outcomes lines (showing program lines left c) c ++ cuts_text s outcomes program (lines - one_failing c) (left - shown_of left c) cs
+
+-- how many cuts at which images fail aren't listed
+unfoldable pub unlisted_text : ℕ → ℕ → List ℕ
+unlisted_text program n =
+    if n == 0 then [] else piece_text piece.MoreOpen ++ more_name program ++ piece_text piece.LinkEnd ++ decimal n ++ piece_text piece.MoreClose

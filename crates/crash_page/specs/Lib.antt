@@ -5,6 +5,7 @@ pub mod Shares
 pub mod Lacking
 pub mod Entries
 pub mod Cells
+pub mod Blocks
 pub mod Groups
 pub mod Page
 pub mod Laws

@@ -1,5 +1,5 @@
 -- The page of a run (docs/OUTPUT.md, The page of `page`).
-use Rattle.std.specs.Prelude.{ℕ, ◌+◌, ◌≤◌, ◌==◌, not, nat_lt, Bool, true, if◌then◌else◌, List, [], ◌∷◌, ◌++◌, All, codes, length, map, filter}
+use Rattle.std.specs.Prelude.{ℕ, ◌+◌, ◌-◌, ◌≤◌, ◌==◌, not, nat_lt, Bool, if◌then◌else◌, List, [], ◌∷◌, ◌++◌, All, codes, length, map, filter}
 use Rattle.std.specs.Fmt.{decimal}
 use Rattle.logfmt.specs.declared.entry.Entry.{Entry}
 use Rattle.logfmt.specs.Bounds.{LogValue}
@@ -7,6 +7,7 @@ use Rattle.notes.specs.LogTable.{word_text}
 use Rattle.choices.specs.Sums.{StartsValue}
 use Rattle.report.specs.declared.head.ProgramHead.{ProgramHead}
 use Rattle.report.specs.Report.{steps_text}
+use Rattle.losses.specs.declared.flushes.counted.MissingFlush.{MissingFlush}
 use Rattle.losses.specs.declared.why.cut.CutFailures.{CutFailures}
 use Rattle.losses.specs.WhyText.{IsNumbered}
 use Rattle.crash_page.specs.declared.pieces.Piece.TheVariants as piece
@@ -17,7 +18,8 @@ use Rattle.crash_page.specs.Entries.{rows_text}
 use Rattle.crash_page.specs.Shares.{legend_text}
 use Rattle.crash_page.specs.Lacking.{advice_text}
 use Rattle.crash_page.specs.Cells.{strip_from}
-use Rattle.crash_page.specs.Groups.{cuts_text}
+use Rattle.crash_page.specs.Blocks.{most_cells, is_large, width_text, row_blocks, large_list}
+use Rattle.crash_page.specs.Groups.{cuts_text, unlisted_text}
 
 -- images fail at a cut
 abbrev pub fails : CutFailures → Bool
@@ -35,16 +37,19 @@ judged_text f =
 abbrev pub verdict_text : ProgramFailures → List ℕ
 verdict_text f = if length f.cuts.items == 0 then piece_text piece.NoCuts else judged_text f
 
--- the row of entries and cuts, narrow where there are many entries
+-- the row of entries and cuts, narrow where there are many entries, and in blocks where the log is large
 unfoldable pub strip_open : List Entry → List ℕ
-strip_open es = piece_text piece.StripOpen ++ word_text (nat_lt 400 (length es)) (codes "many") ++ piece_text piece.OpenEnd
+strip_open es = width_text es ++ piece_text piece.StripOpen ++ word_text (nat_lt 400 (length es)) (codes "many") ++ piece_text piece.OpenEnd
+
+abbrev pub row_of : List Entry → ℕ → List MissingFlush → List CutFailures → List ℕ
+row_of es program ms cs = if is_large es then row_blocks es program ms cs else strip_from es program ms 0 cs
 
 unfoldable pub strip_text : List Entry → ℕ → ProgramFailures → List ℕ
-strip_text es program f = strip_open es ++ strip_from es program f.missing.items 0 f.cuts.items ++ piece_text piece.StripClose
+strip_text es program f = strip_open es ++ row_of es program f.missing.items f.cuts.items ++ piece_text piece.StripClose
 
--- how many groups of a program are shown
-abbrev pub most_of_program : ℕ
-most_of_program = 500
+-- how many groups of a program are shown, fewer where the log is large
+abbrev pub most_of_program : List Entry → ℕ
+most_of_program es = if is_large es then 100 else 500
 
 -- the program: its number, how many slots it has, the most steps of a run, and how many slots are guarded where some may be
 unfoldable pub name_text : ℕ → ProgramHead → List ℕ
@@ -63,11 +68,15 @@ summary_text program f = title_text program f.head ++ verdict_text f ++ advice_t
 abbrev pub outcomes_of : ProgramFailures → List (List ℕ)
 outcomes_of f = map (λ o. o.now) f.outcomes.items
 
+-- the first cuts at which it fails, and how many more there are
+unfoldable pub shown_cuts : StartsValue → ℕ → ProgramFailures → List ℕ
+shown_cuts s program f =
+    cuts_text s (outcomes_of f) program most_cells (most_of_program s.plan.log.entries) f.cuts.items ++ unlisted_text program (length (filter fails f.cuts.items) - most_cells)
+
 -- a program: what it comes to, the log with its cuts, and what is said of the cuts at which it fails
 unfoldable pub program_text : StartsValue → ℕ → ProgramFailures → List ℕ
 program_text s program f =
-    summary_text program f ++ strip_text s.plan.log.entries program f ++ legend_text ++ cuts_text s (outcomes_of f) program true most_of_program f.cuts.items
-    ++ piece_text piece.SectionClose
+    summary_text program f ++ strip_text s.plan.log.entries program f ++ legend_text ++ shown_cuts s program f ++ piece_text piece.SectionClose
 
 -- programs, of which the first has that number
 abbrev pub programs_text : StartsValue → ℕ → List ProgramFailures → List ℕ
@@ -77,8 +86,11 @@ programs_text s program (f ∷ fs) = program_text s program f ++ programs_text s
 unfoldable pub about_text : List ℕ → List ℕ
 about_text about = piece_text piece.AboutOpen ++ html about ++ piece_text piece.AboutClose
 
-unfoldable pub list_text : List Entry → List ℕ
-list_text es = piece_text piece.ListOpen ++ rows_text es ++ piece_text piece.ListClose
+unfoldable pub small_list : List Entry → List ℕ
+small_list es = piece_text piece.ListOpen ++ rows_text es ++ piece_text piece.ListClose
+
+abbrev pub list_text : List Entry → List ℕ
+list_text es = if is_large es then large_list es else small_list es
 
 -- the log: how many entries it has, and of how many sectors its device is
 unfoldable pub log_name : LogValue → List ℕ

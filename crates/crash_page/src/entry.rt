@@ -33,7 +33,7 @@ pub(crate) fn put_shade(out: &mut String, epoch: u32) -> Result<(), AllocError>
 }
 
 /// Whether an entry writes sectors.
-fn is_write(entry: &Entry) -> bool
+pub(crate) fn is_write(entry: &Entry) -> bool
     ensures { result ≡ is_write entry.now }
 {
     entry.count > 0 && !entry.flags.discard
@@ -156,7 +156,12 @@ pub(crate) fn put_cells(
 }
 
 /// The line of an entry, as `log` prints it.
-fn line_of(alloc: Global, plan: &Plan<'_>, log: &Log, number: u32) -> Result<String, AllocError>
+pub(crate) fn line_of(
+    alloc: Global,
+    plan: &Plan<'_>,
+    log: &Log,
+    number: u32,
+) -> Result<String, AllocError>
     requires log { plan.now.log ≡ log.now }
     requires there { number < length log.now.entries }
     ensures { IfOk result (λ line. string_bytes line ≡ line_at log.now.entries number) }

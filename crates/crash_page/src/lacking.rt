@@ -10,7 +10,7 @@ use losses::flushes::MissingFlush;
 use std::alloc::AllocError;
 
 /// How many flushes are named in words.
-const MOST_NAMED: usize = 16;
+pub(crate) const MOST_NAMED: usize = 16;
 
 /// The flushes that are missing for the program of that number.
 #[derive(Clone, Copy)]
@@ -21,7 +21,7 @@ pub(crate) struct Lacking<'a> {
 
 /// Appends the name of the place of a flush before that entry.
 #[tactic(auto, unfolding(crate::specs::Lacking::flush_name))]
-fn put_name(out: &mut String, program: usize, entry: u32) -> Result<(), AllocError>
+pub(crate) fn put_name(out: &mut String, program: usize, entry: u32) -> Result<(), AllocError>
     ensures { OnOk result (string_bytes out.new ≡ string_bytes out.old ++ flush_name program entry) }
 {
     write!(out, "p{program}f{entry}")
@@ -42,7 +42,7 @@ fn put_from(out: &mut String, flush: MissingFlush) -> Result<(), AllocError>
 
 /// Appends what stands beside the pointer at a flush: where it may stand, and how many failing images it takes away.
 #[tactic(auto, unfolding(crate::specs::Lacking::flush_title))]
-fn put_flush_title(out: &mut String, flush: MissingFlush) -> Result<(), AllocError>
+pub(crate) fn put_flush_title(out: &mut String, flush: MissingFlush) -> Result<(), AllocError>
     ensures { OnOk result (string_bytes out.new ≡ string_bytes out.old ++ flush_title flush) }
 {
     put(out, Piece::LackTitle)?;

@@ -24,7 +24,9 @@
 //!
 //! Each call appends to the page, piece after piece, as its definition is composed. `entry` has the cells and lines of entries,
 //! `lacking` the flushes that are missing, in the row and in words, `strip` the cells of cuts between entries, `share` their colours,
-//! `cut` and `group` what stands after a click on a cut.
+//! `cut` and `group` what stands after a click on a cut. Of a large log `block` has the cells and the lines, many entries and cuts a
+//! block, so that the page of any log stays small: at most some thousand cells, thousand cuts and five hundred groups a program,
+//! and a line for each entry.
 //!
 //! # How it is proved
 //!
@@ -67,6 +69,7 @@
 //! ```
 #![tactic(auto)]
 
+mod block;
 mod cut;
 mod dress;
 mod entry;

@@ -2,8 +2,9 @@
 
 ghost use Rattle.std.specs.Prelude.{◌≡◌, ◌++◌, All, OnOk, string_bytes};
 ghost use Rattle.crash_page.specs.Html.{html};
-ghost use Rattle.crash_page.specs.Page.{log_name, head_text, programs_text, about_text, list_text, page_text, AreOfRun};
+ghost use Rattle.crash_page.specs.Page.{log_name, head_text, programs_text, about_text, small_list, list_text, page_text, AreOfRun};
 
+use crate::block::{is_large, put_large_list};
 use crate::entry::put_rows;
 use crate::html::put_html;
 use crate::pieces::{Piece, put};
@@ -43,14 +44,25 @@ fn put_about(out: &mut String, about: &str) -> Result<(), AllocError>
     put(out, Piece::AboutClose)
 }
 
-/// Appends the list of entries.
-#[tactic(auto, unfolding(crate::specs::Page::list_text))]
-fn put_list(alloc: Global, out: &mut String, run: &Run<'_>) -> Result<(), AllocError>
-    ensures { OnOk result (string_bytes out.new ≡ string_bytes out.old ++ list_text run.now.numbering.log.now.entries) }
+/// Appends the list of the entries of a log that isn't large.
+#[tactic(auto, unfolding(crate::specs::Page::small_list))]
+fn put_small_list(alloc: Global, out: &mut String, run: &Run<'_>) -> Result<(), AllocError>
+    ensures { OnOk result (string_bytes out.new ≡ string_bytes out.old ++ small_list run.now.numbering.log.now.entries) }
 {
     put(out, Piece::ListOpen)?;
     put_rows(alloc, out, run.starts.plan(), run.numbering.log)?;
     put(out, Piece::ListClose)
+}
+
+/// Appends the list of entries.
+fn put_list(alloc: Global, out: &mut String, run: &Run<'_>) -> Result<(), AllocError>
+    ensures { OnOk result (string_bytes out.new ≡ string_bytes out.old ++ list_text run.now.numbering.log.now.entries) }
+{
+    if is_large(run.numbering.log) {
+        put_large_list(alloc, out, run.starts.plan(), run.numbering.log)
+    } else {
+        put_small_list(alloc, out, run)
+    }
 }
 
 /// Appends programs, by their numbers from 0 on.

@@ -98,6 +98,17 @@ pub(crate) enum Piece {
     RowOpen,
     RowClose,
     ListClose,
+    BlocksOpen,
+    BlockOpen,
+    BlockName,
+    BlockLines,
+    BlockClose,
+    BlockCuts,
+    BlockFailing,
+    WidthOpen,
+    WidthClose,
+    MoreOpen,
+    MoreClose,
 }
 
 /// The text of a part.
@@ -204,6 +215,21 @@ fn text_of(piece: Piece) -> &'static str
         Piece::RowOpen => "<li id='e",
         Piece::RowClose => "</li>\n",
         Piece::ListClose => "</ol>\n</section>\n",
+        Piece::BlocksOpen => {
+            "<section aria-labelledby='entries'>\n<h2 id='entries'>Entries</h2>\n"
+        }
+        Piece::BlockOpen => "<details id='e",
+        Piece::BlockName => "'><summary>entries ",
+        Piece::BlockLines => "</summary>\n<pre>",
+        Piece::BlockClose => "</pre></details>\n",
+        Piece::BlockCuts => "; of cuts ",
+        Piece::BlockFailing => " fail: ",
+        Piece::WidthOpen => "<p class='about'>A cell stands for up to ",
+        Piece::WidthClose => {
+            " entries, and the one before it for as many cuts, in the colour of the first at which images fail.</p>\n"
+        }
+        Piece::MoreOpen => "<p class='about' id='",
+        Piece::MoreClose => " more cuts at which images fail: crashbpf why lists them.</p>\n",
     }
 }
 

@@ -1,11 +1,14 @@
 //! What is said of a program.
 
-ghost use Rattle.std.specs.Prelude.{◌≡◌, ◌==◌, if◌then◌else◌, ◌≤◌, ◌++◌, [], ◌∷◌, All, true, length, map, filter, OnOk, string_bytes};
+ghost use Rattle.std.specs.Prelude.{◌≡◌, ◌==◌, if◌then◌else◌, ◌≤◌, ◌++◌, [], ◌∷◌, All, length, map, filter, OnOk, string_bytes};
 ghost use Rattle.crash_page.specs.declared.pieces.Piece.TheVariants as piece;
 ghost use Rattle.crash_page.specs.Pieces.{piece_text};
-ghost use Rattle.crash_page.specs.Groups.{cuts_text};
-ghost use Rattle.crash_page.specs.Page.{fails, bad_text, judged_text, verdict_text, strip_open, strip_text, name_text, title_text, summary_text, most_of_program, program_text, IsOfRun, AreOfRun};
+ghost use Rattle.losses.specs.declared.why.cut.CutFailures.{CutFailures as CutValue};
+ghost use Rattle.crash_page.specs.Blocks.{most_cells};
+ghost use Rattle.crash_page.specs.Groups.{one_failing, listed_text, cuts_text, unlisted_text};
+ghost use Rattle.crash_page.specs.Page.{fails, bad_text, judged_text, verdict_text, strip_open, row_of, strip_text, name_text, title_text, summary_text, most_of_program, shown_cuts, program_text, IsOfRun, AreOfRun};
 
+use crate::block::{MOST_CELLS, is_large, put_more_name, put_row_blocks, put_width};
 use crate::cut::{Showing, put_cut, shown_of};
 use crate::entry::put_word;
 use crate::lacking::{Lacking, put_advice};
@@ -21,6 +24,9 @@ use std::alloc::{AllocError, Global};
 
 /// How many groups of a program are shown.
 const MOST_GROUPS_OF_PROGRAM: usize = 500;
+
+/// How many of them where the log is large.
+const MOST_GROUPS_OF_LARGE: usize = 100;
 
 /// Above how many entries their cells are narrow.
 const MANY: usize = 400;
@@ -111,9 +117,28 @@ fn put_verdict(out: &mut String, failures: &ProgramFailures<'_>) -> Result<(), A
 fn put_strip_open(out: &mut String, log: &Log) -> Result<(), AllocError>
     ensures { OnOk result (string_bytes out.new ≡ string_bytes out.old ++ strip_open log.now.entries) }
 {
+    put_width(out, log)?;
     put(out, Piece::StripOpen)?;
     put_word(out, log.entries().len() > MANY, "many")?;
     put(out, Piece::OpenEnd)
+}
+
+/// Appends the cells of a row: in blocks where the log is large.
+fn put_row_of(
+    alloc: Global,
+    out: &mut String,
+    run: &Run<'_>,
+    lacking: &Lacking<'_>,
+    cuts: &[CutFailures],
+) -> Result<(), AllocError>
+    requires cuts { All (λ (c : CutValue). c.cut ≤ length run.now.numbering.log.now.entries) cuts.now }
+    ensures { OnOk result (string_bytes out.new ≡ string_bytes out.old ++ row_of run.now.numbering.log.now.entries lacking.now.program lacking.now.flushes.now cuts.now) }
+{
+    if is_large(run.numbering.log) {
+        put_row_blocks(out, run, lacking, cuts)
+    } else {
+        put_strip(alloc, out, run, lacking, cuts)
+    }
 }
 
 /// Appends the row of entries and cuts, with the flushes that are missing.
@@ -130,11 +155,38 @@ fn put_row(
 {
     let lacking = lacking_of(program, failures);
     put_strip_open(out, run.numbering.log)?;
-    put_strip(alloc, out, run, &lacking, failures.cuts.as_slice())?;
+    put_row_of(alloc, out, run, &lacking, failures.cuts.as_slice())?;
     put(out, Piece::StripClose)
 }
 
-/// Appends the cuts at which images fail.
+/// How many cuts a cut at which images fail is.
+fn one_failing(cut: &CutFailures) -> usize
+    ensures { result ≡ one_failing cut.now }
+{
+    if cut.failing == 0 { 0 } else { 1 }
+}
+
+/// Appends a cut, where that many failing cuts may still be listed.
+fn put_listed(
+    alloc: Global,
+    out: &mut String,
+    run: &Run<'_>,
+    outcomes: &[&str],
+    lines: usize,
+    how: Showing,
+    cut: &CutFailures,
+) -> Result<(), AllocError>
+    requires shown { how.groups ≤ length cut.now.groups.items }
+    requires cut { IsOfRun run.now.starts.now (length outcomes.now) cut.now }
+    ensures { OnOk result (string_bytes out.new ≡ string_bytes out.old ++ listed_text run.now.starts.now (map (λ o. o.now) outcomes.now) lines how cut.now) }
+{
+    if lines == 0 {
+        return Ok(());
+    }
+    put_cut(alloc, out, run, outcomes, how, cut)
+}
+
+/// Appends the first cuts at which images fail, with that many groups at most.
 #[tactic(auto, using(crate::proofs::Rows::cuts_more, crate::proofs::Rows::cuts_end))]
 fn put_cuts(
     alloc: Global,
@@ -142,24 +194,69 @@ fn put_cuts(
     run: &Run<'_>,
     program: usize,
     outcomes: &[&str],
+    most: usize,
     cuts: &[CutFailures],
 ) -> Result<(), AllocError>
     requires cuts { All (IsOfRun run.now.starts.now (length outcomes.now)) cuts.now }
-    ensures { OnOk result (string_bytes out.new ≡ string_bytes out.old ++ cuts_text run.now.starts.now (map (λ o. o.now) outcomes.now) program true most_of_program cuts.now) }
+    ensures { OnOk result (string_bytes out.new ≡ string_bytes out.old ++ cuts_text run.now.starts.now (map (λ o. o.now) outcomes.now) program most_cells most cuts.now) }
 {
-    let mut left = MOST_GROUPS_OF_PROGRAM;
-    let mut is_first = true;
+    let mut left = most;
+    let mut lines = MOST_CELLS;
     for cut in cuts {
         let how = Showing {
             program,
-            is_open: is_first,
+            is_open: lines == MOST_CELLS,
             groups: shown_of(left, cut),
         };
-        put_cut(alloc, out, run, outcomes, how, cut)?;
-        is_first = is_first && cut.failing == 0;
+        put_listed(alloc, out, run, outcomes, lines, how, cut)?;
+        lines = lines.saturating_sub(one_failing(cut));
         left -= how.groups;
     }
     Ok(())
+}
+
+/// Appends how many cuts at which images fail aren't listed, if there are any.
+#[tactic(auto, unfolding(crate::specs::Groups::unlisted_text))]
+fn put_unlisted(out: &mut String, program: usize, count: usize) -> Result<(), AllocError>
+    ensures { OnOk result (string_bytes out.new ≡ string_bytes out.old ++ unlisted_text program count) }
+{
+    if count == 0 {
+        return Ok(());
+    }
+    put(out, Piece::MoreOpen)?;
+    put_more_name(out, program)?;
+    put(out, Piece::LinkEnd)?;
+    put_number(out, count as u64)?;
+    put(out, Piece::MoreClose)
+}
+
+/// How many groups of a program are shown, of that log.
+fn most_of_program(log: &Log) -> usize
+    ensures { result ≡ most_of_program log.now.entries }
+{
+    if is_large(log) {
+        MOST_GROUPS_OF_LARGE
+    } else {
+        MOST_GROUPS_OF_PROGRAM
+    }
+}
+
+/// Appends the first cuts at which a program fails, and how many more there are.
+#[tactic(auto, unfolding(crate::specs::Page::shown_cuts))]
+fn put_shown_cuts(
+    alloc: Global,
+    out: &mut String,
+    run: &Run<'_>,
+    program: usize,
+    failures: &ProgramFailures<'_>,
+) -> Result<(), AllocError>
+    requires cuts { AreOfRun run.now.starts.now failures.now }
+    ensures { OnOk result (string_bytes out.new ≡ string_bytes out.old ++ shown_cuts run.now.starts.now program failures.now) }
+{
+    let (outcomes, cuts) = (failures.outcomes.as_slice(), failures.cuts.as_slice());
+    let most = most_of_program(run.numbering.log);
+    put_cuts(alloc, out, run, program, outcomes, most, cuts)?;
+    put_unlisted(out, program, failing_cuts(cuts).saturating_sub(MOST_CELLS))
 }
 
 /// The flushes that are missing for a program.
@@ -226,7 +323,6 @@ pub(crate) fn put_program(
     put_summary(out, program, failures)?;
     put_row(alloc, out, run, program, failures)?;
     put_legend(out)?;
-    let (outcomes, cuts) = (failures.outcomes.as_slice(), failures.cuts.as_slice());
-    put_cuts(alloc, out, run, program, outcomes, cuts)?;
+    put_shown_cuts(alloc, out, run, program, failures)?;
     put(out, Piece::SectionClose)
 }

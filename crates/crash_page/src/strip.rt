@@ -35,7 +35,7 @@ pub(crate) fn put_count(out: &mut String, cut: &CutFailures) -> Result<(), Alloc
 
 /// Appends the cell of a cut of that epoch at which no image fails.
 #[tactic(auto, unfolding(crate::specs::Cells::passing_text))]
-fn put_passing(out: &mut String, epoch: u32) -> Result<(), AllocError>
+pub(crate) fn put_passing(out: &mut String, epoch: u32) -> Result<(), AllocError>
     ensures { OnOk result (string_bytes out.new ≡ string_bytes out.old ++ passing_text epoch) }
 {
     put(out, Piece::PassingOpen)?;
@@ -46,7 +46,11 @@ fn put_passing(out: &mut String, epoch: u32) -> Result<(), AllocError>
 
 /// Appends the classes of the cell of a cut at which images fail.
 #[tactic(auto, unfolding(crate::specs::Cells::failing_class))]
-fn put_failing_class(out: &mut String, epoch: u32, cut: &CutFailures) -> Result<(), AllocError>
+pub(crate) fn put_failing_class(
+    out: &mut String,
+    epoch: u32,
+    cut: &CutFailures,
+) -> Result<(), AllocError>
     ensures { OnOk result (string_bytes out.new ≡ string_bytes out.old ++ failing_class epoch cut.now) }
 {
     let share = share_of(cut.images, cut.failing as u64);
@@ -66,7 +70,7 @@ fn put_failing_link(out: &mut String, program: usize, cut: &CutFailures) -> Resu
 
 /// Appends what stands beside the pointer at the cell of a cut.
 #[tactic(auto, unfolding(crate::specs::Cells::failing_title))]
-fn put_failing_title(out: &mut String, cut: &CutFailures) -> Result<(), AllocError>
+pub(crate) fn put_failing_title(out: &mut String, cut: &CutFailures) -> Result<(), AllocError>
     ensures { OnOk result (string_bytes out.new ≡ string_bytes out.old ++ failing_title cut.now) }
 {
     put(out, Piece::FailingTitle)?;

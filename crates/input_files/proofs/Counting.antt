@@ -1,5 +1,5 @@
 -- How many bytes of a file were passed over.
-use Rattle.std.proofs.Common.{ℕ, ◌≡◌, ◌==◌, ◌+◌, ◌%◌, ◌<◌, ◌≤◌, nat_le, if◌then◌else◌, Bool, true, false, List, [], ◌++◌, length, take, Option, Some, None, IfSome, refl, sym, ◌∙◌, ap, arith, append-nil, length-append}
+use Rattle.std.proofs.Common.{ℕ, Result, Ok, Err, IfOk, ◌≡◌, ◌==◌, ◌+◌, ◌%◌, ◌<◌, ◌≤◌, nat_le, if◌then◌else◌, Bool, true, false, List, [], ◌++◌, length, take, Option, Some, None, IfSome, refl, sym, ◌∙◌, ap, arith, append-nil, length-append}
 use Rattle.std.proofs.lemmas.Bool.Decides.{nat_tests}
 use Rattle.std.specs.Io.KnownBytes.{Consumes, IsAtEnd}
 use Rattle.std.proofs.lemmas.List.{take-append-le}
@@ -109,6 +109,18 @@ pub held_as : (f : List ℕ → List ℕ) (old : Option (List ℕ)) (bytes : Lis
     → IfSome old (λ xs. (told ≡ length (f xs)) × (Some bytes ≡ Some (f xs)))
 held_as f None bytes told read is = tt
 held_as f (Some xs) bytes told read is = (is ∙ ap (λ (zs : List ℕ). length zs) read, ap (λ (zs : List ℕ). Some zs) read)
+
+-- what is held of lines of C, where as many bytes are read at most as that
+lines_kept : (old : Option (List ℕ)) (held : Option (List ℕ)) (told most : ℕ) (said : Option ℕ) → most ≡ 1048577
+    → IfSome old (λ xs. (told ≡ length (take most xs)) × (held ≡ Some (take most xs))) → IfSome old (λ xs. Holds kind.Lines said xs held told)
+lines_kept None held told most said so read = tt
+lines_kept (Some xs) held told most said so read =
+    (read.0 ∙ ap (λ (n : ℕ). length (take n xs)) so, read.1 ∙ ap (λ (n : ℕ). Some (take n xs)) so)
+
+pub lines_held : {V E : Type 0} (r : Result V E) (old : Option (List ℕ)) (held : V → Option (List ℕ)) (told : V → ℕ) (most : ℕ) (said : Option ℕ) → most ≡ 1048577
+    → IfOk r (λ v. IfSome old (λ xs. (told v ≡ length (take most xs)) × (held v ≡ Some (take most xs)))) → IfOk r (λ v. IfSome old (λ xs. Holds kind.Lines said xs (held v) (told v)))
+lines_held (Ok v) old held told most said so read = lines_kept old (held v) (told v) most said so read
+lines_held (Err e) old held told most said so read = tt
 
 pub text_held : (old : Option (List ℕ)) (bytes : List ℕ) (held : Option (List ℕ)) (told most : ℕ) → most ≡ 16777217 → IfSome old (λ xs. bytes ≡ take most xs) → told ≡ length bytes
     → held ≡ (if nat_le (length bytes) 16777216 then Some bytes else None) → IfSome old (λ xs. Holds kind.Text None xs held told)

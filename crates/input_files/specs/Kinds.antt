@@ -13,9 +13,9 @@ use Rattle.base.specs.Refusals.{memory_refusal}
 use Rattle.input_files.specs.declared.kind.FileKind.{FileKind}
 use Rattle.input_files.specs.declared.kind.FileKind.TheVariants as kind
 
--- what `check` takes the file at that place for: a program, then an image within these limits
+-- what `check` takes the file at that place for: a program, then an image within these limits, then lines of C
 abbrev pub checked_kind : ℕ → Limits → FileKind
-checked_kind place limits = if place == 1 then kind.Image limits else kind.Program
+checked_kind place limits = if place == 0 then kind.Program else if place == 1 then kind.Image limits else kind.Lines
 
 -- how many parts are joined at most, and how many bytes they have together at most
 abbrev pub most_parts : ℕ
@@ -42,6 +42,7 @@ most_of kind.Raw = 192 * 1024 * 1024
 most_of kind.Program = 8 * 4096
 most_of kind.Text = 16 * 1024 * 1024
 most_of (kind.Image limits) = 512 * sector_limit limits
+most_of kind.Lines = 1024 * 1024
 most_of (kind.Part left) = left
 
 -- how many bytes are read at most: one more, or of a program a slot more; of a raw log no more
@@ -66,6 +67,7 @@ memory_of kind.Raw place = record { code = Log log.Memory; at = 0; program = Non
 memory_of kind.Program place = record { code = Code code.Memory; at = 0; program = number_of place }
 memory_of kind.Text place = record { code = Asm asm.Memory; at = 0; program = None }
 memory_of (kind.Image limits) place = memory_refusal
+memory_of kind.Lines place = memory_refusal
 memory_of (kind.Part left) place = record { code = Join joining.Memory; at = 0; program = None }
 
 -- how many bytes are left for parts after a file of that many; none where it is a part that has more than were left

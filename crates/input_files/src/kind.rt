@@ -25,6 +25,8 @@ pub enum FileKind {
     Text,
     /// The bytes of a device within these limits.
     Image(Limits),
+    /// At which line of C each slot of a program comes.
+    Lines,
     /// The text of a part of a run, for which that many bytes are left.
     Part(u32),
 }
@@ -46,7 +48,7 @@ impl FileKind {
     }
 
     /// How many bytes a file of this kind has at most: what the limits allow of a log and of an image, 192 MiB, 4,096 slots,
-    /// 16 MiB, what is left for parts. Of a raw log that is how many its entries may need.
+    /// 16 MiB, 1 MiB, what is left for parts. Of a raw log that is how many its entries may need.
     pub fn most(self) -> usize
         ensures { result ≡ most_of self }
     {
@@ -56,6 +58,7 @@ impl FileKind {
             FileKind::Program => 32_768,
             FileKind::Text => 16_777_216,
             FileKind::Image(limits) => 512 * limits.sectors() as usize,
+            FileKind::Lines => 1_048_576,
             FileKind::Part(left) => left as usize,
         }
     }
@@ -71,6 +74,7 @@ impl FileKind {
             FileKind::Program => 32_776,
             FileKind::Text => 16_777_217,
             FileKind::Image(limits) => 512 * limits.sectors() as usize + 1,
+            FileKind::Lines => 1_048_577,
             FileKind::Part(left) => left as usize + 1,
         }
     }
@@ -84,7 +88,7 @@ impl FileKind {
             FileKind::Log(_) | FileKind::Raw => { refusal_of(Cause::Log(LogCause::Memory), None) }
             FileKind::Program => refusal_of(Cause::Code(CodeCause::Memory), program_at(place)),
             FileKind::Text => refusal_of(Cause::Asm(AsmCause::Memory), None),
-            FileKind::Image(_) => Refusal::of_memory(),
+            FileKind::Image(_) | FileKind::Lines => Refusal::of_memory(),
             FileKind::Part(_) => refusal_of(Cause::Join(JoinCause::Memory), None),
         }
     }
@@ -147,10 +151,12 @@ pub(crate) fn too_long_at(place: usize) -> Refusal
 fn checked_kind(place: usize, limits: Limits) -> FileKind
     ensures { result ≡ checked_kind place limits }
 {
-    if place == 1 {
+    if place == 0 {
+        FileKind::Program
+    } else if place == 1 {
         FileKind::Image(limits)
     } else {
-        FileKind::Program
+        FileKind::Lines
     }
 }
 

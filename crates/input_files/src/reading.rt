@@ -363,6 +363,7 @@ fn read_piece<F: Read>(
         FileKind::Program => read_program(alloc, file, said),
         FileKind::Text => read_text(alloc, file, expected),
         FileKind::Log(_) | FileKind::Image(_) => read_whole(alloc, file, most, expected),
+        FileKind::Lines => read_whole(alloc, file, most, expected),
     }
 }
 

@@ -18,6 +18,7 @@ use Rattle.machine.specs.State.{State, register, word, context_start, stack_star
 use Rattle.machine.specs.Memory.{byte_count, plain_size}
 use Rattle.machine.specs.Step.{Stepped, Next, Done, Fault, address}
 use Rattle.machine.specs.Outcome.{Ending, Verdict, Stopped, Stray}
+use Rattle.notes.specs.SourceLines.{LineOfC, source_text}
 use Rattle.interp.specs.Walks.{step_as}
 use Rattle.interp.specs.declared.walk.Halt.{Halt}
 use Rattle.interp.specs.declared.walk.Halt.TheVariants as halt
@@ -123,15 +124,21 @@ came_text limits before touch (Some (Next t)) = changes_text limits before (regi
 came_text limits before touch (Some (Done _ _)) = []
 came_text limits before touch (Some (Fault _ _)) = []
 
--- the line of a step: its number, its slot, the instruction there, and what is said of it
-unfoldable pub step_text : Limits → List (Option Instr) → ℕ → State → Option Stepped → List ℕ
-step_text limits program number s x =
-    codes "step " ++ decimal number ++ codes " slot " ++ decimal s.slot ++ codes " " ++ option_map_or line_text (at program s.slot) []
-    ++ came_text limits (registers_of s) (touch_here program s) x ++ codes "\n"
+-- with what the line of a step begins: its number, its slot and the instruction there
+unfoldable pub begin_text : List (Option Instr) → ℕ → State → List ℕ
+begin_text program number s = codes "step " ++ decimal number ++ codes " slot " ++ decimal s.slot ++ codes " " ++ option_map_or line_text (at program s.slot) []
+
+-- with what it ends: the place in C of its slot
+unfoldable pub line_end : List LineOfC → ℕ → List ℕ
+line_end table slot = source_text table slot ++ codes "\n"
+
+-- the line of a step, with what is said of it between
+unfoldable pub step_text : Limits → List LineOfC → List (Option Instr) → ℕ → State → Option Stepped → List ℕ
+step_text limits table program number s x = begin_text program number s ++ came_text limits (registers_of s) (touch_here program s) x ++ line_end table s.slot
 
 -- of at most n steps from a state on, the first of this number, the lines of those whose numbers are above another
-unfoldable pub trace_text : Limits → Bool → List (Option Instr) → List ℕ → List (List ℕ) → ℕ → ℕ → ℕ → State → List ℕ
-trace_text limits guards program context device zero number above s = []
-trace_text limits guards program context device (suc n) number above s =
-    (if nat_lt above number then step_text limits program number s (step_as guards program context device s) else [])
-    ++ beyond [] (trace_text limits guards program context device n (number + 1) above) (step_as guards program context device s)
+unfoldable pub trace_text : Limits → List LineOfC → Bool → List (Option Instr) → List ℕ → List (List ℕ) → ℕ → ℕ → ℕ → State → List ℕ
+trace_text limits table guards program context device zero number above s = []
+trace_text limits table guards program context device (suc n) number above s =
+    (if nat_lt above number then step_text limits table program number s (step_as guards program context device s) else [])
+    ++ beyond [] (trace_text limits table guards program context device n (number + 1) above) (step_as guards program context device s)

@@ -12,7 +12,8 @@ use Rattle.bpf_isa.specs.declared.instr.Instr.{Instr}
 use Rattle.bpf_isa.specs.Program.{IsSpelledBy, FirstFault}
 use Rattle.helpers.specs.declared.device.Context.{Context}
 use Rattle.machine.specs.Memory.{context_bytes}
-use Rattle.machine.specs.Outcome.{Ending}
+use Rattle.machine.specs.Outcome.{Ending, Verdict, Stopped, OutOfSteps, Stray}
+use Rattle.notes.specs.SourceLines.{LineOfC, AreLines, NoLines, source_text}
 use Rattle.interp.specs.Walks.{start_as, outcome_as}
 use Rattle.verifier.specs.Guards.{guarded_slots}
 use Rattle.verifier.specs.Verdicts.{VerifiedValue, IsVerified, RefusedWith}
@@ -81,28 +82,38 @@ unfoldable pub head_text : Context → Option ℕ → ℕ → Bound → List ℕ
 head_text context checked slots b = codes "crash check 1\n" ++ context_text context ++ program_text checked slots b
 
 -- the lines of the last steps of a run that makes that many
-abbrev pub last_steps : List (Option Instr) → List ℕ → Trial → ℕ → List ℕ
-last_steps slots image t steps = trace_text t.limits t.guards slots (context_bytes (context_of image t)) (disk_of image) steps 1 (steps - t.trace) (start_as t.guards)
+abbrev pub last_steps : List (Option Instr) → List ℕ → List LineOfC → Trial → ℕ → List ℕ
+last_steps slots image table t steps = trace_text t.limits table t.guards slots (context_bytes (context_of image t)) (disk_of image) steps 1 (steps - t.trace) (start_as t.guards)
+
+-- the place in C of the slot at which a program ended, where what it ended in names one
+abbrev pub ending_source : List LineOfC → Ending → List ℕ
+ending_source table (Verdict answer numbers) = []
+ending_source table (Stopped cause slot) = source_text table slot
+ending_source table OutOfSteps = []
+ending_source table (Stray slot) = source_text table slot
 
 -- the lines after them: how many steps were made, and what the program ended in
-unfoldable pub end_text : ℕ → Ending → List ℕ
-end_text steps ending = codes "steps " ++ decimal steps ++ codes "\n" ++ ending_text ending ++ codes "\n"
+unfoldable pub end_text : List LineOfC → ℕ → Ending → List ℕ
+end_text table steps ending = codes "steps " ++ decimal steps ++ codes "\n" ++ ending_text ending ++ ending_source table ending ++ codes "\n"
 
--- what is said of a run of this program on this image, so bounded
-unfoldable pub trial_text : List (Option Instr) → List ℕ → Trial → Bound → List ℕ
-trial_text slots image t b =
+-- what is said of a run of this program on this image, so bounded, with the places in C of the slots that this table has
+unfoldable pub trial_text : List (Option Instr) → List ℕ → List LineOfC → Trial → Bound → List ℕ
+trial_text slots image table t b =
     head_text (context_of image t) t.checked (length slots) b
-    ++ last_steps slots image t (steps_of_trial slots image t b.limit)
-    ++ end_text (steps_of_trial slots image t b.limit) (ending_of_trial slots image t b.limit)
+    ++ last_steps slots image table t (steps_of_trial slots image t b.limit)
+    ++ end_text table (steps_of_trial slots image t b.limit) (ending_of_trial slots image t b.limit)
 
--- what the bytes of a program and of an image come to: the text, and whether the program rejects the image
-pub record IsTried (program image : List ℕ) (t : Trial) (text : List ℕ) (failing : Bool) : Type 0 where
+-- what the bytes of a program, of an image and of the lines of C come to: the text, and whether the program rejects the image. No bytes
+-- have no lines
+pub record IsTried (program image lines : List ℕ) (t : Trial) (text : List ℕ) (failing : Bool) : Type 0 where
   pub whole : is_image t.limits image ≡ true
+  pub table : List LineOfC
+  pub lined : AreLines lines table
   pub slots : List (Option Instr)
   pub spelled : IsSpelledBy program slots
   pub bound : Bound
   pub allowed : Allows slots image t bound
-  pub says : text ≡ trial_text slots image t bound
+  pub says : text ≡ trial_text slots image table t bound
   pub ends : failing ≡ fails (ending_of_trial slots image t bound.limit)
 
 -- no limit is given, and the verifier refuses the program, or memory was wanting for it
@@ -112,13 +123,14 @@ pub data RefusesLimit (slots : List (Option Instr)) (image : List ℕ) (t : Tria
   no_verifier_memory : t.checked ≡ None → RefusesLimit slots image t (record { code = Verifier verifier.Memory; at = 0; program = None })
   no_count_memory : RefusesLimit slots image t memory_refusal
 
--- refused for the size of the image, the second file; of one of a good size for the first fault of the program's bytes; of a program that
--- they spell for what the verifier says of it; or for want of memory
-pub data RefusesTrial (program image : List ℕ) (t : Trial) : Refusal → Type 0 where
-  for_size : is_image t.limits image ≡ false → RefusesTrial program image t (file_refusal 1)
-  with_code_fault : (cause : CodeCause) (slot : ℕ) → is_image t.limits image ≡ true → FirstFault program cause slot
-      → RefusesTrial program image t (bytes_refusal cause slot)
-  no_code_memory : is_image t.limits image ≡ true → RefusesTrial program image t (bytes_refusal code.Memory 0)
-  for_limit : (slots : List (Option Instr)) (r : Refusal) → is_image t.limits image ≡ true → IsSpelledBy program slots → RefusesLimit slots image t r
-      → RefusesTrial program image t r
-  no_memory : is_image t.limits image ≡ true → RefusesTrial program image t memory_refusal
+-- refused for the size of the image, the second file; of one of a good size where the third has no lines of C; where it has for the first
+-- fault of the program's bytes; of a program that they spell for what the verifier says of it; or for want of memory
+pub data RefusesTrial (program image lines : List ℕ) (t : Trial) : Refusal → Type 0 where
+  for_size : is_image t.limits image ≡ false → RefusesTrial program image lines t (file_refusal 1)
+  for_lines : is_image t.limits image ≡ true → NoLines lines → RefusesTrial program image lines t (file_refusal 2)
+  with_code_fault : (table : List LineOfC) (cause : CodeCause) (slot : ℕ) → is_image t.limits image ≡ true → AreLines lines table → FirstFault program cause slot
+      → RefusesTrial program image lines t (bytes_refusal cause slot)
+  no_code_memory : is_image t.limits image ≡ true → RefusesTrial program image lines t (bytes_refusal code.Memory 0)
+  for_limit : (table : List LineOfC) (slots : List (Option Instr)) (r : Refusal) → is_image t.limits image ≡ true → AreLines lines table → IsSpelledBy program slots
+      → RefusesLimit slots image t r → RefusesTrial program image lines t r
+  no_memory : is_image t.limits image ≡ true → RefusesTrial program image lines t memory_refusal

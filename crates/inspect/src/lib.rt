@@ -31,7 +31,7 @@
 //!
 //! | Call | Command | Answers |
 //! |---|---|---|
-//! | `try_image(alloc, code, image, asked, facts)` | `check` | what the program comes to on the image, in how many steps, and the last steps in words |
+//! | `try_image(alloc, code, image, lines, asked, facts)` | `check` | what the program comes to on the image, in how many steps, and the last steps in words, with their places in C |
 //!
 //! # What is proved
 //!
@@ -58,7 +58,8 @@
 //! Where `try_image` answers, its text says what the machine, with guards or without, comes to within the limit or the budget, and
 //! how many steps that takes. Of each of the last ones it says its number, its slot, its instruction and the registers that it
 //! changed, or the place at which it strayed (`specs/TrialText.antt`, `specs/Trace.antt`), all of it by the definition of the
-//! machine. `failing` is whether the program rejects the image. It is refused for the size of the image, for the first fault of the
+//! machine. The place in C follows where the lines of C have one of the slot (`SourceLines.antt` of `notes`). `failing` is whether the
+//! program rejects the image. It is refused for the size of the image, for bytes that aren't lines of C, for the first fault of the
 //! program's bytes, for what the verifier says, or for want of memory.
 //!
 //! # How it is proved
@@ -89,7 +90,7 @@
 //! use request::facts::Facts;
 //!
 //! let asked = Trial { limits: Limits::Usual, epoch: 0, marks: 0, checked: None, guards: false, trace: 10 };
-//! let report = try_image(alloc, bytes, &[0; 2048], &asked, &mut Facts::new())?;   // mov64 r0, 0; exit
+//! let report = try_image(alloc, bytes, &[0; 2048], &[], &asked, &mut Facts::new())?;   // mov64 r0, 0; exit
 //! // crash check 1
 //! // sectors 4 epoch 0 marks 0
 //! // program slots 2 budget 2

@@ -1,3 +1,4 @@
 pub mod Devices
 pub mod Lines
 pub mod BlindTexts
+pub mod LinesOfC

@@ -5,6 +5,7 @@ pub mod Listing
 pub mod LogTable
 pub mod Device
 pub mod Known
+pub mod SourceLines
 -- What notes say of an accepted program.
 pub mod Unreached
 pub mod Large

@@ -5,6 +5,7 @@
 //! |---|---|
 //! | `command_notes` | which notes stand after a refusal of a command, and beside its answer |
 //! | `listing`, `table` | a listing with its slots; a log as a table |
+//! | `sources` | at which line of C each slot of a program comes, and its place after what is said of the slot |
 //! | `known`, `device` | what is known of registers; the least device that holds a log |
 //! | `line`, `cures`, `escaped` | a line of a note, what most likely helps against a refusal, and bytes of a foreign text |
 //!
@@ -27,6 +28,8 @@
 //! | `put_entry(alloc, out, log, number)` | an entry, as in the table |
 //! | `put_entry_line(out, number, epoch, entry)` | a line of the table |
 //! | `put_least(out, log)` | the size of the least device that holds a log |
+//! | `source_lines(alloc, bytes)` | the lines of a text that says at which line of C each slot comes; none where it is no such text |
+//! | `put_source(alloc, out, lines, slot)` | the place in C of a slot, as ` # check.c:41` |
 //! | `put_escaped(out, bytes)` | bytes of a foreign text, so that they stay on their line |
 //! | `log_cure`, `code_cure`, `asm_cure`, `verifier_cure`, `guarded_cure` | what most likely helps against a refusal; what it means is the text of its cause |
 //!
@@ -89,6 +92,7 @@ mod escaped;
 mod known;
 mod line;
 mod listing;
+mod sources;
 mod table;
 
 pub use cures::{asm_cure, code_cure, guarded_cure, log_cure, verifier_cure};
@@ -97,4 +101,5 @@ pub use escaped::put_escaped;
 pub use known::put_known;
 pub use line::{put_note, put_refused};
 pub use listing::{numbered_listing, put_slot};
+pub use sources::{SourceLine, put_source, source_lines};
 pub use table::{log_table, put_entry, put_entry_line};

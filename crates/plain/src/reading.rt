@@ -160,7 +160,7 @@ impl<const COUNTS: usize, const CALLED: usize> Machine<COUNTS, CALLED> {
 
     /// Notes at which sectors a load looks.
     #[inline(always)]
-    fn note_load<D: Device, const ROOM: usize>(
+    pub(crate) fn note_load<D: Device, const ROOM: usize>(
         &self,
         footprint: &mut Footprint<ROOM>,
         device: &D,

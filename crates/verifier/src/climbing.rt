@@ -10,8 +10,8 @@
 //! Only those parts of what a slot knows are joined that changed since it passed them on last, or that its instruction
 //! makes of these. In a long search the parts on which no head hangs wait for many laps (`news`). The rules of a slot
 //! are tested again where its instruction looks at one of the parts that are passed on. Where it changes little, they go
-//! from slot to slot one by one (`way`). Else, and where nothing is known yet, the state is copied into one room for all
-//! steps, and led along the edge in place. No list of what is passed on is made.
+//! from slot to slot one by one (`way`). Else, and the first time along an edge, when all parts are told, the state is
+//! copied into one room for all steps, and led along the edge in place. No list of what is passed on is made.
 
 ghost use Rattle.std.specs.Prelude.{◌≡◌, ◌<◌, OnOk, IfOk, IfErr, IfSome, Some, length, [], ◌∷◌};
 ghost use Rattle.std.specs.Option.{option_to_list};
@@ -150,7 +150,9 @@ fn pass_along(
         return;
     };
     let effect = effect_at(scene, table, slot, edge, instr);
-    if let Some(way) = way_to(table, slot, to, &effect, scene.shape.is_head(to)) {
+    if agenda.has_told(edge)
+        && let Some(way) = way_to(table, slot, to, &effect, scene.shape.is_head(to))
+    {
         let told = agenda.told(edge, to, parts_of(&way.change));
         arrive_along(table, agenda, &way, told);
     } else if !matches!(effect, Effect::Nothing) && copy_state(table, slot, room) {

@@ -5,8 +5,9 @@ ghost use Rattle.std.specs.Option.{option_and_then};
 ghost use Rattle.helpers.specs.Helper.{helper_of};
 ghost use Rattle.machine.specs.Memory.{context_bytes};
 ghost use Rattle.machine.specs.State.{word};
+ghost use Rattle.notes.specs.SourceLines.{source_text, values_of};
 ghost use Rattle.interp.specs.Walks.{start_as, step_as, stepped_to, with_state};
-ghost use Rattle.inspect.specs.Trace.{call_touches, came_text, place_text, sector_end, word_text, held_text, is_same, change_text, registers_of, changes_text, step_text, stray_text, strayed_by, strayed_bytes, touch_text, touch_at, touch_here, touches, trace_text};
+ghost use Rattle.inspect.specs.Trace.{call_touches, came_text, place_text, sector_end, word_text, held_text, is_same, begin_text, change_text, line_end, registers_of, changes_text, step_text, stray_text, strayed_by, strayed_bytes, touch_text, touch_at, touch_here, touches, trace_text};
 
 use arithmetic::{byte_count, plain_size};
 use base::limits::Limits;
@@ -16,8 +17,9 @@ use bpf_isa::program::Program;
 use bpf_isa::register::Register;
 use helpers::{Context, Device, Helper};
 use interp::{Halt, Walk};
+use notes::{SourceLine, put_source};
 use request::Trial;
-use std::alloc::AllocError;
+use std::alloc::{AllocError, Global};
 
 /// Where the context begins, the stacks, and the sectors.
 const CONTEXT_START: u64 = 0x1_0000_0000;
@@ -278,44 +280,72 @@ fn put_came<D: Device>(
     }
 }
 
-/// Makes a step, and appends its line. Answers what the run ended in, if it did.
+/// Appends the number of a step, its slot and the instruction there.
+#[tactic(auto, unfolding(crate::specs::Trace::begin_text))]
+fn put_begin<D: Device>(out: &mut String, number: u64, walk: &Walk<'_, D>) -> Result<(), AllocError>
+    ensures { OnOk result (string_bytes out.new ≡ string_bytes out.old ++ begin_text walk.now.program number walk.now.state) }
+{
+    write!(out, "step {number} slot {} ", walk.slot())?;
+    match walk.instr() {
+        Some(instr) => put_instr(out, &instr),
+        None => Ok(()),
+    }
+}
+
+/// Ends the line of a step with the place in C of its slot, where that is known.
+#[tactic(auto, unfolding(crate::specs::Trace::line_end))]
+fn put_line_end(
+    alloc: Global,
+    out: &mut String,
+    lines: &[SourceLine<'_>],
+    slot: u32,
+) -> Result<(), AllocError>
+    ensures { OnOk result (string_bytes out.new ≡ string_bytes out.old ++ line_end (values_of lines.now) slot) }
+{
+    put_source(alloc, out, lines, slot)?;
+    write!(out, "\n")
+}
+
+/// Makes a step, and appends its line, with the place in C of its slot where that is known. Answers what the run ended in, if it did.
 #[tactic(auto, unfolding(crate::specs::Trace::step_text))]
 fn put_step<D: Device>(
+    alloc: Global,
     out: &mut String,
     limits: Limits,
+    lines: &[SourceLine<'_>],
     number: u64,
     walk: &mut Walk<'_, D>,
 ) -> Result<Option<Halt>, AllocError>
-    ensures line { OnOk result (string_bytes out.new ≡ string_bytes out.old ++ step_text limits walk.old.program number walk.old.state (step_as walk.old.guards walk.old.program walk.old.context walk.old.device walk.old.state)) }
+    ensures line { OnOk result (string_bytes out.new ≡ string_bytes out.old ++ step_text limits (values_of lines.now) walk.old.program number walk.old.state (step_as walk.old.guards walk.old.program walk.old.context walk.old.device walk.old.state)) }
     ensures made { IfOk result (λ end. stepped_to walk.new end ≡ step_as walk.old.guards walk.old.program walk.old.context walk.old.device walk.old.state) }
     ensures same { walk.new ≡ with_state walk.old walk.new.state }
 {
-    write!(out, "step {number} slot {} ", walk.slot())?;
-    if let Some(instr) = walk.instr() {
-        put_instr(out, &instr)?;
-    }
+    put_begin(out, number, walk)?;
+    let slot = walk.slot();
     let before = registers_of(walk);
     let touch = touch_here(walk);
     let end = walk.step();
     put_came(out, limits, &before, touch, end, walk)?;
-    write!(out, "\n")?;
+    put_line_end(alloc, out, lines, slot)?;
     Ok(end)
 }
 
 /// Makes a step, and appends its line if that is wanted. Answers what the run ended in, if it did.
 fn trace_step<D: Device>(
+    alloc: Global,
     out: &mut String,
     limits: Limits,
+    lines: &[SourceLine<'_>],
     number: u64,
     wanted: bool,
     walk: &mut Walk<'_, D>,
 ) -> Result<Option<Halt>, AllocError>
-    ensures line { OnOk result (string_bytes out.new ≡ string_bytes out.old ++ (if wanted then step_text limits walk.old.program number walk.old.state (step_as walk.old.guards walk.old.program walk.old.context walk.old.device walk.old.state) else [])) }
+    ensures line { OnOk result (string_bytes out.new ≡ string_bytes out.old ++ (if wanted then step_text limits (values_of lines.now) walk.old.program number walk.old.state (step_as walk.old.guards walk.old.program walk.old.context walk.old.device walk.old.state) else [])) }
     ensures made { IfOk result (λ end. stepped_to walk.new end ≡ step_as walk.old.guards walk.old.program walk.old.context walk.old.device walk.old.state) }
     ensures same { walk.new ≡ with_state walk.old walk.new.state }
 {
     if wanted {
-        put_step(out, limits, number, walk)
+        put_step(alloc, out, limits, lines, number, walk)
     } else {
         Ok(walk.step())
     }
@@ -325,17 +355,19 @@ fn trace_step<D: Device>(
 /// number 1.
 #[inline(never)]
 fn put_trace<D: Device>(
+    alloc: Global,
     out: &mut String,
     limits: Limits,
+    lines: &[SourceLine<'_>],
     walk: &mut Walk<'_, D>,
     steps: u64,
     above: u64,
 ) -> Result<(), AllocError>
-    ensures { OnOk result (string_bytes out.new ≡ string_bytes out.old ++ trace_text limits walk.old.guards walk.old.program walk.old.context walk.old.device steps 1 above walk.old.state) }
+    ensures { OnOk result (string_bytes out.new ≡ string_bytes out.old ++ trace_text limits (values_of lines.now) walk.old.guards walk.old.program walk.old.context walk.old.device steps 1 above walk.old.state) }
 {
     for made in 0..steps {
         let number = made + 1;
-        let end = trace_step(out, limits, number, above < number, walk)?;
+        let end = trace_step(alloc, out, limits, lines, number, above < number, walk)?;
         if let Some(_halt) = end {
             return Ok(());
         }
@@ -346,16 +378,18 @@ fn put_trace<D: Device>(
 /// Appends the lines of the last steps of a run of a program, with guards or without, as many as are asked for. The run makes that
 /// many steps.
 pub(crate) fn put_last<D: Device>(
+    alloc: Global,
     out: &mut String,
+    lines: &[SourceLine<'_>],
     program: &Program,
     context: &Context,
     device: &D,
     asked: &Trial,
     steps: u64,
 ) -> Result<(), AllocError>
-    ensures { OnOk result (string_bytes out.new ≡ string_bytes out.old ++ trace_text asked.now.limits asked.now.guards program.now (context_bytes context.now) (D.content device.now) steps 1 (steps - asked.now.trace) (start_as asked.now.guards)) }
+    ensures { OnOk result (string_bytes out.new ≡ string_bytes out.old ++ trace_text asked.now.limits (values_of lines.now) asked.now.guards program.now (context_bytes context.now) (D.content device.now) steps 1 (steps - asked.now.trace) (start_as asked.now.guards)) }
 {
     let mut walk = Walk::new(program, context, device, asked.guards);
     let above = steps.saturating_sub(asked.trace);
-    put_trace(out, asked.limits, &mut walk, steps, above)
+    put_trace(alloc, out, asked.limits, lines, &mut walk, steps, above)
 }

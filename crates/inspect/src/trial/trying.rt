@@ -1,12 +1,15 @@
 //! A run of a program on an image, and what is said of it.
 
-ghost use Rattle.std.specs.Prelude.{◌≡◌, ◌≤◌, ◌*◌, ◌++◌, length, IfOk, IfErr, OnOk, None, string_bytes};
+ghost use Rattle.std.specs.Prelude.{◌≡◌, ◌⊎◌, ◌≤◌, ◌*◌, ◌++◌, length, IfOk, IfErr, OnOk, None, string_bytes};
 ghost use Rattle.base.specs.declared.refusal.Cause.TheVariants.{Verifier};
 ghost use Rattle.base.specs.Sizes.{most_sectors};
 ghost use Rattle.interp.specs.Ending.{ending_of};
+ghost use Rattle.notes.specs.SourceLines.{values_of, AreLines, NoLines};
+ghost use Rattle.base.specs.Refusals.{memory_refusal};
+ghost use Rattle.request.specs.Refusals.{file_refusal};
 ghost use Rattle.report.specs.Line.{fails};
 ghost use Rattle.inspect.specs.TrialImage.{sectors_of};
-ghost use Rattle.inspect.specs.TrialText.{context_of, ending_of_trial, Allows, Bound, bound_of, bound_text, context_text, guarded_count_text, head_text, program_text, end_text, trial_text, IsTried, RefusesLimit, RefusesTrial};
+ghost use Rattle.inspect.specs.TrialText.{context_of, ending_of_trial, Allows, Bound, bound_of, bound_text, context_text, guarded_count_text, head_text, program_text, ending_source, end_text, trial_text, IsTried, RefusesLimit, RefusesTrial};
 
 use crate::trial::course::course_of;
 use crate::trial::image::{Image, is_image, sectors_of};
@@ -17,6 +20,7 @@ use bpf_isa::program::Program;
 use bpf_shape::Fault;
 use helpers::Context;
 use interp::Outcome;
+use notes::{SourceLine, put_source, source_lines};
 use report::lines::put_outcome;
 use request::facts::Facts;
 use request::{Trial, bytes_refusal_of, unreadable};
@@ -176,13 +180,37 @@ fn put_head(
     put_program(out, checked, slots, bounds)
 }
 
+/// Appends the place in C of the slot at which a program ended, where what it came to names one.
+fn put_ending_source(
+    alloc: Global,
+    out: &mut String,
+    lines: &[SourceLine<'_>],
+    outcome: &Outcome,
+) -> Result<(), AllocError>
+    ensures { OnOk result (string_bytes out.new ≡ string_bytes out.old ++ ending_source (values_of lines.now) (ending_of outcome.now)) }
+{
+    match outcome {
+        Outcome::Verdict(_) => Ok(()),
+        Outcome::Fault { slot, .. } => put_source(alloc, out, lines, *slot),
+        Outcome::OutOfSteps => Ok(()),
+        Outcome::Stray(slot) => put_source(alloc, out, lines, *slot),
+    }
+}
+
 /// Appends how many steps a run made, and what it came to.
 #[tactic(auto, unfolding(crate::specs::TrialText::end_text))]
-fn put_end(out: &mut String, steps: u64, outcome: &Outcome) -> Result<(), AllocError>
-    ensures { OnOk result (string_bytes out.new ≡ string_bytes out.old ++ end_text steps (ending_of outcome.now)) }
+fn put_end(
+    alloc: Global,
+    out: &mut String,
+    lines: &[SourceLine<'_>],
+    steps: u64,
+    outcome: &Outcome,
+) -> Result<(), AllocError>
+    ensures { OnOk result (string_bytes out.new ≡ string_bytes out.old ++ end_text (values_of lines.now) steps (ending_of outcome.now)) }
 {
     write!(out, "steps {steps}\n")?;
     put_outcome(out, outcome)?;
+    put_ending_source(alloc, out, lines, outcome)?;
     write!(out, "\n")
 }
 
@@ -202,12 +230,13 @@ fn report_of(
     alloc: Global,
     program: &Program,
     image: &[u8],
+    lines: &[SourceLine<'_>],
     asked: &Trial,
     bounds: Bounds,
 ) -> Result<TrialReport, AllocError>
     requires some { 512 ≤ length image.now }
     requires few { length image.now ≤ 512 * most_sectors }
-    ensures text { IfOk result (λ report. report.bytes.items ≡ trial_text program.now image.now asked.now (record { limit = bounds.limit; guarded = bounds.guarded })) }
+    ensures text { IfOk result (λ report. report.bytes.items ≡ trial_text program.now image.now (values_of lines.now) asked.now (record { limit = bounds.limit; guarded = bounds.guarded })) }
     ensures failing { IfOk result (λ report. report.failing ≡ fails (ending_of_trial program.now image.now asked.now bounds.limit)) }
 {
     let device = Image::of(alloc, image, sectors_of(image))?;
@@ -215,35 +244,62 @@ fn report_of(
     let course = course_of(program, &context, &device, asked.guards, bounds.limit);
     let mut out = String::new(alloc);
     put_head(&mut out, &context, asked.checked, program.slots(), bounds)?;
-    put_last(&mut out, program, &context, &device, asked, course.steps)?;
-    put_end(&mut out, course.steps, &course.outcome)?;
+    put_last(
+        alloc,
+        &mut out,
+        lines,
+        program,
+        &context,
+        &device,
+        asked,
+        course.steps,
+    )?;
+    put_end(alloc, &mut out, lines, course.steps, &course.outcome)?;
     Ok(TrialReport {
         bytes: out.into_bytes(),
         failing: rejects(&course.outcome),
     })
 }
 
+/// The lines of C that bytes have; no bytes have none.
+fn lines_of(alloc: Global, bytes: &[u8]) -> Result<Vec<SourceLine<'_>>, Refusal>
+    ensures read { IfOk result (λ lines. AreLines bytes.now (values_of lines.items)) }
+    ensures refused { IfErr result (λ r. (NoLines bytes.now × (r ≡ file_refusal 2)) ⊎ (r ≡ memory_refusal)) }
+{
+    match source_lines(alloc, bytes) {
+        Ok(Some(lines)) => Ok(lines),
+        Ok(None) => Err(unreadable(2)),
+        Err(_error) => Err(Refusal::of_memory()),
+    }
+}
+
 /// Runs the program that bytes spell on the image that bytes are, and says step by step what it comes to (docs/OUTPUT.md, The
-/// text of `check`).
+/// text of `check`), with the places in C of the slots of which the lines of a text say them.
 ///
 /// # Errors
 ///
-/// 14 at 1 for the size of the image; the first fault of the program's bytes; then, where no limit is given, why the verifier refuses the
-/// program with guards or without, each at its slot; or want of memory. What is found on the way takes the place of what `facts` held.
+/// 14 at 1 for the size of the image; 14 at 2 for bytes that aren't lines of C; the first fault of the program's bytes; then, where no
+/// limit is given, why the verifier refuses the program with guards or without, each at its slot; or want of memory. What is found on
+/// the way takes the place of what `facts` held.
 pub fn try_image(
     alloc: Global,
     code: &[u8],
     image: &[u8],
+    lines: &[u8],
     asked: &Trial,
     facts: &mut Facts,
 ) -> Result<TrialReport, Refusal>
-    ensures tried { IfOk result (λ report. IsTried code.now image.now asked.now report.bytes.items report.failing) }
-    ensures refused { IfErr result (RefusesTrial code.now image.now asked.now) }
+    ensures tried { IfOk result (λ report. IsTried code.now image.now lines.now asked.now report.bytes.items report.failing) }
+    ensures refused { IfErr result (RefusesTrial code.now image.now lines.now asked.now) }
 {
     *facts = Facts::new();
     if !is_image(image, asked.limits) {
         return Err(unreadable(1));
     }
+    let table = match lines_of(alloc, lines) {
+        Ok(table) => table,
+        Err(refusal) => return Err(refusal),
+    };
     let program = match decode(alloc, code) {
         Ok(program) => program,
         Err(fault) => return Err(bytes_refusal_of(fault)),
@@ -252,7 +308,7 @@ pub fn try_image(
         Ok(bounds) => bounds,
         Err(refusal) => return Err(refusal),
     };
-    match report_of(alloc, &program, image, asked, bounds) {
+    match report_of(alloc, &program, image, table.as_slice(), asked, bounds) {
         Ok(report) => Ok(report),
         Err(_error) => Err(Refusal::of_memory()),
     }

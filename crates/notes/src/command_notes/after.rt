@@ -2,6 +2,7 @@
 
 use crate::command_notes::breach::put_breach;
 use crate::command_notes::headers::{put_end, put_header};
+use crate::sources::first_bad_line;
 use crate::{
     asm_cure, code_cure, guarded_cure, log_cure, put_entry, put_escaped, put_least, put_note,
     put_refused, verifier_cure,
@@ -425,6 +426,10 @@ fn put_many_notes(out: &mut String, words: &Words, facts: &Facts) -> Result<(), 
 const NOT_IN_LOG: &str =
     "the log doesn't have it: of --flush each is an entry of the log, and --from and --to are at most the number of entries (docs/COMMANDS.md, Options); 'crashbpf log' lists the entries";
 
+/// What a report has to be.
+const NOT_REPORT: &str =
+    "the file of --report isn't the report of this log with these options, or is cut off: the number says at which line that shows; at line 2 the options or the base are others, or it is of the first failing image alone (docs/OUTPUT.md, The report)";
+
 /// What the option or the number at a place has to be.
 fn option_rule(place: u64) -> &'static str {
     match place {
@@ -520,14 +525,39 @@ fn put_image_notes(
     put_note(out, image_rule(limits))
 }
 
-/// Appends which file can't be read, is no text, or is no image.
+/// Appends that a file is not a list of lines of C, and which of its lines is the first that is none.
+fn put_lines_notes(
+    alloc: Global,
+    out: &mut String,
+    words: &Words,
+    place: usize,
+    bytes: &[u8],
+) -> Result<(), AllocError> {
+    put_name(out, words, place, "is not a list of lines of C")?;
+    match first_bad_line(alloc, bytes)? {
+        Some(number) => write!(
+            out,
+            "note: line {number} is not 'SLOT FILE LINE' (docs/CHECKERS.md, CHECK.lines)\n"
+        ),
+        None => put_note(
+            out,
+            "it has at most 1048576 bytes and 65536 lines (docs/CHECKERS.md, CHECK.lines)",
+        ),
+    }
+}
+
+/// Appends which file can't be read, is no text, is no image, or is not a list of lines of C.
 fn put_file_notes(
+    alloc: Global,
     out: &mut String,
     words: &Words,
     files: &[Option<Vec<u8>>],
     place: usize,
 ) -> Result<(), AllocError> {
     match (bytes_of(files, place), words.request()) {
+        (Some(bytes), Request::Check(_)) if place == 2 => {
+            put_lines_notes(alloc, out, words, place, bytes)
+        }
         (Some(bytes), Request::Check(_)) => put_image_notes(out, words, place, bytes.len()),
         (Some(_bytes), _) => put_name(out, words, place, "is no text in UTF-8"),
         (None, _) => put_name(out, words, place, "can't be read"),
@@ -602,7 +632,8 @@ pub fn notes_after(
         Cause::Request(RequestCause::TooManyImages) => put_many_notes(&mut out, words, facts)?,
         Cause::Request(RequestCause::Option) => { put_note(&mut out, rule_of(words, refusal.at))? },
         Cause::Request(RequestCause::NotInLog) => put_note(&mut out, NOT_IN_LOG)?,
-        Cause::Request(RequestCause::File) => put_file_notes(&mut out, words, files, at)?,
+        Cause::Request(RequestCause::NotReport) => put_note(&mut out, NOT_REPORT)?,
+        Cause::Request(RequestCause::File) => put_file_notes(alloc, &mut out, words, files, at)?,
         Cause::Join(cause) => put_join_notes(alloc, &mut out, words, cause, at)?,
         Cause::Work(_cause) => put_work_notes(&mut out, words)?,
     }
