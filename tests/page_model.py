@@ -16,6 +16,9 @@ OF_CUT, OF_PROGRAM, LONGEST, NAMED = 8, 500, 16384, 16
 # Above how many entries their cells are narrow.
 MANY = 400
 
+# From how many entries on a log is folded, how many groups of a program are shown then, and how many failing cuts have a line.
+LARGE, OF_FOLDED, LINES = 1000, 100, 1000
+
 NAMES = {"&": "&amp;", "<": "&lt;", ">": "&gt;", '"': "&quot;", "'": "&#39;"}
 
 # The shares of failing images: class, words, and at most one in how many.
@@ -95,6 +98,14 @@ def advice(program, flushes, uncured):
     return text
 
 
+def folded(run):
+    """Where the blocks of a log begin, with those of its entries and where its cuts end; nothing where it isn't folded."""
+    count = len(run.entries)
+    width = count // LARGE + 1
+    starts = range(0, count + 1, width) if count >= LARGE else []
+    return [(start, min(start + width, count), start + width) for start in starts]
+
+
 class Cut:
     """A wanted cut: how many images it has, and those on which a program fails, with what it ends in on each."""
 
@@ -114,6 +125,12 @@ class Cut:
             return f"<i class='{classes}'></i>\n"
         title = f"cut {self.number}: {self.count()}"
         return f"<a tabindex='-1' class='{classes}' href='#p{program}c{self.number}' title='{title}'></a>\n"
+
+    def folded_cell(self, program, start, beyond, fails, listed):
+        """That of the block's cuts, where this is the first at which images fail, of that many."""
+        place = f"c{self.number}" if listed else "more"
+        title = f"cut {self.number}: {self.count()}; of cuts {start} to {beyond - 1} fail: {fails}"
+        return f"<a tabindex='-1' class='c {self.share()}{shade(self.run, start)}' href='#p{program}{place}' title='{title}'></a>\n"
 
     def text(self, program, left, is_open):
         """What is said of it, where that many groups may be shown, and how many are."""
@@ -154,8 +171,46 @@ def group(run, own, is_open):
     return text + "</details>\n"
 
 
+def folded_strip(run, program, flushes, cuts):
+    """The same of a large log, by its blocks."""
+    bad = [cut for cut in cuts if cut.failing]
+    blocks = folded(run)
+    text = f"<p class='about'>A cell stands for up to {blocks[0][2]} entries, and the one before it for as many cuts,"
+    text += " in the colour of the first at which images fail.</p>\n"
+    text += "<div tabindex='0' role='group' aria-label='The log: arrow keys move' class='log many'>\n"
+    for start, end, beyond in blocks:
+        own = [cut for cut in bad if start <= cut.number < beyond]
+        before = sum(1 for cut in bad if cut.number < start)
+        passing = f"<i class='c s0{shade(run, start)}'></i>\n"
+        if own:
+            text += own[0].folded_cell(program, start, beyond, len(own), before < LINES)
+        elif any(start <= cut.number < beyond for cut in cuts):
+            text += passing
+        lacking = [it for it in flushes if start <= it[0] < beyond]
+        for flush in [it for it in lacking if it in flushes[:NAMED]] or lacking[:1]:
+            text += flush_cell(program, flush).replace(f"href='#e{flush[0]}'", f"href='#e{start}'")
+        if start < end:
+            there = run.entries[start:end]
+            words = " write" if any(it.count and not it.flags & DISCARD for it in there) else ""
+            words += " mark" if any(it.flags & MARK for it in there) else ""
+            text += f"<a tabindex='-1' class='e{shade(run, start)}{words}' href='#e{start}'>{start} to {end - 1}</a>\n"
+    return text + "</div>\n"
+
+
+def folded_list(run):
+    """The entries of a large log, by its blocks."""
+    text = "<section aria-labelledby='entries'>\n<h2 id='entries'>Entries</h2>\n"
+    for start, end, _beyond in folded(run):
+        if start < end:
+            lines = "".join(html(entry_line(run, it)) + "\n" for it in range(start, end))
+            text += f"<details id='e{start}'><summary>entries {start} to {end - 1}</summary>\n<pre>{lines}</pre></details>\n"
+    return text + "</section>\n"
+
+
 def strip(run, program, flushes, cuts):
     """The row of entries and cuts, with the flushes that are missing."""
+    if folded(run):
+        return folded_strip(run, program, flushes, cuts)
     cells = {cut.number: cut.cell(program) for cut in cuts}
     lacking = {it[0]: flush_cell(program, it) for it in flushes}
     narrow = " many" if len(run.entries) > MANY else ""
@@ -179,11 +234,12 @@ def program_text(run, program, checker, cuts):
     flushes = missing_flushes([it for it in windows if it])
     text = f"<section aria-labelledby='p{program}'>\n<h2 id='p{program}'>Program {program}: {checker.about}</h2>\n" + verdict(cuts)
     text += advice(program, flushes, windows.count(None)) + strip(run, program, flushes, cuts) + legend()
-    left, is_open = OF_PROGRAM, True
-    for cut in cuts:
-        if cut.failing:
-            more, some = cut.text(program, left, is_open)
-            text, left, is_open = text + more, left - some, False
+    left, bad = OF_FOLDED if folded(run) else OF_PROGRAM, [cut for cut in cuts if cut.failing]
+    for cut in bad[:LINES]:
+        more, some = cut.text(program, left, cut == bad[0])
+        text, left = text + more, left - some
+    if len(bad) > LINES:
+        text += f"<p class='about' id='p{program}more'>{len(bad) - LINES} more cuts at which images fail: crashbpf why lists them.</p>\n"
     return text + "</section>\n"
 
 
@@ -200,4 +256,4 @@ def page(run, checkers):
         text += program_text(run, program, checkers[program], cuts)
     rows = "".join(f"<li id='e{it}'>{html(entry_line(run, it))}\n</li>\n" for it in range(len(run.entries)))
     listed = f"<section aria-labelledby='entries'>\n<h2 id='entries'>Entries</h2>\n<ol>\n{rows}</ol>\n</section>\n"
-    return text + listed + dress("CLOSING")
+    return text + (folded_list(run) if folded(run) else listed) + dress("CLOSING")

@@ -75,6 +75,7 @@ Where the rows stand
     contrast.py         the contrast of the text on a page, by the colours of its style
     model.py            the crash model and the report, written from docs/CRASH-MODEL.md and docs/OUTPUT.md alone
     cases_model.py      cases and their text, written from the same documents; by itself it makes all choices of small cuts
+    lines_model.py      lines of C and their places in the text of `check`, written from docs/CHECKERS.md and docs/OUTPUT.md alone
     machine_model.py    what a program comes to on an image, written from docs/MACHINE.md alone
     parts_model.py      runs in parts and their join, and runs of any number of images, written from the same documents
     programs/           programs as assembly texts

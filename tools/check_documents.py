@@ -322,7 +322,7 @@ def strays(repository, document, lines):
 def unlisted(repository, page):
     """Returns the files that docs/MAP.md lacks in the lists of TOLD_APART."""
     for title, (enum, file) in TOLD_APART.items():
-        rows = page.partition(f"**{title}**")[2].partition("\n**For a ")[0].split("\n")
+        rows = page.partition(f"### {title}")[2].partition("\n### ")[0].split("\n")
         body = re.search(rf"pub enum {enum} \{{(.*?)\n\}}", repository.texts[file], re.S)[1]
         forms = set(re.findall(r"(?m)^    ([A-Z]\w*)", body))
         told = re.compile(rf"\b(?:{enum}::|{enum.lower()}\.)(\w+)")

@@ -63,7 +63,7 @@ KINDS = {
 
 def rows(page, title):
     """Returns the lines of a list."""
-    return page.partition(f"**{title}**")[2].partition("\n**For a ")[0].split("\n")
+    return page.partition(f"### {title}")[2].partition("\n### ")[0].split("\n")
 
 
 def is_listed(lines, crate, name):

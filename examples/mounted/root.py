@@ -1,12 +1,12 @@
 """The root of the machine as an initrd: busybox, modules of the kernel, commands with their libraries, and the script."""
 import lzma
+import os
 import re
 import shutil
 import subprocess
 from pathlib import Path
 
 HERE = Path(__file__).resolve().parent
-PATH = "/usr/local/bin:/usr/bin:/bin:/usr/sbin:/sbin"
 FOLDERS = ("bin", "dev", "proc", "sys", "mnt", "tmp", "etc", "modules")
 VIRTIO = "virtio_ring virtio virtio_pci_modern_dev virtio_pci_legacy_dev virtio_pci virtio_blk"
 EXT4 = "crc16 crc32c_generic libcrc32c mbcache jbd2 ext4"
@@ -17,7 +17,7 @@ class NoRoot(Exception):
 
 
 def command(name):
-    found = shutil.which(name, path=PATH)
+    found = shutil.which(name, path=f"{os.environ['PATH']}:/usr/sbin:/sbin")
     if not found:
         raise NoRoot(f"there is no command {name}")
     return Path(found)
@@ -46,6 +46,7 @@ def make_initrd(kernel, folder, script, modules, commands):
     image = next(iter(sorted((kernel / "boot").glob("vmlinuz-*"))), None)
     if not image:
         raise NoRoot(f"{kernel} has no boot/vmlinuz-*")
+    command("qemu-system-x86_64")
     root = folder / "root"
     for it in FOLDERS:
         (root / it).mkdir(parents=True)

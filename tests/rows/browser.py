@@ -2,7 +2,7 @@
 from dataclasses import replace
 
 from model import Checker, Run
-from notation import FLUSH, MARK, Entry, Long, M, W, explore
+from notation import FLUSH, MARK, Entry, F, Long, M, W, explore
 from page_model import page
 
 from rows.examples import EXAMPLES, JOURNAL_RIGHT, JOURNAL_WRONG, data, pages, two_slots
@@ -18,6 +18,10 @@ MARKS = [W(0, 1, 1), M("gr\u00fc\u00dfe, \u65e5\u672c\u8a9e \\ \u202e\x85\x00<")
 
 # A write that is lost and a later one that arrived, so often that not all missing flushes are named.
 OFTEN = [W(number % 2, 1, number + 1) for number in range(40)]
+
+# Logs that are folded: marks with a write now and then, of which all cuts fail, and writes after many marks.
+SPARSE = [W(number // 90 % 4, 1, 1, FLUSH) if number % 90 == 0 else M(f"mark {number}") for number in range(1010)]
+LATE = [*(M("m") for _number in range(1000)), *OFTEN[:12], F, *OFTEN[:3]]
 
 
 # Every few runs one is looked at.
@@ -55,5 +59,10 @@ ROWS = [
     modelled("marks in UTF-8", Run(MARKS, 4)),
     modelled("no wanted cut", Run(OFTEN, 4, cuts="flush", first=0, last=1)),
     modelled("flushes missing often", Run(OFTEN, 4)),
+    modelled("999 entries", Run(SPARSE[:999], 4, first=900)),
+    modelled("1,000 entries", Run(SPARSE[:1000], 4, first=900)),
+    modelled("1,010 entries", Run(SPARSE, 4, by="write")),
+    modelled("many entries, some cuts", Run(SPARSE, 4, cuts="flush", first=90, last=700)),
+    modelled("many entries, flushes missing", Run(LATE, 4, first=995)),
     *(modelled(name, run) for name, run in list(runs())[::STEP] if sum(1 for _image in run.images()) <= FEW),
 ]

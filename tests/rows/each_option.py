@@ -30,6 +30,7 @@ FILES = {
     "raw": raw(SECTOR, [(16384, 1, 0, bytes(SECTOR))]),
     "wide": log([D(0, 3000)]),
     "image": bytes(4 * SECTOR),
+    "lines": b"1 check.c 4\n",
     "great": Hole(16385 * SECTOR),
     # a part of a run that lacks the images after it
     "some": part(Run(ENTRIES, 4), CHECKERS[:1], 0, 2, 5).encode(),
@@ -199,6 +200,7 @@ TOLD = ("out 2", "out -1")
 PAIRS["epoch"] = {"check": dict(two=["check told image --epoch 1", "check told image --epoch 2"], statuses=(1, 1), differ=TOLD, holds=("answer 2 codes",))}
 PAIRS["marks"] = {"check": dict(two=["check told image --marks 1", "check told image --marks 2"], statuses=(1, 1), differ=TOLD, holds=("answer 512 codes",))}
 PAIRS["trace"] = {"check": dict(two=["check good image --trace 1", "check good image --trace 2"], differ=("out 4",), holds=("step 1 slot 0 mov64 r0, 0; r0 0\n",))}
+PAIRS["lines"] = {"check": dict(two=["check good image --trace 1", "check good image --trace 1 --lines lines"], differ=("out 4",), holds=("step 2 slot 1 exit # check.c:4\n",))}
 PAIRS["slots"] = {"list": dict(two=["list good", "list good --slots"], differ=("out 1", "out 2"), holds=("0: mov64 r0, 0\n1: exit\n",))}
 
 PAIRS["part"] = {"join": dict(two=["join some", "join some --part"], statuses=(2, 1), differ=("out", "error"), holds=("crash part 1\n",))}

@@ -195,6 +195,15 @@ AS_PROGRAM = [
     Row("inputs: 4,096 slots as p0, explore", f"explore log p0 {SIZED}", {**ANSWERS["explore"].files, "p0": LONGEST}, Long(lambda: explored(RUN, [MANY]))),
 ]
 
+LINED = replace(CHECK, words="check p image --lines lines", files={**CHECK.files, "lines": b""})
+AS_LINES = [
+    *unreadable(LINED, "lines", "refused 14 at 2"),
+    *of_kinds(LINED, "lines", {it: "refused 14 at 2" for it in KINDS}),
+    answered(LINED, "no bytes", "lines", b""),
+    answered(LINED, "1 MiB", "lines", b"9 " + b"x" * (MIB - 5) + b" 1\n"),
+    no_answer(LINED, "a byte more than 1 MiB", "lines", b"9 " + b"x" * (MIB - 4) + b" 1\n", "refused 14 at 2"),
+    no_answer(LINED, "1 GiB", "lines", Hole(1 << 30), "refused 14 at 2"),
+]
 
 # What the device held before entry 0: bytes of any kind, as many as the device has
 
@@ -295,4 +304,4 @@ AS_AN_IMAGE = [
 ]
 assert all(len(KINDS[it]) % SECTOR for it in ["a program", "an assembly text", "a part", "a report", "an object file"])
 
-ROWS = [*AS_LOG, *AS_PROGRAM, *AS_BASE, *AS_PART, *AS_TEXT, *AS_RAW, *AS_AN_IMAGE]
+ROWS = [*AS_LOG, *AS_PROGRAM, *AS_LINES, *AS_BASE, *AS_PART, *AS_TEXT, *AS_RAW, *AS_AN_IMAGE]

@@ -1,5 +1,8 @@
 """`check`: what programs come to on one image, in how many steps, and the lines of the last ones (docs/OUTPUT.md, The text of
 `check`). The steps, the registers and the answers are worked out by hand from docs/MACHINE.md."""
+from dataclasses import replace
+
+from lines_model import MOST_BYTES, MOST_LINES, first_bad_line, placed, table_of
 from notation import SECTOR, Folder, Hole, Row, Something, code, lines, named, program, refused
 
 from rows.notes import UNREACHED
@@ -17,9 +20,9 @@ UNSAFE = program("exit")
 CUT_PROGRAM = code("9500")
 
 
-def tried(name, text, options, out, status, image=ZEROS):
+def tried(name, text, options, out, status, image=ZEROS, others={}):
     """A row of a program on an image; the text of the answer is given without its first line."""
-    content = {"p": program(text) if type(text) is str else text, "image": image}
+    content = {"p": program(text) if type(text) is str else text, "image": image, **others}
     return Row(f"check: {name}", f"check p image {options}".strip(), content, "crash check 1\n" + lines(out), status)
 
 
@@ -395,7 +398,134 @@ NOTED = [
     ("an image that is a folder", GOOD, Folder(), "refused 14 at 1", "image can't be read"),
 ]
 
+# Lines of C: the places that follow slots. Each text is that without the option, with the places that the model puts in.
+C_LINES = b"0 check.c 3\n1 check.c 4\n2 check.c 4\n5 lib/check.h 1234567890\n9 no_slot.c 1\n"
+
+
+def lined(name, row, content):
+    """A row of a program on an image, with lines of C."""
+    return replace(row, name=f"check: lines of C, {name}", words=f"{row.words} --lines lines", files={**row.files, "lines": content}, out=placed(row.out, table_of(content)))
+
+
+def named_row(name):
+    """The row of that name among those above."""
+    return next(it for it in [*ANSWERS, *LIMITS, *STEPS, *GUARDED] if it.name == f"check: {name}")
+
+
+LINED = [
+    tried(
+        "lines of C, by hand",
+        named("first_byte"),
+        "--trace 9 --lines lines",
+        """
+        sectors 4 epoch 0 marks 0
+        program slots 7 budget 5
+        step 1 slot 0 mov64 r1, 0; r1 0 # check.c:3
+        step 2 slot 1 call 1; r0 sector 0+0; r1 unset # check.c:4
+        step 3 slot 2 jne r0, 0, +2 # check.c:4
+        step 4 slot 5 ldxb r0, [r0+0]; r0 51 # lib/check.h:1234567890
+        step 5 slot 6 exit
+        steps 5
+        answer 51 codes -
+        """,
+        1,
+        FIFTY_ONE,
+        {"lines": C_LINES},
+    ),
+    tried("lines of C, a fault by hand", UNSAFE, "--checked 5 --trace 1 --lines lines", HEAD + "1 limit 5\nstep 1 slot 0 exit # check.c:3\nsteps 1\nfault 81 slot 0 # check.c:3\n", 1, ZEROS, {"lines": C_LINES}),
+    tried("lines of C, a stray by hand", "stxw [r1+8], r1; mov64 r0, 0; exit", "--guards --trace 2 --lines lines", HEAD + "3 budget 3 guards 1\nstep 1 slot 0 stxw [r1+8], r1; stray by r1 at context+8 bytes 4 # check.c:3\nsteps 1\nstray at slot 0 # check.c:3\n", 1, ZEROS, {"lines": C_LINES}),
+    *(
+        lined(f"{name}, {what}", named_row(name), content)
+        for name in [
+            "first_byte, 51",
+            "first_byte, step by step",
+            "the last two steps",
+            "a fault",
+            "a fault after a step",
+            "the steps up to a fault",
+            "out of steps",
+            "a local function",
+            "a step that changes no register",
+            "a read past a sector's end strays",
+            "a store to the frame of a caller strays",
+        ]
+        for what, content in [("some slots", C_LINES), ("none", b""), ("the last slots", b"2 a 7\n3 b.c 8\n4 c 9\n5 d 10\n6 e 11\n")]
+    ),
+    *(
+        lined(name, named_row("first_byte, step by step"), content)
+        for name, content in {
+            "in another order": b"5 b.c 2\n0 a.c 1\n",
+            "two of a slot": b"0 first.c 1\n0 second.c 2\n",
+            "each printable character": b"0 " + bytes(range(33, 127)) + b" 1\n",
+            "the greatest numbers": b"9999999999 a.c 9999999999\n5 a.c 9999999999\n",
+            "as many as there may be": b"9 a.c 1\n" * (MOST_LINES - 1) + b"6 last.c 7\n",
+            "as many bytes as there may be": b"6 " + b"x" * (MOST_BYTES - 5) + b" 1\n",
+        }.items()
+    ),
+]
+
+# Texts that are no lines of C.
+BAD_LINES = {
+    "no newline at the end": b"0 a.c 1\n1 a.c 2",
+    "an empty line": b"0 a.c 1\n\n1 a.c 2\n",
+    "a newline alone": b"\n",
+    "a word alone": b"0\n",
+    "two words": b"0 a.c\n",
+    "four words": b"0 a.c 1 2\n",
+    "a blank in front": b" 0 a.c 1\n",
+    "a blank at the end": b"0 a.c 1 \n",
+    "two blanks": b"0  a.c 1\n",
+    "a tab": b"0\ta.c\t1\n",
+    "a carriage return": b"0 a.c 1\r\n",
+    "line 0": b"0 a.c 0\n",
+    "a zero in front of a line": b"0 a.c 01\n",
+    "a zero in front of a slot": b"00 a.c 1\n",
+    "a slot with a sign": b"+1 a.c 1\n",
+    "a slot below 0": b"-1 a.c 1\n",
+    "a slot that is a word": b"one a.c 1\n",
+    "a line that is a word": b"1 a.c one\n",
+    "a digit with a letter": b"1 a.c 1a\n",
+    "a slot of eleven digits": b"10000000000 a.c 1\n",
+    "a line of eleven digits": b"1 a.c 10000000000\n",
+    "a control character": b"0 a\x1b.c 1\n",
+    "the byte after the printable ones": b"0 a\x7f 1\n",
+    "a character beyond ASCII": "0 \u00e4.c 1\n".encode(),
+    "bytes that are no UTF-8": b"0 a.c 1\n1 \xff.c 1\n",
+    "bytes that are no UTF-8 after a bad line": b"0 a.c 1\nx\n1 \xff.c 1\n",
+    "bytes that are no UTF-8 at the end": b"0 a.c 1\n\xff",
+    "a zero byte": b"\0",
+    "a program": code("b7000000000000009500000000000000"),
+    "a line too many": b"9 a.c 1\n" * (MOST_LINES + 1),
+    "a byte too many, and a line that says nothing": b"x\n" + b"6 " + b"x" * MOST_BYTES + b" 1\n",
+    "a byte too many": b"6 " + b"x" * (MOST_BYTES - 4) + b" 1\n",
+    "a line too many, and one that says nothing": b"9 a.c 1\n" * (MOST_LINES + 1) + b"x\n",
+}
+
+
+def no_lines(name, content):
+    """A row of a text that is no lines of C, with the notes that name its first bad line."""
+    number = first_bad_line(content)
+    assert table_of(content) is None
+    why = f"line {number} is not 'SLOT FILE LINE' (docs/CHECKERS.md, CHECK.lines)" if number else "it has at most 1048576 bytes and 65536 lines (docs/CHECKERS.md, CHECK.lines)"
+    return Row(f"notes: check: lines of C, {name}", "check p image --lines lines", {"p": GOOD, "image": ZEROS, "lines": content}, status=2, error="refused 14 at 2", notes=("lines is not a list of lines of C", why))
+
+
+# The order of refusals: words, then the files that can't be read, then the image, the lines and the program.
+LINES_IN_ORDER = {
+    "words": ("check p image --lines gone --marks 65537", "13 at 16"),
+    "the program can't be read": ("check gone gone2 --lines gone3", "14 at 0"),
+    "the image can't be read": ("check p gone --lines gone2", "14 at 1"),
+    "the lines can't be read": ("check cut bad --lines gone", "14 at 2"),
+    "the image": ("check cut bad --lines nothing", "14 at 1"),
+    "the lines": ("check cut image --lines nothing", "14 at 2"),
+    "the program": ("check cut image --lines lines", "20 at 0"),
+}
+LINES_FILES = {"p": GOOD, "image": ZEROS, "bad": bytes(5), "cut": CUT_PROGRAM, "nothing": b"x\n", "lines": C_LINES}
+
 FAULTY = [
+    "check p image --lines",
+    "check p image --lines image --lines image",
+    "explore p image --lines image",
     "check",
     "check p",
     "check p image image",
@@ -432,6 +562,9 @@ ROWS = [
     *LIMITS,
     *STEPS,
     *GUARDED,
+    *LINED,
+    *(no_lines(name, content) for name, content in BAD_LINES.items()),
+    *(refused(f"check: lines of C, refused for {name}", words, LINES_FILES, f"refused {error}") for name, (words, error) in LINES_IN_ORDER.items()),
     *(refused(f"refused: {words}", words, BOTH, f"refused {error}") for words, error in REFUSED.items()),
     *(refused(f"check: an image of {it} bytes", "check p image", {"p": GOOD, "image": bytes(it)}, "refused 14 at 1") for it in SIZES),
     *(refused(f"check: {name}", "check p image", {"p": p, "image": image}, f"refused {error}") for name, (p, image, error) in FAULTS.items()),
