@@ -53,8 +53,9 @@ _crashbpf() {
     *\ import\ *) [[ $word != -* ]] || words='--large -h --help' ;;
     *\ verify\ --sectors) return ;;
     *\ verify\ *) [[ $word != -* ]] || words='--sectors --large --guards --list -h --help' ;;
+    *\ check\ --lines) : ;;
     *\ check\ --epoch|*\ check\ --marks|*\ check\ --checked|*\ check\ --trace) return ;;
-    *\ check\ *) [[ $word != -* ]] || words='--large --epoch --marks --checked --guards --trace -h --help' ;;
+    *\ check\ *) [[ $word != -* ]] || words='--large --epoch --marks --checked --guards --trace --lines -h --help' ;;
     *\ asm\ *) [[ $word != -* ]] || words='-h --help' ;;
     *\ list\ *) [[ $word != -* ]] || words='--slots -h --help' ;;
     *\ join\ *) [[ $word != -* ]] || words='--part -h --help' ;;

@@ -169,6 +169,7 @@ complete -c crashbpf -n '__fish_seen_subcommand_from check' -l marks -x -d 'How 
 complete -c crashbpf -n '__fish_seen_subcommand_from check' -l checked -x -d 'Ask no verifier, and run each program for at most N steps, 0 to 1000000000'
 complete -c crashbpf -n '__fish_seen_subcommand_from check' -l guards -d 'Accept by weaker rules: runs test the places that aren\'t proved, and end where one is outside'
 complete -c crashbpf -n '__fish_seen_subcommand_from check' -l trace -x -d 'Print the last N steps, each with the registers that it changed [default: 0]'
+complete -c crashbpf -n '__fish_seen_subcommand_from check' -l lines -r -F -d 'Name the lines of C by FILE, which crashbpf-cc writes beside the program'
 complete -c crashbpf -n '__fish_seen_subcommand_from check' -s h -l help -d 'Print help'
 complete -c crashbpf -n '__fish_seen_subcommand_from check' -F
 complete -c crashbpf -n '__fish_seen_subcommand_from asm' -s h -l help -d 'Print help'
