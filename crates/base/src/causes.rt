@@ -176,7 +176,7 @@ impl VerifierCause {
 /// Why texts are no parts of one run in a row (docs/COMMANDS.md, Joining parts).
 #[derive(Clone, Copy, Debug, PartialEq, Eq, Error)]
 pub enum JoinCause {
-    #[error("the file isn't the text of a part, as 'explore --images' and 'join' print it (docs/OUTPUT.md, The text of a part)")]
+    #[error("the file isn't the text of a part, as 'explore --images' and 'join --part' print it (docs/OUTPUT.md, The text of a part)")]
     NotPart = 61,
     #[error("the file is a part of another run than the first one: of other options, or of another log or other programs (docs/COMMANDS.md, Joining parts)")]
     OtherRun = 62,

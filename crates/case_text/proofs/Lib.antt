@@ -4,3 +4,6 @@ pub mod Counting
 pub mod Lining
 pub mod Taking
 pub mod Windowed
+pub mod Failures
+pub mod Telling
+pub mod Shown

@@ -22,11 +22,11 @@ use Rattle.case_text.specs.Laws.{IsThere, IsWindow, HasNoWindow, WindowIsTold}
 use Rattle.case_text.proofs.Taking.{among_both, turned_among, risky_told}
 
 -- the entries of some parts rise, and of some others fall
-Rising : List Part → Type 0
+pub Rising : List Part → Type 0
 Rising [] = Unit {0}
 Rising (p ∷ ps) = ((q : Part) → IsAmong ps q → p.entry ≤ q.entry) × Rising ps
 
-Falling : List Part → Type 0
+pub Falling : List Part → Type 0
 Falling [] = Unit {0}
 Falling (p ∷ ps) = ((q : Part) → IsAmong ps q → q.entry ≤ p.entry) × Falling ps
 
@@ -50,7 +50,7 @@ falling_last (r ∷ ps) p fall low = (
     last q (inl same) = let own = ap (λ (x : Part). x.entry) same in let above = low r (inl refl) in omega (arith, own, above)
     last q (inr none) = absurd none
 
-falling_turned : (ps : List Part) → Rising ps → Falling (reverse ps)
+pub falling_turned : (ps : List Part) → Rising ps → Falling (reverse ps)
 unfolding Rising Falling
 falling_turned [] rise = tt
 falling_turned (p ∷ ps) rise =
@@ -89,18 +89,18 @@ rising_before way es (suc k) le = elim (slice_get_cases es k).1 [
       omega (arith, first, second, less)))
 ]
 
-rising_risky : (way : By) (es : List Entry) (k : ℕ) → k ≤ length es → Rising (parts_at_risk way es k)
+pub rising_risky : (way : By) (es : List Entry) (k : ℕ) → k ≤ length es → Rising (parts_at_risk way es k)
 unfolding parts_at_risk
 rising_risky way es k le = rising_kept (λ (p : Part). is_at_risk es k p.entry) (parts_before way es k) (rising_before way es k le)
 
 -- where a test holds first, of some parts
-record IsFirstOf (test : Part → Bool) (parts : List Part) (e : ℕ) : Type 0 where
-  part : Part
-  among : IsAmong parts part
-  passes : test part ≡ true
-  entry : part.entry ≡ e
+pub record IsFirstOf (test : Part → Bool) (parts : List Part) (e : ℕ) : Type 0 where
+  pub part : Part
+  pub among : IsAmong parts part
+  pub passes : test part ≡ true
+  pub entry : part.entry ≡ e
 
-first_found : (test : Part → Bool) (parts : List Part) (e : ℕ) → entry_where test parts ≡ Some e → IsFirstOf test parts e
+pub first_found : (test : Part → Bool) (parts : List Part) (e : ℕ) → entry_where test parts ≡ Some e → IsFirstOf test parts e
 first_found test [] e is = absurd (let bad : None ≡ Some e = is in cc)
 first_found test (q ∷ parts) e is = by_test (first_found test parts e) (test q) refl is
   where
@@ -109,7 +109,7 @@ first_found test (q ∷ parts) e is = by_test (first_found test parts e) (test q
     by_test told true passes some = record { part = q; among = inl refl; passes = passes; entry = same_Some q.entry e some }
     by_test told false fails rest = let it = told rest in record { part = it.part; among = inr it.among; passes = it.passes; entry = it.entry }
 
-no_first : (test : Part → Bool) (parts : List Part) (p : Part) → entry_where test parts ≡ None → IsAmong parts p → test p ≡ true → ⊥
+pub no_first : (test : Part → Bool) (parts : List Part) (p : Part) → entry_where test parts ≡ None → IsAmong parts p → test p ≡ true → ⊥
 no_first test [] p none among is = among
 no_first test (q ∷ parts) p none among is = by_test (no_first test parts p) (test q) refl none among
   where
@@ -119,7 +119,7 @@ no_first test (q ∷ parts) p none among is = by_test (no_first test parts p) (t
     by_test told false fails rest (inl same) = absurd (let bad : true ≡ false = sym is ∙ ap test (sym same) ∙ fails in cc)
     by_test told false fails rest (inr late) = told rest late is
 
-earliest : (test : Part → Bool) (parts : List Part) (e : ℕ) (p : Part) → Rising parts → entry_where test parts ≡ Some e → IsAmong parts p → test p ≡ true → e ≤ p.entry
+pub earliest : (test : Part → Bool) (parts : List Part) (e : ℕ) (p : Part) → Rising parts → entry_where test parts ≡ Some e → IsAmong parts p → test p ≡ true → e ≤ p.entry
 unfolding Rising
 earliest test [] e p rise some among is = absurd among
 earliest test (q ∷ parts) e p rise some among is = by_test (earliest test parts e p rise.1) (test q) refl some among
@@ -131,7 +131,7 @@ earliest test (q ∷ parts) e p rise some among is = by_test (earliest test part
     by_test told false fails rest (inl same) = absurd (let bad : true ≡ false = sym is ∙ ap test (sym same) ∙ fails in cc)
     by_test told false fails rest (inr late) = told rest late is
 
-latest : (test : Part → Bool) (parts : List Part) (e : ℕ) (p : Part) → Falling parts → entry_where test parts ≡ Some e → IsAmong parts p → test p ≡ true → p.entry ≤ e
+pub latest : (test : Part → Bool) (parts : List Part) (e : ℕ) (p : Part) → Falling parts → entry_where test parts ≡ Some e → IsAmong parts p → test p ≡ true → p.entry ≤ e
 unfolding Falling
 latest test [] e p fall some among is = absurd among
 latest test (q ∷ parts) e p fall some among is = by_test (latest test parts e p fall.1) (test q) refl some among
@@ -144,7 +144,7 @@ latest test (q ∷ parts) e p fall some among is = by_test (latest test parts e 
     by_test told false fails rest (inr late) = told rest late is
 
 -- among the parts turned round, too
-turned_back : (ps : List Part) (p : Part) → IsAmong ps p → IsAmong (reverse ps) p
+pub turned_back : (ps : List Part) (p : Part) → IsAmong ps p → IsAmong (reverse ps) p
 turned_back [] p among = among
 turned_back (q ∷ ps) p (inl same) =
     subst (λ zs. IsAmong zs p) (sym (reverse-append (q ∷ []) ps)) (Rattle.cases.proofs.Rows.among_append_right (reverse ps) (q ∷ []) p (inl same))

@@ -1,5 +1,5 @@
 -- How what is known of the parts at risk is collected, part by part.
-use Rattle.std.specs.Prelude.{ℕ, ◌+◌, ◌≡◌, Bool, if◌then◌else◌, List, [], ◌∷◌, ◌++◌, slice_index_or, Option, None, Some}
+use Rattle.std.specs.Prelude.{ℕ, ◌+◌, ◌≡◌, Bool, if◌then◌else◌, List, [], ◌∷◌, ◌++◌, slice_index_or, Option, None, Some, string_bytes}
 use Rattle.std.specs.Option.{option_or}
 use Rattle.epochs.specs.declared.part.Part.{Part}
 use Rattle.epochs.specs.declared.part.By.{By}
@@ -10,6 +10,8 @@ use Rattle.cases.specs.Sets.{fates_in}
 use Rattle.cases.specs.AtCut.{CutValue}
 use Rattle.case_text.specs.Window.{last_staying}
 use Rattle.case_text.specs.declared.known.Mixed.{Mixed}
+use Rattle.case_text.specs.declared.told.Told.{Told}
+use Rattle.case_text.specs.Why.{ToldValue, is_alike}
 use Rattle.case_text.specs.Known.{PartFates, KnownValue, is_kept, is_free, is_mixed, is_never_whole, is_never_gone}
 
 -- what a part with a set says
@@ -38,3 +40,11 @@ pub record IsSite (s : SiteValue) (way : By) (epoch marks : ℕ) (staying : Opti
   pub epoch_is : epoch ≡ epoch_at s.at.log.entries s.at.cut
   pub marks_is : marks ≡ marks_at s.at.log.entries s.at.cut
   pub staying_is : staying ≡ last_staying s.at
+
+-- what is said of a failing case
+abbrev pub told_value : Told → ToldValue
+told_value t = record { number = t.number; window = t.window; cause = string_bytes t.cause; tail = string_bytes t.tail }
+
+-- two failing cases have the same outcome and the same window
+abbrev pub alike_told : Told → Told → Bool
+alike_told one other = is_alike (told_value one) (told_value other)

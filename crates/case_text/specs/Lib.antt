@@ -4,5 +4,7 @@ pub mod Collected
 pub mod Window
 pub mod Text
 pub mod First
+pub mod Causes
+pub mod Why
 pub mod Counts
 pub mod Laws

@@ -33,9 +33,13 @@ at_most_words (Some most) = codes " at-most " ++ decimal most
 unfoldable pub losses_text : Losses → List ℕ
 losses_text asked = codes " bound any tears " ++ yes_or_no asked.tears ++ torn_words asked ++ at_most_words asked.lost
 
+-- the options and the programs
+unfoldable pub options_text : HeadValue → Losses → List ℕ
+options_text h asked = device_text h ++ losses_text asked ++ given_text h ++ program_lines 0 h.programs
+
 -- what stands before the lines of cases
 abbrev pub head_text : HeadValue → Losses → List ℕ
-head_text h asked = codes "crash cases 1\n" ++ device_text h ++ losses_text asked ++ given_text h ++ program_lines 0 h.programs
+head_text h asked = codes "crash cases 1\n" ++ options_text h asked
 
 -- what may become of a part
 abbrev pub fate_word : Option Fate → List ℕ

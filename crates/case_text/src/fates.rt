@@ -94,7 +94,7 @@ pub(crate) fn is_never_whole(fates: &[Option<Fate>]) -> bool
 }
 
 /// Whether nothing of a part arrives.
-fn is_gone(fate: Option<Fate>) -> bool
+pub(crate) fn is_gone(fate: Option<Fate>) -> bool
     ensures { result ≡ is_gone fate }
 {
     match fate {

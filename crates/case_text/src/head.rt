@@ -3,7 +3,7 @@
 ghost use Rattle.std.specs.Prelude.{◌≡◌, ◌++◌, OnOk, string_bytes};
 ghost use Rattle.report.specs.Text.{yes_or_no, cuts_word, by_words};
 ghost use Rattle.report.specs.Report.{device_text, given_text, base_words, program_line, program_lines};
-ghost use Rattle.case_text.specs.Text.{torn_words, at_most_words, losses_text, head_text};
+ghost use Rattle.case_text.specs.Text.{torn_words, at_most_words, losses_text, options_text, head_text};
 
 use case_runs::Losses;
 use epochs::{By, CutKind};
@@ -123,13 +123,21 @@ fn put_programs(out: &mut String, programs: &[ProgramHead]) -> Result<(), AllocE
     Ok(())
 }
 
+/// Appends the options and the programs.
+#[tactic(auto, unfolding(crate::specs::Text::options_text))]
+pub(crate) fn put_options(out: &mut String, head: &Head, asked: Losses) -> Result<(), AllocError>
+    ensures { OnOk result (string_bytes out.new ≡ string_bytes out.old ++ options_text head.now asked) }
+{
+    put_device(out, head)?;
+    put_losses(out, asked)?;
+    put_given(out, head)?;
+    put_programs(out, head.programs.as_slice())
+}
+
 /// Appends what stands before the lines of cases: the title, the options and the programs.
 pub(crate) fn put_head(out: &mut String, head: &Head, asked: Losses) -> Result<(), AllocError>
     ensures { OnOk result (string_bytes out.new ≡ string_bytes out.old ++ head_text head.now asked) }
 {
     write!(out, "crash cases 1\n")?;
-    put_device(out, head)?;
-    put_losses(out, asked)?;
-    put_given(out, head)?;
-    put_programs(out, head.programs.as_slice())
+    put_options(out, head, asked)
 }

@@ -1,4 +1,4 @@
-//! The text of the failing cases of a run: what `explore` prints with `--bound any`.
+//! The text of the failing cases of a run, and of why they fail: what `explore` and `why` print with `--bound any`.
 //!
 //! A run with a bound prints a line for each image on which a program fails. Without a bound images are judged as cases, each a set of
 //! choices that a program can't tell apart (`cases`). A line then is of a case. It tells how the program ends on all its images, and what
@@ -22,10 +22,19 @@
 //! | `flush` | the window: a flush before any of these entries takes all images of the case away |
 //! | `complete` | in the last line, where no case was left out |
 //!
+//! `why` says of each case in words what was lost while something later was there, or by which image it is shown where no flush helps:
+//!
+//! ```text
+//! cut 6 program 0 failing 2
+//! case 4 lost 2.0 and torn 5.0 while 3.0,4.0 were kept: answer 1 codes 3, flush 3..5
+//! case 9 at cut 5, with nothing lost: answer 1 codes 1, flush none
+//! ```
+//!
 //! # Place
 //!
 //! On `cases`, whose sets of fates it reads, on `case_runs`, whose findings it prints, and on `report`, whose words it takes for the head,
-//! what a program ends in, and what departs. A window is that of `losses`. It judges nothing.
+//! what a program ends in, and what departs. A window is that of `losses`, which also picks the flushes that are missing for some windows.
+//! It judges nothing.
 //!
 //! # The calls
 //!
@@ -33,6 +42,7 @@
 //! |---|---|
 //! | `write_cases(alloc, head, log, plan, asked, found)` | the bytes of the text |
 //! | `write_first(alloc, head, log, plan, asked, first)` | the bytes of the text of the first failing case alone |
+//! | `write_why(alloc, head, log, plan, asked, found)` | the bytes of the text of why they fail |
 //! | `is_any_failing(found)` | whether a program fails on some case |
 //! | `left_out(found)` | how many cases were left out |
 //!
@@ -42,19 +52,30 @@
 //! - `Window`: which entries stand on each image of a cut, and where a flush takes a case away (`case_window`).
 //! - `Text`: the bytes (`cases_bytes`).
 //! - `First`: the bytes of the text of the first failing case alone (`first_bytes`).
+//! - `Causes`: why a case fails, in words (`cause_text`).
+//! - `Why`: the failing cases as failures (`all_failures`), their groups, and the bytes of the text of why they fail (`TellsWhy`).
 //!
 //! # What is proved
 //!
 //! - `write_cases` gives exactly `cases_bytes` of the head, of what was asked, of the log and of what was found, byte by byte. Its one
 //!   error is want of memory.
 //! - `write_first` gives exactly `first_bytes`: the text up to and with its first line of a case, and a last line that names that case.
+//! - `write_why` gives exactly the bytes of `TellsWhy`. Its flushes are those that `missing_flushes` of `losses` answers of the windows of all
+//!   failing cases: by the law `places_are_fewest` there, no fewer have one in each window.
 //! - `flush_takes_case_away`: take a choice of a case with a window, and a log with a flush before an entry of the window, and with any
 //!   others. What that choice loses and tears is lost by no choice at its cut there. Nor is what it loses and tears up to the end of the
 //!   window by one right after that.
 //! - `window_is_told`: the window of a case begins after the first entry of which a part is whole on none of its images. It ends with the
 //!   last entry of which something is there on each image, or that is a mark. Where no window is printed there is no such entry.
+//! - `case_is_shown`: take a case without a window, and the first entry of which a part is whole on none of its images. The case has a
+//!   choice in which all that was written before that entry is whole, and all that was written after it is lost; there stands no mark, and
+//!   nothing that isn't at risk. Up to that entry it loses and tears what the representative does of the entry alone. Where nothing of the
+//!   entry has to arrive it may be lost too. That these choices leave the image of the cut after that entry, or before it, has no law here.
+//! - `nothing_is_lost`: in a case that has no such entry nothing may be lost.
 //!
 //! # How it is written
+//!
+//! The cases of a cut that end alike and have one window are told by the end of their lines (`Told`): where two of these are the same bytes.
 //!
 //! What is known of a case is collected part by part into lists, which are kept from case to case (`Known`). So a case takes no memory but
 //! the growth of the text. What is the same for all cases of a cut is found once (`Site`).
@@ -74,18 +95,23 @@
 //! ```
 #![tactic(auto)]
 
+mod causes;
 mod fates;
 mod first;
+mod grouped;
 mod head;
 mod known;
 mod laws;
 mod lines;
 mod said;
 mod site;
+mod told;
 mod totals;
+mod why;
 mod writer;
 
 pub use first::write_first;
-pub use laws::{flush_takes_case_away, window_is_told};
+pub use laws::{case_is_shown, flush_takes_case_away, nothing_is_lost, window_is_told};
 pub use totals::{is_any_failing, left_out};
+pub use why::write_why;
 pub use writer::write_cases;

@@ -58,7 +58,7 @@ fn put_next_part(out: &mut String, by: By, part: Part) -> Result<(), AllocError>
 
 /// Appends some parts, joined by commas; a hyphen where there is none.
 #[tactic(auto, unfolding(crate::specs::Text::parts_text))]
-fn put_parts(out: &mut String, by: By, parts: &[Part]) -> Result<(), AllocError>
+pub(crate) fn put_parts(out: &mut String, by: By, parts: &[Part]) -> Result<(), AllocError>
     ensures { OnOk result (string_bytes out.new ≡ string_bytes out.old ++ parts_text by parts.now) }
 {
     match parts {

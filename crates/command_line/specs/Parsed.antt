@@ -17,6 +17,7 @@ use Rattle.request.specs.declared.command.Request.TheVariants as asks
 use Rattle.request.specs.declared.command.Which.{Which}
 use Rattle.request.specs.declared.command.Which.TheVariants as which
 use Rattle.request.specs.declared.trials.TrialWords.{TrialWords}
+use Rattle.request.specs.declared.settings.Retelling.TheVariants as retelling
 use Rattle.clap.specs.Words.{first_value, matched_of, one_text, raw_values}
 use Rattle.clap.specs.declared.parser.matches.Found.{Found}
 use Rattle.command_line.specs.declared.parsed.Parsed.{Parsed}
@@ -130,13 +131,30 @@ AreOptions = AreOptionsWith 18446744073709551615
 abbrev pub asks_losses : Parsed → Bool
 asks_losses p = p.any || is_some p.torn || is_some p.at_most
 
--- what is asked of any number of losses
-abbrev pub losses_named : Parsed → LossWords
-losses_named p = record { any = p.any; torn = p.torn; at_most = p.at_most }
+-- what is asked of any number of losses, by `why` or by `explore`
+abbrev pub losses_named : Parsed → Bool → LossWords
+losses_named p why = record { any = p.any; torn = p.torn; at_most = p.at_most; why = why }
 
 -- what `explore` asks for, with these options
 abbrev pub explored : Parsed → OptionWords → Request
-explored p options = if asks_losses p then asks.Cases options (losses_named p) else asks.Explore options
+explored p options = if asks_losses p then asks.Cases options (losses_named p false) else asks.Explore options
+
+-- what `why` asks for, with these options, of programs
+abbrev pub explained : Parsed → OptionWords → Request
+explained p options = if asks_losses p then asks.Cases options (losses_named p true) else asks.Why options
+
+-- what `why` asks for, with --report or without
+abbrev pub AsksCauses : Parsed → Bool → Request → Type 0
+AsksCauses p true r = (options : OptionWords) × AreOptions p options × (r ≡ asks.Retold options retelling.Causes)
+AsksCauses p false r = (options : OptionWords) × AreOptionsWith 0 p options × (r ≡ explained p options)
+
+-- what `cure` asks for, with these options: of a report where one is given
+abbrev pub places_asked : Parsed → OptionWords → Request
+places_asked p options = if is_some p.report then asks.Retold options retelling.Places else asks.Cure options
+
+-- what `page` asks for, with these options
+abbrev pub page_asked : Parsed → OptionWords → Request
+page_asked p options = if is_some p.report then asks.Retold options retelling.Page else asks.Page options
 
 -- the text of a choice, kept if it has at most 96 bytes
 abbrev pub choice_named : Parsed → List ℕ
@@ -168,9 +186,9 @@ trial_asked p = record { limits = limits_named p.large; epoch = unwrap_or p.epoc
 -- what a command asks for: its options, and the image that it means
 abbrev pub Asks : Parsed → Option Verb → Request → Type 0
 Asks p (Some verb.Explore) r = (options : OptionWords) × AreOptionsWith 0 p options × (r ≡ explored p options)
-Asks p (Some verb.Why) r = (options : OptionWords) × AreOptions p options × (r ≡ asks.Why options)
-Asks p (Some verb.Cure) r = (options : OptionWords) × AreOptions p options × (r ≡ asks.Cure options)
-Asks p (Some verb.Page) r = (options : OptionWords) × AreOptions p options × (r ≡ asks.Page options)
+Asks p (Some verb.Why) r = AsksCauses p (is_some p.report) r
+Asks p (Some verb.Cure) r = (options : OptionWords) × AreOptions p options × (r ≡ places_asked p options)
+Asks p (Some verb.Page) r = (options : OptionWords) × AreOptions p options × (r ≡ page_asked p options)
 Asks p (Some verb.Images) r = (options : OptionWords) × AreOptions p options × (r ≡ asks.Images options p.parts)
 Asks p (Some verb.Export) r = (options : OptionWords) × AreOptions p options × (r ≡ asks.Export options)
 Asks p (Some verb.Image) r = AsksImage p false r
@@ -185,7 +203,7 @@ Asks p (Some verb.Join) r = r ≡ asks.Join p.part
 Asks p None r = r ≡ asks.StoredRun
 
 -- the files that are named: a log, a source text or a program, then the image of a program and its lines of C, then the programs of a
--- run, or the texts of parts
+-- run, or a report in their place, or the texts of parts
 abbrev pub first_file : Option (List ℕ) → List (List ℕ)
 first_file None = []
 first_file (Some file) = file ∷ []
@@ -195,7 +213,7 @@ program_files None = []
 program_files (Some programs) = map (λ w. w.now) programs.now
 
 abbrev pub files_named : Parsed → List (List ℕ)
-files_named p = first_file (word_bytes p.file) ++ first_file (word_bytes p.image) ++ first_file (word_bytes p.lines) ++ program_files p.programs ++ program_files p.texts
+files_named p = first_file (word_bytes p.file) ++ first_file (word_bytes p.image) ++ first_file (word_bytes p.lines) ++ program_files p.programs ++ first_file (word_bytes p.report) ++ program_files p.texts
 
 -- the number that the text after an option is
 pub record IsWritten (found : Found) (option : List ℕ) (number : ℕ) : Type 0 where
@@ -224,6 +242,7 @@ pub record IsRead (found : Found) (p : Parsed) : Type 0 where
   pub image : word_bytes p.image ≡ first_value found (codes "image")
   pub lines : word_bytes p.lines ≡ first_value found (codes "lines")
   pub programs : option_map (λ ws. map (λ w. w.now) ws.now) p.programs ≡ option_map raw_values (matched_of found (codes "programs"))
+  pub report : word_bytes p.report ≡ first_value found (codes "report")
   pub sectors : IsNumberOf found (codes "sectors") p.sectors
   pub large : IsFlagOf found (codes "large") p.large
   pub flush : word_bytes p.flush ≡ first_value found (codes "flush")

@@ -1,10 +1,10 @@
 //! What `clap` read of the words, and what that asks for.
 
-ghost use Rattle.std.specs.Prelude.{◌≡◌, ◌<◌, ◌++◌, codes, length, map, option_map, unwrap_or, string_bytes, Some, IfOk, MatchOption, MatchResult, OnOk};
+ghost use Rattle.std.specs.Prelude.{◌≡◌, ◌<◌, ◌++◌, codes, length, map, option_map, unwrap_or, is_some, string_bytes, Some, IfOk, MatchOption, MatchResult, OnOk};
 ghost use Rattle.base.specs.Sizes.{sector_limit};
 ghost use Rattle.clap.specs.Words.{first_value, found_of};
 ghost use Rattle.command_line.specs.Number.{NoNumber as NoNumberText};
-ghost use Rattle.command_line.specs.Parsed.{Asks, AsksBounded, AsksImage, AreFlushes, AreOptions, AreOptionsWith, IsBoundOf, IsExtent, any_named, asks_losses, bound_named, choice_named, command_named, cuts_named, explored, files_named, limits_named, losses_named, options_with, parts_named, trial_asked, word_bytes, IsFlagOf, IsNumberOf, IsRead, IsWhich};
+ghost use Rattle.command_line.specs.Parsed.{Asks, AsksBounded, AsksCauses, AsksImage, AreFlushes, AreOptions, AreOptionsWith, IsBoundOf, IsExtent, any_named, asks_losses, bound_named, places_asked, choice_named, command_named, cuts_named, explained, explored, files_named, first_file, program_files, limits_named, losses_named, options_with, page_asked, parts_named, trial_asked, word_bytes, IsFlagOf, IsNumberOf, IsRead, IsWhich};
 
 use crate::extents::extent_in;
 use crate::flush_list::flushes_in;
@@ -13,7 +13,7 @@ use arrayvec::ArrayString;
 use base::limits::Limits;
 use clap::ArgMatches;
 use epochs::{By, CutKind, Flushes};
-use request::{Extent, LossWords, OptionWords, Request, TrialWords, Which};
+use request::{Extent, LossWords, OptionWords, Request, Retelling, TrialWords, Which};
 use std::alloc::{AllocError, Global};
 
 /// The bound that stands for `any` where a command takes none: it is too great.
@@ -33,6 +33,8 @@ pub struct Parsed<'a> {
     pub lines: Option<&'a str>,
     /// The programs of a run.
     pub programs: Option<&'a [&'a str]>,
+    /// The name after `--report`.
+    pub report: Option<&'a str>,
     /// The number after `--sectors`.
     pub sectors: Option<u64>,
     /// Whether `--large` stands there.
@@ -231,6 +233,30 @@ fn put_names(alloc: Global, files: &mut Vec<String>, names: &[&str]) -> Result<(
     Ok(())
 }
 
+/// Appends the name of a file, where one is named.
+fn put_name(alloc: Global, files: &mut Vec<String>, name: Option<&str>) -> Result<(), AllocError>
+    ensures { OnOk result (map string_bytes files.new.items ≡ map string_bytes files.old.items ++ first_file (word_bytes name.entry)) }
+{
+    if let Some(name) = name {
+        files.push(name.to_string(alloc)?)?;
+    }
+    Ok(())
+}
+
+/// Appends the names of files, where some are named.
+fn put_if_named(
+    alloc: Global,
+    files: &mut Vec<String>,
+    names: Option<&[&str]>,
+) -> Result<(), AllocError>
+    ensures { OnOk result (map string_bytes files.new.items ≡ map string_bytes files.old.items ++ program_files names.entry) }
+{
+    match names {
+        Some(names) => put_names(alloc, files, names),
+        None => Ok(()),
+    }
+}
+
 /// A word that stands in the place of a number and is none, and which option or word it is.
 #[derive(Clone, Copy)]
 pub(crate) struct NoNumber<'a> {
@@ -296,6 +322,7 @@ impl<'a> Parsed<'a> {
             image: matches.get_str("image"),
             lines: matches.get_str("lines"),
             programs: matches.get_strs("programs"),
+            report: matches.get_str("report"),
             sectors: number_of(matches, "sectors")?,
             large: flag_of(matches, "large"),
             flush: matches.get_str("flush"),
@@ -392,14 +419,15 @@ impl<'a> Parsed<'a> {
         self.any || self.torn.is_some() || self.at_most.is_some()
     }
 
-    /// What is asked of any number of losses.
-    fn losses(&self) -> LossWords
-        ensures { result ≡ losses_named self.now }
+    /// What is asked of any number of losses, by `why` or by `explore`.
+    fn losses(&self, why: bool) -> LossWords
+        ensures { result ≡ losses_named self.now why }
     {
         LossWords {
             any: self.any,
             torn: self.torn,
             at_most: self.at_most,
+            why,
         }
     }
 
@@ -408,9 +436,50 @@ impl<'a> Parsed<'a> {
         ensures { result ≡ explored self.now options }
     {
         if self.asks_losses() {
-            Request::Cases(options, self.losses())
+            Request::Cases(options, self.losses(false))
         } else {
             Request::Explore(options)
+        }
+    }
+
+    /// What `why` asks for, with these options, of programs.
+    fn explained(&self, options: OptionWords) -> Request
+        ensures { result ≡ explained self.now options }
+    {
+        if self.asks_losses() {
+            Request::Cases(options, self.losses(true))
+        } else {
+            Request::Why(options)
+        }
+    }
+
+    /// What `why` asks for.
+    fn why(&self) -> Request
+        ensures { AsksCauses self.now (is_some self.now.report) result }
+    {
+        match self.report {
+            Some(_name) => Request::Retold(self.options(), Retelling::Causes),
+            None => self.explained(self.options_by(0)),
+        }
+    }
+
+    /// What `cure` asks for, with these options.
+    fn cure(&self, options: OptionWords) -> Request
+        ensures { result ≡ places_asked self.now options }
+    {
+        match self.report {
+            Some(_name) => Request::Retold(options, Retelling::Places),
+            None => Request::Cure(options),
+        }
+    }
+
+    /// What `page` asks for, with these options.
+    fn page(&self, options: OptionWords) -> Request
+        ensures { result ≡ page_asked self.now options }
+    {
+        match self.report {
+            Some(_name) => Request::Retold(options, Retelling::Page),
+            None => Request::Page(options),
         }
     }
 
@@ -484,9 +553,9 @@ impl<'a> Parsed<'a> {
     {
         match verb_of(self.command) {
             Some(Verb::Explore) => self.explored(self.options_by(0)),
-            Some(Verb::Why) => Request::Why(self.options()),
-            Some(Verb::Cure) => Request::Cure(self.options()),
-            Some(Verb::Page) => Request::Page(self.options()),
+            Some(Verb::Why) => self.why(),
+            Some(Verb::Cure) => self.cure(self.options()),
+            Some(Verb::Page) => self.page(self.options()),
             Some(Verb::Images) => Request::Images(self.options(), self.parts),
             Some(Verb::Export) => Request::Export(self.options()),
             Some(Verb::Image) => self.imaged(false),
@@ -508,7 +577,7 @@ impl<'a> Parsed<'a> {
     }
 
     /// The files that are named: a log, a source text or a program, then the image of a program and its lines of C, then the programs
-    /// of a run, or the texts of parts.
+    /// of a run, or a report in their place, or the texts of parts.
     ///
     /// # Errors
     ///
@@ -517,21 +586,12 @@ impl<'a> Parsed<'a> {
         ensures { IfOk result (λ files. map string_bytes files.items ≡ files_named self.now) }
     {
         let mut files = Vec::new(alloc);
-        if let Some(file) = self.file {
-            files.push(file.to_string(alloc)?)?;
-        }
-        if let Some(image) = self.image {
-            files.push(image.to_string(alloc)?)?;
-        }
-        if let Some(lines) = self.lines {
-            files.push(lines.to_string(alloc)?)?;
-        }
-        if let Some(programs) = self.programs {
-            put_names(alloc, &mut files, programs)?;
-        }
-        if let Some(texts) = self.texts {
-            put_names(alloc, &mut files, texts)?;
-        }
+        put_name(alloc, &mut files, self.file)?;
+        put_name(alloc, &mut files, self.image)?;
+        put_name(alloc, &mut files, self.lines)?;
+        put_if_named(alloc, &mut files, self.programs)?;
+        put_name(alloc, &mut files, self.report)?;
+        put_if_named(alloc, &mut files, self.texts)?;
         Ok(files)
     }
 

@@ -69,7 +69,11 @@ const AFTER_WHY: &str =
     "The flushes that are missing, and for each program the cuts at which it fails. The failing images of a cut
 stand in groups: in the images of a group the same parts are lost and the same parts are torn.
 
-Example: crashbpf why disk.log check.bpf --sectors 64 --cuts flush --bound 2 --tears
+With --bound any no number of losses is left out. Each line then says why a case fails: what was lost while
+something later was kept, or an image against which no flush helps.
+
+Examples: crashbpf why disk.log check.bpf --sectors 64 --cuts flush --bound 2 --tears
+          crashbpf why disk.log check.bpf --sectors 64 --bound any
 
 Exit status: 0 where no image fails, 1 where one does, 2 for a refusal.";
 
@@ -281,7 +285,7 @@ fn bound_option<'a>(alloc: Global, any: bool) -> Arg<'a> {
         .value_name("N")
         .value_parser(parser)
         .help(
-            "How many sectors, or by write how many writes, may be lost or torn, 0 to 3, or any (explore, image, show) [default: 1]",
+            "How many sectors, or by write how many writes, may be lost or torn, 0 to 3, or any (explore, why, image, show) [default: 1]",
         )
 }
 
@@ -379,6 +383,39 @@ fn with_run_options<'a>(alloc: Global, command: Command<'a>) -> Result<Command<'
     ))
 }
 
+/// The programs of a run, where no report is given in their place.
+fn programs_or_report<'a>(alloc: Global) -> Result<Arg<'a>, AllocError> {
+    Ok(
+        Arg::new(alloc, "programs")
+            .num_args(1..)
+            .required_unless_present("report")?
+            .conflicts_with("report")?
+            .value_name("PROGRAM")
+            .help("Checkers, one to eight: BPF programs that answer 0 for a good image"),
+    )
+}
+
+/// The option that gives a report in place of programs.
+fn report_option<'a>(alloc: Global) -> Result<Arg<'a>, AllocError> {
+    word_option(
+        alloc,
+        "report",
+        "FILE",
+        "Judge nothing: tell it of this report of the log with the same options, as crashbpf-each or 'explore' prints it",
+    )
+    .conflicts_with("workers")?
+    .conflicts_with("cache")?
+    .conflicts_with("checked")?
+    .conflicts_with("guards")?
+    .conflicts_with("progress")
+}
+
+/// A command that takes a report in place of programs.
+fn with_report<'a>(alloc: Global, command: Command<'a>) -> Result<Command<'a>, AllocError> {
+    let command = with_arg(with_run_options(alloc, command)?, report_option(alloc))?;
+    with_arg(command, programs_or_report(alloc))
+}
+
 /// The programs of a run.
 fn program_files<'a>(alloc: Global) -> Arg<'a> {
     Arg::new(alloc, "programs")
@@ -388,12 +425,34 @@ fn program_files<'a>(alloc: Global) -> Arg<'a> {
         .help("Checkers, one to eight: BPF programs that answer 0 for a good image")
 }
 
+/// How many parts of any number of losses may be torn.
+fn torn_option<'a>(alloc: Global) -> Arg<'a> {
+    number_option(
+        alloc,
+        "torn",
+        "With --bound any and --tears, how many of them may be torn, 1 to 3 [default: 1]",
+    )
+}
+
+/// How many parts of any number of losses may depart.
+fn at_most_option<'a>(alloc: Global) -> Arg<'a> {
+    number_option(
+        alloc,
+        "at-most",
+        "With --bound any, how many of them may be lost or torn, 1 to 64 [default: any number]",
+    )
+}
+
 /// The command `why`.
 fn why_command<'a>(alloc: Global, any: bool) -> Result<Command<'a>, AllocError> {
     let command = log_command(alloc, "why", any)?
         .about("Tells which losses make a checker fail, cut by cut")
         .after_help(AFTER_WHY);
-    with_run_options(alloc, command)?.arg(program_files(alloc))
+    let command = with_arg(
+        with_report(alloc, command)?,
+        torn_option(alloc).conflicts_with("report"),
+    )?;
+    with_arg(command, at_most_option(alloc).conflicts_with("report"))
 }
 
 /// The command `cure`.
@@ -401,7 +460,7 @@ fn cure_command<'a>(alloc: Global, any: bool) -> Result<Command<'a>, AllocError>
     let command = log_command(alloc, "cure", any)?
         .about("Tells before which entries a flush is missing, and what fails with these flushes")
         .after_help(AFTER_CURE);
-    with_run_options(alloc, command)?.arg(program_files(alloc))
+    with_report(alloc, command)
 }
 
 /// The command `page`.
@@ -409,7 +468,7 @@ fn page_command<'a>(alloc: Global, any: bool) -> Result<Command<'a>, AllocError>
     let command = log_command(alloc, "page", any)?
         .about("Shows the log and the failing cuts as a page for a browser")
         .after_help(AFTER_PAGE);
-    with_run_options(alloc, command)?.arg(program_files(alloc))
+    with_report(alloc, command)
 }
 
 /// The command `explore`.
@@ -418,16 +477,8 @@ fn explore_command<'a>(alloc: Global, any: bool) -> Result<Command<'a>, AllocErr
         .about("Reports the crash images on which a checker doesn't answer 0")
         .after_help(AFTER_EXPLORE);
     with_run_options(alloc, command)?
-        .arg(number_option(
-            alloc,
-            "torn",
-            "With --bound any and --tears, how many of them may be torn, 1 to 3 [default: 1]",
-        ))?
-        .arg(number_option(
-            alloc,
-            "at-most",
-            "With --bound any, how many of them may be lost or torn, 1 to 64 [default: any number]",
-        ))?
+        .arg(torn_option(alloc))?
+        .arg(at_most_option(alloc))?
         .arg(flag_option(
             alloc,
             "first",
@@ -835,6 +886,7 @@ impl Words {
             Request::Explore(words) | Request::Cases(words, _) => words.sectors,
             Request::Why(words) => words.sectors,
             Request::Cure(words) | Request::Page(words) => words.sectors,
+            Request::Retold(words, _) => words.sectors,
             Request::Images(words, _) | Request::Log(words) => words.sectors,
             Request::Export(words) => words.sectors,
             Request::Image(words, _) | Request::Show(words, _) => words.sectors,
@@ -855,6 +907,7 @@ impl Words {
             Request::Explore(words) | Request::Cases(words, _) => words.limits,
             Request::Why(words) => words.limits,
             Request::Cure(words) | Request::Page(words) => words.limits,
+            Request::Retold(words, _) => words.limits,
             Request::Images(words, _) | Request::Log(words) => words.limits,
             Request::Export(words) => words.limits,
             Request::Image(words, _) | Request::Show(words, _) => words.limits,

@@ -19,7 +19,9 @@ use Rattle.helpers.specs.declared.device.Context.{Context}
 use Rattle.helpers.specs.declared.helper.Helper.{Helper}
 use Rattle.helpers.specs.declared.helper.Helper.TheVariants as helper
 use Rattle.helpers.specs.Helper.{helper_of}
-use Rattle.helpers.specs.Answers.{sector_answer, device_bytes, copy_answer, again_answer, report_answer, codes_after, zero_answer, mix_answer, same_answer}
+use Rattle.helpers.specs.Answers.{device_bytes, copy_answer, again_answer, report_answer, codes_after}
+use Rattle.helpers.specs.Queries.{query_answer}
+use Rattle.helpers.proofs.Queries.{query_word, copy_most, report_most, again_most}
 use Rattle.machine.specs.Arithmetic.{arithmetic, sign_extension, in_order, holds}
 use Rattle.machine.specs.State.{State, Frame, Caller, word, start, stack_end, unset_stack}
 use Rattle.machine.specs.Memory.{context_bytes, byte_at, byte_count, plain_size, extension_of, number_from, frames_with}
@@ -31,7 +33,7 @@ use Rattle.soundness.specs.Accepted.{IsImage}
 use Rattle.soundness.proofs.Loads.{small_number}
 use Rattle.soundness.proofs.Programs.{range_at}
 use Rattle.join.specs.Printable.{IsWithin}
-use Rattle.commands.proofs.Computed.{computed_word, extended_word, ordered_word, sector_word, zero_word, same_word, mix_word, copy_word, report_word, again_word}
+use Rattle.commands.proofs.Computed.{computed_word, extended_word, ordered_word}
 use Rattle.commands.proofs.Holding.{IsBelow, IsSaved, IsFrame, HoldsWords, AreBelow, AreBytes, HasBytes, each_set, each_both, each_taken, register_below, word_below, second_word, far, target_word, slot_within, byte_small, number_word, copied_small, bytes_kept, answer_kept, codes_kept, unset_below, saved_there}
 
 -- what a step comes to
@@ -75,24 +77,26 @@ either_slot false x y left right = right
 
 called_goes : (device : List (List ℕ)) (context : List ℕ) (s : State) (h : Helper) → Place device context s → GoesWell (call_effect device s h)
 unfolding call_effect
-called_goes device context s helper.Sector p = let near = p.near in answer_goes s (sector_answer device (word s 1)) p.words (omega (arith, near)) (sector_word device (word s 1) p.few)
 called_goes device context s helper.Copy p =
     let near = p.near in
+    let most = copy_most device (word s 1) (word s 3) in
     let frames = bytes_kept (device_bytes device (word s 1) (word s 3)) s.frames (word s 2) (copied_small context device (word s 1) (word s 3) p.bytes) p.words.frames in
     answer_goes (record s { frames = frames_with s.frames (word s 2) (device_bytes device (word s 1) (word s 3)) }) (copy_answer device (word s 1) (word s 3))
-    (record { slot = p.words.slot; registers = p.words.registers; frames = frames; few = p.words.few; codes = p.words.codes }) (omega (arith, near)) (copy_word device (word s 1) (word s 3))
+    (record { slot = p.words.slot; registers = p.words.registers; frames = frames; few = p.words.few; codes = p.words.codes }) (omega (arith, near)) (omega (arith, most))
 called_goes device context s helper.Again p =
     let near = p.near in
+    let most = again_most (turns_here s) (word s 1) in
     answer_goes (record s { turns = count_turn s (word s 1) }) (again_answer (turns_here s) (word s 1))
-    (record { slot = p.words.slot; registers = p.words.registers; frames = p.words.frames; few = p.words.few; codes = p.words.codes }) (omega (arith, near)) (again_word (turns_here s) (word s 1))
+    (record { slot = p.words.slot; registers = p.words.registers; frames = p.words.frames; few = p.words.few; codes = p.words.codes }) (omega (arith, near)) (omega (arith, most))
 called_goes device context s helper.Report p =
     let near = p.near in
+    let most = report_most s.codes in
     let codes = codes_kept s.codes (word s 1) (record { few = p.words.few; words = p.words.codes }) (word_below s 1 p.words) in
     answer_goes (record s { codes = codes_after s.codes (word s 1) }) (report_answer s.codes)
-    (record { slot = p.words.slot; registers = p.words.registers; frames = p.words.frames; few = codes.few; codes = codes.words }) (omega (arith, near)) (report_word s.codes)
-called_goes device context s helper.Zero p = let near = p.near in answer_goes s (zero_answer device (word s 1)) p.words (omega (arith, near)) (zero_word device (word s 1))
-called_goes device context s helper.Mix p = let near = p.near in answer_goes s (mix_answer device (word s 1)) p.words (omega (arith, near)) (mix_word device (word s 1))
-called_goes device context s helper.Same p = let near = p.near in answer_goes s (same_answer device (word s 1) (word s 2)) p.words (omega (arith, near)) (same_word device (word s 1) (word s 2))
+    (record { slot = p.words.slot; registers = p.words.registers; frames = p.words.frames; few = codes.few; codes = codes.words }) (omega (arith, near)) (omega (arith, most))
+called_goes device context s (helper.Query q) p =
+    let near = p.near in
+    answer_goes s (query_answer device q (word s 1) (word s 2)) p.words (omega (arith, near)) (query_word device q (word s 1) (word s 2) p.few)
 
 helper_goes : (device : List (List ℕ)) (context : List ℕ) (s : State) (o : Option Helper) → Place device context s → GoesWell (option_map_or (call_effect device s) o (Next s))
 helper_goes device context s None p = p.words

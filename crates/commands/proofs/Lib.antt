@@ -12,6 +12,7 @@ pub mod OneCases
 pub mod OneFirst
 pub mod OneCure
 pub mod OneJoin
+pub mod OneRetold
 pub mod LinesOfRun
 pub mod OneAnswer
 pub mod OneWork
@@ -25,5 +26,7 @@ pub mod RunOf
 pub mod PartsJoined
 pub mod Printed
 pub mod OtherWork
+pub mod GivenRun
+pub mod OfReport
 pub mod Lengths
 pub mod Streams

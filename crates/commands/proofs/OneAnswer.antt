@@ -15,6 +15,7 @@ use Rattle.notes.specs.LogTable.{log_table}
 use Rattle.request.specs.declared.settings.Settings.{Settings}
 use Rattle.request.specs.declared.settings.Telling.{Telling}
 use Rattle.request.specs.declared.settings.Telling.TheVariants as telling
+use Rattle.request.specs.declared.settings.Retelling.{Retelling}
 use Rattle.request.specs.AnyLosses.{losses_asked}
 use Rattle.request.specs.declared.any_losses.LossWords.{LossWords}
 use Rattle.request.specs.declared.command.OptionWords.{OptionWords}
@@ -31,6 +32,7 @@ use Rattle.request.specs.Source.{Recording, plan_of, images_of}
 use Rattle.case_runs.specs.Found.{FindingIsOne}
 use Rattle.case_runs.specs.First.{FirstIsOne}
 use Rattle.runs.specs.Why.{Tells}
+use Rattle.retold.specs.Retold.{IsRetold}
 use Rattle.runs.specs.Cured.{TellsCure, IsAnswered}
 use Rattle.runs.specs.Inputs.{inputs_number}
 use Rattle.base.specs.Sizes.{sector_limit}
@@ -48,13 +50,14 @@ use Rattle.inspect.specs.Verifying.{verified_text, IsAcceptedText}
 use Rattle.inspect.specs.Assembly.{listing_text, IsAssembled, IsListed}
 use Rattle.runs.specs.declared.explore_command.Wanted.{Wanted}
 use Rattle.runs.specs.declared.explore_command.Wanted.TheVariants as wanted
-use Rattle.commands.specs.Acting.{Files, initial_of, recording, status_of, AnswersRun, AnswersFiles, AnswersExplore, AnswersCases, AnswersFile, AnswersLog, AnswersOf, AnswersAny, AnswersWith, AnswersTrial, AnswersJoin, Answers, form_of}
+use Rattle.commands.specs.Acting.{Files, initial_of, recording, status_of, AnswersRun, AnswersFiles, AnswersExplore, AnswersCases, AnswersRetold, AnswersFile, AnswersLog, AnswersOf, AnswersAny, AnswersWith, AnswersTrial, AnswersJoin, Answers, form_of}
 use Rattle.commands.proofs.OneReport.{same_log, same_asked, one_run}
 use Rattle.commands.proofs.OneText.{one_explanation}
 use Rattle.commands.proofs.OnePage.{one_page}
 use Rattle.commands.proofs.OneCure.{one_cure}
 use Rattle.commands.proofs.OneFirst.{one_losses}
 use Rattle.commands.proofs.OneJoin.{one_join}
+use Rattle.commands.proofs.OneRetold.{one_retold}
 
 -- what the laws of the lower layers say
 pub record Laws : Type 0 where
@@ -70,7 +73,7 @@ abbrev pub Same : List ℕ → List ℕ → ℕ → ℕ → Type 0
 Same bytes others status ended = (bytes ≡ others) × (status ≡ ended)
 
 -- what is told of a log and of checkers is one
-one_told : (t : Telling) (inputs : ℕ) (s : Settings) (value : LogValue) (checkers : List CheckerValue) (bytes others : List ℕ)
+pub one_told : (t : Telling) (inputs : ℕ) (s : Settings) (value : LogValue) (checkers : List CheckerValue) (bytes others : List ℕ)
     → Tells t inputs s value checkers bytes → Tells t inputs s value checkers others → bytes ≡ others
 one_told telling.Report inputs s value checkers bytes others a b = a ∙ sym b
 one_told telling.Causes inputs s value checkers bytes others a b = one_explanation _ _ _ bytes others a b
@@ -283,6 +286,19 @@ join_once part files bytes others status ended a b =
     let same = one_join a.texts bytes others a.joins.failing b.joins.failing a.joins.joined.joined joined in
     (same.0, a.joins.ends ∙ ap status_of same.1 ∙ sym b.joins.ends)
 
+retold_once : Laws → (t : Retelling) (w : OptionWords) (files : Files) (bytes others : List ℕ) (status ended : ℕ)
+    → AnswersRetold t w files bytes status → AnswersRetold t w files others ended → Same bytes others status ended
+retold_once laws t w files bytes others status ended a b =
+    let one = same_settings w b.settings a.settings b.asked a.asked in
+    let log = same_held _ _ _ b.read a.read in
+    let report = same_held _ _ _ b.second a.second in
+    let both : recording b.log b.initial ≡ recording a.log a.initial = λ i. recording (log i) (same_initial files b.initial a.initial b.based a.based i) in
+    let by_settings = subst (λ (s : Settings). IsRetold t (recording b.log b.initial) b.report s others b.failing) one b.told in
+    let by_log = subst (λ (text : Recording). IsRetold t text b.report a.settings others b.failing) both by_settings in
+    let told = subst (λ (given : List ℕ). IsRetold t (recording a.log a.initial) given a.settings others b.failing) report by_log in
+    let same = one_retold laws.texts t (recording a.log a.initial) a.report a.settings bytes others a.failing b.failing a.told told in
+    (same.0, a.ends ∙ ap status_of same.1 ∙ sym b.ends)
+
 pub one_answer : Laws → (r : Request) (files : Files) (bytes others : List ℕ) (status ended : ℕ)
     → Answers r files bytes status → Answers r files others ended → (bytes ≡ others) × (status ≡ ended)
 one_answer laws request.StoredRun files bytes others status ended a b = run_once laws (wanted.Told telling.Report) _ _ _ bytes others status ended a b
@@ -291,6 +307,7 @@ one_answer laws (request.Cases w l) files bytes others status ended a b = cases_
 one_answer laws (request.Why w) files bytes others status ended a b = explore_once laws (wanted.Told telling.Causes) w files bytes others status ended a b
 one_answer laws (request.Cure w) files bytes others status ended a b = explore_once laws wanted.Cured w files bytes others status ended a b
 one_answer laws (request.Page w) files bytes others status ended a b = explore_once laws (wanted.Told telling.Page) w files bytes others status ended a b
+one_answer laws (request.Retold w t) files bytes others status ended a b = retold_once laws t w files bytes others status ended a b
 one_answer laws (request.Images w parts) files bytes others status ended a b = of_once w (λ s text. IsSurvey parts text s) (one_survey laws parts) files bytes others status ended a b
 one_answer laws (request.Export w) files bytes others status ended a b = of_once w (λ s text. IsExport text s) (one_export laws) files bytes others status ended a b
 one_answer laws (request.Log w) files bytes others status ended a b = of_once w (λ s text. IsTable text s) (one_table laws) files bytes others status ended a b

@@ -1,5 +1,5 @@
 -- The text of cases is one, and where it is told there aren't too many.
-use Rattle.std.proofs.Common.{ℕ, zero, suc, ◌≡◌, ◌+◌, ◌<◌, ◌≤◌, ◌==◌, ◌||◌, Bool, false, not, List, [], ◌∷◌, ◌++◌, length, map, flat_map, sum_by, slice_get, None, Some, refl, sym, ◌∙◌, ap, subst, arith}
+use Rattle.std.proofs.Common.{ℕ, zero, suc, ◌≡◌, ◌+◌, ◌<◌, ◌≤◌, ◌==◌, ◌||◌, Bool, true, false, not, List, [], ◌∷◌, ◌++◌, length, map, flat_map, sum_by, slice_get, None, Some, refl, sym, ◌∙◌, ap, subst, arith}
 use Rattle.std.specs.Prelude.{codes}
 use Rattle.std.specs.Fmt.{decimal}
 use Rattle.std.specs.List.{list_any}
@@ -20,12 +20,18 @@ use Rattle.case_runs.specs.Found.{IsFoundAt, AreFoundAt, AreFoundIn, AreFirstAt,
 use Rattle.epochs.specs.Units.{epoch_at, marks_at}
 use Rattle.case_text.specs.Known.{known_of}
 use Rattle.case_text.specs.Window.{case_window}
-use Rattle.case_text.specs.Text.{known_text, window_text, place_text, number_text, case_line, program_cases, programs_cases, cut_cases, all_found, count_cases, count_failing, count_torn_beyond, count_lost_beyond, complete_word, totals_text, counts_text, beyond_text, in_word, head_text, cases_bytes, fails_at, is_any_failing}
+use Rattle.case_text.specs.Text.{known_text, window_text, place_text, number_text, case_line, program_cases, programs_cases, cut_cases, all_found, count_cases, count_failing, count_torn_beyond, count_lost_beyond, complete_word, totals_text, counts_text, beyond_text, in_word, head_text, options_text, cases_bytes, fails_at, is_any_failing}
+use Rattle.case_text.specs.Causes.{cause_text}
+use Rattle.case_text.specs.Why.{ToldValue, tail_text, told_of, all_told, told_text, by_program, found_causes, cut_causes, failure_of, found_failures, all_failures, begin_text, missing_text, parts_bytes, why_bytes, TellsWhy}
+use Rattle.losses.specs.declared.cure.failure.Failure.{Failure}
+use Rattle.losses.specs.Counted.{AreMissing}
+use Rattle.losses.specs.FailureWindows.{windows_in}
 use Rattle.report.specs.Report.{HeadValue}
 use Rattle.request.specs.declared.any_losses.AnyLosses.{AnyLosses}
 use Rattle.request.specs.declared.settings.Settings.{Settings}
 use Rattle.runs.specs.CaseCuts.{losses_of, case_cuts}
-use Rattle.runs.specs.Cases.{TellsCases}
+use Rattle.runs.specs.Cases.{IsTextOf, TellsCases}
+use Rattle.commands.proofs.OneMissing.{same_missing}
 use Rattle.runs.specs.Explore.{head_of}
 use Rattle.runs.specs.Why.{with_first}
 
@@ -181,12 +187,76 @@ bytes_same h asked log ls ms same =
     let totals = totals_same log h.by asked.tears ls ms same in
     λ i. head_text h asked ++ lines i ++ totals i
 
+-- why they fail is the same
+unfoldable pub told_known : CutValue → Bool → KnownCase → ToldValue
+told_known at tears k =
+    record {
+      number = k.number;
+      window = case_window at k.is;
+      cause = cause_text at.way at.cut (known_of tears k.is (parts_of at)) (case_window at k.is);
+      tail = tail_text (ending_text k.ending) (case_window at k.is);
+    }
+
+told_all : (at : CutValue) (tears : Bool) (items : List FailingCase) → all_told at tears items ≡ map (told_known at tears) (map (known_case at tears) items)
+unfolding told_known
+told_all at tears [] = refl
+told_all at tears (f ∷ items) = ap (λ (xs : List ToldValue). told_of at tears (failing_value f) ∷ xs) (told_all at tears items)
+
+told_same : (at : CutValue) (tears : Bool) (f g : Found) → SameFound at tears f g → all_told at tears f.failing.items ≡ all_told at tears g.failing.items
+told_same at tears f g same =
+    told_all at tears f.failing.items ∙ ap (λ (ks : List KnownCase). map (told_known at tears) ks) same.failing ∙ sym (told_all at tears g.failing.items)
+
+each_cause : {A : Type 0} (own : ℕ → Found → List A) (at : CutValue) (tears : Bool) → ((n : ℕ) (f g : Found) → SameFound at tears f g → own n f ≡ own n g)
+    → (program : ℕ) (fs gs : List Found) → EachSame at tears fs gs → by_program own program fs ≡ by_program own program gs
+each_cause own at tears tells program [] [] same = refl
+each_cause own at tears tells program [] (g ∷ gs) same = absurd same
+each_cause own at tears tells program (f ∷ fs) [] same = absurd same
+each_cause own at tears tells program (f ∷ fs) (g ∷ gs) same =
+    let here = tells program f g same.0 in
+    let rest = each_cause own at tears tells (program + 1) fs gs same.1 in
+    λ i. here i ++ rest i
+
+cut_each : {A : Type 0} (own : CutValue → ℕ → Found → List A) (log : LogValue) (way : By) (tears : Bool)
+    → ((at : CutValue) (n : ℕ) (f g : Found) → SameFound at tears f g → own at n f ≡ own at n g) → (ls ms : List CutFound) → CutsSame log way tears ls ms
+    → flat_map (λ (c : CutFound). by_program (own (cut_value log way c.cut)) 0 c.programs.items) ls ≡ flat_map (λ (c : CutFound). by_program (own (cut_value log way c.cut)) 0 c.programs.items) ms
+cut_each own log way tears tells [] [] same = refl
+cut_each own log way tears tells [] (d ∷ ds) same = absurd same
+cut_each own log way tears tells (c ∷ cs) [] same = absurd same
+cut_each own log way tears tells (c ∷ cs) (d ∷ ds) same =
+    let here : by_program (own (cut_value log way c.cut)) 0 c.programs.items ≡ by_program (own (cut_value log way d.cut)) 0 d.programs.items =
+    each_cause (own (cut_value log way c.cut)) (cut_value log way c.cut) tears (tells (cut_value log way c.cut)) 0 c.programs.items d.programs.items same.1
+    ∙ ap (λ n. by_program (own (cut_value log way n)) 0 d.programs.items) same.0 in
+    let rest = cut_each own log way tears tells cs ds same.2 in
+    λ i. here i ++ rest i
+
+why_same : (h : HeadValue) (asked : Losses) (log : LogValue) (ls ms : List CutFound) (bytes others : List ℕ) → CutsSame log h.by asked.tears ls ms → TellsWhy h asked log ls bytes
+    → TellsWhy h asked log ms others → bytes ≡ others
+unfolding why_bytes parts_bytes begin_text
+why_same h asked log ls ms bytes others same a b =
+    let totals = totals_same log h.by asked.tears ls ms same in
+    let failures : all_failures log h.by asked.tears ls ≡ all_failures log h.by asked.tears ms =
+    cut_each (λ at. found_failures at asked.tears) log h.by asked.tears (λ at n f g own. ap (λ (ts : List ToldValue). map (failure_of n) ts) (told_same at asked.tears f g own)) ls ms same in
+    let causes : flat_map (cut_causes log h.by asked.tears) ls ≡ flat_map (cut_causes log h.by asked.tears) ms =
+    cut_each (λ at. found_causes at asked.tears) log h.by asked.tears
+    (λ at n f g own. ap (λ (ts : List ToldValue). told_text at.cut n ts) (told_same at asked.tears f g own)) ls ms same in
+    let missing : a.missing ≡ b.missing =
+    same_missing (windows_in (all_failures log h.by asked.tears ls)) a.missing b.missing a.are
+    (subst (λ (fs : List Failure). AreMissing (windows_in fs) b.missing) (sym failures) b.are) in
+    let text : why_bytes h asked log ls a.missing ≡ why_bytes h asked log ms b.missing =
+    λ i. codes "crash why cases 1\n" ++ options_text h asked ++ totals i ++ missing_text (length h.programs) (failures i) (missing i) ++ causes i in
+    a.text ∙ text ∙ sym b.text
+
+text_same : (why : Bool) (h : HeadValue) (asked : Losses) (log : LogValue) (ls ms : List CutFound) (bytes others : List ℕ) → CutsSame log h.by asked.tears ls ms
+    → IsTextOf why h asked log ls bytes → IsTextOf why h asked log ms others → bytes ≡ others
+text_same false h asked log ls ms bytes others same a b = a ∙ bytes_same h asked log ls ms same ∙ sym b
+text_same true h asked log ls ms bytes others same a b = why_same h asked log ls ms bytes others same a b
+
 pub tells_once : FindingIsOne → (l : AnyLosses) (s : Settings) (value : LogValue) (checkers : List CheckerValue) (bytes others : List ℕ) (failing fails : Bool)
     → TellsCases l s value checkers bytes failing → TellsCases l s value checkers others fails → (bytes ≡ others) × (failing ≡ fails)
 unfolding head_of
 tells_once one l s value checkers bytes others failing fails a b =
     let same = cuts_same one (losses_of l s) value s.by (case_cuts l s.cuts value) checkers a.found b.found a.are b.are in (
-      a.text ∙ bytes_same (head_of (with_first false s) value checkers) (losses_of l s) value a.found b.found same ∙ sym b.text,
+      text_same l.why (head_of (with_first false s) value checkers) (losses_of l s) value a.found b.found bytes others same a.text b.text,
       a.fails ∙ any_same value s.by s.tears a.found b.found same ∙ sym b.fails,
     )
 

@@ -35,7 +35,7 @@ not_none way es cut ds w a none =
     let beyond : a.first.part.entry < w.end = omega (arith, start, order) in
     false≢true (sym (none a.first w.end a.departs beyond a.before) ∙ a.end)
 
-same_if : (way : By) (es : List Entry) (cut : ℕ) (ds : List Departure) (v w : Option Window) → IsWindowIf way es cut ds v → IsWindowIf way es cut ds w → v ≡ w
+pub same_if : (way : By) (es : List Entry) (cut : ℕ) (ds : List Departure) (v w : Option Window) → IsWindowIf way es cut ds v → IsWindowIf way es cut ds w → v ≡ w
 same_if way es cut ds None None a b = refl
 same_if way es cut ds None (Some w) a b = absurd (not_none way es cut ds w b a)
 same_if way es cut ds (Some v) None a b = absurd (not_none way es cut ds v a b)

@@ -1,5 +1,5 @@
 -- Failures that are alike have one page.
-use Rattle.std.proofs.Common.{ℕ, suc, ◌≡◌, ◌+◌, ◌-◌, ◌==◌, ◌||◌, nat_lt, if◌then◌else◌, Bool, true, false, not, List, [], ◌∷◌, ◌++◌, length, take, filter, slice_get, Option, Some, refl, sym, ◌∙◌, ap, subst}
+use Rattle.std.proofs.Common.{ℕ, suc, ◌≡◌, ◌+◌, ◌-◌, ◌==◌, ◌||◌, nat_lt, if◌then◌else◌, Bool, true, false, not, List, [], ◌∷◌, ◌++◌, length, take, filter, Option, Some, refl, sym, ◌∙◌, ap, subst}
 use Rattle.std.specs.List.{flat_map, range_with_len, list_any, find}
 use Rattle.std.specs.Option.{option_map_or}
 use Rattle.std.specs.Fmt.{decimal}
@@ -22,8 +22,10 @@ use Rattle.crash_page.specs.Entries.{cells_text}
 use Rattle.crash_page.specs.Cells.{passing_text, count_text, failing_class, failing_link, failing_title, failing_text, cut_cell, strip_from}
 use Rattle.crash_page.specs.Blocks.{most_cells, is_large, begins_block, beyond, is_within, fails_within, count_within, block_link, block_title, block_failing, no_failing, block_cuts, block_lacks, block_cell, row_block, row_blocks}
 use Rattle.crash_page.specs.Groups.{groups_text, first_text, stand_text, bar_text, cut_open, cut_body, cut_head, rest_text, shown_of, most_of_cut, cut_shown, cut_text, one_failing, listed_text, cuts_text, unlisted_text}
-use Rattle.crash_page.specs.Page.{fails, bad_text, judged_text, verdict_text, strip_open, row_of, strip_text, title_text, summary_text, outcomes_of, most_of_program, shown_cuts, program_text, programs_text, page_text}
-use Rattle.runs.specs.Paged.{own_failures, IsFailing, AreFailing, about_run, IsPageOf}
+use Rattle.crash_page.specs.Page.{fails, bad_text, judged_text, verdict_text, strip_open, row_of, strip_text, name_text, title_text, summary_text, outcomes_of, most_of_program, shown_cuts, program_text, programs_text, page_text}
+use Rattle.crash_page.specs.Judges.{judge_text, checker_text}
+use Rattle.crash_page.specs.Failing.{own_failures, IsFailing, IsPage}
+use Rattle.runs.specs.Paged.{IsSaid, about_run, IsPageOf}
 use Rattle.commands.proofs.Alike.{AreAlike, alike}
 use Rattle.commands.proofs.OneCause.{SameCut, same_cuts}
 use Rattle.commands.proofs.OneMissing.{same_failures, same_missing}
@@ -216,9 +218,9 @@ same_count (c ∷ cs) (d ∷ ds) h =
     count_more (fails c) c d (filter fails cs) (filter fails ds) (same_count cs ds h.1)
     ∙ ap (λ n. length (if not (n == 0) then d ∷ filter fails ds else filter fails ds)) h.0.failing
 
--- programs with one head that fail on as many images, alike at each cut and with the same outcomes, and for which the same flushes are missing
+-- programs of which the same is said, that fail on as many images, alike at each cut and with the same outcomes, and for which the same flushes are missing
 pub record SameFailures (f g : ProgramFailures) : Type 0 where
-  pub head : f.head ≡ g.head
+  pub judge_is : judge_text f.judge ≡ judge_text g.judge
   pub failing : f.failing ≡ g.failing
   pub outcomes_are : outcomes_of f ≡ outcomes_of g
   pub cuts : AreAlike SameCut f.cuts.items g.cuts.items
@@ -244,13 +246,17 @@ same_judged f g h =
 same_verdict : (f g : ProgramFailures) → SameFailures f g → verdict_text f ≡ verdict_text g
 same_verdict f g h = choose (length f.cuts.items) (length g.cuts.items) _ (judged_text f) (judged_text g) (same_length f.cuts.items g.cuts.items h.cuts) (same_judged f g h)
 
+same_title : (program : ℕ) (f g : ProgramFailures) → judge_text f.judge ≡ judge_text g.judge → title_text program f.judge ≡ title_text program g.judge
+unfolding title_text name_text
+same_title program f g same = rw same refl
+
 same_summary : (program : ℕ) (f g : ProgramFailures) → SameFailures f g → summary_text program f ≡ summary_text program g
 unfolding summary_text
 same_summary program f g h =
     let missing : f.missing.items ≡ g.missing.items = h.missing in
     let uncured : f.uncured ≡ g.uncured = h.uncured in
-    join_three (title_text program f.head) (title_text program g.head) (verdict_text f) (verdict_text g) (advice_text program f.missing.items f.uncured) (advice_text program g.missing.items g.uncured)
-    (ap (title_text program) h.head) (same_verdict f g h) (λ i. advice_text program (missing i) (uncured i))
+    join_three (title_text program f.judge) (title_text program g.judge) (verdict_text f) (verdict_text g) (advice_text program f.missing.items f.uncured) (advice_text program g.missing.items g.uncured)
+    (same_title program f g h.judge_is) (same_verdict f g h) (λ i. advice_text program (missing i) (uncured i))
 
 same_row : (es : List Entry) (program : ℕ) (f g : ProgramFailures) → SameFailures f g → strip_text es program f ≡ strip_text es program g
 unfolding strip_text
@@ -285,14 +291,11 @@ same_programs s program (f ∷ fs) (g ∷ gs) h =
     let rest = same_programs s (program + 1) fs gs h.1 in
     λ i. first i ++ rest i
 
-one_head : (hs : List ProgramHead) (program : ℕ) (h k : ProgramHead) → slice_get hs program ≡ Some h → slice_get hs program ≡ Some k → h ≡ k
-one_head hs program h k a b = let both : Some h ≡ Some k = sym a ∙ b in cc
-
-same_fails : (s : StartsValue) (images : List ℕ) (outcomes : List (List ℕ)) (program : ℕ) (fs : List Failure) (f g : ProgramFailures) → f.head ≡ g.head
+same_fails : (s : StartsValue) (images : List ℕ) (outcomes : List (List ℕ)) (program : ℕ) (fs : List Failure) (f g : ProgramFailures) → judge_text f.judge ≡ judge_text g.judge
     → IsFailing s images outcomes program fs f → IsFailing s images outcomes program fs g → SameFailures f g
-same_fails s images outcomes program fs f g head a b =
+same_fails s images outcomes program fs f g said a b =
     record {
-      head = head;
+      judge_is = said;
       failing = a.failing ∙ sym b.failing;
       outcomes_are = a.outcomes_are ∙ sym b.outcomes_are;
       cuts = same_cuts s images outcomes f.cuts.items g.cuts.items a.cuts b.cuts;
@@ -304,13 +307,25 @@ same_page : (about : List ℕ) (s : StartsValue) (fs gs : List ProgramFailures) 
 unfolding page_text
 same_page about s fs gs same = rw same refl
 
+-- failures of which one thing is said have one page
+pub one_page_of : (about : List ℕ) (s : StartsValue) (Said : ℕ → List ℕ → Type 0) (images : ℕ → List ℕ) (outcomes : ℕ → List (List ℕ)) (fs : List Failure) (count : ℕ) (bytes others : List ℕ)
+    → ((program : ℕ) (x y : List ℕ) → Said program x → Said program y → x ≡ y) → IsPage about s Said images outcomes fs count bytes → IsPage about s Said images outcomes fs count others → bytes ≡ others
+one_page_of about s Said images outcomes fs count bytes others said a b =
+    let programs =
+    alike SameFailures a.programs b.programs (a.are.all ∙ sym b.are.all)
+    (λ i f g p q. same_fails s (images i) (outcomes i) i fs f g (said i (judge_text f.judge) (judge_text g.judge) (a.are.named i f p) (b.are.named i g q)) (a.are.each i f p) (b.are.each i g q)) in
+    a.page ∙ same_page about s a.programs b.programs (same_programs s 0 a.programs b.programs programs) ∙ sym b.page
+
+one_said : (heads : List ProgramHead) (program : ℕ) (x y : List ℕ) → IsSaid heads program x → IsSaid heads program y → x ≡ y
+one_said heads program x y a b =
+    let both : Some a.head ≡ Some b.head = sym a.there ∙ b.there in
+    let head : a.head ≡ b.head = cc in
+    a.is ∙ ap checker_text head ∙ sym b.is
+
 pub one_page : (h : HeadValue) (s : StartsValue) (failing : ℕ → List ℕ) (ls : List FailingLine) (bytes others : List ℕ)
     → IsPageOf h s failing ls bytes → IsPageOf h s failing ls others → bytes ≡ others
 one_page h s failing ls bytes others a b =
     let failures : a.failures ≡ b.failures = same_failures s.plan.by s.plan.log.entries ls a.failures b.failures a.are_failures b.are_failures in
-    let are : AreFailing s failing ls h.programs a.failures (length h.programs) b.programs =
-    subst (λ (fs : List Failure). AreFailing s failing ls h.programs fs (length h.programs) b.programs) (sym failures) b.are in
-    let programs =
-    alike SameFailures a.programs b.programs (a.are.all ∙ sym b.are.all)
-    (λ i f g p q. same_fails s (failing i) (outcomes_failing i ls) i a.failures f g (one_head h.programs i f.head g.head (a.are.named i f p) (b.are.named i g q)) (a.are.each i f p) (are.each i g q)) in
-    a.page ∙ same_page (about_run h ls) s a.programs b.programs (same_programs s 0 a.programs b.programs programs) ∙ sym b.page
+    let page : IsPage (about_run h ls) s (IsSaid h.programs) failing (λ (program : ℕ). outcomes_failing program ls) a.failures (length h.programs) others =
+    subst (λ (fs : List Failure). IsPage (about_run h ls) s (IsSaid h.programs) failing (λ (program : ℕ). outcomes_failing program ls) fs (length h.programs) others) (sym failures) b.page in
+    one_page_of (about_run h ls) s (IsSaid h.programs) failing (λ (program : ℕ). outcomes_failing program ls) a.failures (length h.programs) bytes others (one_said h.programs) a.page page

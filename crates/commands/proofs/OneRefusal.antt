@@ -64,6 +64,7 @@ use Rattle.inspect.specs.TrialImage.{sectors_of}
 use Rattle.notes.specs.SourceLines.{LineOfC, AreLines, NoLines}
 use Rattle.inspect.specs.TrialText as trials
 use Rattle.inspect.specs.TrialText.{Bound, IsBoundBy, IsTried, RefusesLimit, RefusesTrial}
+use Rattle.commands.specs.Acting.{AnswersRetold, RefusesReportOf, for_log_of_report, for_report_file, for_base_of_report, for_retold}
 use Rattle.commands.specs.Acting.{AnswersAny, RefusesAny, for_any_losses, for_any_recording, form_of}
 use Rattle.commands.specs.Acting.{AnswersTrial, RefusesCheck, for_trial_words, for_program_file, for_image_file, for_lines_file, for_trial}
 use Rattle.commands.specs.Acting.{AnswersJoin, JoinsTexts, RefusesTexts, for_texts, RefusesParts, for_no_part, for_many_parts, for_unread_part, for_parts, for_part_memory}
@@ -71,6 +72,9 @@ use Rattle.commands.specs.Laws.{IsOfMemory}
 use Rattle.commands.proofs.OneJoin.{joined_or_refused}
 use Rattle.commands.proofs.OneReport.{Below, same_log, same_asked, same_checkers, of_log, of_source, refused_as, of_refuses, told_apart, cured_apart, wanted_or_refusal}
 use Rattle.commands.proofs.OneFirst.{CasesAreOne, not_refused}
+use Rattle.commands.proofs.OneRetold.{retold_or_refusal}
+use Rattle.retold.specs.Retold.{RefusesRetold}
+use Rattle.request.specs.declared.settings.Retelling.{Retelling}
 use Rattle.commands.proofs.OneAnswer.{same_files, same_initial, same_settings, same_held, tried_alike}
 
 -- words that ask for settings are not refused
@@ -330,6 +334,22 @@ of_trial below w files bytes status _ h (for_trial t program image lines r asked
     let tried = tried_alike h.program program h.image image h.lines lines h.trial t (same_held _ _ _ h.read read) (same_held _ _ _ h.shown shown) (same_held _ _ _ h.named named) (h.asked.asked ∙ sym asked.asked) h.tried in
     of_tried below program image lines t bytes h.failing r tried why
 
+-- a report of which something is told, of files that can be read
+of_retold : Below → (t : Retelling) (w : OptionWords) (files : Files) (bytes : List ℕ) (status : ℕ) (r : Refusal) → AnswersRetold t w files bytes status
+    → RefusesWith w (RefusesReportOf t files) r → IsOfMemory r.code
+of_retold below t w files bytes status r h why = of_words w h.settings (RefusesReportOf t files) r h.asked (λ q. rest q) why
+  where
+    rest : (q : Refusal) → RefusesReportOf t files h.settings q → IsOfMemory q.code
+    rest _ (for_log_of_report none) = absurd (let bad : None ≡ Some h.log = sym none ∙ h.read in cc)
+    rest _ (for_report_file log read none) = absurd (let bad : None ≡ Some h.report = sym none ∙ h.second in cc)
+    rest _ (for_base_of_report log report read second none) = absurd (let bad : None ≡ Some h.initial = sym none ∙ h.based in cc)
+    rest _ (for_retold log report initial f read second based refused) =
+        let held = same_held _ _ _ read h.read in
+        let both : recording log initial ≡ recording h.log h.initial = λ i. recording (held i) (same_initial files initial h.initial based h.based i) in
+        let by_log = subst (λ (text : Recording). RefusesRetold text report h.settings f) both refused in
+        let given = subst (λ (bs : List ℕ). RefusesRetold (recording h.log h.initial) bs h.settings f) (same_held _ _ _ second h.second) by_log in
+        retold_or_refusal below t (recording h.log h.initial) h.report h.settings bytes h.failing f h.told given
+
 of_texts : (part : Bool) (texts : List (List ℕ)) (bytes : List ℕ) (status : ℕ) (r : Refusal) → JoinsTexts part texts bytes status → RefusesTexts part texts r → IsOfMemory r.code
 of_texts part texts bytes status _ h (for_texts fault why first) = joined_or_refused part texts bytes h.failing fault h.short h.joined why
 
@@ -357,6 +377,7 @@ answer_or_refusal below findings (request.Cases w l) files bytes status refusal 
 answer_or_refusal below findings (request.Why w) files bytes status refusal h why = of_explore below findings (wanted.Told telling.Causes) w files bytes status refusal h why
 answer_or_refusal below findings (request.Cure w) files bytes status refusal h why = of_explore below findings wanted.Cured w files bytes status refusal h why
 answer_or_refusal below findings (request.Page w) files bytes status refusal h why = of_explore below findings (wanted.Told telling.Page) w files bytes status refusal h why
+answer_or_refusal below findings (request.Retold w t) files bytes status refusal h why = of_retold below t w files bytes status refusal h why
 answer_or_refusal below findings (request.Images w parts) files bytes status refusal h why =
     of_log_with w (λ s text. IsSurvey parts text s) (λ s text. RefusesSurvey parts text s) (of_survey below parts) files bytes status refusal h why
 answer_or_refusal below findings (request.Export w) files bytes status refusal h why =

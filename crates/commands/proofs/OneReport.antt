@@ -80,7 +80,7 @@ same_checkers programs verdicts s (bytes ∷ files) (c ∷ cs) (d ∷ ds) h k =
     let rest = same_checkers programs verdicts s files cs ds h.1 k.1 in
     λ i. one i ∷ rest i
 
-pub same_test : (a b : Bool) (ls ms : List FailingLine) → IsTrue a ↔ (ls ≢ []) → IsTrue b ↔ (ms ≢ []) → ls ≡ ms → a ≡ b
+pub same_test : {X : Type 0} (a b : Bool) (ls ms : List X) → IsTrue a ↔ (ls ≢ []) → IsTrue b ↔ (ms ≢ []) → ls ≡ ms → a ≡ b
 same_test true true ls ms h k same = refl
 same_test false false ls ms h k same = refl
 same_test true false ls ms h k same = absurd (false≢true (k.1 (λ none. h.0 refl (same ∙ none))))

@@ -36,7 +36,7 @@ same_lines way s outcomes program c d h =
     by_groups (cut_text way s outcomes program) c d h
     (ap (λ gs. if c.failing == 0 then [] else cut_head program c ++ flat_map (group_line way s outcomes) gs) h.groups)
 
-same_cause : (s : StartsValue) (outcomes : List (List ℕ)) (program : ℕ) (cs ds : List CutFailures) → AreAlike SameCut cs ds
+pub same_cause : (s : StartsValue) (outcomes : List (List ℕ)) (program : ℕ) (cs ds : List CutFailures) → AreAlike SameCut cs ds
     → cuts_text s.plan.by s outcomes program cs ≡ cuts_text s.plan.by s outcomes program ds
 same_cause s outcomes program cs ds h = same_text SameCut (cut_text s.plan.by s outcomes program) (same_lines s.plan.by s outcomes program) cs ds h
 

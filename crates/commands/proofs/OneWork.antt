@@ -13,6 +13,8 @@ use Rattle.base.specs.Sizes.{sector_limit}
 use Rattle.request.specs.declared.settings.Settings.{Settings}
 use Rattle.request.specs.declared.settings.Telling.{Telling}
 use Rattle.request.specs.declared.settings.Telling.TheVariants as telling
+use Rattle.request.specs.declared.settings.Retelling.{Retelling}
+use Rattle.request.specs.declared.settings.Retelling.TheVariants as retelling
 use Rattle.request.specs.declared.any_losses.AnyLosses.{AnyLosses}
 use Rattle.request.specs.declared.any_losses.LossWords.{LossWords}
 use Rattle.request.specs.AnyLosses.{is_torn_asked, is_lost_asked, loss_checks, losses_refusal, losses_asked}
@@ -33,6 +35,8 @@ use Rattle.runs.specs.Cured.{AreRounds, Ends, with_totals, with_refusal, TellsCu
 use Rattle.runs.specs.Cases.{TellsCases, TellsFirst, of_first, of_none, TellsLosses, IsLosses}
 use Rattle.runs.specs.Explore.{IsRun}
 use Rattle.runs.specs.Why.{Tells}
+use Rattle.join.specs.Given.{GivenValue}
+use Rattle.retold.specs.Retold.{head_given, Retells}
 use Rattle.losses.specs.declared.flushes.counted.MissingFlush.{MissingFlush}
 use Rattle.runs.specs.declared.explore_command.Wanted.{Wanted}
 use Rattle.runs.specs.declared.explore_command.Wanted.TheVariants as wanted
@@ -42,7 +46,7 @@ use Rattle.inspect.specs.Survey.{IsSurvey}
 use Rattle.inspect.specs.Export.{IsExport}
 use Rattle.inspect.specs.Table.{IsTable}
 use Rattle.inspect.specs.Verifying.{IsAcceptedText}
-use Rattle.commands.specs.Acting.{Files, recording, any_words, form_of, AnswersExplore, AnswersCases, AnswersOf, AnswersAny, AnswersWith, Answers}
+use Rattle.commands.specs.Acting.{Files, recording, any_words, form_of, AnswersExplore, AnswersCases, AnswersRetold, AnswersOf, AnswersAny, AnswersWith, Answers}
 use Rattle.commands.specs.OneAnswer.{OneAnswer, alone, asked_alone, WorkChangesNothing}
 
 -- the same settings for one worker without a cache
@@ -136,9 +140,11 @@ tells_alone telling.Page inputs s value cs bytes h =
     record {
       failures = h.failures;
       are_failures = h.are_failures;
-      programs = h.programs;
-      are = record { all = h.are.all; named = h.are.named; each = h.are.each };
-      page = h.page;
+      page = record {
+        programs = h.page.programs;
+        are = record { all = h.page.are.all; named = h.page.are.named; each = h.page.are.each };
+        page = h.page.page;
+      };
     }
 
 cure_alone : (s : Settings) (value : LogValue) (cs : List CheckerValue) (bytes : List ℕ) → TellsCure s value cs bytes → TellsCure (set_alone s) value cs bytes
@@ -295,6 +301,13 @@ told_alone : (in_words : Bool) (s : Settings) (v : LogValue) (cut : ℕ) (ds : L
 told_alone true s v cut ds = refl
 told_alone false s v cut ds = refl
 
+-- what is told of a report is the same
+tells_retold : (t : Retelling) (s : Settings) (v : LogValue) (g : GivenValue) (bytes : List ℕ) → Retells t s v g bytes → Retells t (set_alone s) v g bytes
+unfolding head_given
+tells_retold retelling.Causes s v g bytes h = h
+tells_retold retelling.Page s v g bytes h = h
+tells_retold retelling.Places s v g bytes h = h
+
 any_alone : (w : OptionWords) (cut : ℕ) (in_words : Bool) (files : Files) (bytes : List ℕ) (status : ℕ) → AnswersAny w cut in_words files bytes status
     → AnswersAny (alone w) cut in_words files bytes status
 any_alone w cut in_words files bytes status h =
@@ -325,6 +338,30 @@ any_alone w cut in_words files bytes status h =
       };
     }
 
+retold_alone : (t : Retelling) (w : OptionWords) (files : Files) (bytes : List ℕ) (status : ℕ) → AnswersRetold t w files bytes status → AnswersRetold t (alone w) files bytes status
+unfolding head_given
+retold_alone t w files bytes status h =
+    let told = h.told in
+    record {
+      settings = set_alone h.settings;
+      asked = ask_alone w h.settings h.asked;
+      log = h.log;
+      report = h.report;
+      initial = h.initial;
+      read = h.read;
+      second = h.second;
+      based = h.based;
+      failing = h.failing;
+      told = record {
+        whole = told.whole;
+        short = told.short;
+        value = told.value;
+        source = images_alone told.source;
+        told = record { given = told.told.given; is = told.told.is; tells = tells_retold t h.settings told.value told.told.given bytes told.told.tells; fails = told.told.fails };
+      };
+      ends = h.ends;
+    }
+
 pub answers_alone : (r : Request) (files : Files) (bytes : List ℕ) (status : ℕ) → Answers r files bytes status → Answers (asked_alone r) files bytes status
 answers_alone request.StoredRun files bytes status h = h
 answers_alone (request.Explore w) files bytes status h = explore_alone (wanted.Told telling.Report) w files bytes status h
@@ -332,6 +369,7 @@ answers_alone (request.Cases w l) files bytes status h = cases_answered_alone w 
 answers_alone (request.Why w) files bytes status h = explore_alone (wanted.Told telling.Causes) w files bytes status h
 answers_alone (request.Cure w) files bytes status h = explore_alone wanted.Cured w files bytes status h
 answers_alone (request.Page w) files bytes status h = explore_alone (wanted.Told telling.Page) w files bytes status h
+answers_alone (request.Retold w t) files bytes status h = retold_alone t w files bytes status h
 answers_alone (request.Images w parts) files bytes status h =
     of_alone w (λ s text. IsSurvey parts text s)
     (λ s held shown k. record { value = k.value; source = images_alone k.source; fits = k.fits; told = k.told }) files bytes status h

@@ -166,7 +166,7 @@ run_there w files log (x ∷ ranges) (t ∷ texts) held some prints =
     let same : own.log ≡ log.text = cc in
     record { programs = own.programs; holds = (own.read ∙ ap (λ (l : List ℕ). map Some (l ∷ own.programs)) same, held.based) }
 
-whole_asked : (w : OptionWords) (s : Settings) → AskFor (asking extent.Whole w) s → s ≡ meant extent.Whole s
+pub whole_asked : (w : OptionWords) (s : Settings) → AskFor (asking extent.Whole w) s → s ≡ meant extent.Whole s
 whole_asked w s asked = settings_meant extent.Whole extent.Whole w s s asked.asked asked.asked
 
 files_answer : (w : OptionWords) (files : Files) (s : Settings) (log : Recording) (programs : List (List ℕ)) (bytes : List ℕ) (failing : Bool) (status : ℕ) → AskFor (asking extent.Whole w) s

@@ -1,6 +1,6 @@
 -- What a command answers on what its files hold, and when it is refused (docs/COMMANDS.md, Commands; docs/REFUSALS.md, Refusals
 -- in their order).
-use Rattle.std.specs.Prelude.{ℕ, ◌≡◌, ◌⊎◌, ◌<◌, ◌≤◌, ◌^◌, Bool, true, if◌then◌else◌, List, [], ◌∷◌, length, map, position, slice_get, is_none, Option, None, Some}
+use Rattle.std.specs.Prelude.{ℕ, ◌≡◌, ◌⊎◌, ◌<◌, ◌≤◌, ◌^◌, Bool, true, false, if◌then◌else◌, List, [], ◌∷◌, length, map, position, slice_get, is_none, Option, None, Some}
 use Rattle.std.specs.Option.{option_map}
 use Rattle.base.specs.declared.causes.JoinCause.TheVariants as joining
 use Rattle.base.specs.declared.refusal.Cause.TheVariants.{Join}
@@ -23,6 +23,12 @@ use Rattle.request.specs.declared.trials.TrialWords.{TrialWords}
 use Rattle.request.specs.Trials.{AskForTrial, trial_refusal}
 use Rattle.request.specs.Source.{Recording}
 use Rattle.request.specs.declared.settings.Telling.TheVariants as telling
+use Rattle.base.specs.declared.causes.RequestCause.TheVariants as asked
+use Rattle.base.specs.declared.refusal.Cause.TheVariants.{Request as AskedFor}
+use Rattle.request.specs.declared.settings.Retelling.{Retelling}
+use Rattle.retold.specs.declared.command.Fault.{Fault}
+use Rattle.retold.specs.declared.command.Fault.TheVariants as fault
+use Rattle.retold.specs.Retold.{IsRetold, RefusesRetold}
 use Rattle.runs.specs.declared.explore_command.Wanted.{Wanted}
 use Rattle.runs.specs.declared.explore_command.Wanted.TheVariants as wanted
 use Rattle.runs.specs.Explore.{RefusesWanted}
@@ -133,9 +139,24 @@ pub record AnswersCases (w : OptionWords) (l : LossWords) (files : Files) (bytes
   pub good : losses_refusal l settings ≡ None
   pub answers : AnswersFiles (wanted.Cases (losses_asked l settings)) settings files bytes status
 
+-- what is told of the report that the second file is, of the log that the first one holds, and the status: 1 exactly where it has a
+-- failing line
+pub record AnswersRetold (t : Retelling) (w : OptionWords) (files : Files) (bytes : List ℕ) (status : ℕ) : Type 0 where
+  pub settings : Settings
+  pub asked : AskFor w settings
+  pub log : List ℕ
+  pub report : List ℕ
+  pub initial : List ℕ
+  pub read : first_held files ≡ Some log
+  pub second : second_held files ≡ Some report
+  pub based : initial_of files.base ≡ Some initial
+  pub failing : Bool
+  pub told : IsRetold t (recording log initial) report settings bytes failing
+  pub ends : status ≡ status_of failing
+
 -- what is asked of any number of losses, where no number of them is given
 abbrev pub any_words : LossWords
-any_words = record { any = true; torn = None; at_most = None }
+any_words = record { any = true; torn = None; at_most = None; why = false }
 
 -- how an image is told
 abbrev pub form_of : Bool → Form
@@ -226,6 +247,7 @@ Answers (request.Cases w l) files bytes status = AnswersCases w l files bytes st
 Answers (request.Why w) files bytes status = AnswersExplore (wanted.Told telling.Causes) w files bytes status
 Answers (request.Cure w) files bytes status = AnswersExplore wanted.Cured w files bytes status
 Answers (request.Page w) files bytes status = AnswersExplore (wanted.Told telling.Page) w files bytes status
+Answers (request.Retold w t) files bytes status = AnswersRetold t w files bytes status
 Answers (request.Images w parts) files bytes status = AnswersOf w (λ s text. IsSurvey parts text s) files bytes status
 Answers (request.Export w) files bytes status = AnswersOf w (λ s text. IsExport text s) files bytes status
 Answers (request.Log w) files bytes status = AnswersOf w (λ s text. IsTable text s) files bytes status
@@ -265,6 +287,21 @@ pub data RefusesFiles (t : Wanted) (files : Files) (s : Settings) : Refusal → 
   for_run : (log : List ℕ) (programs : List (List ℕ)) (initial : List ℕ) (r : Refusal) → files.named ≡ map Some (log ∷ programs)
       → initial_of files.base ≡ Some initial → RefusesWanted t (recording log initial) programs s r → RefusesFiles t files s r
   for_memory : unread files.named ≡ None → RefusesFiles t files s memory_refusal
+
+-- the refusal of a report, or of what it is to be of: 16 at the line at which a report shows that it is none
+abbrev pub retold_refusal : Fault → Refusal
+retold_refusal (fault.Refused r) = r
+retold_refusal (fault.Report line) = record { code = AskedFor asked.NotReport; at = line; program = None }
+
+-- the refusals of a command on a log and a report after its options: the first file that can't be read, that of the initial content last,
+-- then those of what they hold
+pub data RefusesReportOf (t : Retelling) (files : Files) (s : Settings) : Refusal → Type 0 where
+  for_log_of_report : first_held files ≡ None → RefusesReportOf t files s (file_refusal 0)
+  for_report_file : (log : List ℕ) → first_held files ≡ Some log → second_held files ≡ None → RefusesReportOf t files s (file_refusal 1)
+  for_base_of_report : (log report : List ℕ) → first_held files ≡ Some log → second_held files ≡ Some report → initial_of files.base ≡ None
+      → RefusesReportOf t files s (file_refusal (length files.named))
+  for_retold : (log report initial : List ℕ) (f : Fault) → first_held files ≡ Some log → second_held files ≡ Some report → initial_of files.base ≡ Some initial
+      → RefusesRetold (recording log initial) report s f → RefusesReportOf t files s (retold_refusal f)
 
 -- the refusals of a run by cases after its options: what is asked of losses first
 pub data RefusesCases (l : LossWords) (files : Files) (s : Settings) : Refusal → Type 0 where
@@ -320,6 +357,7 @@ RefusesToAct (request.Cases w l) files r = RefusesWith w (RefusesCases l files) 
 RefusesToAct (request.Why w) files r = RefusesWith w (RefusesFiles (wanted.Told telling.Causes) files) r
 RefusesToAct (request.Cure w) files r = RefusesWith w (RefusesFiles wanted.Cured files) r
 RefusesToAct (request.Page w) files r = RefusesWith w (RefusesFiles (wanted.Told telling.Page) files) r
+RefusesToAct (request.Retold w t) files r = RefusesWith w (RefusesReportOf t files) r
 RefusesToAct (request.Images w parts) files r = RefusesWith w (λ s. RefusesRecording files (λ text. RefusesSurvey parts text s)) r
 RefusesToAct (request.Export w) files r = RefusesWith w (λ s. RefusesRecording files (λ text. RefusesExport text s)) r
 RefusesToAct (request.Log w) files r = RefusesWith w (λ s. RefusesRecording files (λ text. RefusesTable text s)) r

@@ -8,4 +8,5 @@ pub mod OneAnswer
 pub mod Differences
 pub mod Parts
 pub mod OtherWork
+pub mod OfReport
 pub mod Largest

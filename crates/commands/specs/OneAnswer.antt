@@ -46,6 +46,7 @@ asked_alone (request.Cases w l) = request.Cases (alone w) l
 asked_alone (request.Why w) = request.Why (alone w)
 asked_alone (request.Cure w) = request.Cure (alone w)
 asked_alone (request.Page w) = request.Page (alone w)
+asked_alone (request.Retold w t) = request.Retold (alone w) t
 asked_alone (request.Images w parts) = request.Images (alone w) parts
 asked_alone (request.Export w) = request.Export (alone w)
 asked_alone (request.Log w) = request.Log (alone w)

@@ -7,12 +7,12 @@ ghost use Rattle.request.specs.declared.command.Request.TheVariants as asks;
 ghost use Rattle.runs.specs.Explore.{RefusesWanted};
 ghost use Rattle.request.specs.Refusals.{file_refusal};
 ghost use Rattle.runs.specs.declared.explore_command.Wanted.TheVariants as wants;
-ghost use Rattle.commands.specs.Acting.{first_held, second_held, lines_held, files_of, held_by, initial_of, recording, status_of, HoldsRecording, RefusesRecording, AnswersRun, AnswersFiles, AnswersExplore, AnswersCases, AnswersAny, RefusesAny, any_words, form_of, Shows, AnswersOf, Answers, JoinsTexts, RefusesTexts, join_refusal, most_texts, RefusesWith, RefusesCases, RefusesLook, RefusesToAct, RefusesFiles};
+ghost use Rattle.commands.specs.Acting.{first_held, second_held, lines_held, files_of, held_by, initial_of, recording, status_of, HoldsRecording, RefusesRecording, AnswersRun, AnswersFiles, AnswersExplore, AnswersCases, AnswersRetold, RefusesReportOf, retold_refusal, AnswersAny, RefusesAny, any_words, form_of, Shows, AnswersOf, Answers, JoinsTexts, RefusesTexts, join_refusal, most_texts, RefusesWith, RefusesCases, RefusesLook, RefusesToAct, RefusesFiles};
 ghost use Rattle.commands.specs.Stored.{stored_log, stored_programs, stored_settings};
 ghost use Rattle.request.specs.declared.settings.Telling.TheVariants as tells;
 
 use crate::stored::{stored_files, stored_options};
-use base::causes::JoinCause;
+use base::causes::{JoinCause, RequestCause};
 use base::limits::Limits;
 use base::refusal::{Cause, Refusal};
 use command_line::Words;
@@ -24,9 +24,10 @@ use inspect::trial::try_image;
 use join::{JoinFault, join};
 use request::facts::{Facts, Recording};
 use request::{
-    LossWords, OptionWords, Options, Request, Telling, TrialWords, Which, losses_of, options_of,
-    trial_of, unreadable,
+    LossWords, OptionWords, Options, Request, Retelling, Telling, TrialWords, Which, losses_of,
+    options_of, trial_of, unreadable,
 };
+use retold::{Fault, retell};
 use runs::{Question, Wanted, run_with};
 use std::alloc::{AllocError, Global};
 use std::sync::Wait;
@@ -72,7 +73,7 @@ impl<'x> Held<'x> {
         }
     }
 
-    /// What the second file holds: an image.
+    /// What the second file holds: an image, or a report.
     fn second(&self) -> Result<&'x [u8], Refusal>
         ensures { MatchResult result (λ bytes. second_held (held_by self.now) ≡ Some bytes.now)
             (λ r. (second_held (held_by self.now) ≡ None) × (r ≡ file_refusal 1)) }
@@ -320,6 +321,7 @@ fn any_words() -> LossWords
         any: true,
         torn: None,
         at_most: None,
+        why: false,
     }
 }
 
@@ -349,6 +351,42 @@ fn act_any_image(
     let form = form_of(in_words);
     let bytes = any_image(alloc, form, &recording, cut, files.choice, &options, facts)?;
     Ok((bytes, 0))
+}
+
+/// The refusal of a report, or of what it is to be of.
+fn retold_refusal_of(fault: Fault) -> Refusal
+    ensures { result ≡ retold_refusal fault }
+{
+    match fault {
+        Fault::Refused(refusal) => refusal,
+        Fault::Report(line) => Refusal {
+            code: Cause::Request(RequestCause::NotReport),
+            at: line,
+            program: None,
+        },
+    }
+}
+
+/// What is told of the report that the second file is, of the log that the first file holds.
+fn act_retold(
+    alloc: Global,
+    telling: Retelling,
+    words: OptionWords,
+    files: &Held<'_>,
+    facts: &mut Facts,
+) -> Result<(Vec<u8>, u8), Refusal>
+    ensures answers { IfOk result (λ answer. AnswersRetold telling words (held_by files.now) answer.0.items answer.1) }
+    ensures refused { IfErr result (RefusesWith words (RefusesReportOf telling (held_by files.now))) }
+{
+    let options = options_of(words)?;
+    let log = files.first()?;
+    let report = files.second()?;
+    let initial = files.initial()?;
+    let recording = Recording::of(log, initial);
+    match retell(alloc, telling, &recording, report, &options, facts) {
+        Ok(retold) => Ok((retold.bytes, status_of(retold.failing))),
+        Err(fault) => Err(retold_refusal_of(fault)),
+    }
 }
 
 /// The log that is imported of a raw log.
@@ -512,6 +550,7 @@ pub(crate) fn act_known<G: Gate + Sync, R: Threads + Wait + Sync>(
             let asked = files.run_asked_for(Wanted::Told(Telling::Page), words);
             act_explore(rt, alloc, gate, &asked, facts)
         }
+        Request::Retold(words, telling) => act_retold(alloc, telling, words, files, facts),
         Request::Images(words, parts) => act_look(alloc, Look::Images(parts), words, files, facts),
         Request::Export(words) => act_look(alloc, Look::Export, words, files, facts),
         Request::Log(words) => act_look(alloc, Look::Log, words, files, facts),

@@ -7,6 +7,7 @@ ghost use Rattle.commands.specs.Largest.{ReportsAreBounded};
 ghost use Rattle.commands.specs.Laws.{OneReport, ReportOrRefusal};
 ghost use Rattle.commands.specs.OneAnswer.{OneAnswer, AnswerOrRefusal, WorkChangesNothing};
 ghost use Rattle.commands.specs.Once.{EachImageStandsOnce};
+ghost use Rattle.commands.specs.OfReport.{PageOfReportIsPage, WhyOfReportIsWhy};
 ghost use Rattle.commands.specs.OtherWork.{JoinIsExploreByOwn};
 ghost use Rattle.commands.specs.Parts.{JoinIsExplore, JoinedPartsAreRun, PartsOfRunAreJoined};
 
@@ -134,6 +135,25 @@ pub fn join_is_explore_by_own()
     ensures { JoinIsExploreByOwn }
 {
     join_is_explore();
+}
+
+/// Of the report that `explore` prints of a run `why --report` says what `why` says of its programs, with the same status; and no command
+/// refuses it as no report but where it has more than 1 GiB.
+pub fn why_of_report_is_why()
+    ensures { WhyOfReportIsWhy }
+{
+    text_of_one_log();
+    one_program();
+    one_verdict();
+}
+
+/// Of the report that `explore` prints of a run `page --report` prints the page that `page` prints of its programs, with the same status.
+pub fn page_of_report_is_page()
+    ensures { PageOfReportIsPage }
+{
+    text_of_one_log();
+    one_program();
+    one_verdict();
 }
 
 /// The failing lines of a report have no more bytes than are said beforehand: as many as the longest line, for each image that is judged

@@ -27,7 +27,7 @@
 //! - `stored`: the run that the program holds itself.
 //! - `laws`: that there is one answer at most to what is asked, and no refusal beside it but for memory; that workers, cache
 //!   and progress change nothing of it; that `show` names each sector that differs; that each failing image stands once in what
-//!   `why` says; that the parts of a run, joined, are what the run answers.
+//!   `why` says; that the parts of a run, joined, are what the run answers; that of the report of checkers `why` is told as of them.
 //! - `streamed`: `perform_export`, which writes the answer of `export` as it is made. `emit` writes all of another answer to an `Output`, a
 //!   writer that is asked no more once a write has failed; both come from `export`.
 //! - `progress`: the gate that says on standard error how far an exploration is, and before it begins how large its report may get.
@@ -52,8 +52,9 @@
 //! that a run answers for its parts, which have each image of a range once, come to what it answers for that range
 //! (`joined_parts_are_run`), and are refused for their length or want of memory alone (`parts_of_run_are_joined`). So `join`
 //! prints of such files what `explore` prints of the whole run, with the same status (`join_is_explore`), whatever workers and
-//! caches the parts were made by (`join_is_explore_by_own`). The failing lines of a report have no more bytes than are said before
-//! the run (`reports_are_bounded`). `emit` writes all
+//! caches the parts were made by (`join_is_explore_by_own`). Of a report that `explore` printed `why --report` prints what `why` prints of
+//! its programs, and it isn't refused as no report up to 1 GiB (`why_of_report_is_why`); so does `page --report` (`page_of_report_is_page`).
+//! The failing lines of a report have no more bytes than are said before the run (`reports_are_bounded`). `emit` writes all
 //! bytes, or says how many were written before the writer failed. What a run reports, and what the other commands show, stands on
 //! the pages of `runs` and `inspect`.
 //!
@@ -71,6 +72,8 @@
 //!   (`run_meant`, `part_text_is` in `PartsJoined.antt`), so all parts are those of one `RunValue`.
 //! - That a join has a line exactly where the run has one is told image by image (`IsQuiet` in `PartsJoined.antt`), and not along the
 //!   row. So no part's place counts.
+//! - That `why --report` is `why` is shown of what is read: the report of a run is one of the log (`is_report` in `GivenRun.antt`), a report
+//!   is read in one way alone, and what is told of it is told of the failing lines (`tells_causes`).
 //!
 //! # Example
 //!
@@ -113,8 +116,9 @@ pub use inspect::looks::{Stopped, choices_are_short, image, report_prints_choice
 pub use largest::lines_of_image;
 pub use laws::{
     answer_or_refusal, each_image_stands_once, join_is_explore, join_is_explore_by_own,
-    joined_parts_are_run, one_answer, one_report, parts_of_run_are_joined, report_or_refusal,
-    reports_are_bounded, show_names_differences, work_changes_nothing,
+    joined_parts_are_run, one_answer, one_report, page_of_report_is_page, parts_of_run_are_joined,
+    report_or_refusal, reports_are_bounded, show_names_differences, why_of_report_is_why,
+    work_changes_nothing,
 };
 pub use notes::command_notes::{notes_after, notes_beside};
 pub use progress::Progress;

@@ -4,3 +4,4 @@ pub mod Rows
 pub mod Markup
 pub mod Taken
 pub mod Labels
+pub mod Owned

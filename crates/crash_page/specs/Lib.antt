@@ -1,5 +1,6 @@
 -- Crash images as a page for a browser.
 pub mod Html
+pub mod Judges
 pub mod Pieces
 pub mod Shares
 pub mod Lacking
@@ -8,4 +9,5 @@ pub mod Cells
 pub mod Blocks
 pub mod Groups
 pub mod Page
+pub mod Failing
 pub mod Laws

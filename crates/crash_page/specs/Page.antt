@@ -5,15 +5,15 @@ use Rattle.logfmt.specs.declared.entry.Entry.{Entry}
 use Rattle.logfmt.specs.Bounds.{LogValue}
 use Rattle.notes.specs.LogTable.{word_text}
 use Rattle.choices.specs.Sums.{StartsValue}
-use Rattle.report.specs.declared.head.ProgramHead.{ProgramHead}
-use Rattle.report.specs.Report.{steps_text}
 use Rattle.losses.specs.declared.flushes.counted.MissingFlush.{MissingFlush}
 use Rattle.losses.specs.declared.why.cut.CutFailures.{CutFailures}
 use Rattle.losses.specs.WhyText.{IsNumbered}
 use Rattle.crash_page.specs.declared.pieces.Piece.TheVariants as piece
 use Rattle.crash_page.specs.Pieces.{piece_text}
 use Rattle.crash_page.specs.declared.program.ProgramFailures.{ProgramFailures}
+use Rattle.crash_page.specs.declared.judge.Judge.{Judge}
 use Rattle.crash_page.specs.Html.{html}
+use Rattle.crash_page.specs.Judges.{judge_text}
 use Rattle.crash_page.specs.Entries.{rows_text}
 use Rattle.crash_page.specs.Shares.{legend_text}
 use Rattle.crash_page.specs.Lacking.{advice_text}
@@ -51,18 +51,18 @@ strip_text es program f = strip_open es ++ row_of es program f.missing.items f.c
 abbrev pub most_of_program : List Entry → ℕ
 most_of_program es = if is_large es then 100 else 500
 
--- the program: its number, how many slots it has, the most steps of a run, and how many slots are guarded where some may be
-unfoldable pub name_text : ℕ → ProgramHead → List ℕ
-name_text program p = decimal program ++ codes ": slots " ++ decimal p.slots ++ codes " " ++ steps_text p
+-- the program: its number, and what the report says of it
+unfoldable pub name_text : ℕ → Judge → List ℕ
+name_text program j = decimal program ++ codes ": " ++ judge_text j
 
-unfoldable pub title_text : ℕ → ProgramHead → List ℕ
-title_text program p =
-    piece_text piece.ProgramOpen ++ decimal program ++ piece_text piece.ProgramId ++ decimal program ++ piece_text piece.ProgramName ++ name_text program p
+unfoldable pub title_text : ℕ → Judge → List ℕ
+title_text program j =
+    piece_text piece.ProgramOpen ++ decimal program ++ piece_text piece.ProgramId ++ decimal program ++ piece_text piece.ProgramName ++ name_text program j
     ++ piece_text piece.ProgramClose
 
 -- what it comes to, and what flushes would do
 unfoldable pub summary_text : ℕ → ProgramFailures → List ℕ
-summary_text program f = title_text program f.head ++ verdict_text f ++ advice_text program f.missing.items f.uncured
+summary_text program f = title_text program f.judge ++ verdict_text f ++ advice_text program f.missing.items f.uncured
 
 -- what it ends in on each image on which it fails
 abbrev pub outcomes_of : ProgramFailures → List (List ℕ)

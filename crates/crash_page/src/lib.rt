@@ -6,19 +6,21 @@
 //!
 //! On `losses`, whose groups (`why`) it shows and whose missing flushes (`flushes`) it draws, on `crash_text` for the text of an
 //! image, on `images`, which forms the two images that this text compares, on `report` for what it says of a program at its head,
-//! and on `notes` for the lines of entries. It judges nothing: `runs` hands it what fails.
+//! and on `notes` for the lines of entries. It judges nothing: `runs` hands it what fails of checkers, and `retold` what a report says.
 //!
-//! | Call | Appends |
+//! | Call | Does |
 //! |---|---|
-//! | `put_page(alloc, out, about, run, programs)` | the page, of programs that fail on that many images at these cuts |
+//! | `program_failures(alloc, run, failures, program, judge, images, outcomes)` | is what a page takes of a program: it fails on these images, and ends so on each |
+//! | `put_page(alloc, out, about, run, programs)` | appends the page, of programs that fail on that many images at these cuts |
 //!
 //! # What is proved
 //!
 //! `put_page` appends exactly the text of its definition (`page_text` in `specs/Page.antt`) over the log, the plan and what fails
 //! at each cut. The parts that are the same on each page are constants of `dress`, of which nothing is claimed. Which share of failing
 //! images has which colour is one definition (`specs/Shares.antt`), of which the cells and the legend are made. Text that comes from a
-//! log stands on the page by `html` or `mark_label` alone: no byte of it is `<`, `>`, `"` or `'` (`text_is_no_markup`). What `put_page`
-//! asks of the failures that it is given holds of what `losses::why::failures` answers (`failures_are_of_run`).
+//! log or a report stands on the page by `html` or `mark_label` alone: no byte of it is `<`, `>`, `"` or `'` (`text_is_no_markup`). What
+//! `put_page` asks of the failures that it is given holds of what `program_failures` answers: these are, of the images on which a program
+//! fails, what fails at each cut and which flushes are missing (`specs/Failing.antt`).
 //!
 //! # How it is written
 //!
@@ -45,24 +47,19 @@
 //! # Example
 //!
 //! ```
-//! use crash_page::{ProgramFailures, Run, put_page};
+//! use crash_page::{Judge, Run, program_failures, put_page};
 //! use crash_text::Numbering;
 //! use epochs::{By, Cuts};
+//! use losses::cure::Failure;
 //! use report::ProgramHead;
-//! use losses::why::failures;
 //!
 //! // `starts` and `history` are those of `plan`, which has all cuts of `log`; the program fails on image 104 alone
 //! let numbering = Numbering { plan: &plan, log: &log, cuts: Cuts::ALL, by: By::Sector, bound: 2, tears: true };
 //! let run = Run { starts: &starts, history: &history, numbering };
-//! let outcomes = ["answer 1 codes 1"];
-//! let program = ProgramFailures {
-//!     head: ProgramHead { slots: 39, limit: 87, verified: true, guards: None },
-//!     failing: 1,
-//!     outcomes: Vec::from_slice(alloc, &outcomes)?,
-//!     cuts: failures(alloc, &starts, &[104], &outcomes)?,
-//!     missing: Vec::new(alloc),
-//!     uncured: 1,
-//! };
+//! let outcomes = Vec::from_slice(alloc, &["answer 1 codes 1"])?;
+//! let judge = Judge::Checker(ProgramHead { slots: 39, limit: 87, verified: true, guards: None });
+//! let failures = [Failure { program: 0, window: None }];
+//! let program = program_failures(alloc, &run, &failures, 0, judge, &[104], outcomes)?;
 //! let mut page = String::new(alloc);
 //! put_page(alloc, &mut page, "disk.log", &run, &[program])?;
 //! // a page with the row of the log, and after the cut of image 104 its group
@@ -73,8 +70,10 @@ mod block;
 mod cut;
 mod dress;
 mod entry;
+mod failing;
 mod group;
 mod html;
+mod judge;
 mod lacking;
 mod laws;
 mod page;
@@ -84,6 +83,8 @@ mod run;
 mod share;
 mod strip;
 
+pub use failing::program_failures;
+pub use judge::Judge;
 pub use laws::{failures_are_of_run, text_is_no_markup};
 pub use page::put_page;
 pub use program::ProgramFailures;

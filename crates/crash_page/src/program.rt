@@ -11,6 +11,7 @@ ghost use Rattle.crash_page.specs.Page.{fails, bad_text, judged_text, verdict_te
 use crate::block::{MOST_CELLS, is_large, put_more_name, put_row_blocks, put_width};
 use crate::cut::{Showing, put_cut, shown_of};
 use crate::entry::put_word;
+use crate::judge::{Judge, put_judge};
 use crate::lacking::{Lacking, put_advice};
 use crate::pieces::{Piece, put, put_number};
 use crate::run::Run;
@@ -19,7 +20,6 @@ use crate::strip::put_strip;
 use logfmt::Log;
 use losses::flushes::MissingFlush;
 use losses::why::CutFailures;
-use report::{ProgramHead, put_steps};
 use std::alloc::{AllocError, Global};
 
 /// How many groups of a program are shown.
@@ -34,8 +34,8 @@ const MANY: usize = 400;
 /// On which images a program fails.
 #[derive(Drop)]
 pub struct ProgramFailures<'a> {
-    /// What the report says of the program.
-    pub head: ProgramHead,
+    /// What the program is.
+    pub judge: Judge<'a>,
     /// On how many images it fails.
     pub failing: usize,
     /// What it ends in on each of these images.
@@ -270,26 +270,26 @@ fn lacking_of<'a>(program: usize, failures: &'a ProgramFailures<'_>) -> Lacking<
     }
 }
 
-/// Appends the number of a program, how many slots it has, the most steps of a run, and how many slots are guarded where some may be.
+/// Appends the number of a program, and what the report says of it.
 #[tactic(auto, unfolding(crate::specs::Page::name_text))]
-fn put_name(out: &mut String, program: usize, head: ProgramHead) -> Result<(), AllocError>
-    ensures { OnOk result (string_bytes out.new ≡ string_bytes out.old ++ name_text program head) }
+fn put_name(out: &mut String, program: usize, judge: &Judge<'_>) -> Result<(), AllocError>
+    ensures { OnOk result (string_bytes out.new ≡ string_bytes out.old ++ name_text program judge.now) }
 {
-    write!(out, "{program}: slots {} ", head.slots)?;
-    put_steps(out, head)
+    write!(out, "{program}: ")?;
+    put_judge(out, judge)
 }
 
 /// Appends the title of a program.
 #[tactic(auto, unfolding(crate::specs::Page::title_text))]
-fn put_title(out: &mut String, program: usize, head: ProgramHead) -> Result<(), AllocError>
-    ensures { OnOk result (string_bytes out.new ≡ string_bytes out.old ++ title_text program head) }
+fn put_title(out: &mut String, program: usize, judge: &Judge<'_>) -> Result<(), AllocError>
+    ensures { OnOk result (string_bytes out.new ≡ string_bytes out.old ++ title_text program judge.now) }
 {
     put(out, Piece::ProgramOpen)?;
     put_number(out, program as u64)?;
     put(out, Piece::ProgramId)?;
     put_number(out, program as u64)?;
     put(out, Piece::ProgramName)?;
-    put_name(out, program, head)?;
+    put_name(out, program, judge)?;
     put(out, Piece::ProgramClose)
 }
 
@@ -303,7 +303,7 @@ fn put_summary(
     ensures { OnOk result (string_bytes out.new ≡ string_bytes out.old ++ summary_text program failures.now) }
 {
     let lacking = lacking_of(program, failures);
-    put_title(out, program, failures.head)?;
+    put_title(out, program, &failures.judge)?;
     put_verdict(out, failures)?;
     put_advice(out, &lacking, failures.uncured)
 }

@@ -1,13 +1,20 @@
 -- How the process ends (docs/COMMANDS.md, Exit status).
-use Rattle.std.specs.Prelude.{ℕ, ◌≡◌, ◌⊎◌, ◌<◌, List, length, take, Option}
+use Rattle.std.specs.Prelude.{ℕ, ◌≡◌, ◌⊎◌, ◌<◌, List, codes, length, take, Option}
 use Rattle.std.specs.Io.KnownBytes.{Appends, Keeps}
 use Rattle.base.specs.declared.refusal.Refusal.{Refusal}
+use Rattle.request.specs.declared.command.Request.{Request}
+use Rattle.request.specs.declared.command.Request.TheVariants as request
 use Rattle.commands.specs.Acting.{Files}
 use Rattle.input_files.specs.Reads.{InputsValue}
 
 -- what the files of a command hold, as they were read, beside the text after --choice
 abbrev pub held_in : InputsValue → List ℕ → Files
 held_in inputs choice = record { named = inputs.files; base = inputs.base; choice = choice }
+
+-- the name by which the files of a command are read: `report` where one stands in place of programs
+abbrev pub files_name : Request → List ℕ → List ℕ
+files_name (request.Retold w t) command = codes "report"
+files_name r command = command
 
 -- By what a command answers and when it is refused, what standard output has before and after, where that is known, and the status: an
 -- answer that was written whole, with its status; an answer of which the first bytes alone were written, or a refusal with nothing on standard

@@ -21,7 +21,7 @@
 //! `run` performs the command on what was read of its files, and ends by that (`specs/Ending.antt`): with an answer of the command, all of
 //! it written, and its status; or with status 2, where only the first bytes of an answer were written, or where the command is refused
 //! and nothing was. `read_and_run` does so on what `Inputs::read` read for the words: of the files that they name, in their order, and
-//! of the one after `--base`, within the limits that they ask for. What a file of the system holds and what standard output takes
+//! of the one after `--base`, within the limits that they ask for; the file of `--report` is read as a report (`files_name`). What a file of the system holds and what standard output takes
 //! no contract can say. Nor does one say what stands on standard error. That is shown by runs of the built program.
 #![tactic(auto)]
 
@@ -31,7 +31,7 @@ ghost use Rattle.request.specs.declared.command.Request.TheVariants as asks;
 ghost use Rattle.command_line.specs.Words.{limits_asked, sectors_asked};
 ghost use Rattle.commands.specs.Acting.{Answers, RefusesToAct};
 ghost use Rattle.input_files.specs.Reads.{AreInputs};
-ghost use Rattle.crashbpf.specs.Ending.{held_in, Ends, EndsOn};
+ghost use Rattle.crashbpf.specs.Ending.{held_in, files_name, Ends, EndsOn};
 
 use base::refusal::Refusal;
 use clap::error::ErrorKind as WordsFault;
@@ -230,6 +230,16 @@ fn run<R: AllocGlobal + Eprint + Clock + Threads + Wait + Sync, W: Write>(
     }
 }
 
+/// The name by which the files of a command are read: `report` where a report stands in place of programs.
+fn files_name<'a>(command: &'a str, words: &Words) -> &'a str
+    ensures { result.now ≡ files_name words.now.request command.now }
+{
+    match words.request() {
+        Request::Retold(_, _) => "report",
+        _ => command,
+    }
+}
+
 /// Reads the files of a command, and performs it.
 fn read_and_run<S: Source + AllocGlobal + Eprint + Clock + Threads + Wait + Sync, W: Write>(
     rt: &S,
@@ -237,7 +247,7 @@ fn read_and_run<S: Source + AllocGlobal + Eprint + Clock + Threads + Wait + Sync
     words: &Words,
     writer: W,
 ) -> Ended<W>
-    ensures { EndsOn (AreInputs S.named S.File.remaining command.now (sectors_asked words.now.request) (limits_asked words.now.request) words.now.files words.now.base)
+    ensures { EndsOn (AreInputs S.named S.File.remaining (files_name words.now.request command.now) (sectors_asked words.now.request) (limits_asked words.now.request) words.now.files words.now.base)
         (λ i. Ends (Answers words.now.request (held_in i words.now.choice)) (RefusesToAct words.now.request (held_in i words.now.choice)) (W.contents writer) (W.contents result.writer) result.status)
         (W.contents writer) (W.contents result.writer) result.status }
 {
@@ -245,7 +255,13 @@ fn read_and_run<S: Source + AllocGlobal + Eprint + Clock + Threads + Wait + Sync
         sectors: words.sectors(),
         limits: words.limits(),
     };
-    match Inputs::read(rt, command, words.files(), words.base(), &size) {
+    match Inputs::read(
+        rt,
+        files_name(command, words),
+        words.files(),
+        words.base(),
+        &size,
+    ) {
         Ok(inputs) => run(rt, words, &inputs, writer),
         Err(refusal) => {
             let status = print_refusal(rt, &refusal);

@@ -1,3 +1,4 @@
+pub mod Queries
 pub mod CopiedBytes
 pub mod CallerLemmas
 pub mod KeptSectors

@@ -1,5 +1,6 @@
 -- What the helpers answer, over a device as the list of its sectors.
-pub mod Helper
 pub mod Answers
+pub mod Queries
+pub mod Helper
 pub mod Filled
 pub mod Footprint

@@ -4,8 +4,10 @@ ghost use Rattle.std.specs.Prelude.{◌≡◌, ◌+◌, ◌*◌, ◌<◌, ◌≤
 ghost use Rattle.std.specs.List.{list_all};
 ghost use Rattle.std.specs.Option.{option_map};
 ghost use Rattle.helpers.specs.Answers.{sector_answer, device_byte, device_bytes, copy_answer, zero_answer, mix_answer, same_answer};
+ghost use Rattle.helpers.specs.Queries.{query_answer};
 
 use crate::device::Device;
+use crate::helper::Query;
 
 /// The address at which sector 0 begins in the memory of a checker. Sectors begin 1,024 apart.
 pub const SECTOR_START: u64 = 0x3_0000_0000;
@@ -68,5 +70,19 @@ pub fn same<D: Device>(device: &D, left: u64, right: u64) -> u64
     match (sector_of(device, left), sector_of(device, right)) {
         (Some(left), Some(right)) => u64::from(lanes::same(left, right)),
         _ => 2,
+    }
+}
+
+/// What a query answers of the numbers in registers 1 and 2.
+#[inline(always)]
+#[tactic(auto, unfolding(crate::specs::Queries::query_answer))]
+pub fn answer<D: Device>(device: &D, query: Query, first: u64, second: u64) -> u64
+    ensures { result ≡ query_answer (D.content device.now) query first second }
+{
+    match query {
+        Query::Sector => sector(device, first),
+        Query::Zero => zero(device, first),
+        Query::Mix => mix(device, first),
+        Query::Same => same(device, first, second),
     }
 }

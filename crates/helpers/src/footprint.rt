@@ -2,9 +2,11 @@
 
 ghost use Rattle.std.specs.Prelude.{◌≡◌, ◌<◌, ◌∷◌, [], IsFalse, MatchOption, None};
 ghost use Rattle.helpers.specs.Footprint.{lists, footprint_with, footprint_after, on_device, sector_at, sectors_at, sectors_of, unread};
+ghost use Rattle.helpers.specs.Queries.{query_sectors};
 
 use crate::answers::SECTOR_START;
 use crate::device::Device;
+use crate::helper::Query;
 use arrayvec::ArrayVec;
 use std::marker::Model;
 
@@ -104,6 +106,22 @@ impl<const ROOM: usize> Footprint<ROOM> {
         self.look(device, position / 512);
         if let Some(end) = position.checked_add(count) {
             self.look(device, end.saturating_sub(1) / 512);
+        }
+    }
+
+    /// It looks for a query of the numbers in registers 1 and 2.
+    #[inline(always)]
+    #[tactic(auto, unfolding(crate::specs::Queries::query_sectors), using(crate::proofs::CallerLemmas::looked_both))]
+    pub fn look_for<D: Device>(&mut self, device: &D, query: Query, first: u64, second: u64)
+        ensures { self.new ≡ footprint_after self.old (on_device (D.content device.now) (query_sectors query first second)) }
+    {
+        match query {
+            Query::Sector => {}
+            Query::Same => {
+                self.look(device, first);
+                self.look(device, second);
+            }
+            _ => self.look(device, first),
         }
     }
 

@@ -15,6 +15,10 @@
 //! | `mix` | a number of a sector |
 //! | `same` | whether two sectors hold the same bytes |
 //!
+//! `sector`, `zero`, `mix` and `same` are a `Query`: they answer a number of the device and of one number or two, look at no
+//! sectors but those of these numbers, and change nothing. What stands of each is in `specs/Queries.antt`. Definitions and proofs
+//! of other crates speak of any query, so that a new one touches this crate alone.
+//!
 //! # Place
 //!
 //! The crate stands low, on the words of `base` and the kernels of `lanes`. The machine runs a checker
@@ -28,11 +32,11 @@
 //! - Of a `Device`: `sectors` is the length of its list, `sector(n)` lends the n-th sector and is
 //!   none exactly past the end, and every sector has 512 bytes. What an implementation keeps in
 //!   memory is its own matter.
-//! - `sector`, `zero`, `mix` and `same` of `answers` give exactly the defined answer, for each device
-//!   and each number, on it or past it.
+//! - `answer` of `answers` gives exactly the defined answer of a query, for each device and each number, on it or past it.
+//!   It hangs on the query's arguments alone, and on the sectors at which the query looks (`proofs/Queries.antt`).
 //! - `copy` leaves in its window exactly the defined bytes, zeros past the device, and gives the
 //!   defined answer. Positions do not wrap. A window has at most 512 bytes.
-//! - `Helper::of` knows the numbers 1 to 7 and no other.
+//! - `Helper::of` knows the numbers 1 to 7 and no other. An answer is what `Helper::answer` says that it may be.
 //! - `Filled` is a device in which each byte is the same, as one that nothing has written.
 //! - A `Footprint` keeps the sectors at which a run looked, each once, in the order in which it first did, up to its room;
 //!   where they are more it keeps none (`noted` in `specs/Footprint.antt`).
@@ -70,4 +74,4 @@ mod helper;
 pub use device::{Context, Device};
 pub use filled::Filled;
 pub use footprint::Footprint;
-pub use helper::Helper;
+pub use helper::{Answer, Helper, Query};

@@ -110,17 +110,17 @@ pub held_as : (f : List ℕ → List ℕ) (old : Option (List ℕ)) (bytes : Lis
 held_as f None bytes told read is = tt
 held_as f (Some xs) bytes told read is = (is ∙ ap (λ (zs : List ℕ). length zs) read, ap (λ (zs : List ℕ). Some zs) read)
 
--- what is held of lines of C, where as many bytes are read at most as that
-lines_kept : (old : Option (List ℕ)) (held : Option (List ℕ)) (told most : ℕ) (said : Option ℕ) → most ≡ 1048577
-    → IfSome old (λ xs. (told ≡ length (take most xs)) × (held ≡ Some (take most xs))) → IfSome old (λ xs. Holds kind.Lines said xs held told)
-lines_kept None held told most said so read = tt
-lines_kept (Some xs) held told most said so read =
-    (read.0 ∙ ap (λ (n : ℕ). length (take n xs)) so, read.1 ∙ ap (λ (n : ℕ). Some (take n xs)) so)
+-- what is held of a file of which that many bytes are read at most, and no other length matters
+front_kept : (old : Option (List ℕ)) (held : Option (List ℕ)) (told most n : ℕ) → most ≡ n → IfSome old (λ xs. (told ≡ length (take most xs)) × (held ≡ Some (take most xs)))
+    → IfSome old (λ xs. (told ≡ length (take n xs)) × (held ≡ Some (take n xs)))
+front_kept None held told most n so read = tt
+front_kept (Some xs) held told most n so read =
+    (read.0 ∙ ap (λ (k : ℕ). length (take k xs)) so, read.1 ∙ ap (λ (k : ℕ). Some (take k xs)) so)
 
-pub lines_held : {V E : Type 0} (r : Result V E) (old : Option (List ℕ)) (held : V → Option (List ℕ)) (told : V → ℕ) (most : ℕ) (said : Option ℕ) → most ≡ 1048577
-    → IfOk r (λ v. IfSome old (λ xs. (told v ≡ length (take most xs)) × (held v ≡ Some (take most xs)))) → IfOk r (λ v. IfSome old (λ xs. Holds kind.Lines said xs (held v) (told v)))
-lines_held (Ok v) old held told most said so read = lines_kept old (held v) (told v) most said so read
-lines_held (Err e) old held told most said so read = tt
+pub front_held : {V E : Type 0} (r : Result V E) (old : Option (List ℕ)) (held : V → Option (List ℕ)) (told : V → ℕ) (most n : ℕ) → most ≡ n
+    → IfOk r (λ v. IfSome old (λ xs. (told v ≡ length (take most xs)) × (held v ≡ Some (take most xs)))) → IfOk r (λ v. IfSome old (λ xs. (told v ≡ length (take n xs)) × (held v ≡ Some (take n xs))))
+front_held (Ok v) old held told most n so read = front_kept old (held v) (told v) most n so read
+front_held (Err e) old held told most n so read = tt
 
 pub text_held : (old : Option (List ℕ)) (bytes : List ℕ) (held : Option (List ℕ)) (told most : ℕ) → most ≡ 16777217 → IfSome old (λ xs. bytes ≡ take most xs) → told ≡ length bytes
     → held ≡ (if nat_le (length bytes) 16777216 then Some bytes else None) → IfSome old (λ xs. Holds kind.Text None xs held told)

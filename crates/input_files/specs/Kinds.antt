@@ -32,6 +32,7 @@ kind_of command place limits left =
     else if bytes_eq command (codes "verify") || bytes_eq command (codes "list") then kind.Program
     else if bytes_eq command (codes "check") then checked_kind place limits
     else if bytes_eq command (codes "join") then kind.Part left
+    else if bytes_eq command (codes "report") && place == 1 then kind.Report
     else if place == 0 then kind.Log limits
     else kind.Program
 
@@ -44,6 +45,7 @@ most_of kind.Text = 16 * 1024 * 1024
 most_of (kind.Image limits) = 512 * sector_limit limits
 most_of kind.Lines = 1024 * 1024
 most_of (kind.Part left) = left
+most_of kind.Report = 1024 * 1024 * 1024
 
 -- how many bytes are read at most: one more, or of a program a slot more; of a raw log no more
 abbrev pub read_of : FileKind → ℕ
@@ -68,6 +70,7 @@ memory_of kind.Program place = record { code = Code code.Memory; at = 0; program
 memory_of kind.Text place = record { code = Asm asm.Memory; at = 0; program = None }
 memory_of (kind.Image limits) place = memory_refusal
 memory_of kind.Lines place = memory_refusal
+memory_of kind.Report place = memory_refusal
 memory_of (kind.Part left) place = record { code = Join joining.Memory; at = 0; program = None }
 
 -- how many bytes are left for parts after a file of that many; none where it is a part that has more than were left

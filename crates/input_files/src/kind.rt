@@ -29,6 +29,8 @@ pub enum FileKind {
     Lines,
     /// The text of a part of a run, for which that many bytes are left.
     Part(u32),
+    /// A report that is given in place of programs.
+    Report,
 }
 
 impl FileKind {
@@ -42,6 +44,7 @@ impl FileKind {
             "verify" | "list" => FileKind::Program,
             "check" => checked_kind(place, limits),
             "join" => FileKind::Part(left),
+            "report" if place == 1 => FileKind::Report,
             _ if place == 0 => FileKind::Log(limits),
             _ => FileKind::Program,
         }
@@ -60,6 +63,7 @@ impl FileKind {
             FileKind::Image(limits) => 512 * limits.sectors() as usize,
             FileKind::Lines => 1_048_576,
             FileKind::Part(left) => left as usize,
+            FileKind::Report => 1_073_741_824,
         }
     }
 
@@ -76,6 +80,7 @@ impl FileKind {
             FileKind::Image(limits) => 512 * limits.sectors() as usize + 1,
             FileKind::Lines => 1_048_577,
             FileKind::Part(left) => left as usize + 1,
+            FileKind::Report => 1_073_741_825,
         }
     }
 
@@ -88,7 +93,7 @@ impl FileKind {
             FileKind::Log(_) | FileKind::Raw => { refusal_of(Cause::Log(LogCause::Memory), None) }
             FileKind::Program => refusal_of(Cause::Code(CodeCause::Memory), program_at(place)),
             FileKind::Text => refusal_of(Cause::Asm(AsmCause::Memory), None),
-            FileKind::Image(_) | FileKind::Lines => Refusal::of_memory(),
+            FileKind::Image(_) | FileKind::Lines | FileKind::Report => Refusal::of_memory(),
             FileKind::Part(_) => refusal_of(Cause::Join(JoinCause::Memory), None),
         }
     }

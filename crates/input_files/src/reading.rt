@@ -364,6 +364,7 @@ fn read_piece<F: Read>(
         FileKind::Text => read_text(alloc, file, expected),
         FileKind::Log(_) | FileKind::Image(_) => read_whole(alloc, file, most, expected),
         FileKind::Lines => read_whole(alloc, file, most, expected),
+        FileKind::Report => read_whole(alloc, file, most, expected),
     }
 }
 

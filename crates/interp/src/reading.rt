@@ -29,7 +29,7 @@ fn bytes_of(size: Size) -> u8
 
 impl<const COUNTS: usize, const FRAMES: usize> Machine<COUNTS, FRAMES> {
     /// Notes at which sectors a helper looks.
-    #[tactic(auto, unfolding(machine::specs::Footprint::call_reads), using(helpers::proofs::CallerLemmas::looked_both))]
+    #[tactic(auto, unfolding(machine::specs::Footprint::call_reads))]
     fn note_call<D: Device, const ROOM: usize>(
         &self,
         looked: &mut Footprint<ROOM>,
@@ -40,13 +40,7 @@ impl<const COUNTS: usize, const FRAMES: usize> Machine<COUNTS, FRAMES> {
     {
         match helper {
             Helper::Copy => looked.look_over(device, self.word(1), self.word(3)),
-            Helper::Zero => looked.look(device, self.word(1)),
-            Helper::Mix => looked.look(device, self.word(1)),
-            Helper::Same => {
-                looked.look(device, self.word(1));
-                looked.look(device, self.word(2));
-            }
-            Helper::Sector => {}
+            Helper::Query(query) => looked.look_for(device, query, self.word(1), self.word(2)),
             Helper::Again => {}
             Helper::Report => {}
         }

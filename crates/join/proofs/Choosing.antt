@@ -29,7 +29,7 @@ rest_printed : (way : By) (ds : List Departure) → flat_map (next_departure_tex
 rest_printed way [] = refl
 rest_printed way (d ∷ ds) = rw (one_printed way d, rest_printed way ds) refl
 
-prints_choices : (way : By) (ds : List Departure) → choice_text way ds ≡ names_text way (map name_of ds)
+pub prints_choices : (way : By) (ds : List Departure) → choice_text way ds ≡ names_text way (map name_of ds)
 unfolding choice_text names_text
 prints_choices way [] = refl
 prints_choices way (d ∷ ds) = rw (one_printed way d, rest_printed way ds) refl

@@ -19,3 +19,7 @@ pub mod Runs
 pub mod OfRuns
 pub mod Sizes
 pub mod Joins
+pub mod Outsides
+pub mod ToldLines
+pub mod JudgesRead
+pub mod GivenWhole

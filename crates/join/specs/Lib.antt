@@ -8,3 +8,6 @@ pub mod Reading
 pub mod Joining
 pub mod Rows
 pub mod Laws
+-- A report that is given in place of programs.
+pub mod Given
+pub mod GivenReading

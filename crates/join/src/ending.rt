@@ -27,7 +27,7 @@ fn is_plain(word: &[u8]) -> bool
 
 /// The number that a word says, if it says one to the byte.
 #[tactic(auto, using(crate::proofs::Endings::not_plain))]
-fn number_exactly(word: &str) -> Option<u64>
+pub(crate) fn number_exactly(word: &str) -> Option<u64>
     ensures { MatchOption result ((n : ℕ) → n < 2 ^ 64 → word.now ≢ decimal n) (λ n. (n < 2 ^ 64) × (word.now ≡ decimal n)) }
 {
     if !is_plain(word.as_bytes()) {
@@ -119,7 +119,7 @@ fn is_fault(text: &str) -> bool
 
 /// Whether a text says what a program ended in.
 #[tactic(auto, using(crate::proofs::Endings::steps_are_ending, crate::proofs::Endings::verdict_is_ending, crate::proofs::Endings::fault_is_ending, crate::proofs::Endings::ending_is_verdict, crate::proofs::Endings::ending_is_fault, crate::proofs::Endings::stray_is_ending, crate::proofs::Endings::ending_is_stray, crate::proofs::Endings::no_ending))]
-fn is_ending(text: &str) -> bool
+pub(crate) fn is_ending(text: &str) -> bool
     ensures { IsTrue result ↔ IsEnding text.now }
 {
     if text == "out of steps" {
@@ -271,7 +271,7 @@ fn is_choice(alloc: Global, head: &Head, cut: u64, text: &str) -> Result<bool, A
 }
 
 /// A text without these words at its end, if it ends with them.
-fn without<'t>(text: &'t str, end: &str) -> Option<&'t str>
+pub(crate) fn without<'t>(text: &'t str, end: &str) -> Option<&'t str>
     ensures { MatchOption result ((front : List ℕ) → text.now ≢ front ++ end.now) (λ front. text.now ≡ front.now ++ end.now) }
 {
     text.strip_suffix(end)
@@ -279,7 +279,7 @@ fn without<'t>(text: &'t str, end: &str) -> Option<&'t str>
 
 /// What stands before and after ` choice `, where no `h` stands before it.
 #[tactic(auto, using(crate::proofs::Choosing::no_h_no_choice, crate::proofs::Choosing::no_front_no_choice, crate::proofs::Choosing::no_back_no_choice))]
-fn at_choice(text: &str) -> Option<(&str, &str)>
+pub(crate) fn at_choice(text: &str) -> Option<(&str, &str)>
     ensures { MatchOption result (NoChoice text.now) (λ x. IsAtChoice text.now x.0.now x.1.now) }
 {
     let (begun, rest) = parts(text, 'h')?;

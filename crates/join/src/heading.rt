@@ -68,7 +68,7 @@ fn is_program_of_run(program: &ProgramHead) -> bool
 }
 
 /// Whether each program of a head is one that a run can have.
-fn are_programs_of_run(programs: &[ProgramHead]) -> bool
+pub(crate) fn are_programs_of_run(programs: &[ProgramHead]) -> bool
     ensures { result ≡ are_programs_of_run programs.now }
 {
     match programs {

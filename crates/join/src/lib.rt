@@ -1,4 +1,4 @@
-//! The texts of parts of a run, and what they come to together.
+//! The texts of parts of a run, and what they come to together; and a report that is given in place of programs.
 //!
 //! A run of billions of images is laid out in parts: each is judged by itself, on any machine, and makes a text
 //! (docs/OUTPUT.md, The text of a part). This crate reads such texts and joins them: all of a run to its report, to the byte what one
@@ -18,6 +18,9 @@
 //! | `join(alloc, part, files)` | the report of the run of which these are the parts, or with `part` the text of their images, as a `JoinedText`; or why they aren't joined |
 //! | `JoinedText` | the bytes of a text, and whether a failing line stands there |
 //! | `JoinFault` | the file that is at fault, and why |
+//! | `read_report(alloc, run, bytes, line)` | what a report of that run says, as a `Given`; none where the bytes are the report of no such run |
+//! | `ReportRun` | the run of which a report is to be: the line of its options, and its images by number |
+//! | `Given`, `Told` | what is read of a report, and of each of its failing lines: its mark, and what the program ended in |
 //! | `join_is_run`, `parts_are_joined` | laws, as functions that do nothing |
 //!
 //! # Place
@@ -34,6 +37,11 @@
 //! order of docs/COMMANDS.md (`RefusesJoin`), or there was no memory. More than 1 GiB is never joined, and is refused before a text is read
 //! (the clauses `short` and `first`). Any bytes are taken.
 //!
+//! `read_report` answers something exactly where the bytes are a report of the run (`IsReport` in `specs/Given.antt`): the line of the
+//! options to the byte; checkers, or one program that is given images as files; lines of images of the run, by image and then by program,
+//! each once, with the cut and the choice that its image has; and a last line that counts them. What is read can be read in no other way
+//! (`IsReportRead`). Else no report of the run has these bytes (`NoReport`). At which line that shows isn't proved.
+//!
 //! The laws are about whole runs (`specs/Laws.antt`). Where the texts are those of parts of one run by the definition of the report, and
 //! each image from A to below B is in one of them and no other image is in any, then what they come to is the text of the images from A
 //! to below B by that definition, and of all images the report. Such texts are refused for their length or for want of memory alone;
@@ -47,8 +55,9 @@
 //!
 //! `words` cuts texts, and reads words and numbers. `span` reads the first two lines. `heading` finds the end of the head, and compares it
 //! with what `report` prints of what `options` and `programs` read there. `line` and `ending` read a failing line, `tally` counts lines,
-//! `reading` reads all lines of a part, and `part` a whole text. `row` puts parts into their order, and `joining` joins them. Files are
-//! borrowed: what is kept of one are slices of its bytes.
+//! `reading` reads all lines of a part, and `part` a whole text. `given` reads a report as a whole, by the same words: since images are
+//! numbered, a line is printed again with the cut and the choice of its image, and compared. `row` puts parts into their order, and
+//! `joining` joins them. Files are borrowed: what is kept of one are slices of its bytes.
 //!
 //! # How it is proved
 //!
@@ -97,6 +106,7 @@
 
 mod ending;
 mod fault;
+mod given;
 mod heading;
 mod joining;
 mod laws;
@@ -111,5 +121,6 @@ mod tally;
 mod words;
 
 pub use fault::JoinFault;
+pub use given::{Given, ReportRun, Told, read_report};
 pub use joining::{JoinedText, join};
 pub use laws::{join_is_run, parts_are_joined};

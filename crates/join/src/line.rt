@@ -29,7 +29,7 @@ fn field(text: &str) -> (&str, &str)
 }
 
 /// What a line says before its outcome, and something where it is no line.
-fn words_said(line: &str) -> Words
+pub(crate) fn words_said(line: &str) -> Words
     ensures { ReadsWords line.now result }
 {
     let (image, after_image) = field(line);
@@ -51,7 +51,7 @@ fn is_fit(words: Words) -> bool
 
 /// The words of a line before its outcome.
 #[tactic(auto, unfolding(crate::specs::Reading::words_text))]
-fn words_text(alloc: Global, words: Words) -> Result<String, AllocError>
+pub(crate) fn words_text(alloc: Global, words: Words) -> Result<String, AllocError>
     ensures { IfOk result (λ out. string_bytes out ≡ words_text words) }
 {
     let mut out = String::new(alloc);

@@ -89,7 +89,7 @@ pub(crate) fn put_last(
 }
 
 /// Whether a text is the last line of a part.
-fn is_last(
+pub(crate) fn is_last(
     alloc: Global,
     first: bool,
     images: u64,

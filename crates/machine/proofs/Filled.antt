@@ -75,13 +75,10 @@ Lacks list = list_any misses_byte list ≡ false
 
 call_lacks : (program : List (Option Instr)) (bytes : ℕ → ByteAt) (s : State) (h : Helper) → Lacks (call_checks program bytes s h)
 unfolding call_checks
-call_lacks program bytes s helper.Sector = refl
 call_lacks program bytes s helper.Copy = refl
 call_lacks program bytes s helper.Again = refl
 call_lacks program bytes s helper.Report = refl
-call_lacks program bytes s helper.Zero = refl
-call_lacks program bytes s helper.Mix = refl
-call_lacks program bytes s helper.Same = refl
+call_lacks program bytes s (helper.Query q) = refl
 
 any_call_lacks : (program : List (Option Instr)) (bytes : ℕ → ByteAt) (s : State) (found : Option Helper)
     → Lacks (option_map_or (call_checks program bytes s) found (check fault.UnknownHelper false ∷ []))
@@ -118,13 +115,10 @@ is_unset_step _ = false
 
 call_no_fault : (device : List (List ℕ)) (s : State) (h : Helper) → is_unset_step (call_effect device s h) ≡ false
 unfolding call_effect
-call_no_fault device s helper.Sector = refl
 call_no_fault device s helper.Copy = refl
 call_no_fault device s helper.Again = refl
 call_no_fault device s helper.Report = refl
-call_no_fault device s helper.Zero = refl
-call_no_fault device s helper.Mix = refl
-call_no_fault device s helper.Same = refl
+call_no_fault device s (helper.Query q) = refl
 
 any_call_no_fault : (device : List (List ℕ)) (s : State) (found : Option Helper) → is_unset_step (option_map_or (call_effect device s) found (Next s)) ≡ false
 any_call_no_fault device s None = refl

@@ -1,5 +1,5 @@
 -- What a run comes to hangs on no sector but those of its footprint.
-use Rattle.std.proofs.Common.{ℕ, zero, suc, ◌≡◌, ◌+◌, ◌-◌, ◌*◌, ◌/◌, ◌%◌, ◌^◌, ◌<◌, ◌≤◌, ◌⊎◌, nat_lt, nat_le, nat_eq, Bool, true, false, if◌then◌else◌, ℤ, List, [], ◌∷◌, ◌++◌, length, map, filter, Option, None, Some, slice_get, slice_index, refl, sym, ap, ◌∙◌, subst, inl, inr, arith}
+use Rattle.std.proofs.Common.{ℕ, zero, suc, ◌≡◌, ◌+◌, ◌-◌, ◌*◌, ◌/◌, ◌%◌, ◌^◌, ◌<◌, ◌≤◌, ◌⊎◌, nat_lt, nat_le, Bool, true, false, if◌then◌else◌, ℤ, List, [], ◌∷◌, ◌++◌, length, map, filter, Option, None, Some, slice_get, slice_index, refl, sym, ap, ◌∙◌, subst, inl, inr, arith}
 use Rattle.std.specs.Option.{option_map_or, option_and_then}
 use Rattle.std.specs.Int.{cast_unsigned, w32}
 use Rattle.std.specs.List.{list_all, range_with_len}
@@ -9,7 +9,6 @@ use Rattle.std.proofs.lemmas.Option.{slice_get_within, slice_get_past}
 use Rattle.base.specs.Check.{Check, check, first_failing}
 use Rattle.base.specs.Numbers.{number_at}
 use Rattle.base.specs.declared.causes.MachineFault.TheVariants as fault
-use Rattle.std.specs.Cmp.Lexicographic.{pointwise}
 use Rattle.std.proofs.lemmas.Bool.Decides.{nat_tests}
 use Rattle.base.specs.declared.causes.MachineFault.{MachineFault}
 use Rattle.bpf_isa.specs.declared.instr.Instr.{Instr}
@@ -20,7 +19,9 @@ use Rattle.bpf_isa.specs.Slots.{at}
 use Rattle.helpers.specs.declared.helper.Helper.{Helper}
 use Rattle.helpers.specs.declared.helper.Helper.TheVariants as helper
 use Rattle.helpers.specs.Helper.{helper_of}
-use Rattle.helpers.specs.Answers.{sector_start, sector_answer, device_byte, device_bytes, copy_answer, zero_answer, mix_answer, same_answer, one_if}
+use Rattle.helpers.specs.Answers.{sector_start, device_byte, device_bytes, copy_answer}
+use Rattle.helpers.specs.Queries.{query_sectors}
+use Rattle.helpers.proofs.Queries.{query_same}
 use Rattle.machine.specs.declared.ByteAt.{ByteAt}
 use Rattle.machine.specs.declared.ByteAt.TheVariants.{Unmapped, Unset, Holds}
 use Rattle.machine.specs.State.{State, Frame, context_start, stack_start, word, start}
@@ -121,12 +122,9 @@ unfolding call_checks
 call_checks_alike program context a b s alike helper.Copy =
     ap (λ (rest : List (Check MachineFault)). reads s (1 ∷ 2 ∷ 3 ∷ []) ∷ check fault.HelperArgument (is_length (word s 3)) ∷ rest)
     (store_tests_alike program context a b s (word s 2) (word s 3) alike)
-call_checks_alike program context a b s alike helper.Sector = refl
 call_checks_alike program context a b s alike helper.Again = refl
 call_checks_alike program context a b s alike helper.Report = refl
-call_checks_alike program context a b s alike helper.Zero = refl
-call_checks_alike program context a b s alike helper.Mix = refl
-call_checks_alike program context a b s alike helper.Same = refl
+call_checks_alike program context a b s alike (helper.Query q) = refl
 
 found_alike : {X Y : Type 0} (f g : X → Y) (d : Y) (found : Option X) → ((x : X) → f x ≡ g x) → option_map_or f found d ≡ option_map_or g found d
 found_alike f g d None h = refl
@@ -292,29 +290,9 @@ copied_same a b p n fits same =
     let few = length_parts n fits in
     bytes_same a b n p p (p + n - 1) same.0 same.1.0 (omega (arith, few)) (omega arith) (omega (arith, few))
 
-sector_answer_same : (a b : List (List ℕ)) (n : ℕ) → length a ≡ length b → sector_answer a n ≡ sector_answer b n
-unfolding sector_answer
-sector_answer_same a b n e = ap (λ (count : ℕ). if nat_lt n count then sector_start + 1024 * n else 0) e
-
 copy_answer_same : (a b : List (List ℕ)) (p n : ℕ) → length a ≡ length b → copy_answer a p n ≡ copy_answer b p n
 unfolding copy_answer
 copy_answer_same a b p n e = ap (λ (count : ℕ). if nat_le (p + n) (512 * count) then 0 else 1) e
-
-found_or : {X Y : Type 0} (f : X → Y) (d : Y) (x y : Option X) → x ≡ y → option_map_or f x d ≡ option_map_or f y d
-found_or f d x y e = ap (λ o. option_map_or f o d) e
-
-zero_answer_same : (a b : List (List ℕ)) (n : ℕ) → slice_get a n ≡ slice_get b n → zero_answer a n ≡ zero_answer b n
-unfolding zero_answer
-zero_answer_same a b n e = found_or _ 2 (slice_get a n) (slice_get b n) e
-
-mix_answer_same : (a b : List (List ℕ)) (n : ℕ) → slice_get a n ≡ slice_get b n → mix_answer a n ≡ mix_answer b n
-unfolding mix_answer
-mix_answer_same a b n e = found_or _ 0 (slice_get a n) (slice_get b n) e
-
-same_answer_same : (a b : List (List ℕ)) (m n : ℕ) → slice_get a m ≡ slice_get b m → slice_get a n ≡ slice_get b n → same_answer a m n ≡ same_answer b m n
-unfolding same_answer
-same_answer_same a b m n e f =
-    two (λ (x y : Option (List ℕ)). option_map_or (λ (left : List ℕ). option_map_or (λ (right : List ℕ). one_if (pointwise nat_eq left right)) y 2) x 2) e f
 
 -- whether a copy has a length that it may have; of other helpers nothing is asked
 abbrev MayCopy : State → Helper → Type 0
@@ -323,18 +301,14 @@ MayCopy s _ = Unit {0}
 
 call_effect_same : (a b : List (List ℕ)) (s : State) (h : Helper) → length a ≡ length b → MayCopy s h → HaveSame a b (call_reads a s h) → call_effect a s h ≡ call_effect b s h
 unfolding call_effect call_reads
-call_effect_same a b s helper.Sector e may same = ap (answer_step s) (sector_answer_same a b (word s 1) e)
 call_effect_same a b s helper.Copy e may same =
     two (λ (bytes : List ℕ) (answer : ℕ). answer_step (record s { frames = frames_with s.frames (word s 2) bytes }) answer)
     (copied_same a b (word s 1) (word s 3) may (all_same a b (sectors_of (word s 1) (word s 3)) e same))
     (copy_answer_same a b (word s 1) (word s 3) e)
 call_effect_same a b s helper.Again e may same = refl
 call_effect_same a b s helper.Report e may same = refl
-call_effect_same a b s helper.Zero e may same = ap (answer_step s) (zero_answer_same a b (word s 1) (all_same a b (word s 1 ∷ []) e same).0)
-call_effect_same a b s helper.Mix e may same = ap (answer_step s) (mix_answer_same a b (word s 1) (all_same a b (word s 1 ∷ []) e same).0)
-call_effect_same a b s helper.Same e may same =
-    let both = all_same a b (word s 1 ∷ word s 2 ∷ []) e same in
-    ap (answer_step s) (same_answer_same a b (word s 1) (word s 2) both.0 both.1.0)
+call_effect_same a b s (helper.Query q) e may same =
+    ap (answer_step s) (query_same a b q (word s 1) (word s 2) e (all_same a b (query_sectors q (word s 1) (word s 2)) e same))
 
 abbrev AnyMayCopy : State → Option Helper → Type 0
 AnyMayCopy s None = Unit {0}
@@ -386,12 +360,9 @@ call_may : (program : List (Option Instr)) (bytes : ℕ → ByteAt) (s : State) 
 unfolding call_checks
 call_may program bytes s helper.Copy e =
     second_passes (reads s (1 ∷ 2 ∷ 3 ∷ [])) (check fault.HelperArgument (is_length (word s 3))) (store_tests program bytes s (word s 2) (word s 3)) e
-call_may program bytes s helper.Sector e = tt
 call_may program bytes s helper.Again e = tt
 call_may program bytes s helper.Report e = tt
-call_may program bytes s helper.Zero e = tt
-call_may program bytes s helper.Mix e = tt
-call_may program bytes s helper.Same e = tt
+call_may program bytes s (helper.Query q) e = tt
 
 any_may : (program : List (Option Instr)) (bytes : ℕ → ByteAt) (s : State) (found : Option Helper)
     → first_failing (option_map_or (call_checks program bytes s) found (check fault.UnknownHelper false ∷ [])) ≡ None → AnyMayCopy s found
@@ -443,10 +414,7 @@ found_same program context a b s (Some i) alike same = instr_same program contex
 call_reads_alike : (a b : List (List ℕ)) (s : State) → length a ≡ length b → (h : Helper) → call_reads b s h ≡ call_reads a s h
 unfolding call_reads
 call_reads_alike a b s e helper.Copy = ap (λ (count : ℕ). filter (λ n. nat_lt n count) (sectors_of (word s 1) (word s 3))) (sym e)
-call_reads_alike a b s e helper.Zero = ap (λ (count : ℕ). filter (λ n. nat_lt n count) (word s 1 ∷ [])) (sym e)
-call_reads_alike a b s e helper.Mix = ap (λ (count : ℕ). filter (λ n. nat_lt n count) (word s 1 ∷ [])) (sym e)
-call_reads_alike a b s e helper.Same = ap (λ (count : ℕ). filter (λ n. nat_lt n count) (word s 1 ∷ word s 2 ∷ [])) (sym e)
-call_reads_alike a b s e helper.Sector = refl
+call_reads_alike a b s e (helper.Query q) = ap (λ (count : ℕ). filter (λ n. nat_lt n count) (query_sectors q (word s 1) (word s 2))) (sym e)
 call_reads_alike a b s e helper.Again = refl
 call_reads_alike a b s e helper.Report = refl
 

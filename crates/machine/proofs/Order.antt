@@ -20,13 +20,10 @@ InOrder list = IsTrue (rises_from 0 (map (λ (c : Check MachineFault). line_of c
 
 calls : (program : List (Option Instr)) (bytes : ℕ → ByteAt) (s : State) (h : Helper) → InOrder (call_checks program bytes s h)
 unfolding call_checks
-calls program bytes s helper.Sector = refl
 calls program bytes s helper.Copy = refl
 calls program bytes s helper.Again = refl
 calls program bytes s helper.Report = refl
-calls program bytes s helper.Zero = refl
-calls program bytes s helper.Mix = refl
-calls program bytes s helper.Same = refl
+calls program bytes s (helper.Query q) = refl
 
 any_call : (program : List (Option Instr)) (bytes : ℕ → ByteAt) (s : State) (found : Option Helper)
     → InOrder (option_map_or (call_checks program bytes s) found (check fault.UnknownHelper false ∷ []))

@@ -16,7 +16,8 @@ use Rattle.bpf_isa.specs.Slots.{at, target_slot}
 use Rattle.helpers.specs.declared.helper.Helper.{Helper}
 use Rattle.helpers.specs.declared.helper.Helper.TheVariants as helper
 use Rattle.helpers.specs.Helper.{helper_of}
-use Rattle.helpers.specs.Answers.{sector_start, sector_answer, device_bytes, copy_answer, again_answer, report_answer, codes_after, zero_answer, mix_answer, same_answer}
+use Rattle.helpers.specs.Answers.{sector_start, device_bytes, copy_answer, again_answer, report_answer, codes_after}
+use Rattle.helpers.specs.Queries.{query_answer}
 use Rattle.machine.specs.declared.ByteAt.{ByteAt}
 use Rattle.machine.specs.declared.ByteAt.TheVariants.{Unmapped, Unset, Holds}
 use Rattle.machine.specs.Arithmetic.{arithmetic, sign_extension, in_order}
@@ -119,12 +120,9 @@ own_same s a n = ap (λ (count : ℕ). nat_le (stack_start + 1024 * (count - 1))
 call_own_same : (s : State) (h : Helper) → call_writes_own (filled s) h ≡ call_writes_own s h
 unfolding filled
 call_own_same s helper.Copy = own_same s (word s 2) (word s 3)
-call_own_same s helper.Sector = refl
 call_own_same s helper.Again = refl
 call_own_same s helper.Report = refl
-call_own_same s helper.Zero = refl
-call_own_same s helper.Mix = refl
-call_own_same s helper.Same = refl
+call_own_same s (helper.Query q) = refl
 
 any_call_own : (s : State) (found : Option Helper) → option_map_or (call_writes_own (filled s)) found true ≡ option_map_or (call_writes_own s) found true
 any_call_own s None = refl
@@ -191,12 +189,9 @@ calls_pass program context device s helper.Copy e =
     (check fault.HelperArgument (is_length (word s 3)) ∷ store_tests program (memory context device (filled s)) (filled s) (word s 2) (word s 3))
     (one_more (check fault.HelperArgument (is_length (word s 3))) (store_tests program (memory context device s) s (word s 2) (word s 3))
     (store_tests program (memory context device (filled s)) (filled s) (word s 2) (word s 3)) (stores_pass program context device s (word s 2) (word s 3))) e
-calls_pass program context device s helper.Sector e = e
 calls_pass program context device s helper.Again e = e
 calls_pass program context device s helper.Report e = e
-calls_pass program context device s helper.Zero e = e
-calls_pass program context device s helper.Mix e = e
-calls_pass program context device s helper.Same e = e
+calls_pass program context device s (helper.Query q) e = e
 
 any_call_passes : (program : List (Option Instr)) (context : List ℕ) (device : List (List ℕ)) (s : State) (found : Option Helper)
     → first_failing (option_map_or (call_checks program (memory context device s) s) found (check fault.UnknownHelper false ∷ [])) ≡ None
@@ -288,16 +283,13 @@ stored s t a bytes =
 
 calls_same : (device : List (List ℕ)) (s : State) (h : Helper) → next_filled (call_effect device (filled s) h) ≡ next_filled (call_effect device s h)
 unfolding call_effect filled
-calls_same device s helper.Sector = kept s (record s { slot = s.slot + 1; registers = with_answer s.registers (sector_answer device (word s 1)) })
 calls_same device s helper.Copy =
     stored s (record s { slot = s.slot + 1; registers = with_answer s.registers (copy_answer device (word s 1) (word s 3)) }) (word s 2) (device_bytes device (word s 1) (word s 3))
 calls_same device s helper.Again =
     kept s (record s { slot = s.slot + 1; registers = with_answer s.registers (again_answer (turns_here s) (word s 1)); turns = count_turn s (word s 1) })
 calls_same device s helper.Report =
     kept s (record s { slot = s.slot + 1; registers = with_answer s.registers (report_answer s.codes); codes = codes_after s.codes (word s 1) })
-calls_same device s helper.Zero = kept s (record s { slot = s.slot + 1; registers = with_answer s.registers (zero_answer device (word s 1)) })
-calls_same device s helper.Mix = kept s (record s { slot = s.slot + 1; registers = with_answer s.registers (mix_answer device (word s 1)) })
-calls_same device s helper.Same = kept s (record s { slot = s.slot + 1; registers = with_answer s.registers (same_answer device (word s 1) (word s 2)) })
+calls_same device s (helper.Query q) = kept s (record s { slot = s.slot + 1; registers = with_answer s.registers (query_answer device q (word s 1) (word s 2)) })
 
 any_call_same : (device : List (List ℕ)) (s : State) (found : Option Helper)
     → next_filled (option_map_or (call_effect device (filled s)) found (Next (filled s))) ≡ next_filled (option_map_or (call_effect device s) found (Next s))

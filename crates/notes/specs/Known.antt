@@ -15,6 +15,7 @@ use Rattle.bpf_asm.specs.Listing.{with_sign}
 use Rattle.helpers.specs.declared.helper.Helper.{Helper}
 use Rattle.helpers.specs.declared.helper.Helper.TheVariants as helper
 use Rattle.helpers.specs.Helper.{helper_of}
+use Rattle.helpers.specs.Queries.{has_two}
 use Rattle.machine.specs.Memory.{byte_count, plain_size}
 use Rattle.intervals.specs.Spans.{Span}
 use Rattle.intervals.specs.SignedSpans.{SignedSpan, least, greatest}
@@ -90,7 +91,7 @@ operand_notes s _ dst from = register_note s dst ++ source_note s from
 
 abbrev pub argument_notes : Abstract → Helper → List ℕ
 argument_notes s helper.Copy = register_note s 1 ++ register_note s 2 ++ register_note s 3
-argument_notes s helper.Same = register_note s 1 ++ register_note s 2
+argument_notes s (helper.Query q) = if has_two q then register_note s 1 ++ register_note s 2 else register_note s 1
 argument_notes s _ = register_note s 1
 
 unfoldable pub known_notes : Abstract → Instr → List ℕ

@@ -232,9 +232,13 @@ fn put_arguments(out: &mut String, state: &State, helper: Helper) -> Result<(), 
             put_numbered(out, state, 2)?;
             put_numbered(out, state, 3)
         }
-        Helper::Same => {
-            put_numbered(out, state, 1)?;
-            put_numbered(out, state, 2)
+        Helper::Query(query) => {
+            if query.has_two() {
+                put_numbered(out, state, 1)?;
+                put_numbered(out, state, 2)
+            } else {
+                put_numbered(out, state, 1)
+            }
         }
         _ => put_numbered(out, state, 1),
     }

@@ -103,7 +103,7 @@ pub(crate) fn note_from<D: Device, const ROOM: usize>(
 
 impl<const COUNTS: usize, const CALLED: usize> Machine<COUNTS, CALLED> {
     /// Notes at which sectors a helper looks.
-    #[tactic(auto, unfolding(crate::specs::Reads::plain_call_reads), using(helpers::proofs::CallerLemmas::looked_both))]
+    #[tactic(auto, unfolding(crate::specs::Reads::plain_call_reads))]
     fn note_call<D: Device, const ROOM: usize>(
         &self,
         footprint: &mut Footprint<ROOM>,
@@ -115,13 +115,7 @@ impl<const COUNTS: usize, const CALLED: usize> Machine<COUNTS, CALLED> {
         let [_, first, second, third, ..] = self.registers;
         match helper {
             Helper::Copy => footprint.look_over(device, first, third),
-            Helper::Zero => footprint.look(device, first),
-            Helper::Mix => footprint.look(device, first),
-            Helper::Same => {
-                footprint.look(device, first);
-                footprint.look(device, second);
-            }
-            Helper::Sector => {}
+            Helper::Query(query) => footprint.look_for(device, query, first, second),
             Helper::Again => {}
             Helper::Report => {}
         }

@@ -327,12 +327,9 @@ unfolding call_with
 loose_call_fits s helper.Copy a =
     answered_fits (loosely_stored s 2 (pos 0) (length_of (value s 3))) (answer_kind helper.Copy) (answer_fits helper.Copy)
     (loose_fits s (place_of (value s 2) (pos 0) (length_of (value s 3))) (length_of (value s 3)) a)
-loose_call_fits s helper.Sector a = answered_fits s (answer_kind helper.Sector) (answer_fits helper.Sector) a
 loose_call_fits s helper.Again a = answered_fits s (answer_kind helper.Again) (answer_fits helper.Again) a
 loose_call_fits s helper.Report a = answered_fits s (answer_kind helper.Report) (answer_fits helper.Report) a
-loose_call_fits s helper.Zero a = answered_fits s (answer_kind helper.Zero) (answer_fits helper.Zero) a
-loose_call_fits s helper.Mix a = answered_fits s (answer_kind helper.Mix) (answer_fits helper.Mix) a
-loose_call_fits s helper.Same a = answered_fits s (answer_kind helper.Same) (answer_fits helper.Same) a
+loose_call_fits s (helper.Query q) a = answered_fits s (answer_kind (helper.Query q)) (answer_fits (helper.Query q)) a
 
 pub after_with_fits : (loose : Bool) (sectors : ℕ) (s : Abstract) (i : Instr) → sectors < 2 ^ 64 → IsInRange i → IsState s → Holds IsState (after_with loose sectors s i)
 unfolding after_with
@@ -476,12 +473,9 @@ unfolding call_rules call_with
 kept_call s t helper.Copy a u g fits =
     let long : has_length (value t 3) ≡ true = (two_tell cause.UnsetRegister cause.HelperArgument (are_words t (1 ∷ 2 ∷ 3 ∷ [])) (has_length (value t 3)) g).1 in
     answered_under (copied_state s) (loosely_stored t 2 (pos 0) (length_of (value t 3))) (answer_kind helper.Copy) (copied_state_below s t a u long fits)
-kept_call s t helper.Sector a u g fits = answered_under s t (answer_kind helper.Sector) u
 kept_call s t helper.Again a u g fits = answered_under s t (answer_kind helper.Again) u
 kept_call s t helper.Report a u g fits = answered_under s t (answer_kind helper.Report) u
-kept_call s t helper.Zero a u g fits = answered_under s t (answer_kind helper.Zero) u
-kept_call s t helper.Mix a u g fits = answered_under s t (answer_kind helper.Mix) u
-kept_call s t helper.Same a u g fits = answered_under s t (answer_kind helper.Same) u
+kept_call s t (helper.Query q) a u g fits = answered_under s t (answer_kind (helper.Query q)) u
 
 number_known : (k : Kind) → is_number k ≡ true → not (is_unknown k) ≡ true
 number_known (Num x) e = refl
@@ -584,12 +578,9 @@ loose_call s t helper.Copy a u g =
   where
     by_length : (n m : ℕ) → n ≡ m → StateUnder (loosely_stored s 2 (pos 0) n) (loosely_stored t 2 (pos 0) m)
     by_length n m e = rw (sym e) (loose_store s t 2 (pos 0) n a u (loose_fits s (place_of (value s 2) (pos 0) n) n a))
-loose_call s t helper.Sector a u g = answered_under s t (answer_kind helper.Sector) u
 loose_call s t helper.Again a u g = answered_under s t (answer_kind helper.Again) u
 loose_call s t helper.Report a u g = answered_under s t (answer_kind helper.Report) u
-loose_call s t helper.Zero a u g = answered_under s t (answer_kind helper.Zero) u
-loose_call s t helper.Mix a u g = answered_under s t (answer_kind helper.Mix) u
-loose_call s t helper.Same a u g = answered_under s t (answer_kind helper.Same) u
+loose_call s t (helper.Query q) a u g = answered_under s t (answer_kind (helper.Query q)) u
 
 loose_after_under : (sectors : ℕ) (s t : Abstract) (i : Instr) → IsInRange i → IsState s → IsState t → StateUnder s t → first_failing (guarded_rules t i) ≡ None
     → EdgeUnder (after_with true sectors s i) (after_with true sectors t i)

@@ -11,6 +11,7 @@ use Rattle.bpf_isa.specs.declared.instr.Source.TheVariants as source
 use Rattle.helpers.specs.declared.helper.Helper.{Helper}
 use Rattle.helpers.specs.declared.helper.Helper.TheVariants as helper
 use Rattle.helpers.specs.Helper.{helper_of}
+use Rattle.helpers.specs.Queries.{query_arguments}
 use Rattle.machine.specs.Memory.{byte_count, plain_size}
 use Rattle.machine.specs.Step.{source_registers, operands}
 use Rattle.ranges.specs.declared.place.Mark.TheVariants as mark
@@ -78,12 +79,9 @@ weaker_call s helper.Copy e =
     let parts = copy_parts s e in
     let words : are_words s (1 ∷ 2 ∷ 3 ∷ []) ≡ true = set_words s (1 ∷ 2 ∷ 3 ∷ []) parts.0 in
     rw (words, parts.2) refl
-weaker_call s helper.Same e = weaker_reads s (1 ∷ 2 ∷ []) _ e
-weaker_call s helper.Sector e = weaker_reads s (1 ∷ []) _ e
 weaker_call s helper.Again e = weaker_reads s (1 ∷ []) _ e
 weaker_call s helper.Report e = weaker_reads s (1 ∷ []) _ e
-weaker_call s helper.Zero e = weaker_reads s (1 ∷ []) _ e
-weaker_call s helper.Mix e = weaker_reads s (1 ∷ []) _ e
+weaker_call s (helper.Query q) e = weaker_reads s (query_arguments q) _ e
 
 pub guarded_weaker : GuardedRulesAreWeaker
 unfolding rules_with load_rules store_rules
@@ -117,12 +115,9 @@ unfolding call_rules
 guarded_call_mono s t helper.Copy a u e =
     two_pass cause.UnsetRegister cause.HelperArgument (are_words s (1 ∷ 2 ∷ 3 ∷ [])) (has_length (value s 3)) (are_words t (1 ∷ 2 ∷ 3 ∷ [])) (has_length (value t 3))
     (are_words_under s t (1 ∷ 2 ∷ 3 ∷ []) u) (λ _ long. (length_under (value s 3) (value t 3) (value_fits s 3 a) (value_under s t 3 u) long).0) e
-guarded_call_mono s t helper.Same a u e = reads_under s t (1 ∷ 2 ∷ []) u e
-guarded_call_mono s t helper.Sector a u e = reads_under s t (1 ∷ []) u e
 guarded_call_mono s t helper.Again a u e = reads_under s t (1 ∷ []) u e
 guarded_call_mono s t helper.Report a u e = reads_under s t (1 ∷ []) u e
-guarded_call_mono s t helper.Zero a u e = reads_under s t (1 ∷ []) u e
-guarded_call_mono s t helper.Mix a u e = reads_under s t (1 ∷ []) u e
+guarded_call_mono s t (helper.Query q) a u e = reads_under s t (query_arguments q) u e
 
 pub guarded_mono : GuardedRulesAreMonotone
 unfolding rules_with load_rules store_rules
@@ -172,12 +167,9 @@ store_proved s set k base d n e =
 
 call_proved : (s : Abstract) (h : Helper) → first_failing (call_rules false s h) ≡ None → is_guarded_call s h ≡ false
 call_proved s helper.Copy e = let parts = copy_parts s e in rw (parts.1, parts.3) refl
-call_proved s helper.Same e = refl
-call_proved s helper.Sector e = refl
 call_proved s helper.Again e = refl
 call_proved s helper.Report e = refl
-call_proved s helper.Zero e = refl
-call_proved s helper.Mix e = refl
+call_proved s (helper.Query q) e = refl
 
 pub kept_proved : (s : Abstract) (i : Instr) → first_failing (rules s i) ≡ None → is_guarded s i ≡ false
 unfolding rules_with is_guarded
@@ -230,12 +222,9 @@ call_smaller s t helper.Copy a u g e =
     let long : has_length (value t 3) ≡ true = (two_tell cause.UnsetRegister cause.HelperArgument (are_words t (1 ∷ 2 ∷ 3 ∷ [])) (has_length (value t 3)) g).1 in
     let same : length_of (value s 3) ≡ length_of (value t 3) = (length_under (value s 3) (value t 3) (value_fits s 3 a) (value_under s t 3 u) long).1 in
     rw same (store_smaller s t 2 (pos 0) (length_of (value t 3)) a u e)
-call_smaller s t helper.Same a u g e = refl
-call_smaller s t helper.Sector a u g e = refl
 call_smaller s t helper.Again a u g e = refl
 call_smaller s t helper.Report a u g e = refl
-call_smaller s t helper.Zero a u g e = refl
-call_smaller s t helper.Mix a u g e = refl
+call_smaller s t (helper.Query q) a u g e = refl
 
 pub smaller_proved : (s t : Abstract) (i : Instr) → IsState s → IsState t → StateUnder s t → first_failing (guarded_rules t i) ≡ None → is_guarded t i ≡ false → is_guarded s i ≡ false
 unfolding rules_with is_guarded

@@ -18,7 +18,11 @@ use Rattle.bpf_isa.specs.declared.instr.Size.{Size}
 use Rattle.bpf_isa.specs.declared.instr.Size.TheVariants as size
 use Rattle.helpers.specs.declared.helper.Helper.{Helper}
 use Rattle.helpers.specs.declared.helper.Helper.TheVariants as helper
+use Rattle.helpers.specs.declared.helper.Answer.{Answer}
+use Rattle.helpers.specs.declared.helper.Answer.TheVariants as answer
 use Rattle.helpers.specs.Helper.{helper_of}
+use Rattle.helpers.specs.Queries.{query_kind, IsKind}
+use Rattle.helpers.proofs.Queries.{kind_fits}
 use Rattle.machine.specs.Memory.{byte_count}
 use Rattle.intervals.specs.Spans.{Span, span, only, is_constant, IsSpan}
 use Rattle.intervals.specs.Seen.{immediate_span}
@@ -38,7 +42,7 @@ use Rattle.ranges.specs.Reading.{value, second, with_value, with_groups, words, 
 use Rattle.ranges.specs.Places.{place_of, is_group}
 use Rattle.ranges.specs.Rules.{length_of, is_null_test}
 use Rattle.ranges.specs.Passing.{edge_of, with_both, tested_kind, is_equal_edge, argument_kind, entry_state, edge_with}
-use Rattle.ranges.specs.After.{number_result, result_kind, context_word, any_of, group_value, loaded_kind, is_touched, marks_after, group_after, groups_after_write, written_at, stored_groups, answer_kind, after_answer, copied_state, call_after, after_of, after_with, call_with}
+use Rattle.ranges.specs.After.{number_result, result_kind, context_word, any_of, group_value, loaded_kind, is_touched, marks_after, group_after, groups_after_write, written_at, stored_groups, kind_answered, answer_kind, after_answer, copied_state, call_after, after_of, after_with, call_with}
 use Rattle.ranges.specs.Order.{IsBounded, IsGroup, Each, IsState, Holds}
 use Rattle.ranges.proofs.Fitting.{each_set, each_get, start_fits}
 
@@ -250,14 +254,15 @@ stored_fits s k place.Sector n h a = a
 
 -- helpers
 
+kind_bounded : (a : Answer) → IsKind a → IsBounded (kind_answered a)
+kind_bounded answer.Address h = tt
+kind_bounded (answer.UpTo most) h = up_to_fits 0 most (omega arith) h
+
 pub answer_fits : (h : Helper) → IsBounded (answer_kind h)
-answer_fits helper.Sector = tt
-answer_fits helper.Mix = any_word_fits
+answer_fits (helper.Query q) = kind_bounded (query_kind q) (kind_fits q)
 answer_fits helper.Copy = up_to_fits 0 1 (omega arith) (omega arith)
 answer_fits helper.Again = up_to_fits 0 1 (omega arith) (omega arith)
 answer_fits helper.Report = up_to_fits 0 1 (omega arith) (omega arith)
-answer_fits helper.Zero = up_to_fits 0 2 (omega arith) (omega arith)
-answer_fits helper.Same = up_to_fits 0 2 (omega arith) (omega arith)
 
 pub answered_fits : (s : Abstract) (k : Kind) → IsBounded k → IsState s → IsState (after_answer s k)
 answered_fits s k h a =
@@ -273,12 +278,9 @@ unfolding call_with
 call_fits s helper.Copy a =
     answered_fits (copied_state s) (answer_kind helper.Copy) (answer_fits helper.Copy)
     (written_fits s (place_of (value s 2) (pos 0) (length_of (value s 3))) (length_of (value s 3)) a)
-call_fits s helper.Sector a = answered_fits s (answer_kind helper.Sector) (answer_fits helper.Sector) a
 call_fits s helper.Again a = answered_fits s (answer_kind helper.Again) (answer_fits helper.Again) a
 call_fits s helper.Report a = answered_fits s (answer_kind helper.Report) (answer_fits helper.Report) a
-call_fits s helper.Zero a = answered_fits s (answer_kind helper.Zero) (answer_fits helper.Zero) a
-call_fits s helper.Mix a = answered_fits s (answer_kind helper.Mix) (answer_fits helper.Mix) a
-call_fits s helper.Same a = answered_fits s (answer_kind helper.Same) (answer_fits helper.Same) a
+call_fits s (helper.Query q) a = answered_fits s (answer_kind (helper.Query q)) (answer_fits (helper.Query q)) a
 
 pub second_fits : (s : Abstract) (from : Source) → IsSourceInRange from → IsState s → IsBounded (second s from)
 second_fits s (source.Immediate n) h a =

@@ -18,6 +18,7 @@ use Rattle.bpf_isa.specs.Spelling.{IsInRange}
 use Rattle.helpers.specs.declared.helper.Helper.{Helper}
 use Rattle.helpers.specs.declared.helper.Helper.TheVariants as helper
 use Rattle.helpers.specs.Helper.{helper_of}
+use Rattle.helpers.specs.Queries.{query_arguments}
 use Rattle.machine.specs.Memory.{byte_count, plain_size}
 use Rattle.machine.specs.Step.{source_registers, operands}
 use Rattle.ranges.specs.declared.place.Place.{Place}
@@ -29,7 +30,7 @@ use Rattle.ranges.specs.States.{Abstract}
 use Rattle.ranges.specs.Pointers.{offset_in, moved_pointer}
 use Rattle.ranges.specs.Places.{landing, place_of, is_inside, mark_in, mark_at, is_mark, none_is}
 use Rattle.ranges.specs.Reading.{value, second, are_set, is_stack, is_base, has_length}
-use Rattle.ranges.specs.Rules.{may_compute, is_null_test, compares, has_no, is_whole, load_rules, store_rules, length_of, call_rules, rules_with}
+use Rattle.ranges.specs.Rules.{may_compute, is_null_test, compares, has_no, is_whole, load_rules, store_rules, length_of, are_numbers, call_rules, rules_with}
 use Rattle.ranges.specs.Order.{Under, MarksUnder, GroupUnder, EachUnder, StateUnder, IsBounded, IsState}
 use Rattle.ranges.specs.Laws.{RulesAreMonotone}
 use Rattle.ranges.proofs.Keeping.{value_fits, second_fits}
@@ -292,12 +293,18 @@ store_keeps s t b c k l base d n a u set v e =
     (number_under k l v) (λ whole. whole) either))
     e
 
-one_argument : (s t : Abstract) → StateUnder s t
-    → first_failing (check cause.UnsetRegister (are_set t (1 ∷ [])) ∷ check cause.HelperArgument (is_number (value t 1)) ∷ []) ≡ None
-    → first_failing (check cause.UnsetRegister (are_set s (1 ∷ [])) ∷ check cause.HelperArgument (is_number (value s 1)) ∷ []) ≡ None
-one_argument s t u e =
-    two_pass cause.UnsetRegister cause.HelperArgument (are_set s (1 ∷ [])) (is_number (value s 1)) (are_set t (1 ∷ [])) (is_number (value t 1))
-    (are_set_under s t (1 ∷ []) u) (λ _. number_under (value s 1) (value t 1) (value_under s t 1 u)) e
+are_numbers_under : (s t : Abstract) (rs : List ℕ) → StateUnder s t → are_numbers t rs ≡ true → are_numbers s rs ≡ true
+are_numbers_under s t [] u e = refl
+are_numbers_under s t (r ∷ rs) u e =
+    and_mono (is_number (value s r)) (are_numbers s rs) (is_number (value t r)) (are_numbers t rs)
+    (number_under (value s r) (value t r) (value_under s t r u)) (are_numbers_under s t rs u) e
+
+some_numbers : (s t : Abstract) (rs : List ℕ) → StateUnder s t
+    → first_failing (check cause.UnsetRegister (are_set t rs) ∷ check cause.HelperArgument (are_numbers t rs) ∷ []) ≡ None
+    → first_failing (check cause.UnsetRegister (are_set s rs) ∷ check cause.HelperArgument (are_numbers s rs) ∷ []) ≡ None
+some_numbers s t rs u e =
+    two_pass cause.UnsetRegister cause.HelperArgument (are_set s rs) (are_numbers s rs) (are_set t rs) (are_numbers t rs)
+    (are_set_under s t rs u) (λ _. are_numbers_under s t rs u) e
 
 call_keeps : (s t : Abstract) (h : Helper) → IsState s → StateUnder s t → first_failing (call_rules false t h) ≡ None → first_failing (call_rules false s h) ≡ None
 unfolding call_rules
@@ -316,18 +323,9 @@ call_keeps s t helper.Copy a u e =
     let same : length_of (value s 3) ≡ length_of (value t 3) = (length_under (value s 3) (value t 3) (value_fits s 3 a) (value_under s t 3 u) long).1 in
     rw (same, place_under (value s 2) (value t 2) (pos 0) (length_of (value t 3)) (value_fits s 2 a) (value_under s t 2 u) inside) inside)
     e
-call_keeps s t helper.Same a u e =
-    two_pass cause.UnsetRegister cause.HelperArgument
-    (are_set s (1 ∷ 2 ∷ [])) (is_number (value s 1) && is_number (value s 2)) (are_set t (1 ∷ 2 ∷ [])) (is_number (value t 1) && is_number (value t 2))
-    (are_set_under s t (1 ∷ 2 ∷ []) u)
-    (λ _. and_mono (is_number (value s 1)) (is_number (value s 2)) (is_number (value t 1)) (is_number (value t 2))
-    (number_under (value s 1) (value t 1) (value_under s t 1 u)) (number_under (value s 2) (value t 2) (value_under s t 2 u)))
-    e
-call_keeps s t helper.Sector a u e = one_argument s t u e
-call_keeps s t helper.Again a u e = one_argument s t u e
-call_keeps s t helper.Report a u e = one_argument s t u e
-call_keeps s t helper.Zero a u e = one_argument s t u e
-call_keeps s t helper.Mix a u e = one_argument s t u e
+call_keeps s t helper.Again a u e = some_numbers s t (1 ∷ []) u e
+call_keeps s t helper.Report a u e = some_numbers s t (1 ∷ []) u e
+call_keeps s t (helper.Query q) a u e = some_numbers s t (query_arguments q) u e
 
 both_numbers : (k l m n : Kind) → Under k m → Under l n → (is_number m && is_number n) ≡ true → (is_number k && is_number l) ≡ true
 both_numbers k l m n u v e = and_mono (is_number k) (is_number l) (is_number m) (is_number n) (number_under k m u) (number_under l n v) e

@@ -286,12 +286,9 @@ copied_under s t a u e =
 call_under : (s t : Abstract) (h : Helper) → IsState s → StateUnder s t → first_failing (call_rules false t h) ≡ None → StateUnder (call_after s h) (call_after t h)
 unfolding call_with
 call_under s t helper.Copy a u e = answered_under (copied_state s) (copied_state t) (answer_kind helper.Copy) (copied_under s t a u e)
-call_under s t helper.Sector a u e = answered_under s t (answer_kind helper.Sector) u
 call_under s t helper.Again a u e = answered_under s t (answer_kind helper.Again) u
 call_under s t helper.Report a u e = answered_under s t (answer_kind helper.Report) u
-call_under s t helper.Zero a u e = answered_under s t (answer_kind helper.Zero) u
-call_under s t helper.Mix a u e = answered_under s t (answer_kind helper.Mix) u
-call_under s t helper.Same a u e = answered_under s t (answer_kind helper.Same) u
+call_under s t (helper.Query q) a u e = answered_under s t (answer_kind (helper.Query q)) u
 
 -- the state after an instruction
 

@@ -12,7 +12,9 @@ use Rattle.bpf_isa.specs.declared.instr.Size.{Size}
 use Rattle.bpf_isa.specs.declared.instr.Size.TheVariants as size
 use Rattle.helpers.specs.declared.helper.Helper.{Helper}
 use Rattle.helpers.specs.declared.helper.Helper.TheVariants as helper
-use Rattle.helpers.specs.Helper.{helper_of}
+use Rattle.helpers.specs.declared.helper.Answer.{Answer}
+use Rattle.helpers.specs.declared.helper.Answer.TheVariants as answer
+use Rattle.helpers.specs.Helper.{helper_of, answer_of}
 use Rattle.machine.specs.Memory.{byte_count}
 use Rattle.intervals.specs.Spans.{span, only}
 use Rattle.intervals.specs.Reducing.{any_sign}
@@ -98,14 +100,12 @@ stored_groups k groups (place.Stack at) n =
 stored_groups k groups p n = groups
 
 -- what a helper answers
+abbrev pub kind_answered : Answer → Kind
+kind_answered answer.Address = SectorOrNull
+kind_answered (answer.UpTo most) = Num (any_sign (span 0 most))
+
 abbrev pub answer_kind : Helper → Kind
-answer_kind helper.Sector = SectorOrNull
-answer_kind helper.Copy = Num (any_sign (span 0 1))
-answer_kind helper.Again = Num (any_sign (span 0 1))
-answer_kind helper.Report = Num (any_sign (span 0 1))
-answer_kind helper.Zero = Num (any_sign (span 0 2))
-answer_kind helper.Same = Num (any_sign (span 0 2))
-answer_kind helper.Mix = Num any_word
+answer_kind h = kind_answered (answer_of h)
 
 -- a call answers in register 0 and unsets registers 1 to 5; of a local function any word
 abbrev pub after_answer : Abstract → Kind → Abstract

@@ -17,7 +17,7 @@ use Rattle.bpf_isa.specs.declared.instr.Condition.{Condition}
 use Rattle.bpf_isa.specs.declared.instr.Condition.TheVariants as cond
 use Rattle.helpers.specs.declared.helper.Helper.{Helper}
 use Rattle.helpers.specs.declared.helper.Helper.TheVariants as helper
-use Rattle.helpers.specs.Helper.{helper_of}
+use Rattle.helpers.specs.Helper.{helper_of, arguments}
 use Rattle.machine.specs.Memory.{byte_count, plain_size}
 use Rattle.machine.specs.Step.{source_registers, operands}
 use Rattle.base.specs.declared.causes.VerifierCause.{VerifierCause}
@@ -114,6 +114,9 @@ store_rules guards s set stored base distance n =
 abbrev pub length_of : Kind → ℕ
 length_of k = (words k).unsigned.low
 
+abbrev pub are_numbers : Abstract → List ℕ → Bool
+are_numbers s registers = list_all (λ r. is_number (value s r)) registers
+
 -- of helper 2 guards don't lift the rule of its length
 unfoldable pub call_rules : Bool → Abstract → Helper → List (Check VerifierCause)
 call_rules guards s helper.Copy =
@@ -121,8 +124,7 @@ call_rules guards s helper.Copy =
     ∷ check cause.HelperArgument ((guards || is_number (value s 1)) && ((guards || is_stack (value s 2)) && has_length (value s 3)))
     ∷ check cause.OutsideRegion (guards || is_inside (place_of (value s 2) (pos 0) (length_of (value s 3))))
     ∷ []
-call_rules guards s helper.Same = reads guards s (1 ∷ 2 ∷ []) ∷ check cause.HelperArgument (guards || (is_number (value s 1) && is_number (value s 2))) ∷ []
-call_rules guards s h = reads guards s (1 ∷ []) ∷ check cause.HelperArgument (guards || is_number (value s 1)) ∷ []
+call_rules guards s h = reads guards s (arguments h) ∷ check cause.HelperArgument (guards || are_numbers s (arguments h)) ∷ []
 
 -- the rules of an instruction, with guards or without; that helpers are known is a rule of shape
 unfoldable pub rules_with : Bool → Abstract → Instr → List (Check VerifierCause)

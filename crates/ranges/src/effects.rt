@@ -23,7 +23,7 @@ use crate::state::State;
 use crate::value::Value;
 use arithmetic::byte_count;
 use bpf_isa::instr::{Instr, Operator, Size, Width};
-use helpers::Helper;
+use helpers::{Answer, Helper};
 use intervals::{Bounds, Range, result_bounds};
 
 /// What arithmetic makes of the words of two numbers; None where it leaves no word.
@@ -145,11 +145,9 @@ pub(crate) fn load_result(state: &State, sectors: u32, place: Place, size: Size)
 pub(crate) fn answer_value(helper: Helper) -> Value
     ensures { kind_of result ≡ answer_kind helper }
 {
-    match helper {
-        Helper::Sector => Value::SectorOrNull,
-        Helper::Copy | Helper::Again | Helper::Report => up_to(1),
-        Helper::Zero | Helper::Same => up_to(2),
-        Helper::Mix => Value::Num(Bounds::full()),
+    match helper.answer() {
+        Answer::Address => Value::SectorOrNull,
+        Answer::UpTo(most) => up_to(most),
     }
 }
 

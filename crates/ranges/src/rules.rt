@@ -8,12 +8,13 @@ ghost use Rattle.machine.specs.Step.{source_registers, operands};
 ghost use Rattle.ranges.specs.Kinds.{is_number};
 ghost use Rattle.ranges.specs.Reading.{value, second};
 ghost use Rattle.ranges.specs.Places.{place_of, is_inside, none_is, is_group, Fits};
-ghost use Rattle.ranges.specs.Rules.{may_compute, compares, is_null_test, is_zero, is_equality, may_be_null, has_no, is_whole, load_rules, store_rules, call_rules, rules, rules_with, are_read, reads, computes};
+ghost use Rattle.ranges.specs.Rules.{may_compute, compares, is_null_test, is_zero, is_equality, may_be_null, has_no, is_whole, load_rules, store_rules, call_rules, rules, rules_with, are_read, are_numbers, reads, computes};
 ghost use Rattle.ranges.specs.Seen.{kind_of};
 ghost use Rattle.ranges.specs.SeenStates.{state_of};
 ghost use Rattle.std.specs.Int.{cast_unsigned, w32};
 ghost use Rattle.std.specs.Option.{option_map_or};
 ghost use Rattle.helpers.specs.Helper.{helper_of};
+ghost use Rattle.helpers.specs.Queries.{one_or_two};
 ghost use Rattle.bpf_isa.specs.declared.instr.Source.TheVariants as operand;
 
 use crate::bytes::{has_no, is_whole};
@@ -241,24 +242,35 @@ fn argument_breach(are_read: bool, may: bool) -> Option<VerifierCause>
     }
 }
 
+/// The first rule that a call of a helper that takes a number, or two, breaks.
+fn number_breach(guards: bool, state: &State, has_two: bool) -> Option<VerifierCause>
+    ensures { result ≡ first_failing (reads guards (state_of state.now) (one_or_two has_two) ∷ check VerifierCause.HelperArgument (guards || are_numbers (state_of state.now) (one_or_two has_two)) ∷ []) }
+{
+    let (first, other) = (state.at(1), state.at(2));
+    if has_two {
+        argument_breach(
+            is_read(guards, first) && is_read(guards, other),
+            guards || (first.is_number() && other.is_number()),
+        )
+    } else {
+        argument_breach(is_read(guards, first), guards || first.is_number())
+    }
+}
+
 /// The first rule that a call of a helper breaks.
 #[tactic(auto, unfolding(crate::specs::Rules::call_rules))]
 fn call_breach(guards: bool, state: &State, helper: Helper) -> Option<VerifierCause>
     ensures { result ≡ first_failing (call_rules guards (state_of state.now) helper) }
 {
-    let (first, other) = (state.at(1), state.at(2));
     match helper {
         Helper::Copy => copy_breach(guards, state),
-        Helper::Same => argument_breach(
-            is_read(guards, first) && is_read(guards, other),
-            guards || (first.is_number() && other.is_number()),
-        ),
-        _ => argument_breach(is_read(guards, first), guards || first.is_number()),
+        Helper::Query(query) => number_breach(guards, state, query.has_two()),
+        _ => number_breach(guards, state, false),
     }
 }
 
 /// The first rule that a call of the helper of this number breaks; none where there is no such helper.
-fn number_breach(guards: bool, state: &State, number: i32) -> Option<VerifierCause>
+fn numbered_breach(guards: bool, state: &State, number: i32) -> Option<VerifierCause>
     ensures { result ≡ first_failing (option_map_or (call_rules guards (state_of state.now)) (helper_of (cast_unsigned w32 number)) []) }
 {
     match Helper::of(number.cast_unsigned()) {
@@ -330,7 +342,7 @@ pub fn broken_rule(guards: bool, instr: &Instr, state: &State) -> Option<Verifie
             source,
             ..
         } => branch_breach(guards, state, *width, *condition, *dst, source),
-        Instr::CallHelper { number } => number_breach(guards, state, *number),
+        Instr::CallHelper { number } => numbered_breach(guards, state, *number),
         Instr::Exit => exit_breach(guards, state),
         Instr::Load {
             size,

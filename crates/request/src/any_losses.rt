@@ -23,6 +23,8 @@ pub struct LossWords {
     pub torn: Option<u64>,
     /// The number after `--at-most`, where that stands there.
     pub at_most: Option<u64>,
+    /// Whether `why` asks, and not `explore`.
+    pub why: bool,
 }
 
 /// What is asked of any number of losses.
@@ -32,6 +34,8 @@ pub struct AnyLosses {
     pub torn: u32,
     /// How many parts may be lost or torn, 1 to 64, where that is bounded.
     pub at_most: Option<u32>,
+    /// Whether it is told why cases fail, and not only which do.
+    pub why: bool,
 }
 
 /// How many parts may be torn, by the number after `--torn`: none where that number isn't 1 to 3, or stands there without tears.
@@ -86,5 +90,9 @@ pub fn losses_of(words: LossWords, options: &Options) -> Result<AnyLosses, Refus
     if !options.extent().is_whole() {
         return Err(option_refusal_of(OptionPlace::Images));
     }
-    Ok(AnyLosses { torn, at_most })
+    Ok(AnyLosses {
+        torn,
+        at_most,
+        why: words.why,
+    })
 }

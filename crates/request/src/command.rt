@@ -8,7 +8,7 @@ use crate::any_losses::LossWords;
 use crate::extent::Extent;
 use crate::options::Options;
 use crate::refusals::option_refusal_of;
-use crate::settings::{OptionPlace, Settings};
+use crate::settings::{OptionPlace, Retelling, Settings};
 use crate::trials::TrialWords;
 use arrayvec::ArrayString;
 use base::limits::Limits;
@@ -78,6 +78,8 @@ pub enum Request {
     Cure(OptionWords),
     /// `page LOG PROGRAM..`
     Page(OptionWords),
+    /// `why LOG --report REPORT`, or `page` or `cure` so.
+    Retold(OptionWords, Retelling),
     /// `images LOG`, with the number after `--parts`, where that stands there.
     Images(OptionWords, Option<u64>),
     /// `export LOG`.

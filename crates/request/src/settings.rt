@@ -47,6 +47,17 @@ pub enum Telling {
     Page,
 }
 
+/// What is to be told of a report that is given in place of programs.
+#[derive(Clone, Copy)]
+pub enum Retelling {
+    /// Why its programs fail.
+    Causes,
+    /// Where they fail, as a page for a browser.
+    Page,
+    /// Where flushes are missing.
+    Places,
+}
+
 /// What a refusal of the command line names, each by the number of its place (docs/COMMANDS.md, Options).
 #[derive(Clone, Copy)]
 pub enum OptionPlace {

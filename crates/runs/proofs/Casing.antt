@@ -1,7 +1,8 @@
 -- What is found of the cases of a run, and why they aren't told.
-use Rattle.std.proofs.Common.{ℕ, ◌≡◌, ◌<◌, ◌≤◌, ◌==◌, ◌||◌, ◌⊎◌, inl, inr, not, Bool, true, false, List, [], ◌∷◌, length, slice_get, Some, All, Result, IfOk, refl, sym, ◌∙◌, ap, subst, arith}
+use Rattle.std.proofs.Common.{ℕ, ◌≡◌, ◌<◌, ◌≤◌, ◌==◌, ◌||◌, ◌⊎◌, inl, inr, not, Bool, true, false, List, [], ◌∷◌, length, slice_get, Some, All, Ok, Err, Result, Vec, Global, IfOk, refl, sym, ◌∙◌, ap, subst, arith}
 use Rattle.std.proofs.lemmas.List.Elements.{All-head, All-tail}
 use Rattle.std.proofs.lemmas.Option.{slice_get-get_or, slice_get_within, get_or_from_slice_get}
+use Rattle.std.specs.declared.alloc.AllocError.{AllocError}
 use Rattle.base.specs.declared.refusal.Refusal.{Refusal}
 use Rattle.base.specs.Refusals.{memory_refusal}
 use Rattle.logfmt.specs.Bounds.{LogValue}
@@ -21,7 +22,7 @@ use Rattle.case_runs.specs.declared.first.FirstCase.{FirstCase}
 use Rattle.case_runs.specs.declared.first.Sought.{Sought}
 use Rattle.case_runs.specs.declared.leaves.FailingCase.{FailingCase}
 use Rattle.case_runs.specs.First.{NoneFailsAt, NoneFails, IsFirstFailing, PassesMostIn, IsSought, EndsIn}
-use Rattle.case_text.specs.Text.{cases_bytes, fails_at, is_any_failing}
+use Rattle.case_text.specs.Text.{fails_at, is_any_failing}
 use Rattle.case_text.specs.First.{first_bytes}
 use Rattle.request.specs.declared.any_losses.AnyLosses.{AnyLosses}
 use Rattle.request.specs.declared.settings.Settings.{Settings}
@@ -29,7 +30,7 @@ use Rattle.request.specs.Source.{Recording, plan_of, images_refusal, HasImages, 
 use Rattle.runs.specs.declared.task.Task.{Task}
 use Rattle.runs.specs.CaseCuts.{losses_of, case_cuts, AreMore, HasTooMany}
 use Rattle.runs.specs.CaseRefusals.{StopsFor, RefusesFor}
-use Rattle.runs.specs.Cases.{TellsCases, TellsFirst, of_first, of_none, TellsLosses, IsLosses}
+use Rattle.runs.specs.Cases.{IsTextOf, TellsCases, TellsFirst, of_first, of_none, TellsLosses, IsLosses}
 use Rattle.runs.specs.Judged.{takes}
 use Rattle.runs.specs.declared.explore_command.Explored.{Explored}
 use Rattle.runs.specs.declared.explore_command.Wanted.{Wanted}
@@ -71,17 +72,33 @@ found_so asked own log way by cuts checkers found same kind are =
     subst (λ (x : Losses). AreFoundIn x log by cuts checkers found) same (subst (λ (b : By). AreFoundIn own log b cuts checkers found) kind are)
 
 -- the text of what was found
-pub tells_found : (l : AnyLosses) (t : Task) (cuts : List ℕ) (found : List CutFound) (h : HeadValue) (asked : Losses) (bytes : List ℕ) (failing : Bool)
+pub tells_found : (l : AnyLosses) (t : Task) (cuts : List ℕ) (found : List CutFound) (h : HeadValue) (bytes : List ℕ) (failing : Bool)
     → cuts ≡ case_cuts l t.options.now.cuts t.log.now → AreFoundIn (losses_of l t.options.now) t.log.now t.options.now.by cuts t.checkers.now found → cases_in found ≤ most_cases
-    → h ≡ head_of (with_first false t.options.now) t.log.now t.checkers.now → asked ≡ losses_of l t.options.now → bytes ≡ cases_bytes h asked t.log.now found
+    → h ≡ head_of (with_first false t.options.now) t.log.now t.checkers.now → IsTextOf l.why h (losses_of l t.options.now) t.log.now found bytes
     → failing ≡ is_any_failing found → TellsCases l t.options.now t.log.now t.checkers.now bytes failing
-tells_found l t cuts found h asked bytes failing are those few head same text fails = record {
+tells_found l t cuts found h bytes failing are those few head text fails = record {
   found = found;
   are = subst (λ (cs : List ℕ). AreFoundIn (losses_of l t.options.now) t.log.now t.options.now.by cs t.checkers.now found) are those;
   few = few;
-  text = text ∙ (λ i. cases_bytes (head i) (same i) t.log.now found);
+  text = subst (λ (x : HeadValue). IsTextOf l.why x (losses_of l t.options.now) t.log.now found bytes) head text;
   fails = fails;
 }
+
+-- the text is that which is asked for
+pub text_by : (b : Bool) (why : Bool) (h : HeadValue) (asked own : Losses) (log : LogValue) (found : List CutFound) (r : Result (Vec ℕ Global) AllocError) → why ≡ b → own ≡ asked
+    → IfOk r (λ bytes. IsTextOf b h own log found bytes.items) → IfOk r (λ bytes. IsTextOf why h asked log found bytes.items)
+text_by b why h asked own log found r same losses told =
+    subst (λ (x : Bool). IfOk r (λ bytes. IsTextOf x h asked log found bytes.items)) (sym same)
+    (subst (λ (x : Losses). IfOk r (λ bytes. IsTextOf b h x log found bytes.items)) losses told)
+
+-- at each cut something is found with each checker, of which there are few
+pub found_few : (asked : Losses) (log : LogValue) (way : By) (cuts : List ℕ) (checkers : List CheckerValue) (found : List CutFound) → AreFoundIn asked log way cuts checkers found
+    → length checkers ≤ 8 → All (λ (c : CutFound). length c.programs.items ≤ 256) found
+found_few asked log way cuts checkers found are few k d lt =
+    let long = are.count in
+    let here : k < length cuts = omega (arith, lt, long) in
+    let own = (are.each k _ _ (slice_get-get_or cuts k 0 here) (slice_get-get_or found k d lt)).count in
+    omega (arith, own, few)
 
 -- the text of the first that fails, or of all, where none does
 

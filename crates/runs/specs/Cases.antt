@@ -2,12 +2,15 @@
 use Rattle.std.specs.Prelude.{ℕ, ◌≡◌, ◌≤◌, Bool, true, false, List, length}
 use Rattle.logfmt.specs.Bounds.{LogValue}
 use Rattle.checker.specs.Checker.{CheckerValue}
+use Rattle.report.specs.Report.{HeadValue}
+use Rattle.case_runs.specs.declared.found.Losses.{Losses}
 use Rattle.case_runs.specs.declared.found.CutFound.{CutFound}
 use Rattle.case_runs.specs.declared.first.FirstCase.{FirstCase}
 use Rattle.case_runs.specs.Found.{AreFoundIn, cases_in, most_cases}
 use Rattle.case_runs.specs.First.{IsFirstFailing}
 use Rattle.case_text.specs.First.{first_bytes}
 use Rattle.case_text.specs.Text.{cases_bytes, is_any_failing}
+use Rattle.case_text.specs.Why.{TellsWhy}
 use Rattle.request.specs.declared.any_losses.AnyLosses.{AnyLosses}
 use Rattle.request.specs.declared.settings.Settings.{Settings}
 use Rattle.request.specs.Source.{Recording, HasImages}
@@ -15,13 +18,18 @@ use Rattle.runs.specs.CaseCuts.{losses_of, case_cuts}
 use Rattle.runs.specs.Explore.{IsProgramCount, AreCheckersOf, head_of}
 use Rattle.runs.specs.Why.{with_first}
 
+-- the text of what was found: which cases fail, or why they do
+abbrev pub IsTextOf : Bool → HeadValue → Losses → LogValue → List CutFound → List ℕ → Type 0
+IsTextOf false h asked value found bytes = bytes ≡ cases_bytes h asked value found
+IsTextOf true h asked value found bytes = TellsWhy h asked value found bytes
+
 -- the cases of a log that fail, at each of these cuts, with each of these checkers: there aren't too many, the text tells of them, and
 -- whether there is one
 pub record TellsCases (l : AnyLosses) (s : Settings) (value : LogValue) (checkers : List CheckerValue) (bytes : List ℕ) (failing : Bool) : Type 0 where
   pub found : List CutFound
   pub are : AreFoundIn (losses_of l s) value s.by (case_cuts l s.cuts value) checkers found
   pub few : cases_in found ≤ most_cases
-  pub text : bytes ≡ cases_bytes (head_of (with_first false s) value checkers) (losses_of l s) value found
+  pub text : IsTextOf l.why (head_of (with_first false s) value checkers) (losses_of l s) value found bytes
   pub fails : failing ≡ is_any_failing found
 
 -- the first of them alone: within 16,777,216 cases it is the first that fails, and the text has its line and no other; or none of all cases

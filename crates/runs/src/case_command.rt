@@ -7,7 +7,7 @@ ghost use Rattle.case_runs.specs.Found.{AreFoundIn, cases_in, most_cases};
 ghost use Rattle.case_runs.specs.First.{AllPass, IsSought, IsFirstFailing};
 ghost use Rattle.case_text.specs.Text.{is_any_failing};
 ghost use Rattle.runs.specs.CaseCuts.{losses_of, is_all, are_last_enough, first_wanted, last_wanted, case_cuts, left_out_of};
-ghost use Rattle.runs.specs.Cases.{TellsCases, TellsFirst, TellsLosses};
+ghost use Rattle.runs.specs.Cases.{IsTextOf, TellsCases, TellsFirst, TellsLosses};
 ghost use Rattle.runs.specs.CaseRefusals.{StopsFor, RefusesFor};
 
 use crate::explore_command::{Explored, head_of_run};
@@ -18,8 +18,9 @@ use case_runs::{
     CaseGate, CasesFault, CutFound, FirstCase, Losses, Sought, explored_cuts, find_failing,
     find_first,
 };
-use case_text::{is_any_failing, left_out, write_cases, write_first};
+use case_text::{is_any_failing, left_out, write_cases, write_first, write_why};
 use epochs::{CutKind, Cuts};
+use report::Head;
 use request::facts::LeftOut;
 use request::{AnyLosses, Options};
 use std::alloc::{AllocError, Global};
@@ -168,6 +169,25 @@ fn left_out_of(found: &[CutFound]) -> Option<LeftOut>
     Some(LeftOut { torn, lost })
 }
 
+/// The text of what was found: which cases fail, or why they do.
+fn bytes_of(
+    alloc: Global,
+    task: &Task<'_>,
+    losses: AnyLosses,
+    head: &Head,
+    found: &[CutFound],
+) -> Result<Vec<u8>, AllocError>
+    requires cuts { All (λ cut. cut.cut ≤ length task.now.log.now.entries) found.now }
+    requires few { All (λ cut. length cut.programs.items ≤ 256) found.now }
+    ensures { IfOk result (λ bytes. IsTextOf losses.why head.now (losses_of losses task.now.options.now) task.now.log.now found.now bytes.items) }
+{
+    let asked = losses_of(losses, task.options);
+    if losses.why {
+        return write_why(alloc, head, task.log, task.plan, asked, found);
+    }
+    write_cases(alloc, head, task.log, task.plan, asked, found)
+}
+
 /// The text of what was found, and how many cases were left out.
 fn text_of(
     alloc: Global,
@@ -180,6 +200,7 @@ fn text_of(
     requires cuts { cuts.now ≡ case_cuts losses task.now.options.now.cuts task.now.log.now }
     requires within { All (λ cut. cut ≤ length task.now.log.now.entries) cuts.now }
     requires found { AreFoundIn (losses_of losses task.now.options.now) task.now.log.now task.now.options.now.by cuts.now task.now.checkers.now found.now }
+    requires small { length task.now.checkers.now ≤ 8 }
     requires few { cases_in found.now ≤ most_cases }
     ensures told { IfOk result (λ e. TellsCases losses task.now.options.now task.now.log.now task.now.checkers.now e.bytes.items e.failing) }
     ensures failing { IfOk result (λ e. e.failing ≡ is_any_failing found.now) }
@@ -188,8 +209,7 @@ fn text_of(
     let _cuts = cuts;
     *out = left_out_of(found);
     let head = head_of_run(alloc, task, false)?;
-    let asked = losses_of(losses, task.options);
-    let bytes = write_cases(alloc, &head, task.log, task.plan, asked, found)?;
+    let bytes = bytes_of(alloc, task, losses, &head, found)?;
     Ok(Explored {
         bytes,
         hits: 0,
@@ -263,6 +283,7 @@ fn passing_text_of(
 ) -> Result<Explored, AllocError>
     requires cuts { cuts.now ≡ case_cuts losses task.now.options.now.cuts task.now.log.now }
     requires within { All (λ cut. cut ≤ length task.now.log.now.entries) cuts.now }
+    requires small { length task.now.checkers.now ≤ 8 }
     requires passing { AllPass (losses_of losses task.now.options.now) task.now.log.now task.now.options.now.by cuts.now task.now.checkers.now found.now }
     ensures { IfOk result (λ e. TellsFirst losses task.now.options.now task.now.log.now task.now.checkers.now e.bytes.items e.failing) }
 {
@@ -281,6 +302,7 @@ fn sought_text_of(
 ) -> Result<Explored, AllocError>
     requires cuts { cuts.now ≡ case_cuts losses task.now.options.now.cuts task.now.log.now }
     requires within { All (λ cut. cut ≤ length task.now.log.now.entries) cuts.now }
+    requires small { length task.now.checkers.now ≤ 8 }
     requires found { IsSought (losses_of losses task.now.options.now) task.now.log.now task.now.options.now.by cuts.now task.now.checkers.now sought.now }
     ensures { IfOk result (λ e. TellsFirst losses task.now.options.now task.now.log.now task.now.checkers.now e.bytes.items e.failing) }
 {
@@ -304,6 +326,7 @@ fn all_told<G: Gate>(
     requires cuts { cuts.now ≡ case_cuts losses task.now.options.now.cuts task.now.log.now }
     requires within { All (λ cut. cut ≤ length task.now.log.now.entries) cuts.now }
     requires verified { AreFor task.now.options.now.sectors task.now.checkers.now }
+    requires small { length task.now.checkers.now ≤ 8 }
     requires all { task.now.options.now.first ≡ false }
     ensures told { IfOk result (λ e. TellsCases losses task.now.options.now task.now.log.now task.now.checkers.now e.bytes.items e.failing) }
     ensures refused { IfErr result (RefusesFor losses task.now) }
@@ -327,6 +350,7 @@ fn first_told<G: Gate>(
     requires cuts { cuts.now ≡ case_cuts losses task.now.options.now.cuts task.now.log.now }
     requires within { All (λ cut. cut ≤ length task.now.log.now.entries) cuts.now }
     requires verified { AreFor task.now.options.now.sectors task.now.checkers.now }
+    requires small { length task.now.checkers.now ≤ 8 }
     requires first { task.now.options.now.first ≡ true }
     ensures told { IfOk result (λ e. TellsFirst losses task.now.options.now task.now.log.now task.now.checkers.now e.bytes.items e.failing) }
     ensures refused { IfErr result (RefusesFor losses task.now) }
@@ -348,6 +372,7 @@ pub(crate) fn told_cases<G: Gate>(
     out: &mut Option<LeftOut>,
 ) -> Result<Explored, Refusal>
     requires verified { AreFor task.now.options.now.sectors task.now.checkers.now }
+    requires small { length task.now.checkers.now ≤ 8 }
     ensures told { IfOk result (λ e. TellsLosses task.now.options.now.first losses task.now.options.now task.now.log.now task.now.checkers.now e.bytes.items e.failing) }
     ensures refused { IfErr result (RefusesFor losses task.now) }
 {

@@ -44,7 +44,7 @@
 //! each that is wanted where not all cuts are or `--at-most` is given. The answer has each failing case of each program, and no other
 //! (`IsCases` in `specs/Cases.antt`). The run is refused at the cut with which there are more than 16,777,216 cases. With the option
 //! `first` the answer has the first of them alone, or where none fails that of all (`TellsFirst`); it is refused where none of the first
-//! 16,777,216 cases fails, and there are more. The gate is told of each run of a program and of each case, as of a block. The law
+//! 16,777,216 cases fails, and there are more. For `why` the answer says why they fail (`IsTextOf`). The gate is told of each run of a program and of each case, as of a block. The law
 //! `any_loss_is_told` says what this means where all cuts are wanted, and nothing bounds the losses: each image of any cut on which a
 //! program fails, with as few torn parts as is asked, is one of a failing case that is told. The law `told_cases_fail` says the other
 //! direction: on each image of a case that is told its program fails, and ends as the case says.

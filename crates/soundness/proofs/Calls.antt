@@ -1,11 +1,9 @@
 -- Helper calls: what is known after them.
-use Rattle.std.proofs.Common.{◌≡◌, ◌<◌, ◌≤◌, ℕ, zero, suc, ◌+◌, ◌-◌, ◌*◌, ◌/◌, ◌%◌, ◌^◌, ◌&&◌, ◌||◌, nat_lt, nat_le, nat_eq, Bool, true, false, if◌then◌else◌, pos, List, [], ◌∷◌, length, map, get_or, slice_get, slice_index, Option, None, Some, is_some, refl, sym, ap, ◌∙◌, inl, inr, subst, arith}
+use Rattle.std.proofs.Common.{◌≡◌, ◌<◌, ◌≤◌, ℕ, zero, suc, ◌+◌, ◌*◌, ◌/◌, ◌%◌, ◌^◌, ◌&&◌, ◌||◌, nat_lt, Bool, true, false, if◌then◌else◌, pos, List, [], ◌∷◌, length, map, get_or, slice_get, slice_index, Option, None, Some, is_some, refl, sym, ap, ◌∙◌, subst, arith}
 use Rattle.std.specs.Prelude.{set}
 use Rattle.std.specs.Option.{option_map_or}
 use Rattle.std.specs.Int.{cast_unsigned, w64}
 use Rattle.std.specs.List.{list_all, range_with_len}
-use Rattle.std.specs.Cmp.Lexicographic.{pointwise}
-use Rattle.std.proofs.Math.Nat.{mod-lt}
 use Rattle.std.proofs.lemmas.List.{length-map, length-set}
 use Rattle.std.proofs.lemmas.List.FromFn.{length-range_with_len}
 use Rattle.std.proofs.lemmas.Bool.Decides.{nat_tests}
@@ -17,8 +15,11 @@ use Rattle.bpf_isa.specs.declared.instr.Instr.{Instr}
 use Rattle.helpers.specs.declared.device.Context.{Context}
 use Rattle.helpers.specs.declared.helper.Helper.{Helper}
 use Rattle.helpers.specs.declared.helper.Helper.TheVariants as helper
-use Rattle.helpers.specs.Answers.{sector_start, sector_answer, device_byte, device_bytes, copy_answer, again_answer, report_answer, codes_after, one_if, zero_answer, mix_answer, same_answer}
-use Rattle.lanes.specs.Sector.{mix}
+use Rattle.helpers.specs.declared.helper.Answer.{Answer}
+use Rattle.helpers.specs.declared.helper.Answer.TheVariants as answer
+use Rattle.helpers.specs.Answers.{device_byte, device_bytes, copy_answer, again_answer, report_answer, codes_after}
+use Rattle.helpers.specs.Queries.{query_arguments, query_answer, query_kind, IsAnswer, IsKind}
+use Rattle.helpers.proofs.Queries.{query_fits, kind_fits, answer_word, copy_most, report_most, again_most}
 use Rattle.machine.specs.State.{State, word, stack_start}
 use Rattle.machine.specs.Memory.{context_bytes, byte_at, all_mapped, all_in_stacks, frames_with}
 use Rattle.machine.specs.Step as step
@@ -30,18 +31,18 @@ use Rattle.ranges.specs.declared.place.Place.TheVariants as place
 use Rattle.ranges.specs.Kinds.{Kind, Unset, Word, Num, Ctx, Stack, Sector, SectorOrNull, is_number}
 use Rattle.ranges.specs.States.{Abstract}
 use Rattle.ranges.specs.Order.{IsBounded}
-use Rattle.ranges.specs.Reading.{value, are_set, with_groups, any_word, is_stack, has_length}
+use Rattle.ranges.specs.Reading.{value, are_set, with_groups, is_stack, has_length}
 use Rattle.ranges.specs.Places.{place_of, is_inside}
-use Rattle.ranges.specs.Rules.{are_read, call_rules, length_of}
+use Rattle.ranges.specs.Rules.{are_read, are_numbers, call_rules, length_of}
 use Rattle.ranges.specs.After as after
-use Rattle.ranges.specs.After.{answer_kind, copied_state, call_after, after_of, written_at, call_with}
+use Rattle.ranges.specs.After.{kind_answered, answer_kind, copied_state, call_after, after_of, written_at, call_with}
 use Rattle.ranges.specs.Passing.{passes}
 use Rattle.ranges.proofs.Keeping.{value_fits}
 use Rattle.soundness.specs.Meaning.{Describes, Means}
 use Rattle.soundness.specs.Machines.{IsSetting}
 use Rattle.soundness.proofs.Checks.{first_check, pass_two, pass_three, pass_five, three_tell, tested_passes, and_parts}
 use Rattle.soundness.proofs.Meanings.{word_in}
-use Rattle.soundness.proofs.Standing.{Parts, machine, number, frames_of, all_frames, Stands, Goes, goes_first, answered_stands, reads_set, described_word}
+use Rattle.soundness.proofs.Standing.{Parts, machine, number, frames_of, all_frames, Stands, Goes, goes_first, answered_stands, reads_set}
 use Rattle.soundness.proofs.Places.{Lands, place_lands}
 use Rattle.soundness.proofs.Loads.{AreSmall}
 use Rattle.soundness.proofs.Stacks.{filled, stored_is, filled_is_stack, written_means}
@@ -78,66 +79,10 @@ number_means sectors frame most x few le = (x, refl, word_in 0 most x few (omega
 
 -- what the helpers answer
 
-pub sector_means : (sectors frame : ℕ) (device : List (List ℕ)) (n : ℕ) → length device ≡ sectors → Describes sectors frame SectorOrNull (sector_answer device n)
-unfolding sector_answer
-sector_means sectors frame device n count = by (nat_lt n (length device)) refl
-  where
-    by : (b : Bool) → nat_lt n (length device) ≡ b → Describes sectors frame SectorOrNull (if b then sector_start + 1024 * n else 0)
-    by true e = let lt : n < length device = grind (arith, nat_tests) in inr (n, omega (arith, lt, count), refl)
-    by false e = inl refl
-
-one_most : (b : Bool) → one_if b ≤ 1
-one_most true = omega arith
-one_most false = omega arith
-
-pub zero_most : (device : List (List ℕ)) (n : ℕ) → zero_answer device n ≤ 2
-unfolding zero_answer
-zero_most device n = by (slice_get device n)
-  where
-    by : (s : Option (List ℕ)) → option_map_or (λ sector. one_if (list_all (λ byte. nat_eq byte 0) sector)) s 2 ≤ 2
-    by None = omega arith
-    by (Some sector) = let h = one_most (list_all (λ byte. nat_eq byte 0) sector) in omega (arith, h)
-
-pub same_most : (device : List (List ℕ)) (a b : ℕ) → same_answer device a b ≤ 2
-unfolding same_answer
-same_most device a b = by (slice_get device a) (slice_get device b)
-  where
-    by : (s t : Option (List ℕ)) → option_map_or (λ left. option_map_or (λ right. one_if (pointwise nat_eq left right)) t 2) s 2 ≤ 2
-    by None t = omega arith
-    by (Some left) None = omega arith
-    by (Some left) (Some right) = let h = one_most (pointwise nat_eq left right) in omega (arith, h)
-
-pub mix_word : (device : List (List ℕ)) (n : ℕ) → mix_answer device n < 2 ^ 64
-unfolding mix_answer mix
-mix_word device n = by (slice_get device n)
-  where
-    by : (s : Option (List ℕ)) → option_map_or mix s 0 < 2 ^ 64
-    by None = omega arith
-    by (Some sector) = mod-lt _ (omega arith)
-
-pub report_most : (codes : List ℕ) → report_answer codes ≤ 1
-unfolding report_answer
-report_most codes = by (nat_lt (length codes) 16)
-  where
-    by : (b : Bool) → (if b then 0 else 1) ≤ 1
-    by true = omega arith
-    by false = omega arith
-
-pub again_most : (so_far n : ℕ) → again_answer so_far n ≤ 1
-unfolding again_answer
-again_most so_far n = by (nat_lt so_far n)
-  where
-    by : (b : Bool) → (if b then 1 else 0) ≤ 1
-    by true = omega arith
-    by false = omega arith
-
-pub copy_most : (device : List (List ℕ)) (position n : ℕ) → copy_answer device position n ≤ 1
-unfolding copy_answer
-copy_most device position n = by (nat_le (position + n) (512 * length device))
-  where
-    by : (b : Bool) → (if b then 0 else 1) ≤ 1
-    by true = omega arith
-    by false = omega arith
+-- an answer of a kind is a word, and means it
+answer_means : (sectors frame : ℕ) (a : Answer) (x : ℕ) → IsKind a → IsAnswer sectors a x → Means sectors frame (kind_answered a) (Some x)
+answer_means sectors frame answer.Address x kind is = (x, refl, is)
+answer_means sectors frame (answer.UpTo most) x kind is = number_means sectors frame most x kind is
 
 -- the counts of `again`
 pub counted_long : (m : Parts) (n : ℕ) → length m.turns ≡ 4096 → length (count_turn (machine m) n) ≡ 4096
@@ -267,14 +212,8 @@ pub other_goes : (guards : Bool) (program : List (Option Instr)) (sectors : ℕ)
     (after_checks (machine m) (call_checks program (byte_at (context_bytes context) device (all_frames m)) (machine m) h) (call_effect device (machine m) h))
 unfolding call_rules call_checks call_effect
 other_goes guards program sectors device context known m helper.Copy e set site next limit keeps = absurd (let bad : false ≡ true = e in cc)
-other_goes guards program sectors device context known m helper.Sector e set site next limit keeps =
-    let is = (first_check cause.UnsetRegister (are_read guards known (1 ∷ [])) (check cause.HelperArgument (guards || is_number (value known 1)) ∷ []) keeps).0 in
-    let x : ℕ = sector_answer device (word (machine m) 1) in
-    let d : Describes sectors (number m) SectorOrNull x = sector_means sectors (number m) device (word (machine m) 1) set.count in
-    answers sectors known m (step.reads (machine m) (1 ∷ []) ∷ step.goes_on program (m.slot + 1) ∷ []) SectorOrNull x m.turns m.codes site site.turns
-    (reads_pass guards program sectors known m (1 ∷ []) site is next) (described_word sectors (number m) SectorOrNull x site.few refl tt d) (x, refl, d)
 other_goes guards program sectors device context known m helper.Again e set site next limit keeps =
-    let is = (first_check cause.UnsetRegister (are_read guards known (1 ∷ [])) (check cause.HelperArgument (guards || is_number (value known 1)) ∷ []) keeps).0 in
+    let is = (first_check cause.UnsetRegister (are_read guards known (1 ∷ [])) (check cause.HelperArgument (guards || are_numbers known (1 ∷ [])) ∷ []) keeps).0 in
     let n : ℕ = word (machine m) 1 in
     let x : ℕ = again_answer (turns_here (machine m)) n in
     let most = again_most (turns_here (machine m)) n in
@@ -284,29 +223,20 @@ other_goes guards program sectors device context known m helper.Again e set site
     (read_set guards sectors known m (1 ∷ []) site is) (limit refl) next)
     (omega (arith, most)) (number_means sectors (number m) 1 x (omega arith) most)
 other_goes guards program sectors device context known m helper.Report e set site next limit keeps =
-    let is = (first_check cause.UnsetRegister (are_read guards known (1 ∷ [])) (check cause.HelperArgument (guards || is_number (value known 1)) ∷ []) keeps).0 in
+    let is = (first_check cause.UnsetRegister (are_read guards known (1 ∷ [])) (check cause.HelperArgument (guards || are_numbers known (1 ∷ [])) ∷ []) keeps).0 in
     let x : ℕ = report_answer m.codes in
     let most = report_most m.codes in
     answers sectors known m (step.reads (machine m) (1 ∷ []) ∷ step.goes_on program (m.slot + 1) ∷ []) (Num (any_sign (span 0 1))) x m.turns (codes_after m.codes (word (machine m) 1)) site site.turns
     (reads_pass guards program sectors known m (1 ∷ []) site is next) (omega (arith, most)) (number_means sectors (number m) 1 x (omega arith) most)
-other_goes guards program sectors device context known m helper.Zero e set site next limit keeps =
-    let is = (first_check cause.UnsetRegister (are_read guards known (1 ∷ [])) (check cause.HelperArgument (guards || is_number (value known 1)) ∷ []) keeps).0 in
-    let x : ℕ = zero_answer device (word (machine m) 1) in
-    let most = zero_most device (word (machine m) 1) in
-    answers sectors known m (step.reads (machine m) (1 ∷ []) ∷ step.goes_on program (m.slot + 1) ∷ []) (Num (any_sign (span 0 2))) x m.turns m.codes site site.turns
-    (reads_pass guards program sectors known m (1 ∷ []) site is next) (omega (arith, most)) (number_means sectors (number m) 2 x (omega arith) most)
-other_goes guards program sectors device context known m helper.Mix e set site next limit keeps =
-    let is = (first_check cause.UnsetRegister (are_read guards known (1 ∷ [])) (check cause.HelperArgument (guards || is_number (value known 1)) ∷ []) keeps).0 in
-    let x : ℕ = mix_answer device (word (machine m) 1) in
-    let small = mix_word device (word (machine m) 1) in
-    answers sectors known m (step.reads (machine m) (1 ∷ []) ∷ step.goes_on program (m.slot + 1) ∷ []) (Num any_word) x m.turns m.codes site site.turns
-    (reads_pass guards program sectors known m (1 ∷ []) site is next) small (number_means sectors (number m) (2 ^ 64 - 1) x (omega arith) (omega (arith, small)))
-other_goes guards program sectors device context known m helper.Same e set site next limit keeps =
-    let is = (first_check cause.UnsetRegister (are_read guards known (1 ∷ 2 ∷ [])) (check cause.HelperArgument (guards || (is_number (value known 1) && is_number (value known 2))) ∷ []) keeps).0 in
-    let x : ℕ = same_answer device (word (machine m) 1) (word (machine m) 2) in
-    let most = same_most device (word (machine m) 1) (word (machine m) 2) in
-    answers sectors known m (step.reads (machine m) (1 ∷ 2 ∷ []) ∷ step.goes_on program (m.slot + 1) ∷ []) (Num (any_sign (span 0 2))) x m.turns m.codes site site.turns
-    (reads_pass guards program sectors known m (1 ∷ 2 ∷ []) site is next) (omega (arith, most)) (number_means sectors (number m) 2 x (omega arith) most)
+other_goes guards program sectors device context known m (helper.Query q) e set site next limit keeps =
+    let list : List ℕ = query_arguments q in
+    let is = (first_check cause.UnsetRegister (are_read guards known list) (check cause.HelperArgument (guards || are_numbers known list) ∷ []) keeps).0 in
+    let x : ℕ = query_answer device q (word (machine m) 1) (word (machine m) 2) in
+    let count = site.few.device in
+    let fits : IsAnswer sectors (query_kind q) x = subst (λ (n : ℕ). IsAnswer n (query_kind q) x) set.count (query_fits device q (word (machine m) 1) (word (machine m) 2)) in
+    answers sectors known m (step.reads (machine m) list ∷ step.goes_on program (m.slot + 1) ∷ []) (kind_answered (query_kind q)) x m.turns m.codes site site.turns
+    (reads_pass guards program sectors known m list site is next) (answer_word sectors (query_kind q) x (omega (arith, count)) (kind_fits q) fits)
+    (answer_means sectors (number m) (query_kind q) x (kind_fits q) fits)
 
 pub helper_goes : (program : List (Option Instr)) (sectors : ℕ) (device : List (List ℕ)) (context : Context) (known : Abstract) (m : Parts) (h : Helper)
     → IsSetting program sectors device context → Site sectors known m → is_some (at program (m.slot + 1)) ≡ true

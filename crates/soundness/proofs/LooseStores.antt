@@ -47,7 +47,8 @@ use Rattle.soundness.proofs.Places.{Lands, place_lands}
 use Rattle.soundness.proofs.Loads.{AreSmall, small_number}
 use Rattle.soundness.proofs.Stacks.{filled, stored_is, filled_is_stack, group_written, places_at, places_long, past_means}
 use Rattle.soundness.proofs.Stores.{stack_mapped, stack_in_stacks, stack_place}
-use Rattle.soundness.proofs.Calls.{other_goes, number_means, copy_most, long_copied, small_copied, length_known}
+use Rattle.helpers.proofs.Queries.{copy_most}
+use Rattle.soundness.proofs.Calls.{other_goes, number_means, long_copied, small_copied, length_known}
 use Rattle.soundness.proofs.Locals.{no_mark, unset_means}
 use Rattle.soundness.proofs.Computing.{Site}
 use Rattle.soundness.proofs.Loose.{LooselyGoes, words_set, first_word}

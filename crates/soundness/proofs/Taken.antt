@@ -19,7 +19,8 @@ use Rattle.bpf_isa.specs.declared.instr.Condition.TheVariants as cond
 use Rattle.helpers.specs.declared.helper.Helper.{Helper}
 use Rattle.helpers.specs.declared.helper.Helper.TheVariants as helper
 use Rattle.helpers.specs.Helper.{helper_of}
-use Rattle.helpers.specs.Answers.{sector_answer, device_bytes, copy_answer, again_answer, report_answer, zero_answer, mix_answer, same_answer}
+use Rattle.helpers.specs.Answers.{device_bytes, copy_answer, again_answer, report_answer}
+use Rattle.helpers.specs.Queries.{query_answer}
 use Rattle.bpf_shape.specs.Edges.{edges, edges_of}
 use Rattle.bpf_shape.specs.Again.{helper_number, limit_of, zero_test, others_of}
 use Rattle.bpf_shape.specs.Paths.{Leads}
@@ -246,14 +247,11 @@ Called s number _ t = Moves s (instr.CallHelper number) t
 
 call_moves : (device : List (List ℕ)) (s : State) (number : ℤ) (h : Helper) → OnNext (Called s number h) (call_effect device s h)
 unfolding call_effect edges_of
-call_moves device s number helper.Sector = answer_moves s number _ (sector_answer device (word s 1)) refl refl refl refl
 call_moves device s number helper.Copy = answer_moves s number _ (copy_answer device (word s 1) (word s 3)) refl refl refl (stored_callers s.frames (word s 2) (device_bytes device (word s 1) (word s 3)))
 call_moves device s number helper.Again =
     record { leads = inl refl; width = length_answered s.registers (again_answer (turns_here s) (word s 1)); counts = refl; frames = refl; answer = refl }
 call_moves device s number helper.Report = answer_moves s number _ (report_answer s.codes) refl refl refl refl
-call_moves device s number helper.Zero = answer_moves s number _ (zero_answer device (word s 1)) refl refl refl refl
-call_moves device s number helper.Mix = answer_moves s number _ (mix_answer device (word s 1)) refl refl refl refl
-call_moves device s number helper.Same = answer_moves s number _ (same_answer device (word s 1) (word s 2)) refl refl refl refl
+call_moves device s number (helper.Query q) = answer_moves s number _ (query_answer device q (word s 1) (word s 2)) refl refl refl refl
 
 -- the helper that was called
 pub record CallsHelper (s : State) (number : ℤ) (t : State) : Type 0 where

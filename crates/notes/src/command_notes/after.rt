@@ -250,7 +250,7 @@ fn log_options(request: Request) -> Option<OptionWords> {
         Request::Images(words, _) | Request::Image(words, _) => Some(words),
         Request::Show(words, _) | Request::Export(words) => Some(words),
         Request::AnyImage { words, .. } => Some(words),
-        Request::Cases(words, _) => Some(words),
+        Request::Cases(words, _) | Request::Retold(words, _) => Some(words),
         _ => run_options(request),
     }
 }

@@ -94,6 +94,10 @@ pub fn notes_beside(alloc: Global, words: &Words, facts: &Facts) -> Result<Strin
                 put_left_out(&mut out, &losses, left)?;
             }
         }
+        Request::Retold(options, _) => {
+            put_mark_notes(&mut out, facts)?;
+            put_survey_notes(&mut out, options, facts)?
+        }
         Request::Export(options) => put_survey_notes(&mut out, options, facts)?,
         Request::Images(options, _) => put_survey_notes(&mut out, options, facts)?,
         Request::Log(_) => put_mark_notes(&mut out, facts)?,

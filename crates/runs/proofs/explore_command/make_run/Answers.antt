@@ -1,4 +1,4 @@
-use Rattle.std.proofs.Common.{ℕ, ◌≡◌, true, ◌∙◌, sym, ap, map, subst}
+use Rattle.std.proofs.Common.{ℕ, ◌≡◌, true, ◌∙◌, sym, ap, map, subst, arith}
 use Rattle.std.proofs.lemmas.Bool.{false≢true}
 use Rattle.std.proofs.lemmas.Result.{err_from_is_err_and}
 use Rattle.epochs.specs.Plan.{PlanValue}
@@ -194,7 +194,12 @@ returns-in-Cured-clause-promises g c =
 
 pub told_cases-requires : goal.told_cases-requires
 told_cases-requires g c =
-    rw c.as_slice-made.ensures.value (record { verified = made_fit c.args.question.now.options.now c.as_slice.result.now c.in_ok-checkers.checkers.items c.in_ok-checkers.ensures.made })
+    let few = few_decoded _ _ c.as_slice.result.now _ (counted _ c.args.question.now.programs.now (c.is_program_count.ensures.0 c.if-not-is_program_count.false)).few c.as_slice.ensures.value c.in_ok-decoded.ensures.decoded in
+    let same = c.in_ok-checkers.ensures.all in
+    rw c.as_slice-made.ensures.value (record {
+      verified = made_fit c.args.question.now.options.now c.as_slice.result.now c.in_ok-checkers.checkers.items c.in_ok-checkers.ensures.made;
+      small = omega (arith, few, same);
+    })
 
 pub returns-in-Cases-clause-told : goal.returns-in-Cases-clause-told
 returns-in-Cases-clause-told g c =

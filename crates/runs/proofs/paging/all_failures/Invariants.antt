@@ -1,10 +1,12 @@
-use Rattle.std.proofs.Common.{All}
+use Rattle.std.proofs.Common.{ℕ, All}
+use Rattle.losses.specs.ProgramOutcomes.{outcomes_failing}
 use Rattle.crash_page.specs.Page.{AreOfRun}
+use Rattle.crash_page.specs.Failing.{AreFailing}
 use Rattle.runs.specs.Marked.{images_marked}
-use Rattle.runs.specs.Paged.{AreFailing}
+use Rattle.runs.specs.Paged.{IsSaid}
 use Rattle.runs.proofs.paging.all_failures.Given as goal
 
 abbrev pub invariant-loop-program : goal.invariant-loop-program
 invariant-loop-program l =
-    AreFailing l.reading.findings.now.starts.now (images_marked l.reading.marks.now) l.reading.findings.now.work.now.lines l.heads l.failures l.program l.found.items
+    AreFailing l.reading.findings.now.starts.now (IsSaid l.heads) (images_marked l.reading.marks.now) (λ (program : ℕ). outcomes_failing program l.reading.findings.now.work.now.lines) l.failures l.program l.found.items
     × All (AreOfRun l.reading.findings.now.starts.now) l.found.items

@@ -1,13 +1,18 @@
 use Rattle.std.proofs.Common.{ℕ, ◌≡◌, ◌∙◌, ap, sym, subst, length, List, [], All, rules, string_bytes, Vec, Global}
+use Rattle.logfmt.specs.Bounds.{LogValue}
 use Rattle.choices.specs.Sums.{StartsValue}
 use Rattle.losses.specs.Places.{AreWindows}
 use Rattle.losses.specs.declared.cure.failure.Failure.{Failure}
 use Rattle.losses.specs.FailureWindows.{AreFailures, windows_in}
+use Rattle.losses.specs.ProgramOutcomes.{outcomes_failing}
+use Rattle.report.specs.declared.head.ProgramHead.{ProgramHead}
 use Rattle.report.specs.Report.{HeadValue}
 use Rattle.crash_page.specs.declared.program.ProgramFailures.{ProgramFailures}
+use Rattle.crash_page.specs.Failing.{AreFailing}
 use Rattle.crash_page.specs.Page.{AreOfRun}
+use Rattle.crash_page.proofs.Owned.{page_told}
 use Rattle.runs.specs.Marked.{images_marked}
-use Rattle.runs.proofs.Pages.{page_told}
+use Rattle.runs.specs.Paged.{IsSaid, about_run}
 use Rattle.runs.proofs.paging.page_bytes.Goals as goal
 
 pub failures_found-requires-clause-marks : goal.failures_found-requires-clause-marks
@@ -15,7 +20,8 @@ failures_found-requires-clause-marks c = c.args.reading.now.marks_are
 
 pub all_failures-requires-clause-inside : goal.all_failures-requires-clause-inside
 all_failures-requires-clause-inside c =
-    subst (λ (fs : List Failure). AreWindows (length c.args.reading.now.findings.now.task.now.log.now.entries) (windows_in fs)) (sym c.as_slice.ensures.value) c.in_ok-failures.ensures.inside
+    subst (λ (l : LogValue). AreWindows (length l.entries) (windows_in c.as_slice.result.now)) (sym c.numbering_of.ensures.log)
+    (subst (λ (fs : List Failure). AreWindows (length c.args.reading.now.findings.now.task.now.log.now.entries) (windows_in fs)) (sym c.as_slice.ensures.value) c.in_ok-failures.ensures.inside)
 
 pub all_failures-requires-clause-images : goal.all_failures-requires-clause-images
 all_failures-requires-clause-images c = c.requires.images
@@ -45,8 +51,17 @@ returns c =
     let reading = c.args.reading.now in
     let found = reading.findings.now in
     let s = found.starts.now in
-    page_told c.args.head.now s (images_marked reading.marks.now) found.work.now.lines c.as_slice-2.result.now _ _ _ c.as_slice.result.now _ c.in_ok-programs.programs.items c.into_bytes.result.items
-    none (c.as_str.ensures.value ∙ c.in_ok-text.ensures)
-    (subst (λ (fs : List Failure). AreFailures s.plan.by s.plan.log.entries found.work.now.lines fs) (sym c.as_slice.ensures.value) c.in_ok-failures.ensures.failures)
-    c.in_ok-programs.ensures.failing (c.as_slice-2.ensures.value ∙ ap (λ (h : HeadValue). h.programs) c.head.view_is)
-    c.as_slice-3.ensures.value c.in_ok-put_page.ensures (ap (λ (v : Vec ℕ Global). v.items) c.into_bytes.ensures.value)
+    let ls = found.work.now.lines in
+    let fs = c.as_slice.result.now in
+    let heads : c.as_slice-2.result.now ≡ c.args.head.now.programs = c.as_slice-2.ensures.value ∙ ap (λ (h : HeadValue). h.programs) c.head.view_is in
+    let are : AreFailing s (IsSaid c.args.head.now.programs) (images_marked reading.marks.now) (λ (program : ℕ). outcomes_failing program ls) fs (length c.args.head.now.programs) c.in_ok-programs.programs.items =
+    subst (λ (hs : List ProgramHead). AreFailing s (IsSaid hs) (images_marked reading.marks.now) (λ (program : ℕ). outcomes_failing program ls) fs (length hs) c.in_ok-programs.programs.items) heads
+    c.in_ok-programs.ensures.failing in
+    record {
+      failures = fs;
+      are_failures = subst (λ (gs : List Failure). AreFailures s.plan.by s.plan.log.entries ls gs) (sym c.as_slice.ensures.value) c.in_ok-failures.ensures.failures;
+      page =
+          page_told (about_run c.args.head.now ls) s (IsSaid c.args.head.now.programs) (images_marked reading.marks.now) (λ (program : ℕ). outcomes_failing program ls) fs (length c.args.head.now.programs) _ _ _ _
+          c.in_ok-programs.programs.items c.into_bytes.result.items none (c.as_str.ensures.value ∙ c.in_ok-text.ensures) are c.as_slice-3.ensures.value c.in_ok-put_page.ensures
+          (ap (λ (v : Vec ℕ Global). v.items) c.into_bytes.ensures.value);
+    }

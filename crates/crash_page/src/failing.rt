@@ -1,0 +1,119 @@
+//! What a page takes of a program, by the images on which it fails.
+
+ghost use Rattle.std.specs.Prelude.{◌≡◌, ◌≤◌, ◌++◌, ◌∷◌, [], map, length, filter, IfOk, OnOk};
+ghost use Rattle.losses.specs.Places.{AreWindows};
+ghost use Rattle.losses.specs.Counted.{AreMissing};
+ghost use Rattle.losses.specs.Failures.{AreImages};
+ghost use Rattle.losses.specs.FailureWindows.{windows_in};
+ghost use Rattle.losses.specs.CureText.{is_uncured};
+ghost use Rattle.crash_page.specs.Judges.{judge_text};
+ghost use Rattle.crash_page.specs.Failing.{own_failures, IsFailing};
+ghost use Rattle.crash_page.specs.Page.{AreOfRun};
+
+use crate::judge::Judge;
+use crate::laws::failures_are_of_run;
+use crate::program::ProgramFailures;
+use crate::run::Run;
+use losses::cure::{Failure, windows_of};
+use losses::flushes::{MissingFlush, missing_flushes};
+use losses::why::failures;
+use std::alloc::{AllocError, Global};
+
+/// Appends a failure, if it is of that program.
+fn push_own(own: &mut Vec<Failure>, program: usize, failure: Failure) -> Result<(), AllocError>
+    ensures { OnOk result (own.new.items ≡ own.old.items ++ own_failures program (failure ∷ [])) }
+{
+    if usize::from(failure.program) == program {
+        own.push(failure)?;
+    }
+    Ok(())
+}
+
+/// The failures of a program, of those of a run.
+#[tactic(auto, using(crate::proofs::Owned::own_more))]
+fn failures_of(
+    alloc: Global,
+    failures: &[Failure],
+    program: usize,
+) -> Result<Vec<Failure>, AllocError>
+    ensures { IfOk result (λ own. own.items ≡ own_failures program failures.now) }
+{
+    let mut own = Vec::new(alloc);
+    for failure in failures {
+        push_own(&mut own, program, *failure)?;
+    }
+    Ok(own)
+}
+
+/// One where a failure is of that program and has no window, else none.
+fn count_uncured(failure: Failure, program: usize) -> usize
+    ensures value { result ≡ length (filter (is_uncured program) (failure ∷ [])) }
+    ensures bound { result ≤ 1 }
+{
+    usize::from(usize::from(failure.program) == program && failure.window.is_none())
+}
+
+/// How many failures of a program have no window.
+#[tactic(auto, using(crate::proofs::Owned::uncured_more))]
+fn uncured_of(failures: &[Failure], program: usize) -> usize
+    ensures value { result ≡ length (filter (is_uncured program) failures.now) }
+    ensures bound { result ≤ length failures.now }
+{
+    let mut count = 0;
+    for failure in failures {
+        count += count_uncured(*failure, program);
+    }
+    count
+}
+
+/// The flushes that are missing for the failures of a program, of those of a run of a log with that many entries.
+fn missing_for(
+    alloc: Global,
+    failures: &[Failure],
+    program: usize,
+    entries: usize,
+) -> Result<Vec<MissingFlush>, AllocError>
+    requires few { entries ≤ 65536 }
+    requires inside { AreWindows entries (windows_in failures.now) }
+    ensures { IfOk result (λ ms. AreMissing (windows_in (own_failures program failures.now)) ms.items) }
+{
+    let own = failures_of(alloc, failures, program)?;
+    let windows = windows_of(alloc, own.as_slice())?;
+    missing_flushes(alloc, windows.as_slice(), entries)
+}
+
+/// What a page takes of the program of that number, which fails on these images of a run and ends so on each, of all failures of the run.
+///
+/// # Errors
+///
+/// Memory was refused.
+pub fn program_failures<'a>(
+    alloc: Global,
+    run: &Run<'_>,
+    failures_of_run: &[Failure],
+    program: usize,
+    judge: Judge<'a>,
+    images: &[u64],
+    outcomes: Vec<&'a str>,
+) -> Result<ProgramFailures<'a>, AllocError>
+    requires inside { AreWindows (length run.now.numbering.log.now.entries) (windows_in failures_of_run.now) }
+    requires images { AreImages run.now.starts.now images.now }
+    requires outcomes { length outcomes.items ≡ length images.now }
+    ensures failing { IfOk result (λ f. IsFailing run.now.starts.now images.now (map (λ o. o.now) outcomes.entry.items) program failures_of_run.now f) }
+    ensures judge { IfOk result (λ f. judge_text f.judge ≡ judge_text judge.entry) }
+    ensures taken { IfOk result (AreOfRun run.now.starts.now) }
+{
+    // A law of pages, which does nothing: what fails of the images of a run is what a page takes.
+    failures_are_of_run();
+    let entries = run.numbering.log.entries().len();
+    let cuts = failures(alloc, run.starts, images, outcomes.as_slice())?;
+    let missing = missing_for(alloc, failures_of_run, program, entries)?;
+    Ok(ProgramFailures {
+        judge,
+        failing: images.len(),
+        outcomes,
+        cuts,
+        missing,
+        uncured: uncured_of(failures_of_run, program),
+    })
+}

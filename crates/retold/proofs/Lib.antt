@@ -1,0 +1,4 @@
+pub mod Rising
+pub mod Tellings
+pub mod Bases
+pub mod Titles
