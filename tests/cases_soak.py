@@ -1,12 +1,13 @@
 #!/usr/bin/env python3
-"""Compares what the built program says of every loss of many random logs, by `explore --bound any`, with the model, to the byte.
+"""Compares what the built program says of every loss of many random logs, by `explore --bound any` and `why --bound any`, with the models,
+to the byte.
 
     python3 tests/cases_soak.py [--runs N] [--seed S] [--only NUMBER] [PROGRAM]
 
 PROGRAM is as in run.py; N is 2,000 where it isn't given, S is 1. A run has a log of entries of every kind, of which writes differ by
 pieces, what the device held before, one or two checkers, and options picked at random: `--tears` and `--torn`, `--at-most`, `--cuts`,
 `--from` and `--to`, `--by`, `--flush`, `--base`, `--checked`, `--guards` and `--first`. It is expected that the program prints the text of
-cases_model.py, ends with status 1 exactly where a case fails, and says nothing else but notes.
+cases_model.py, or of why_model.py, ends with status 1 exactly where a case fails, and says nothing else but notes.
 
 A checker looks at a few sectors, and at which ones hangs on what it found: by loads, by `zero`, `mix`, `same` and `copy`, in turns of
 `again`, by the epoch and the marks, and at addresses that are made of numbers. What it comes to is worked out by machine_model.py. Some
@@ -28,6 +29,7 @@ from machine_model import judged
 from model import Checker, Run
 from notation import log
 from soaking import Soak, options, run_all
+from why_model import case_causes
 
 LIMIT = 120
 
@@ -115,10 +117,13 @@ class CasesSoak(Soak):
         except TooLong:
             return None
         words += ["--first"] * is_first
+        is_why = not is_first and chance.random() < 0.4
+        text = case_causes(run, checkers, losses) if is_why else text
+        words.insert(0, "why" if is_why else "explore")
         self.failing, self.cases = self.failing + status(text), self.cases + MOST_RUNS - left[0]
-        ended, out, error = self.called(["explore", *words])
+        ended, out, error = self.called(words)
         quiet = all(line.startswith("note: ") for line in error.splitlines())
-        return [] if (ended, out, quiet) == (status(text), text.encode(), True) else [" ".join(["explore", *words])]
+        return [] if (ended, out, quiet) == (status(text), text.encode(), True) else [" ".join(words)]
 
     @staticmethod
     def judge(made, limit, guards, left):

@@ -25,9 +25,11 @@ from pathlib import Path
 
 sys.dont_write_bytecode = True
 
+import report_model
 from designs import DESIGNS
 from model import Run, escaped
 from notation import MARK, TOP, D, F, M, S, W, log
+from page_model import page_of_report
 from shells import differs, sh, try_all
 
 EACH = TOP / "examples/each/crashbpf-each"
@@ -504,6 +506,7 @@ def rows():
     yield "images of a large device", gives_large
     yield "verdicts", tells_verdicts
     yield "a log of two slots", gives_design
+    yield "reports that go back to why, page and cure", goes_back
     if all(map(shutil.which, TOOLS)):
         yield "images of ext2", gives_ext2
     else:
@@ -530,6 +533,31 @@ def gives_design(folder):
     Path(folder, "bad").write_text("".join(f"{hashlib.sha256(it).hexdigest()}\n" for it in bad))
     program = sh_words('! sha256sum < "$1" | cut -c 1-64 | grep -q -F -f - bad')
     return ended("it", each(folder, words, program), 1, report(run, program, lambda of: "answer 1 codes -" if of.content() in bad else None))
+
+
+def told_back(folder, words, run, text):
+    """What is wrong with what `why`, `page` and `cure` tell of a report, and what `cure` does."""
+    Path(folder, "report").write_text(text)
+    of, found, out = report_model.read(run, text.encode()), [], ""
+    for command, tell in [("why", report_model.causes), ("page", page_of_report), ("cure", report_model.places)]:
+        done = subprocess.run(["crashbpf", command, "disk.log", "--report", "report", *words[1:]], cwd=folder, capture_output=True, text=True)
+        found += differs(f"what {command} tells", (done.returncode, done.stdout), (int(bool(of.lines)), tell(run, of)))
+        out = done.stdout
+    return found, out
+
+
+def goes_back(folder):
+    """What is wrong with what is told of a report, of the report of the next run, with the flushes that `cure` names, and of other options."""
+    entries = DESIGNS["two_slots/wrong"].recorded
+    words, program = put(folder, Run(entries, 4)), sh_words('[ "$CRASH_CHOICE" = - ] || exit 7')
+    found, out = told_back(folder, words, Run(entries, 4), each(folder, words, program).stdout)
+    added = out.splitlines()[-1].removeprefix("untried ").split()
+    if len(added) != 2:
+        return [*found, f"cure names no flushes: {out!r}"]
+    next_run = Run(entries, 4, flush=tuple(int(it) for it in added[1].split(",")))
+    found += told_back(folder, [*words, *added], next_run, each(folder, [*words, *added], program).stdout)[0]
+    done = subprocess.run(["crashbpf", "why", "disk.log", "--report", "report", *words[1:]], cwd=folder, capture_output=True, text=True)
+    return found + differs("why without the flushes", (done.returncode, done.stderr.splitlines()[:1]), (2, ["refused 16 at 2"]))
 
 
 if __name__ == "__main__":

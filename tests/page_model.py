@@ -8,7 +8,7 @@ import re
 
 from model import FLAGS, entry_line, escaped, head, missing_flushes, shown, window_of
 from notation import DISCARD, MARK, TOP
-from why_model import folded_groups, judged
+from why_model import Failing, folded_groups, judged
 
 # How many groups of a cut and of a program are shown, how long a text may be, and how many flushes are named.
 OF_CUT, OF_PROGRAM, LONGEST, NAMED = 8, 500, 16384, 16
@@ -229,10 +229,10 @@ def verdict(cuts):
     return f"<p class='good'>No image fails, at {len(cuts)} cuts.</p>\n"
 
 
-def program_text(run, program, checker, cuts):
+def program_text(run, program, said, cuts):
     windows = [window_of(it.image) for cut in cuts for it in cut.failing]
     flushes = missing_flushes([it for it in windows if it])
-    text = f"<section aria-labelledby='p{program}'>\n<h2 id='p{program}'>Program {program}: {checker.about}</h2>\n" + verdict(cuts)
+    text = f"<section aria-labelledby='p{program}'>\n<h2 id='p{program}'>Program {program}: {html(said)}</h2>\n" + verdict(cuts)
     text += advice(program, flushes, windows.count(None)) + strip(run, program, flushes, cuts) + legend()
     left, bad = OF_FOLDED if folded(run) else OF_PROGRAM, [cut for cut in cuts if cut.failing]
     for cut in bad[:LINES]:
@@ -243,17 +243,29 @@ def program_text(run, program, checker, cuts):
     return text + "</section>\n"
 
 
+def page_of(run, about, programs):
+    """The page with that text about the run, of programs: what is said of each, and on which images it fails."""
+    name = f"entries {len(run.entries)}, sectors {run.sectors}"
+    text = f"{dress('OPENING')}{name}{dress('STYLE')}{name}</h1>\n<pre class='about'>{html(about)}</pre>\n</header>\n<main>\n"
+    for program, (said, own) in enumerate(programs):
+        cuts = [Cut(run, number, [it for it in own if it.image.cut == number]) for number in run.wanted_cuts()]
+        text += program_text(run, program, said, cuts)
+    rows = "".join(f"<li id='e{it}'>{html(entry_line(run, it))}\n</li>\n" for it in range(len(run.entries)))
+    listed = f"<section aria-labelledby='entries'>\n<h2 id='entries'>Entries</h2>\n<ol>\n{rows}</ol>\n</section>\n"
+    return text + (folded_list(run) if folded(run) else listed) + dress("CLOSING")
+
+
 def page(run, checkers):
-    """What `page` prints."""
+    """What `page` prints of checkers."""
     images = list(run.images())
     failing = [[own for own in (judged(it, checker) for it in images) if own] for checker in checkers]
     failed = {it.image.number for own in failing for it in own}
     about = head(run, checkers, False) + f"images {len(images)} failing {len(failed)} lines {sum(len(own) for own in failing)}\n"
-    name = f"entries {len(run.entries)}, sectors {run.sectors}"
-    text = f"{dress('OPENING')}{name}{dress('STYLE')}{name}</h1>\n<pre class='about'>{html(about)}</pre>\n</header>\n<main>\n"
-    for program, own in enumerate(failing):
-        cuts = [Cut(run, number, [it for it in own if it.image.cut == number]) for number in run.wanted_cuts()]
-        text += program_text(run, program, checkers[program], cuts)
-    rows = "".join(f"<li id='e{it}'>{html(entry_line(run, it))}\n</li>\n" for it in range(len(run.entries)))
-    listed = f"<section aria-labelledby='entries'>\n<h2 id='entries'>Entries</h2>\n<ol>\n{rows}</ol>\n</section>\n"
-    return text + (folded_list(run) if folded(run) else listed) + dress("CLOSING")
+    return page_of(run, about, [(it.about, own) for it, own in zip(checkers, failing)])
+
+
+def page_of_report(run, report):
+    """What `page --report` prints of a report that report_model.py read."""
+    said = [re.sub("^program [0-9] ", "", it) for it in report.head.splitlines()[1:]]
+    failing = [[Failing(it.image, it.outcome) for it in report.lines if it.program == number] for number in range(report.programs)]
+    return page_of(run, report.head + report.last, list(zip(said, failing)))

@@ -56,11 +56,13 @@ Where the rows stand
     rows/why.py         why checkers fail, of many logs and of the designs, against the model
     rows/cure.py        where flushes are missing, of many logs and of the designs, against the model
     rows/cases.py       every loss of any number of writes, as cases: options, refusals, many logs and the designs, against the model
+    rows/why_cases.py   why these cases fail, of many logs and of the designs, against the model
     rows/based.py       devices that held something before entry 0, in all commands, against the model
     rows/browser.py     runs as a page for a browser, of many logs and of the designs, against the model
     rows/ranges.py      flushes that are added and ranges of cuts, in `log`, in `page`, and of the designs, against the model
     rows/flushes.py     where flushes are missing: the designs, marks, forced writes, discards, refusals, against cure_model.py
     rows/workers.py     runs by many workers, with and without a cache
+    rows/reported.py    reports that are given in place of programs, and damaged ones, against report_model.py
     rows/joining.py     runs in parts, how they are laid out and joined, runs of any number of images, against parts_model.py
     rows/footprints.py  checkers that read a few sectors of those that a cut may lose, against the model
     rows/recording.py   logs that were made of traces, and an ext4 that was recorded
@@ -138,6 +140,7 @@ from rows import (
     raw_logs,
     recording,
     refusals,
+    reported,
     shown,
     small_logs,
     surroundings,
@@ -145,6 +148,7 @@ from rows import (
     texts,
     trials,
     why,
+    why_cases,
     worked,
     workers,
 )
@@ -178,6 +182,7 @@ TABLES = [
     why,
     cure,
     cases,
+    why_cases,
     browser,
     ranges,
     based,
@@ -187,6 +192,7 @@ TABLES = [
     workers,
     footprints,
     joining,
+    reported,
     recording,
     limits,
     large,

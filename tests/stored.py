@@ -1,6 +1,6 @@
 #!/usr/bin/env python3
-"""Writes the texts that are stored of the designs of examples/: their reports, their cases with any number of losses, why they fail,
-their cures, and an image of each wrong version in words. All are the model's; the rows compare them with what the program prints.
+"""Writes the texts that are stored of the designs of examples/: their reports, their cases with any number of losses, why they fail and why
+these cases do, their cures, and an image of each wrong version in words. All are the model's; the rows compare them with what the program prints.
 
     python3 tests/stored.py
 
@@ -14,7 +14,7 @@ from cases_model import cases
 from cure_model import cure
 from designs import DESIGNS, EXAMPLES, EXPLAINED, IN_WORDS, checker_of
 from model import explored, shown
-from why_model import causes
+from why_model import case_causes, causes
 
 
 def texts():
@@ -23,6 +23,7 @@ def texts():
         checkers = [checker_of(which)]
         yield f"{which}.report", explored(run, checkers)
         yield f"{which}.cases", cases(run, checkers)
+        yield f"{which}.why_cases", case_causes(run, checkers)
         yield f"{which}.cure", cure(run, checkers)
         yield f"{which}.why", causes(EXPLAINED[which], checkers)
         if which in IN_WORDS:

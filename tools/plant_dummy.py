@@ -4,13 +4,13 @@
     tools/plant_dummy.py [TOP]
     tools/plant_dummy.py --types [KIND ..]
 
-Whoever adds an opcode, a helper, a fate, a cause or an option looks for what stands beside it: its neighbour. KINDS names one of each
+Whoever adds an opcode, a helper (a query or another), a fate, a cause or an option looks for what stands beside it: its neighbour. KINDS names one of each
 kind. Each file of code, definitions or proofs that names the neighbour has to stand in the list, in a row of its crate. A line for each
 that doesn't is printed, and the status is then 1, else 0. tools/check_documents.py does the same. Comments and tests aren't looked at.
 
 With --types a dummy is planted in the enum of each KIND, in a copy of the crates, and those that tell its forms apart are
 typed. Where the compiler wants an arm for it, one is put there, and the crate is typed again. The files that got an arm are printed, and those that
-the list lacks. It needs the kit, and takes some minutes for each kind. KIND is opcode, helper, fate, cause or option.
+the list lacks. It needs the kit, and takes some minutes for each kind. KIND is opcode, query, helper, fate, cause or option.
 """
 import re
 import shutil
@@ -47,7 +47,15 @@ class Kind:
 
 KINDS = {
     "opcode": Kind("For a new opcode", ("Negate",), "Instr", "bpf_isa/src/instr.rt", ("bpf_asm", "interp", "verifier", "notes")),
-    "helper": Kind("For a new helper", ("Mix",), "Helper", "helpers/src/helper.rt", ("interp", "ranges", "notes")),
+    "query": Kind("For a new helper", ("Mix",), "Query", "helpers/src/helper.rt", ("interp", "ranges", "notes")),
+    "helper": Kind(
+        "For a new helper",
+        ("Report",),
+        "Helper",
+        "helpers/src/helper.rt",
+        ("interp", "ranges", "notes"),
+        crates=("helpers", "machine", "ranges", "notes", "interp", "plain", "soundness", "verifier"),
+    ),
     "fate": Kind("For a new fate of a unit", ("Tail",), "Fate", "choices/src/fate.rt", ("cases", "losses", "join", "crash_text", "case_text")),
     "cause": Kind("For a new cause of refusal", ("AgainForm",), "VerifierCause", "base/src/causes.rt", ("notes",), own=("bpf_shape",)),
     "option": Kind(

@@ -482,7 +482,7 @@ REFUSED = {
     "--bound any --first --from 2 --to 1": 13,
     "--bound any --first --images 5..5": 17,
 }
-OTHERS = ["why log p0", "cure log p0", "page log p0", "images log", "export log", "image log 0", "show log 0"]
+OTHERS = ["cure log p0", "page log p0", "images log", "export log", "image log 0", "show log 0"]
 FILES = files(BOTH, GOOD)
 REFUSALS = [
     *(refused(f"cases: refused, {words}", f"explore log p0 --sectors 4 {words}", FILES, f"refused 13 at {place}") for words, place in REFUSED.items()),

@@ -267,13 +267,13 @@ OPTIONS = {
     "verify p0 --sectors 0": 1,
     "verify p0 --sectors 16385": 1,
 }
-OPTIONS.update({f"{words} --bound any": 2 for words in ("why log p0 --sectors 4", "page log p0 --sectors 4", "images log --sectors 4", "export log --sectors 4")})
+OPTIONS.update({f"{words} --bound any": 2 for words in ("page log p0 --sectors 4", "images log --sectors 4", "export log --sectors 4")})
 OPTIONS.update({f"{words} --sectors 4 --bound=any": 2 for words in ("image log 0", "show log 0")})
 OPTIONS.update({cure: OPTIONS[f"explore{cure[len('cure'):]}"] for cure in as_cures(OPTIONS)})
 
 OPTIONS["cure log p0 --sectors 4 --bound any"] = 2
 
-# Of any number of losses, which `explore` alone takes
+# Of any number of losses, which `explore` and `why` take
 ANY_LOSSES = {
     "--bound any --torn 1": 20,
     "--bound any --tears --torn 0": 20,
@@ -302,6 +302,7 @@ ANY_LOSSES = {
     "--bound 4 --at-most 1": 2,
 }
 OPTIONS.update({f"explore log p0 --sectors 4 {options}": place for options, place in ANY_LOSSES.items()})
+OPTIONS.update({f"why log p0 --sectors 4 {it}": place for it, place in ANY_LOSSES.items() if "--images" not in it and "--first" not in it})
 
 # The values at the ends of each option's range.
 ENDS = [

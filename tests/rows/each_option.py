@@ -3,7 +3,7 @@ silence. The commands and their options are those of the program's own help: one
 # Seen to fail for planted bugs: `--from` and `--to` without a parser, `--list` without `--guards`, an option of another name.
 import re
 
-from model import Run
+from model import Checker, Run, explored, one
 from notation import SECTOR, D, F, Hole, M, Pair, Printable, Row, W, code, files, log, named, program
 from parts_model import part
 
@@ -34,6 +34,9 @@ FILES = {
     "great": Hole(16385 * SECTOR),
     # a part of a run that lacks the images after it
     "some": part(Run(ENTRIES, 4), CHECKERS[:1], 0, 2, 5).encode(),
+    # reports: each image fails, and none does
+    "failing": explored(Run(ENTRIES, 4), [Checker("slots 2 budget 2", one)]).encode(),
+    "clean": explored(Run(ENTRIES, 4), [Checker("slots 2 budget 2", lambda _image: (0, []))]).encode(),
 }
 
 # The words of each command on the log of ENTRIES, but for the options; a run of `image` and of `show` has a number too.
@@ -174,6 +177,9 @@ PAIRS["first"] = {"explore": dict(two=["explore log p0 --sectors 4", "explore lo
 ANY = "explore log p0 --sectors 4 --bound any"
 PAIRS["torn"] = {"explore": dict(two=[f"{ANY} --tears", f"{ANY} --tears --torn 2"], statuses=(1, 1), differ=("out 2", "out -1"), holds=("tears yes torn 2",))}
 PAIRS["at-most"] = {"explore": dict(two=[ANY, f"{ANY} --at-most 1"], statuses=(1, 1), differ=("out 2", "out -1"), holds=("at-most 1",))}
+WHY_ANY = ANY.replace("explore", "why")
+PAIRS["torn"]["why"] = dict(two=[f"{WHY_ANY} --tears", f"{WHY_ANY} --tears --torn 2"], statuses=(1, 1), differ=("out 2", "out 4"), holds=("tears yes torn 2",))
+PAIRS["at-most"]["why"] = dict(two=[WHY_ANY, f"{WHY_ANY} --at-most 1"], statuses=(1, 1), differ=("out 2", "out 4"), holds=("at-most 1",))
 
 # A part of the images, and a log with too many.
 TOO_MANY = "--sectors 3000 --bound 3"
@@ -203,6 +209,9 @@ PAIRS["trace"] = {"check": dict(two=["check good image --trace 1", "check good i
 PAIRS["lines"] = {"check": dict(two=["check good image --trace 1", "check good image --trace 1 --lines lines"], differ=("out 4",), holds=("step 2 slot 1 exit # check.c:4\n",))}
 PAIRS["slots"] = {"list": dict(two=["list good", "list good --slots"], differ=("out 1", "out 2"), holds=("0: mov64 r0, 0\n1: exit\n",))}
 
+PAIRS["report"] = {
+    it: dict(two=[f"{it} log --sectors 4 --report clean", f"{it} log --sectors 4 --report failing"], statuses=(0, 1), differ=("out",)) for it in ("why", "cure", "page")
+}
 PAIRS["part"] = {"join": dict(two=["join some", "join some --part"], statuses=(2, 1), differ=("out", "error"), holds=("crash part 1\n",))}
 
 

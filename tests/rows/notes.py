@@ -239,6 +239,14 @@ OPTIONS = [
         "the log doesn't have it: of --flush each is an entry of the log, and --from and --to are at most the number of"
         " entries (docs/COMMANDS.md, Options); 'crashbpf log' lists the entries",
     ),
+    noted(
+        "a report of another run",
+        "why log --sectors 4 --report r",
+        {**files(LOG), "r": b"crash report 2\n"},
+        "refused 16 at 2",
+        "the file of --report isn't the report of this log with these options, or is cut off: the number says at which line that shows; at"
+        " line 2 the options or the base are others, or it is of the first failing image alone (docs/OUTPUT.md, The report)",
+    ),
     noted("parts", "images log --sectors 4 --by page", {}, "refused 13 at 10", "--by is sector or write"),
     noted(
         "no such image",
