@@ -8,3 +8,9 @@ pub mod Once
 pub mod Seeking
 pub mod FirstOnce
 pub mod Failing
+pub mod Stretching
+pub mod Piecing
+pub mod Going
+pub mod Turning
+pub mod Joined
+pub mod Crossing

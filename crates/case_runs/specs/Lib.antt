@@ -4,5 +4,7 @@ pub mod Judges
 pub mod Leaves
 pub mod Laws
 pub mod Found
+pub mod Pieces
+pub mod Shares
 pub mod First
 pub mod Cuts

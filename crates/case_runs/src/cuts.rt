@@ -2,8 +2,9 @@
 
 ghost use Rattle.std.specs.Prelude.{◌≡◌, ◌≤◌, ◌++◌, ◌∷◌, [], length, filter, All, IfOk, OnOk};
 ghost use Rattle.cases.specs.Risk.{ends_here, is_after_forced, is_last_cut};
-ghost use Rattle.case_runs.specs.Cuts.{is_explored, explored_cuts};
+ghost use Rattle.case_runs.specs.Cuts.{is_explored, explored_cuts, is_all, first_wanted, last_wanted, case_cuts};
 
+use epochs::{CutKind, Cuts, Plan};
 use logfmt::{Entry, Log};
 use std::alloc::{AllocError, Global};
 
@@ -52,7 +53,7 @@ fn put_cut(out: &mut Vec<u32>, entries: &[Entry], to: u32, cut: u32) -> Result<(
 }
 
 /// The cuts that are explored of a range: the last cuts, and the end of the range. Without a range it goes from 0 to the end of the log.
-pub fn explored_cuts(alloc: Global, log: &Log, from: u32, to: u32) -> Result<Vec<u32>, AllocError>
+fn explored_cuts(alloc: Global, log: &Log, from: u32, to: u32) -> Result<Vec<u32>, AllocError>
     requires { to ≤ length log.now.entries }
     ensures value { IfOk result (λ cuts. cuts.items ≡ explored_cuts log.now.entries from to) }
     ensures within { IfOk result (λ cuts. All (λ cut. cut ≤ length log.now.entries) cuts.items) }
@@ -63,4 +64,70 @@ pub fn explored_cuts(alloc: Global, log: &Log, from: u32, to: u32) -> Result<Vec
         put_cut(&mut out, entries, to, from + place)?;
     }
     Ok(out)
+}
+
+/// Whether all cuts are of that kind.
+fn is_all(kind: CutKind) -> bool
+    ensures { result ≡ is_all kind }
+{
+    match kind {
+        CutKind::All => true,
+        CutKind::BeforeFlush | CutKind::AfterMark => false,
+    }
+}
+
+/// The first cut that is wanted of a log with that many entries.
+pub fn first_wanted(cuts: &Cuts, count: u32) -> u32
+    ensures { result ≡ first_wanted cuts.now count }
+{
+    match cuts.from {
+        Some(from) => from.min(u64::from(count)) as u32,
+        None => 0,
+    }
+}
+
+/// The last cut that is wanted of a log with that many entries.
+pub fn last_wanted(cuts: &Cuts, count: u32) -> u32
+    ensures { result ≡ last_wanted cuts.now count }
+{
+    match cuts.to {
+        Some(to) => to.min(u64::from(count)) as u32,
+        None => count,
+    }
+}
+
+/// A copy of some cuts.
+fn copy_cuts(alloc: Global, cuts: &[u32]) -> Result<Vec<u32>, AllocError>
+    ensures { IfOk result (λ copy. copy.items ≡ cuts.now) }
+{
+    let mut copy = Vec::new(alloc);
+    copy.extend_from_slice(cuts)?;
+    Ok(copy)
+}
+
+/// The cuts at which cases are looked for, where no more than `at_most` parts may be lost or torn, or any number.
+#[tactic(auto, unfolding(crate::specs::Cuts::case_cuts))]
+pub fn case_cuts(
+    alloc: Global,
+    plan: &Plan<'_>,
+    log: &Log,
+    cuts: &Cuts,
+    at_most: Option<u32>,
+) -> Result<Vec<u32>, AllocError>
+    requires log { plan.now.log ≡ log.now }
+    requires kind { plan.now.kind ≡ cuts.now }
+    ensures value { IfOk result (λ found. found.items ≡ case_cuts at_most cuts.now log.now.entries) }
+    ensures within { IfOk result (λ found. All (λ cut. cut ≤ length log.now.entries) found.items) }
+{
+    let all = is_all(cuts.kind);
+    if all && at_most.is_none() {
+        let count = log.entries().len() as u32;
+        return explored_cuts(
+            alloc,
+            log,
+            first_wanted(cuts, count),
+            last_wanted(cuts, count),
+        );
+    }
+    copy_cuts(alloc, plan.cuts())
 }

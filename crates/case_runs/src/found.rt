@@ -7,14 +7,18 @@ ghost use Rattle.case_runs.specs.Leaves.{IsFit};
 ghost use Rattle.case_runs.specs.Found.{IsFoundAt, IsBegunAt, AreFoundAt, AreFoundIn, cases_at, cases_in, most_cases, StopsAtOne, StopsAt, StopsIn};
 
 use crate::gate::{CaseGate, Watched};
+use crate::joining::joined;
 use crate::judge::CaseJudge;
 use crate::leaves::FailingCase;
+use crate::rounds::explored;
+use crate::work::Work;
 use cases::{Cut, find_cases};
 use checker::Checker;
 use epochs::{By, Plan};
 use helpers::Context;
 use logfmt::Log;
 use std::alloc::{AllocError, AllocFailed, Global};
+use std::thread::Threads;
 
 /// How many cases are met at most, of all cuts and checkers together.
 pub const MOST_CASES: u32 = 16_777_216;
@@ -199,13 +203,8 @@ fn find_in<G: CaseGate>(
     })
 }
 
-/// The failing cases of some cuts of a log, with each of some checkers, by cut and then by checker. The gate is told of each run and of
-/// each case.
-///
-/// # Errors
-///
-/// Memory was refused, or there were more than `MOST_CASES` cases.
-pub fn find_failing<G: CaseGate>(
+/// The failing cases of some cuts of a log, found by one worker.
+fn find_alone<G: CaseGate>(
     alloc: Global,
     gate: &G,
     plan: &Plan<'_>,
@@ -230,4 +229,62 @@ pub fn find_failing<G: CaseGate>(
         )?)?;
     }
     Ok(out)
+}
+
+/// The failing cases of some cuts, found by some workers.
+fn find_shared<G: CaseGate + Sync, R: Threads + Sync>(
+    rt: &R,
+    alloc: Global,
+    gate: &G,
+    work: &Work<'_>,
+    cuts: &[u32],
+    workers: usize,
+) -> Result<Vec<CutFound>, CasesFault>
+    requires device { AreFor work.now.log.now.sectors work.now.checkers.now }
+    requires cuts { All (λ cut. cut ≤ length work.now.log.now.entries) cuts.now }
+    ensures found { IfOk result (λ found. AreFoundIn work.now.asked work.now.log.now work.now.way cuts.now work.now.checkers.now found.items) }
+    ensures few { IfOk result (λ found. cases_in found.items ≤ most_cases) }
+    ensures refused { IfErr result (StopsIn work.now.asked work.now.log.now work.now.way cuts.now work.now.checkers.now) }
+{
+    let begun = explored(rt, alloc, gate, work, cuts, workers)?;
+    joined(alloc, gate, work, cuts, begun)
+}
+
+/// The failing cases of some cuts of a log, with each of some checkers, by cut and then by checker, found by as many workers as are asked
+/// for. The caller is one of them, and each other one has a thread of its own, where one can be made. How many there are changes nothing of
+/// what is found. The gate is told of each run and of each case.
+///
+/// # Errors
+///
+/// Memory was refused, or there were more than `MOST_CASES` cases.
+pub fn find_failing<G: CaseGate + Sync, R: Threads + Sync>(
+    rt: &R,
+    alloc: Global,
+    gate: &G,
+    plan: &Plan<'_>,
+    log: &Log,
+    way: By,
+    cuts: &[u32],
+    checkers: &[Checker<'_>],
+    asked: Losses,
+    workers: u32,
+) -> Result<Vec<CutFound>, CasesFault>
+    requires plan { plan.now.log ≡ log.now }
+    requires cuts { All (λ cut. cut ≤ length log.now.entries) cuts.now }
+    requires device { AreFor log.now.sectors checkers.now }
+    ensures found { IfOk result (λ found. AreFoundIn asked log.now way cuts.now checkers.now found.items) }
+    ensures few { IfOk result (λ found. cases_in found.items ≤ most_cases) }
+    ensures refused { IfErr result (StopsIn asked log.now way cuts.now checkers.now) }
+{
+    if workers < 2 {
+        return find_alone(alloc, gate, plan, log, way, cuts, checkers, asked);
+    }
+    let work = Work {
+        plan,
+        log,
+        way,
+        checkers,
+        asked,
+    };
+    find_shared(rt, alloc, gate, &work, cuts, workers as usize)
 }

@@ -9,7 +9,7 @@ use cases::{Cut, Judge, KnownRows, Parted};
 use std::alloc::AllocError;
 use std::marker::Model;
 
-/// Is told of each run of a checker and of each case, one after the other. It changes nothing of what is found.
+/// Is told of each run of a checker and of each case, by each worker as it comes to it. It changes nothing of what is found.
 pub trait CaseGate {
     /// A checker is run on the image of a case.
     fn run(&self);

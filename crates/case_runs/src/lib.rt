@@ -7,14 +7,14 @@
 //! # Place
 //!
 //! On `cases`, whose search it drives, on `checker`, which runs a program with every check or without any, and on `epochs`, whose plan
-//! tells of the context of a cut. The commands stand above it. No other crate does yet.
+//! tells of the context of a cut. `case_text` and `runs` stand above it.
 //!
 //! # The calls
 //!
 //! | Call | Answer |
 //! |---|---|
-//! | `explored_cuts(alloc, log, from, to)` | the last cuts of a range, and its end |
-//! | `find_failing(alloc, gate, plan, log, way, cuts, checkers, asked)` | at each cut, with each checker: the leaves that fail, each with its number among the leaves, what the checker ends in, and its sets; how many leaves there are; how many cases were left out |
+//! | `case_cuts(alloc, plan, log, cuts, at_most)` | the cuts at which cases are looked for: the last ones of the range and its end, or with `at_most` or fewer than all cuts each that is wanted |
+//! | `find_failing(rt, alloc, gate, plan, log, way, cuts, checkers, asked, workers)` | at each cut, with each checker: the leaves that fail, each with its number among the leaves, what the checker ends in, and its sets; how many leaves there are; how many cases were left out |
 //! | `find_first(alloc, gate, plan, log, way, cuts, checkers, asked)` | the first leaf that fails, by cut, by checker and in the order of the tree; or what `find_failing` answers, where none does |
 //! | `CaseGate` | is told of each run of a checker and of each leaf, for the line of progress |
 //! | `CaseJudge::new(alloc, checker, context)` | a checker as a `Judge` of `cases`, for one cut |
@@ -32,6 +32,20 @@
 //! 16,384, which is as many as a device has within the usual limits. On a large device it may look at more still. Then it is taken to look at
 //! all sectors of the device, in their order (`looks` in `specs/Judges.antt`). That is a footprint too: it tells what the checker ends in.
 //!
+//! # Workers
+//!
+//! One worker goes from cut to cut and from checker to checker (`find_alone`). More of them work in rounds (`rounds.rt`). What was found of a
+//! cut with a checker stands as pieces, in the order of the tree: what was found there (`Told`), or a case that is still to be explored
+//! (`Open`). At first each cut and checker is one open piece, all choices. In a round the workers draw the open pieces one by one from a pile
+//! (`sharing.rt`). A worker explores the tree below a piece, up to 4,096 leaves. Then it brings back what it found, and the cases that are
+//! left, which are the open pieces of the next round, in the place of the piece. So a heavy cut falls into subtrees by itself. Where there are
+//! few pieces they are cut after 128 leaves, so that there are more soon. A worker keeps its cut, and the rows that it knows, as long as the pieces
+//! that it draws are of the same cut and checker. It draws no more in a round after 65,536 leaves, so the first pieces come first.
+//!
+//! At the end the pieces are put together in their order (`joining.rt`): there a failing case gets its number, and it is seen with
+//! which cut there are too many. An open piece that is left is explored then. That the text is the same for any number of workers rests on
+//! this order alone. It doesn't matter which worker drew what: an answer names its piece, and takes no other's place.
+//!
 //! # What is proved
 //!
 //! - `CaseImage` shows exactly the crash image of the representative, `image_of` of `cases`, of any number of lost and torn parts.
@@ -40,8 +54,8 @@
 //!   and others are judged alike.
 //! - `find_failing` answers, for each cut and each checker, in order: of exactly the leaves of the definition (`AreCases` of `cases`), in the
 //!   order of the tree, those on which the checker fails, with their numbers and what it ends in; how many leaves there are; and how
-//!   many cases were left out (`AreFoundIn`, `specs/Found.antt`).
-//! - `explored_cuts` has each last cut of the range, and its end, rising, and no other.
+//!   many cases were left out (`AreFoundIn`, `specs/Found.antt`). No clause names the number of workers.
+//! - `case_cuts` has each last cut of the range, and its end, rising, and no other, where these have the images of all cuts.
 //! - `checkers_tell`: two devices that agree at these sectors are judged alike, so the laws of `cases` hold of each checker.
 //! - `losses_are_judged`: take an image of any cut, whatever was lost there, with as few torn parts as is asked. It is an image of a last
 //!   cut, is in a leaf there, and the checker ends on it as on the image of the leaf's representative. So it fails exactly where the leaf does.
@@ -54,17 +68,18 @@
 //! - `their_images_fail`: on each image of a failing case that was found the checker ends as the case says, and so it fails there.
 //!
 //! `find_failing` refuses where memory is wanting, or where there are more than 16,777,216 cases, and names the cut with which there are
-//! (`AreTooMany`). By the law `finding_is_one` it answers one thing, and doesn't refuse for the number of cases what it answers.
+//! (`AreTooMany`). By the law `finding_is_one` it answers one thing, and doesn't refuse for the number of cases what it answers. So what it
+//! answers is the same for any number of workers.
 //!
 //! # Example
 //!
 //! ```
-//! use case_runs::{Losses, explored_cuts, find_failing};
-//! use epochs::By;
+//! use case_runs::{Losses, case_cuts, find_failing};
+//! use epochs::{By, Cuts};
 //!
 //! let asked = Losses { tears: false, torn: 0, lost: None };
-//! let cuts = explored_cuts(alloc, &log, 0, log.entries().len() as u32)?;
-//! let found = find_failing(alloc, &gate, &plan, &log, By::Write, cuts.as_slice(), checkers, asked)?;
+//! let cuts = case_cuts(alloc, &plan, &log, &Cuts::ALL, None)?;
+//! let found = find_failing(rt, alloc, &gate, &plan, &log, By::Write, cuts.as_slice(), checkers, asked, 4)?;
 //! // found[i].programs[j].failing: the cases of cuts[i] on which checker j fails
 //! ```
 #![tactic(auto)]
@@ -74,12 +89,17 @@ mod first;
 mod found;
 mod gate;
 mod image;
+mod joining;
 mod judge;
 mod laws;
 mod leaves;
+mod pieces;
+mod rounds;
 mod runs;
+mod sharing;
+mod work;
 
-pub use cuts::explored_cuts;
+pub use cuts::{case_cuts, first_wanted, last_wanted};
 pub use first::{FirstCase, Sought, find_first};
 pub use found::{CasesFault, CutFound, Found, Losses, MOST_CASES, find_failing};
 pub use gate::CaseGate;

@@ -6,4 +6,5 @@ pub mod Taking
 pub mod Windowed
 pub mod Failures
 pub mod Telling
+pub mod Curing
 pub mod Shown

@@ -153,7 +153,7 @@ part_of_one choice (q ∷ parts) d among = by_fate (part_of_one choice parts d) 
     by_fate told (Some f) rest = of_first told f rest
 
 -- a flush entry stands between two places
-flush_there : (es : List Entry) (f p k : ℕ) (x : Entry) → slice_get es p ≡ Some x → x.flags.flush ≡ true → f < p → p < k → k ≤ length es → is_flush_between es f k ≡ true
+pub flush_there : (es : List Entry) (f p k : ℕ) (x : Entry) → slice_get es p ≡ Some x → x.flags.flush ≡ true → f < p → p < k → k ≤ length es → is_flush_between es f k ≡ true
 flush_there es f p zero x there is low high within = absurd (omega (arith, high))
 flush_there es f p (suc k) x there is low high within = elim (eqb_tells p k) [
   | inl same ↦

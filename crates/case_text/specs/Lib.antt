@@ -6,5 +6,6 @@ pub mod Text
 pub mod First
 pub mod Causes
 pub mod Why
+pub mod Cured
 pub mod Counts
 pub mod Laws

@@ -116,7 +116,7 @@ fn parts_from(alloc: Global, start: u32, parts: &[Part]) -> Result<Vec<Part>, Al
     Ok(found)
 }
 
-/// Appends that so many parts were kept.
+/// Appends that parts were kept, by the number of them.
 fn put_kept_word(out: &mut String, count: usize) -> Result<(), AllocError>
     ensures { OnOk result (string_bytes out.new ≡ string_bytes out.old ++ kept_word count) }
 {

@@ -13,7 +13,7 @@ use cases::fate_at;
 use choices::Fate;
 
 /// What may become of a part, in the order of fates; `None` is whole.
-pub(crate) type Fates = ArrayVec<Option<Fate>, 16>;
+pub type Fates = ArrayVec<Option<Fate>, 16>;
 
 /// Whether a number is in a set.
 fn has(set: u16, number: u8) -> bool
@@ -35,7 +35,7 @@ fn push_fate(fates: &mut Fates, set: u16, number: u8)
 }
 
 /// The fates of a set.
-pub(crate) fn fates_of(set: u16) -> Fates
+pub fn fates_of(set: u16) -> Fates
     ensures { result.items ≡ fates_in set }
 {
     let mut fates = ArrayVec::new();
@@ -46,7 +46,7 @@ pub(crate) fn fates_of(set: u16) -> Fates
 }
 
 /// The set of a part by its number; all fates, where there is none.
-pub(crate) fn set_at(sets: &[u16], tears: bool, number: usize) -> u16
+pub fn set_at(sets: &[u16], tears: bool, number: usize) -> u16
     ensures { fates_in result ≡ option_map_or fates_in (slice_get sets.now number) (all_fates tears) }
 {
     match sets.get(number) {
@@ -56,7 +56,7 @@ pub(crate) fn set_at(sets: &[u16], tears: bool, number: usize) -> u16
 }
 
 /// Whether the part is whole, and nothing else becomes of it.
-pub(crate) fn is_kept(fates: &[Option<Fate>]) -> bool
+pub fn is_kept(fates: &[Option<Fate>]) -> bool
     ensures { result ≡ is_kept fates.now }
 {
     match fates {
@@ -66,7 +66,7 @@ pub(crate) fn is_kept(fates: &[Option<Fate>]) -> bool
 }
 
 /// Whether all that may become of a part may become of it.
-pub(crate) fn is_free(tears: bool, fates: &[Option<Fate>]) -> bool
+pub fn is_free(tears: bool, fates: &[Option<Fate>]) -> bool
     ensures { result ≡ is_free tears fates.now }
 {
     let all = if tears { 16 } else { 2 };
@@ -82,7 +82,7 @@ pub(crate) fn is_mixed(tears: bool, fates: &[Option<Fate>]) -> bool
 }
 
 /// Whether a part isn't whole, whatever becomes of it.
-pub(crate) fn is_never_whole(fates: &[Option<Fate>]) -> bool
+pub fn is_never_whole(fates: &[Option<Fate>]) -> bool
     ensures { result ≡ is_never_whole fates.now }
 {
     for fate in fates {

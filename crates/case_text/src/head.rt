@@ -125,7 +125,7 @@ fn put_programs(out: &mut String, programs: &[ProgramHead]) -> Result<(), AllocE
 
 /// Appends the options and the programs.
 #[tactic(auto, unfolding(crate::specs::Text::options_text))]
-pub(crate) fn put_options(out: &mut String, head: &Head, asked: Losses) -> Result<(), AllocError>
+pub fn put_options(out: &mut String, head: &Head, asked: Losses) -> Result<(), AllocError>
     ensures { OnOk result (string_bytes out.new ≡ string_bytes out.old ++ options_text head.now asked) }
 {
     put_device(out, head)?;

@@ -24,7 +24,7 @@ pub(crate) struct Mixed {
 
 /// What a case says of the parts at risk. Its room is kept from case to case.
 #[derive(Drop)]
-pub(crate) struct Known {
+pub struct Known {
     /// What the representative loses and tears.
     pub(crate) lost: Vec<Departure>,
     /// The parts that are whole.
@@ -103,7 +103,7 @@ fn last_with(last: Option<u32>, entry: u32, is: bool) -> Option<u32>
 
 impl Known {
     /// Nothing, of no parts.
-    pub(crate) fn new(alloc: Global) -> Known {
+    pub fn new(alloc: Global) -> Known {
         Known {
             lost: Vec::new(alloc),
             kept: Vec::new(alloc),
@@ -145,12 +145,7 @@ impl Known {
     }
 
     /// Takes what a case says of the parts at risk, and forgets what was there.
-    pub(crate) fn read(
-        &mut self,
-        tears: bool,
-        parts: &[Part],
-        sets: &[u16],
-    ) -> Result<(), AllocError>
+    pub fn read(&mut self, tears: bool, parts: &[Part], sets: &[u16]) -> Result<(), AllocError>
         requires { Apart parts.now }
         ensures { OnOk result (self.new ≡ known_of tears (case_of tears parts.now sets.now) parts.now) }
     {

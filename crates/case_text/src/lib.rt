@@ -1,4 +1,5 @@
-//! The text of the failing cases of a run, and of why they fail: what `explore` and `why` print with `--bound any`.
+//! The text of the failing cases of a run, and of why they fail: what `explore` and `why` print with `--bound any`; and what a run of
+//! `cure` says of them.
 //!
 //! A run with a bound prints a line for each image on which a program fails. Without a bound images are judged as cases, each a set of
 //! choices that a program can't tell apart (`cases`). A line then is of a case. It tells how the program ends on all its images, and what
@@ -43,6 +44,7 @@
 //! | `write_cases(alloc, head, log, plan, asked, found)` | the bytes of the text |
 //! | `write_first(alloc, head, log, plan, asked, first)` | the bytes of the text of the first failing case alone |
 //! | `write_why(alloc, head, log, plan, asked, found)` | the bytes of the text of why they fail |
+//! | `cure_of_cases(alloc, head, log, plan, asked, found)` | the cases as failures, and how the text of a cure begins and ends |
 //! | `is_any_failing(found)` | whether a program fails on some case |
 //! | `left_out(found)` | how many cases were left out |
 //!
@@ -54,6 +56,7 @@
 //! - `First`: the bytes of the text of the first failing case alone (`first_bytes`).
 //! - `Causes`: why a case fails, in words (`cause_text`).
 //! - `Why`: the failing cases as failures (`all_failures`), their groups, and the bytes of the text of why they fail (`TellsWhy`).
+//! - `Cured`: the lines of the failing cases without a window (`all_uncured`), and how the text of a cure begins (`cure_begin`).
 //!
 //! # What is proved
 //!
@@ -62,6 +65,8 @@
 //! - `write_first` gives exactly `first_bytes`: the text up to and with its first line of a case, and a last line that names that case.
 //! - `write_why` gives exactly the bytes of `TellsWhy`. Its flushes are those that `missing_flushes` of `losses` answers of the windows of all
 //!   failing cases: by the law `places_are_fewest` there, no fewer have one in each window.
+//! - `cure_of_cases` gives exactly `all_failures`, `cure_begin` and the last line of the text of cases. No window holds a flush entry, so a
+//!   flush that is added in one is a new one.
 //! - `flush_takes_case_away`: take a choice of a case with a window, and a log with a flush before an entry of the window, and with any
 //!   others. What that choice loses and tears is lost by no choice at its cut there. Nor is what it loses and tears up to the end of the
 //!   window by one right after that.
@@ -83,19 +88,20 @@
 //! # Example
 //!
 //! ```
-//! use case_runs::{Losses, explored_cuts, find_failing};
+//! use case_runs::{Losses, case_cuts, find_failing};
 //! use case_text::{is_any_failing, write_cases};
-//! use epochs::By;
+//! use epochs::{By, Cuts};
 //!
 //! let asked = Losses { tears: false, torn: 0, lost: None };
-//! let cuts = explored_cuts(alloc, &log, 0, log.entries().len() as u32)?;
-//! let found = find_failing(alloc, &gate, &plan, &log, By::Write, cuts.as_slice(), checkers, asked)?;
+//! let cuts = case_cuts(alloc, &plan, &log, &Cuts::ALL, None)?;
+//! let found = find_failing(rt, alloc, &gate, &plan, &log, By::Write, cuts.as_slice(), checkers, asked, 4)?;
 //! let bytes = write_cases(alloc, &head, &log, &plan, asked, found.as_slice())?;
 //! let failing = is_any_failing(found.as_slice());
 //! ```
 #![tactic(auto)]
 
 mod causes;
+mod cured;
 mod fates;
 mod first;
 mod grouped;
@@ -110,8 +116,14 @@ mod totals;
 mod why;
 mod writer;
 
+pub use cured::{CasesCure, cure_of_cases};
+pub use fates::{Fates, fates_of, is_free, is_kept, is_never_whole, set_at};
 pub use first::write_first;
+pub use head::put_options;
+pub use known::Known;
 pub use laws::{case_is_shown, flush_takes_case_away, nothing_is_lost, window_is_told};
+pub use said::put_fates;
+pub use site::Site;
 pub use totals::{is_any_failing, left_out};
 pub use why::write_why;
 pub use writer::write_cases;

@@ -33,7 +33,7 @@ fn put_next_word(out: &mut String, fate: Option<Fate>) -> Result<(), AllocError>
 
 /// Appends some fates, joined by plus signs.
 #[tactic(auto, unfolding(crate::specs::Text::fates_text))]
-fn put_fates(out: &mut String, fates: &[Option<Fate>]) -> Result<(), AllocError>
+pub fn put_fates(out: &mut String, fates: &[Option<Fate>]) -> Result<(), AllocError>
     ensures { OnOk result (string_bytes out.new ≡ string_bytes out.old ++ fates_text fates.now) }
 {
     match fates {

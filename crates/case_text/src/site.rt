@@ -17,7 +17,7 @@ use std::marker::Model;
 
 /// A cut, with what is the same in each of its lines.
 #[derive(Drop)]
-pub(crate) struct Site<'a> {
+pub struct Site<'a> {
     cut: Cut<'a>,
     by: By,
     tears: bool,
@@ -129,7 +129,7 @@ fn between(first: Option<u32>, last: Option<u32>) -> Option<Window>
 
 impl<'a> Site<'a> {
     /// A cut of a log.
-    pub(crate) fn new(
+    pub fn new(
         alloc: Global,
         plan: &Plan<'_>,
         log: &'a Log,
@@ -174,21 +174,21 @@ impl<'a> Site<'a> {
     }
 
     /// What departs as one.
-    pub(crate) fn by(&self) -> By
+    pub fn by(&self) -> By
         ensures { result ≡ self.now.at.way }
     {
         self.by
     }
 
     /// Whether parts may be torn.
-    pub(crate) fn tears(&self) -> bool
+    pub fn tears(&self) -> bool
         ensures { result ≡ self.now.tears }
     {
         self.tears
     }
 
     /// The parts at risk.
-    pub(crate) fn parts(&self) -> &[Part]
+    pub fn parts(&self) -> &[Part]
         ensures value { result.now ≡ parts_of self.now.at }
         ensures apart { Apart result.now }
     {
@@ -196,7 +196,7 @@ impl<'a> Site<'a> {
     }
 
     /// The window of a case, by what is known of it.
-    pub(crate) fn window(&self, known: &Known) -> Option<Window>
+    pub fn window(&self, known: &Known) -> Option<Window>
         ensures { result ≡ between known.now.first_lost (later (last_staying self.now.at) known.now.last_arrived) }
     {
         between(known.first_lost, later(self.staying, known.last_arrived))

@@ -79,6 +79,15 @@ fn sets_of(alloc: Global, count: usize, set: u16) -> Result<Vec<u16>, AllocError
     Ok(sets)
 }
 
+/// A copy of the sets of a case.
+fn copy_of_sets(alloc: Global, sets: &[u16]) -> Result<Vec<u16>, AllocError>
+    ensures { IfOk result (λ copy. copy.items ≡ sets.now) }
+{
+    let mut copy = Vec::new(alloc);
+    copy.extend_from_slice(sets)?;
+    Ok(copy)
+}
+
 /// Takes the next group of the last split that has one, and goes back to what stood before each split that has none.
 fn take_group(sets: &mut Vec<u16>, frames: &mut Vec<Frame>) -> Result<bool, AllocError>
     requires { All (λ (f : Framed). f.part < length sets.old.items) frames.old.items }
@@ -278,6 +287,64 @@ impl<'a> Search<'a> {
             torn_beyond: 0,
             lost_beyond: 0,
         })
+    }
+
+    /// Begins anew, at all choices of the cut. It keeps the rows that are known.
+    ///
+    /// # Errors
+    ///
+    /// Memory was refused, and nothing is changed.
+    pub fn begin(&mut self, alloc: Global) -> Result<(), AllocError>
+        ensures same { SameSearch self.old self.new }
+        ensures pending { OnOk result (pending self.new ≡ whole_case self.old.tears ∷ []) }
+        ensures none { OnOk result ((self.new.torn_beyond ≡ 0) × (self.new.lost_beyond ≡ 0)) }
+    {
+        let count = self.rows.cut().parts().len();
+        let sets = sets_of(alloc, count, all_of(self.tears))?;
+        self.sets = sets;
+        self.fresh = true;
+        self.frames.clear();
+        self.torn_beyond = 0;
+        self.lost_beyond = 0;
+        Ok(())
+    }
+
+    /// Begins anew, at a case: a set for each part at risk. It keeps the rows that are known.
+    pub fn begin_at(&mut self, sets: Vec<u16>)
+        requires { length sets.items ≡ length (parts_of self.old.asked.at) }
+        ensures same { SameSearch self.old self.new }
+        ensures pending { pending self.new ≡ case_of self.old.tears (parts_of self.old.asked.at) sets.items ∷ [] }
+        ensures none { (self.new.torn_beyond ≡ 0) × (self.new.lost_beyond ≡ 0) }
+    {
+        self.sets = sets;
+        self.fresh = true;
+        self.frames.clear();
+        self.torn_beyond = 0;
+        self.lost_beyond = 0;
+    }
+
+    /// Takes all cases that are still to be explored, in order, each as a set for each part at risk.
+    ///
+    /// # Errors
+    ///
+    /// Memory was refused. The search is of no more use then.
+    pub fn take_all(&mut self, alloc: Global) -> Result<Vec<Vec<u16>>, AllocError>
+        ensures same { SameSearch self.old self.new }
+        ensures all { IfOk result (λ all. map (λ sets. case_of self.old.tears (parts_of self.old.asked.at) sets.items) all.items ≡ pending self.old) }
+        ensures each { IfOk result (λ all. All (λ sets. length sets.items ≡ length (parts_of self.old.asked.at)) all.items) }
+    {
+        let mut out = Vec::new(alloc);
+        'taking: while self.take()? {
+            out.push(copy_of_sets(alloc, self.sets())?)?;
+        }
+        Ok(out)
+    }
+
+    /// The cut.
+    pub fn cut(&self) -> &'a Cut<'a>
+        ensures { result.now ≡ self.now.asked.at }
+    {
+        self.rows.cut()
     }
 
     /// The case of the last leaf: what may become of each part at risk.

@@ -17,6 +17,9 @@ use Rattle.request.specs.declared.command.Request.TheVariants as asks
 use Rattle.request.specs.declared.command.Which.{Which}
 use Rattle.request.specs.declared.command.Which.TheVariants as which
 use Rattle.request.specs.declared.trials.TrialWords.{TrialWords}
+use Rattle.request.specs.declared.settings.CaseTelling.{CaseTelling}
+use Rattle.request.specs.declared.settings.CaseTelling.TheVariants as telling
+use Rattle.request.specs.declared.settings.Retelling.{Retelling}
 use Rattle.request.specs.declared.settings.Retelling.TheVariants as retelling
 use Rattle.clap.specs.Words.{first_value, matched_of, one_text, raw_values}
 use Rattle.clap.specs.declared.parser.matches.Found.{Found}
@@ -131,30 +134,35 @@ AreOptions = AreOptionsWith 18446744073709551615
 abbrev pub asks_losses : Parsed → Bool
 asks_losses p = p.any || is_some p.torn || is_some p.at_most
 
--- what is asked of any number of losses, by `why` or by `explore`
-abbrev pub losses_named : Parsed → Bool → LossWords
-losses_named p why = record { any = p.any; torn = p.torn; at_most = p.at_most; why = why }
+-- what is asked of any number of losses, and what is to be told of the failing cases
+abbrev pub losses_named : Parsed → CaseTelling → LossWords
+losses_named p telling = record { any = p.any; torn = p.torn; at_most = p.at_most; telling = telling }
 
 -- what `explore` asks for, with these options
 abbrev pub explored : Parsed → OptionWords → Request
-explored p options = if asks_losses p then asks.Cases options (losses_named p false) else asks.Explore options
+explored p options = if asks_losses p then asks.Cases options (losses_named p telling.Cases) else asks.Explore options
 
 -- what `why` asks for, with these options, of programs
 abbrev pub explained : Parsed → OptionWords → Request
-explained p options = if asks_losses p then asks.Cases options (losses_named p true) else asks.Why options
+explained p options = if asks_losses p then asks.Cases options (losses_named p telling.Causes) else asks.Why options
 
--- what `why` asks for, with --report or without
-abbrev pub AsksCauses : Parsed → Bool → Request → Type 0
-AsksCauses p true r = (options : OptionWords) × AreOptions p options × (r ≡ asks.Retold options retelling.Causes)
-AsksCauses p false r = (options : OptionWords) × AreOptionsWith 0 p options × (r ≡ explained p options)
+-- what `images` asks for, with these options
+abbrev pub counted : Parsed → OptionWords → Request
+counted p options = if asks_losses p then asks.Cuts options (losses_named p telling.Cases) p.parts else asks.Images options p.parts
 
--- what `cure` asks for, with these options: of a report where one is given
-abbrev pub places_asked : Parsed → OptionWords → Request
-places_asked p options = if is_some p.report then asks.Retold options retelling.Places else asks.Cure options
+-- what `cure` asks for, with these options, of programs
+abbrev pub cured : Parsed → OptionWords → Request
+cured p options = if asks_losses p then asks.CureCases options (losses_named p telling.Cases) else asks.Cure options
 
--- what `page` asks for, with these options
-abbrev pub page_asked : Parsed → OptionWords → Request
-page_asked p options = if is_some p.report then asks.Retold options retelling.Page else asks.Page options
+-- what `page` asks for, with these options, of programs
+abbrev pub paged : Parsed → OptionWords → Request
+paged p options = if asks_losses p then asks.Cases options (losses_named p telling.Page) else asks.Page options
+
+-- what a command asks for that takes a report in place of programs, with --report or without: what is told of the report, and what is asked
+-- of programs
+abbrev pub AsksTold : Parsed → Retelling → (OptionWords → Request) → Bool → Request → Type 0
+AsksTold p told of_programs true r = (options : OptionWords) × AreOptions p options × (r ≡ asks.Retold options told)
+AsksTold p told of_programs false r = (options : OptionWords) × AreOptionsWith 0 p options × (r ≡ of_programs options)
 
 -- the text of a choice, kept if it has at most 96 bytes
 abbrev pub choice_named : Parsed → List ℕ
@@ -186,10 +194,10 @@ trial_asked p = record { limits = limits_named p.large; epoch = unwrap_or p.epoc
 -- what a command asks for: its options, and the image that it means
 abbrev pub Asks : Parsed → Option Verb → Request → Type 0
 Asks p (Some verb.Explore) r = (options : OptionWords) × AreOptionsWith 0 p options × (r ≡ explored p options)
-Asks p (Some verb.Why) r = AsksCauses p (is_some p.report) r
-Asks p (Some verb.Cure) r = (options : OptionWords) × AreOptions p options × (r ≡ places_asked p options)
-Asks p (Some verb.Page) r = (options : OptionWords) × AreOptions p options × (r ≡ page_asked p options)
-Asks p (Some verb.Images) r = (options : OptionWords) × AreOptions p options × (r ≡ asks.Images options p.parts)
+Asks p (Some verb.Why) r = AsksTold p retelling.Causes (explained p) (is_some p.report) r
+Asks p (Some verb.Cure) r = AsksTold p retelling.Places (cured p) (is_some p.report) r
+Asks p (Some verb.Page) r = AsksTold p retelling.Page (paged p) (is_some p.report) r
+Asks p (Some verb.Images) r = (options : OptionWords) × AreOptionsWith 0 p options × (r ≡ counted p options)
 Asks p (Some verb.Export) r = (options : OptionWords) × AreOptions p options × (r ≡ asks.Export options)
 Asks p (Some verb.Image) r = AsksImage p false r
 Asks p (Some verb.Show) r = AsksImage p true r

@@ -4,7 +4,8 @@ ghost use Rattle.std.specs.Prelude.{◌≡◌, ◌<◌, ◌++◌, codes, length,
 ghost use Rattle.base.specs.Sizes.{sector_limit};
 ghost use Rattle.clap.specs.Words.{first_value, found_of};
 ghost use Rattle.command_line.specs.Number.{NoNumber as NoNumberText};
-ghost use Rattle.command_line.specs.Parsed.{Asks, AsksBounded, AsksCauses, AsksImage, AreFlushes, AreOptions, AreOptionsWith, IsBoundOf, IsExtent, any_named, asks_losses, bound_named, places_asked, choice_named, command_named, cuts_named, explained, explored, files_named, first_file, program_files, limits_named, losses_named, options_with, page_asked, parts_named, trial_asked, word_bytes, IsFlagOf, IsNumberOf, IsRead, IsWhich};
+ghost use Rattle.request.specs.declared.settings.Retelling.TheVariants as retelling;
+ghost use Rattle.command_line.specs.Parsed.{Asks, AsksBounded, AsksImage, AsksTold, AreFlushes, AreOptions, AreOptionsWith, IsBoundOf, IsExtent, any_named, asks_losses, bound_named, choice_named, command_named, counted, cured, cuts_named, explained, explored, files_named, first_file, program_files, limits_named, losses_named, options_with, paged, parts_named, trial_asked, word_bytes, IsFlagOf, IsNumberOf, IsRead, IsWhich};
 
 use crate::extents::extent_in;
 use crate::flush_list::flushes_in;
@@ -13,7 +14,7 @@ use arrayvec::ArrayString;
 use base::limits::Limits;
 use clap::ArgMatches;
 use epochs::{By, CutKind, Flushes};
-use request::{Extent, LossWords, OptionWords, Request, Retelling, TrialWords, Which};
+use request::{CaseTelling, Extent, LossWords, OptionWords, Request, Retelling, TrialWords, Which};
 use std::alloc::{AllocError, Global};
 
 /// The bound that stands for `any` where a command takes none: it is too great.
@@ -419,15 +420,15 @@ impl<'a> Parsed<'a> {
         self.any || self.torn.is_some() || self.at_most.is_some()
     }
 
-    /// What is asked of any number of losses, by `why` or by `explore`.
-    fn losses(&self, why: bool) -> LossWords
-        ensures { result ≡ losses_named self.now why }
+    /// What is asked of any number of losses, and what is to be told of the failing cases.
+    fn losses(&self, telling: CaseTelling) -> LossWords
+        ensures { result ≡ losses_named self.now telling }
     {
         LossWords {
             any: self.any,
             torn: self.torn,
             at_most: self.at_most,
-            why,
+            telling,
         }
     }
 
@@ -436,7 +437,7 @@ impl<'a> Parsed<'a> {
         ensures { result ≡ explored self.now options }
     {
         if self.asks_losses() {
-            Request::Cases(options, self.losses(false))
+            Request::Cases(options, self.losses(CaseTelling::Cases))
         } else {
             Request::Explore(options)
         }
@@ -447,15 +448,26 @@ impl<'a> Parsed<'a> {
         ensures { result ≡ explained self.now options }
     {
         if self.asks_losses() {
-            Request::Cases(options, self.losses(true))
+            Request::Cases(options, self.losses(CaseTelling::Causes))
         } else {
             Request::Why(options)
         }
     }
 
+    /// What `images` asks for, with these options.
+    fn counted(&self, options: OptionWords) -> Request
+        ensures { result ≡ counted self.now options }
+    {
+        if self.asks_losses() {
+            Request::Cuts(options, self.losses(CaseTelling::Cases), self.parts)
+        } else {
+            Request::Images(options, self.parts)
+        }
+    }
+
     /// What `why` asks for.
     fn why(&self) -> Request
-        ensures { AsksCauses self.now (is_some self.now.report) result }
+        ensures { AsksTold self.now retelling.Causes (explained self.now) (is_some self.now.report) result }
     {
         match self.report {
             Some(_name) => Request::Retold(self.options(), Retelling::Causes),
@@ -463,23 +475,45 @@ impl<'a> Parsed<'a> {
         }
     }
 
-    /// What `cure` asks for, with these options.
-    fn cure(&self, options: OptionWords) -> Request
-        ensures { result ≡ places_asked self.now options }
+    /// What `cure` asks for, with these options, of programs.
+    fn cured(&self, options: OptionWords) -> Request
+        ensures { result ≡ cured self.now options }
     {
-        match self.report {
-            Some(_name) => Request::Retold(options, Retelling::Places),
-            None => Request::Cure(options),
+        if self.asks_losses() {
+            Request::CureCases(options, self.losses(CaseTelling::Cases))
+        } else {
+            Request::Cure(options)
         }
     }
 
-    /// What `page` asks for, with these options.
-    fn page(&self, options: OptionWords) -> Request
-        ensures { result ≡ page_asked self.now options }
+    /// What `cure` asks for.
+    fn cure(&self) -> Request
+        ensures { AsksTold self.now retelling.Places (cured self.now) (is_some self.now.report) result }
     {
         match self.report {
-            Some(_name) => Request::Retold(options, Retelling::Page),
-            None => Request::Page(options),
+            Some(_name) => Request::Retold(self.options(), Retelling::Places),
+            None => self.cured(self.options_by(0)),
+        }
+    }
+
+    /// What `page` asks for, with these options, of programs.
+    fn paged(&self, options: OptionWords) -> Request
+        ensures { result ≡ paged self.now options }
+    {
+        if self.asks_losses() {
+            Request::Cases(options, self.losses(CaseTelling::Page))
+        } else {
+            Request::Page(options)
+        }
+    }
+
+    /// What `page` asks for.
+    fn page(&self) -> Request
+        ensures { AsksTold self.now retelling.Page (paged self.now) (is_some self.now.report) result }
+    {
+        match self.report {
+            Some(_name) => Request::Retold(self.options(), Retelling::Page),
+            None => self.paged(self.options_by(0)),
         }
     }
 
@@ -554,9 +588,9 @@ impl<'a> Parsed<'a> {
         match verb_of(self.command) {
             Some(Verb::Explore) => self.explored(self.options_by(0)),
             Some(Verb::Why) => self.why(),
-            Some(Verb::Cure) => self.cure(self.options()),
-            Some(Verb::Page) => self.page(self.options()),
-            Some(Verb::Images) => Request::Images(self.options(), self.parts),
+            Some(Verb::Cure) => self.cure(),
+            Some(Verb::Page) => self.page(),
+            Some(Verb::Images) => self.counted(self.options_by(0)),
             Some(Verb::Export) => Request::Export(self.options()),
             Some(Verb::Image) => self.imaged(false),
             Some(Verb::Show) => self.imaged(true),

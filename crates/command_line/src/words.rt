@@ -84,7 +84,7 @@ no flush helps against a failing image. Each line 'round N flush before E from A
 right before entry E, or before an entry from A on. Where no flush helps, the order of the writes is wrong,
 or a write that may arrive in part is taken for whole.
 
-Example: crashbpf cure disk.log check.bpf --sectors 64 --cuts flush --bound 2 --tears
+Example: crashbpf cure disk.log check.bpf --sectors 64 --by write --bound any
 
 Exit status: 0 where no image of the log itself fails, 1 where one does, 2 for a refusal.";
 
@@ -92,7 +92,8 @@ Exit status: 0 where no image of the log itself fails, 1 where one does, 2 for a
 const AFTER_PAGE: &str =
     "One HTML file, for any browser, which fetches nothing: the log as a row of entries, the cuts between them
 coloured by the share of their images that fail, and after a click on a cut its first eight smallest
-failing choices, each as 'show' tells its image.
+failing choices, each as 'show' tells its image. With --bound any it has the failing cases, each as a row of
+the parts at risk.
 
 Example: crashbpf page disk.log check.bpf --sectors 64 --cuts flush --bound 2 > page.html
 
@@ -101,7 +102,8 @@ Exit status: 0 where no image fails, 1 where one does, 2 for a refusal.";
 /// What stands after the help of `images`.
 const AFTER_IMAGES: &str =
     "A cut with v sectors on their way, or with --by write v writes, has the sum over i up to the bound of
-C(v, i) * m^i images, where m is 15 with --tears and else 1.
+C(v, i) * m^i images, where m is 15 with --tears and else 1. With --bound any it tells of each cut at which cases
+are looked for how many parts are at risk there; how many cases there are hangs on the checkers.
 
 Example: crashbpf images disk.log --sectors 64 --tears
 
@@ -285,7 +287,7 @@ fn bound_option<'a>(alloc: Global, any: bool) -> Arg<'a> {
         .value_name("N")
         .value_parser(parser)
         .help(
-            "How many sectors, or by write how many writes, may be lost or torn, 0 to 3, or any (explore, why, image, show) [default: 1]",
+            "How many sectors, or by write how many writes, may be lost or torn, 0 to 3, or any (not export) [default: 1]",
         )
 }
 
@@ -443,16 +445,18 @@ fn at_most_option<'a>(alloc: Global) -> Arg<'a> {
     )
 }
 
+/// A command that takes any number of losses, but not of a report.
+fn with_losses<'a>(alloc: Global, command: Command<'a>) -> Result<Command<'a>, AllocError> {
+    let command = with_arg(command, torn_option(alloc).conflicts_with("report"))?;
+    with_arg(command, at_most_option(alloc).conflicts_with("report"))
+}
+
 /// The command `why`.
 fn why_command<'a>(alloc: Global, any: bool) -> Result<Command<'a>, AllocError> {
     let command = log_command(alloc, "why", any)?
         .about("Tells which losses make a checker fail, cut by cut")
         .after_help(AFTER_WHY);
-    let command = with_arg(
-        with_report(alloc, command)?,
-        torn_option(alloc).conflicts_with("report"),
-    )?;
-    with_arg(command, at_most_option(alloc).conflicts_with("report"))
+    with_losses(alloc, with_report(alloc, command)?)
 }
 
 /// The command `cure`.
@@ -460,7 +464,7 @@ fn cure_command<'a>(alloc: Global, any: bool) -> Result<Command<'a>, AllocError>
     let command = log_command(alloc, "cure", any)?
         .about("Tells before which entries a flush is missing, and what fails with these flushes")
         .after_help(AFTER_CURE);
-    with_report(alloc, command)
+    with_losses(alloc, with_report(alloc, command)?)
 }
 
 /// The command `page`.
@@ -468,7 +472,7 @@ fn page_command<'a>(alloc: Global, any: bool) -> Result<Command<'a>, AllocError>
     let command = log_command(alloc, "page", any)?
         .about("Shows the log and the failing cuts as a page for a browser")
         .after_help(AFTER_PAGE);
-    with_report(alloc, command)
+    with_losses(alloc, with_report(alloc, command)?)
 }
 
 /// The command `explore`.
@@ -507,10 +511,11 @@ fn images_command<'a>(alloc: Global, any: bool) -> Result<Command<'a>, AllocErro
         .about("Tells how many crash images each cut of a log has")
         .after_help(AFTER_IMAGES)
         .arg(wide_option(alloc))?
+        .arg(at_most_option(alloc))?
         .arg(number_option(
             alloc,
             "parts",
-            "Print also how the run is laid out in N parts, for 'explore --images'",
+            "Print also how the run is laid out in N parts, for 'explore --images', or with --bound any for --from and --to",
         ))
 }
 
@@ -884,10 +889,11 @@ impl Words {
     {
         match self.request {
             Request::Explore(words) | Request::Cases(words, _) => words.sectors,
-            Request::Why(words) => words.sectors,
+            Request::Why(words) | Request::CureCases(words, _) => words.sectors,
             Request::Cure(words) | Request::Page(words) => words.sectors,
             Request::Retold(words, _) => words.sectors,
-            Request::Images(words, _) | Request::Log(words) => words.sectors,
+            Request::Images(words, _) | Request::Cuts(words, _, _) => words.sectors,
+            Request::Log(words) => words.sectors,
             Request::Export(words) => words.sectors,
             Request::Image(words, _) | Request::Show(words, _) => words.sectors,
             Request::AnyImage { words, .. } => words.sectors,
@@ -905,10 +911,11 @@ impl Words {
     {
         match self.request {
             Request::Explore(words) | Request::Cases(words, _) => words.limits,
-            Request::Why(words) => words.limits,
+            Request::Why(words) | Request::CureCases(words, _) => words.limits,
             Request::Cure(words) | Request::Page(words) => words.limits,
             Request::Retold(words, _) => words.limits,
-            Request::Images(words, _) | Request::Log(words) => words.limits,
+            Request::Images(words, _) | Request::Cuts(words, _, _) => words.limits,
+            Request::Log(words) => words.limits,
             Request::Export(words) => words.limits,
             Request::Image(words, _) | Request::Show(words, _) => words.limits,
             Request::AnyImage { words, .. } => words.limits,

@@ -9,6 +9,7 @@ pub mod OneMissing
 pub mod OneText
 pub mod OnePage
 pub mod OneCases
+pub mod OneCasePage
 pub mod OneFirst
 pub mod OneCure
 pub mod OneJoin

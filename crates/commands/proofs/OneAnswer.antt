@@ -1,5 +1,5 @@
 -- Each command has one answer.
-use Rattle.std.proofs.Common.{ℕ, ◌≡◌, Bool, List, [], ◌∷◌, ◌++◌, length, map, flat_map, Option, None, Some, refl, sym, ◌∙◌, ap, subst}
+use Rattle.std.proofs.Common.{ℕ, ◌≡◌, Bool, true, false, List, [], ◌∷◌, ◌++◌, length, map, flat_map, Option, None, Some, refl, sym, ◌∙◌, ap, subst}
 use Rattle.std.specs.Prelude.{MatchOption}
 use Rattle.logfmt.specs.Bounds.{LogValue}
 use Rattle.logfmt.specs.Laws.{TextOfOneLog}
@@ -17,6 +17,7 @@ use Rattle.request.specs.declared.settings.Telling.{Telling}
 use Rattle.request.specs.declared.settings.Telling.TheVariants as telling
 use Rattle.request.specs.declared.settings.Retelling.{Retelling}
 use Rattle.request.specs.AnyLosses.{losses_asked}
+use Rattle.request.specs.declared.any_losses.AnyLosses.{AnyLosses}
 use Rattle.request.specs.declared.any_losses.LossWords.{LossWords}
 use Rattle.request.specs.declared.command.OptionWords.{OptionWords}
 use Rattle.request.specs.declared.command.Which.{Which}
@@ -33,7 +34,7 @@ use Rattle.case_runs.specs.Found.{FindingIsOne}
 use Rattle.case_runs.specs.First.{FirstIsOne}
 use Rattle.runs.specs.Why.{Tells}
 use Rattle.retold.specs.Retold.{IsRetold}
-use Rattle.runs.specs.Cured.{TellsCure, IsAnswered}
+use Rattle.runs.specs.Cured.{TellsCure, Cures, IsAnswered}
 use Rattle.runs.specs.Inputs.{inputs_number}
 use Rattle.base.specs.Sizes.{sector_limit}
 use Rattle.base.specs.declared.limits.Limits.{Limits}
@@ -42,6 +43,8 @@ use Rattle.raw_log.proofs.Profile.{one_import}
 use Rattle.inspect.specs.Which.{IsMeant, IsOnly}
 use Rattle.inspect.specs.Image.{text_in, IsImageIn, IsImage, IsShown}
 use Rattle.inspect.specs.AnyImage.{any_text_in, IsAnyImage, IsMeantLoss}
+use Rattle.case_runs.specs.Cuts.{first_wanted, last_wanted}
+use Rattle.inspect.specs.CutSurvey.{IsCutSurvey, cut_survey_text, laid_text, risks_of}
 use Rattle.inspect.specs.Survey.{survey_text, parts_text, IsSurvey}
 use Rattle.inspect.specs.Export.{exported, IsExport}
 use Rattle.export.specs.Export.{export_text}
@@ -50,12 +53,12 @@ use Rattle.inspect.specs.Verifying.{verified_text, IsAcceptedText}
 use Rattle.inspect.specs.Assembly.{listing_text, IsAssembled, IsListed}
 use Rattle.runs.specs.declared.explore_command.Wanted.{Wanted}
 use Rattle.runs.specs.declared.explore_command.Wanted.TheVariants as wanted
-use Rattle.commands.specs.Acting.{Files, initial_of, recording, status_of, AnswersRun, AnswersFiles, AnswersExplore, AnswersCases, AnswersRetold, AnswersFile, AnswersLog, AnswersOf, AnswersAny, AnswersWith, AnswersTrial, AnswersJoin, Answers, form_of}
+use Rattle.commands.specs.Acting.{Files, initial_of, recording, status_of, AnswersRun, AnswersFiles, AnswersExplore, AnswersCases, wanted_by, AnswersLosses, any_words, AnswersRetold, AnswersFile, AnswersLog, AnswersOf, AnswersWith, AnswersTrial, AnswersJoin, Answers, form_of}
 use Rattle.commands.proofs.OneReport.{same_log, same_asked, one_run}
 use Rattle.commands.proofs.OneText.{one_explanation}
 use Rattle.commands.proofs.OnePage.{one_page}
-use Rattle.commands.proofs.OneCure.{one_cure}
-use Rattle.commands.proofs.OneFirst.{one_losses}
+use Rattle.commands.proofs.OneCure.{one_cure, one_cures}
+use Rattle.commands.proofs.OneFirst.{one_by_cases, one_losses}
 use Rattle.commands.proofs.OneJoin.{one_join}
 use Rattle.commands.proofs.OneRetold.{one_retold}
 
@@ -85,9 +88,12 @@ answered_once laws (wanted.Told t) text files s bytes others failing fails a b =
     one_run laws.texts laws.programs laws.verdicts (λ s value checkers bytes. Tells t (inputs_number text.text files) s value checkers bytes) (one_told t (inputs_number text.text files)) text files
     s bytes others failing fails a b
 answered_once laws wanted.Cured text files s bytes others failing fails a b =
-    one_run laws.texts laws.programs laws.verdicts TellsCure (λ s value checkers bytes others x y. one_cure s value checkers bytes others x y) text files s bytes others failing fails a b
+    one_run laws.texts laws.programs laws.verdicts (TellsCure None) (λ s value checkers bytes others x y. one_cure laws.findings None s value checkers bytes others x y) text files s bytes others failing fails a b
 answered_once laws (wanted.Cases l) text files s bytes others failing fails a b =
     one_losses laws.texts laws.programs laws.verdicts laws.findings laws.first s.first l text files s bytes others failing fails a b
+answered_once laws (wanted.CuredCases l) text files s bytes others failing fails a b =
+    one_by_cases laws.texts laws.programs laws.verdicts (Cures (Some l)) (λ s value checkers bytes others x y. one_cures laws.findings (Some l) s value checkers bytes others x y) text files s bytes others
+    failing fails a b
 
 run_once : Laws → (t : Wanted) (s : Settings) (log : Recording) (programs : List (List ℕ)) (bytes others : List ℕ) (status ended : ℕ)
     → AnswersRun t s log programs bytes status → AnswersRun t s log programs others ended → Same bytes others status ended
@@ -132,12 +138,12 @@ explore_once laws t w files bytes others status ended a b =
     let same = same_settings w b.settings a.settings b.asked a.asked in
     files_once laws t a.settings files bytes others status ended a.answers (subst (λ (s : Settings). AnswersFiles t s files others ended) same b.answers)
 
-cases_once : Laws → (w : OptionWords) (l : LossWords) (files : Files) (bytes others : List ℕ) (status ended : ℕ)
-    → AnswersCases w l files bytes status → AnswersCases w l files others ended → Same bytes others status ended
-cases_once laws w l files bytes others status ended a b =
+cases_once : Laws → (cured : Bool) (w : OptionWords) (l : LossWords) (files : Files) (bytes others : List ℕ) (status ended : ℕ)
+    → AnswersCases cured w l files bytes status → AnswersCases cured w l files others ended → Same bytes others status ended
+cases_once laws cured w l files bytes others status ended a b =
     let same = same_settings w b.settings a.settings b.asked a.asked in
-    files_once laws (wanted.Cases (losses_asked l a.settings)) a.settings files bytes others status ended a.answers
-    (subst (λ (s : Settings). AnswersFiles (wanted.Cases (losses_asked l s)) s files others ended) same b.answers)
+    files_once laws (wanted_by cured (losses_asked l a.settings)) a.settings files bytes others status ended a.answers
+    (subst (λ (s : Settings). AnswersFiles (wanted_by cured (losses_asked l s)) s files others ended) same b.answers)
 
 -- what is said of a file is one
 abbrev IsOne : (List ℕ → List ℕ → Type 0) → Type 0
@@ -209,12 +215,25 @@ one_any laws in_words cut said s text bytes others a b =
     let same : any_text_in form s a.value cut a.shown.departures ≡ any_text_in form s b.value cut b.shown.departures = λ i. any_text_in form s (value i) cut (lost i) in
     a.shown.told ∙ same ∙ sym b.shown.told
 
-any_once : Laws → (w : OptionWords) (cut : ℕ) (in_words : Bool) (files : Files) (bytes others : List ℕ) (status ended : ℕ)
-    → AnswersAny w cut in_words files bytes status → AnswersAny w cut in_words files others ended → Same bytes others status ended
-any_once laws w cut in_words files bytes others status ended a b =
+-- the cuts of any number of losses
+cut_survey_of : Option ℕ → AnyLosses → Settings → LogValue → List ℕ
+cut_survey_of parts l s v =
+    cut_survey_text (plan_of s v) (risks_of l s v)
+    ++ laid_text parts (first_wanted s.cuts (length v.entries)) (last_wanted s.cuts (length v.entries)) (risks_of l s v)
+
+one_cut_survey : Laws → (parts : Option ℕ) (l : LossWords) (s : Settings) → IsOneOf (λ text bytes. IsCutSurvey parts (losses_asked l s) text s bytes)
+unfolding cut_survey_of
+one_cut_survey laws parts l s text bytes others a b =
+    let value = same_asked laws.texts text s a.value b.value a.reads b.reads in
+    let same : cut_survey_of parts (losses_asked l s) s a.value ≡ cut_survey_of parts (losses_asked l s) s b.value = ap (cut_survey_of parts (losses_asked l s) s) value in
+    a.told ∙ same ∙ sym b.told
+
+losses_once : (w : OptionWords) (l : LossWords) (Is : Settings → Recording → List ℕ → Type 0) → ((s : Settings) → IsOneOf (Is s)) → (files : Files) (bytes others : List ℕ) (status ended : ℕ)
+    → AnswersLosses w l Is files bytes status → AnswersLosses w l Is files others ended → Same bytes others status ended
+losses_once w l Is one files bytes others status ended a b =
     let same = same_settings w b.settings a.settings b.asked a.asked in
-    log_once (λ text. IsAnyImage (form_of in_words) text a.settings cut files.choice) (one_any laws in_words cut files.choice a.settings) files bytes others status ended a.answers
-    (subst (λ (s : Settings). AnswersLog (λ text. IsAnyImage (form_of in_words) text s cut files.choice) files others ended) same b.answers)
+    log_once (Is a.settings) (one a.settings) files bytes others status ended a.answers
+    (subst (λ (s : Settings). AnswersLog (Is s) files others ended) same b.answers)
 
 one_verified : Laws → (listed : Bool) (s : Settings) → IsOne (λ code bytes. IsAcceptedText code s listed bytes)
 one_verified laws listed s code bytes others a b =
@@ -303,17 +322,21 @@ pub one_answer : Laws → (r : Request) (files : Files) (bytes others : List ℕ
     → Answers r files bytes status → Answers r files others ended → (bytes ≡ others) × (status ≡ ended)
 one_answer laws request.StoredRun files bytes others status ended a b = run_once laws (wanted.Told telling.Report) _ _ _ bytes others status ended a b
 one_answer laws (request.Explore w) files bytes others status ended a b = explore_once laws (wanted.Told telling.Report) w files bytes others status ended a b
-one_answer laws (request.Cases w l) files bytes others status ended a b = cases_once laws w l files bytes others status ended a b
+one_answer laws (request.Cases w l) files bytes others status ended a b = cases_once laws false w l files bytes others status ended a b
+one_answer laws (request.CureCases w l) files bytes others status ended a b = cases_once laws true w l files bytes others status ended a b
 one_answer laws (request.Why w) files bytes others status ended a b = explore_once laws (wanted.Told telling.Causes) w files bytes others status ended a b
 one_answer laws (request.Cure w) files bytes others status ended a b = explore_once laws wanted.Cured w files bytes others status ended a b
 one_answer laws (request.Page w) files bytes others status ended a b = explore_once laws (wanted.Told telling.Page) w files bytes others status ended a b
 one_answer laws (request.Retold w t) files bytes others status ended a b = retold_once laws t w files bytes others status ended a b
 one_answer laws (request.Images w parts) files bytes others status ended a b = of_once w (λ s text. IsSurvey parts text s) (one_survey laws parts) files bytes others status ended a b
+one_answer laws (request.Cuts w l parts) files bytes others status ended a b =
+    losses_once w l (λ s text. IsCutSurvey parts (losses_asked l s) text s) (λ s. one_cut_survey laws parts l s) files bytes others status ended a b
 one_answer laws (request.Export w) files bytes others status ended a b = of_once w (λ s text. IsExport text s) (one_export laws) files bytes others status ended a b
 one_answer laws (request.Log w) files bytes others status ended a b = of_once w (λ s text. IsTable text s) (one_table laws) files bytes others status ended a b
 one_answer laws (request.Image w which) files bytes others status ended a b = of_once w (λ s text. IsImage text s which) (one_image laws _ which) files bytes others status ended a b
 one_answer laws (request.Show w which) files bytes others status ended a b = of_once w (λ s text. IsShown text s which) (one_image laws _ which) files bytes others status ended a b
-one_answer laws (request.AnyImage w cut in_words) files bytes others status ended a b = any_once laws w cut in_words files bytes others status ended a b
+one_answer laws (request.AnyImage w cut in_words) files bytes others status ended a b =
+    losses_once w any_words (λ s text. IsAnyImage (form_of in_words) text s cut files.choice) (λ s. one_any laws in_words cut files.choice s) files bytes others status ended a b
 one_answer laws (request.Verify w listed) files bytes others status ended a b =
     with_once w (λ s code. IsAcceptedText code s listed) (one_verified laws listed) files bytes others status ended a b
 one_answer laws (request.Import limits) files bytes others status ended a b =

@@ -22,6 +22,8 @@ use Rattle.case_text.specs.Known.{known_of}
 use Rattle.case_text.specs.Window.{case_window}
 use Rattle.case_text.specs.Text.{known_text, window_text, place_text, number_text, case_line, program_cases, programs_cases, cut_cases, all_found, count_cases, count_failing, count_torn_beyond, count_lost_beyond, complete_word, totals_text, counts_text, beyond_text, in_word, head_text, options_text, cases_bytes, fails_at, is_any_failing}
 use Rattle.case_text.specs.Causes.{cause_text}
+use Rattle.case_text.specs.Cured as cured
+use Rattle.case_text.specs.Cured.{line_without, uncured_line, program_uncured, found_uncured, all_uncured, cure_begin}
 use Rattle.case_text.specs.Why.{ToldValue, tail_text, told_of, all_told, told_text, by_program, found_causes, cut_causes, failure_of, found_failures, all_failures, begin_text, missing_text, parts_bytes, why_bytes, TellsWhy}
 use Rattle.losses.specs.declared.cure.failure.Failure.{Failure}
 use Rattle.losses.specs.Counted.{AreMissing}
@@ -29,7 +31,8 @@ use Rattle.losses.specs.FailureWindows.{windows_in}
 use Rattle.report.specs.Report.{HeadValue}
 use Rattle.request.specs.declared.any_losses.AnyLosses.{AnyLosses}
 use Rattle.request.specs.declared.settings.Settings.{Settings}
-use Rattle.runs.specs.CaseCuts.{losses_of, case_cuts}
+use Rattle.case_runs.specs.Cuts.{case_cuts}
+use Rattle.runs.specs.CaseCuts.{losses_of}
 use Rattle.runs.specs.Cases.{IsTextOf, TellsCases}
 use Rattle.commands.proofs.OneMissing.{same_missing}
 use Rattle.runs.specs.Explore.{head_of}
@@ -152,7 +155,7 @@ length_same log way tears [] (d ∷ ds) same = absurd same
 length_same log way tears (c ∷ cs) [] same = absurd same
 length_same log way tears (c ∷ cs) (d ∷ ds) same = ap suc (length_same log way tears cs ds same.2)
 
-totals_same : (log : LogValue) (way : By) (tears : Bool) (ls ms : List CutFound) → CutsSame log way tears ls ms → totals_text ls ≡ totals_text ms
+pub totals_same : (log : LogValue) (way : By) (tears : Bool) (ls ms : List CutFound) → CutsSame log way tears ls ms → totals_text ls ≡ totals_text ms
 unfolding totals_text
 totals_same log way tears ls ms same =
     let long = length_same log way tears ls ms same in
@@ -171,7 +174,7 @@ any_each at tears (f ∷ fs) (g ∷ gs) same =
     let more = any_each at tears fs gs same.1 in
     λ i. not (own i == 0) || more i
 
-any_same : (log : LogValue) (way : By) (tears : Bool) (ls ms : List CutFound) → CutsSame log way tears ls ms → is_any_failing ls ≡ is_any_failing ms
+pub any_same : (log : LogValue) (way : By) (tears : Bool) (ls ms : List CutFound) → CutsSame log way tears ls ms → is_any_failing ls ≡ is_any_failing ms
 any_same log way tears [] [] same = refl
 any_same log way tears [] (d ∷ ds) same = absurd same
 any_same log way tears (c ∷ cs) [] same = absurd same
@@ -180,7 +183,7 @@ any_same log way tears (c ∷ cs) (d ∷ ds) same =
     let rest = any_same log way tears cs ds same.2 in
     λ i. own i || rest i
 
-bytes_same : (h : HeadValue) (asked : Losses) (log : LogValue) (ls ms : List CutFound) → CutsSame log h.by asked.tears ls ms → cases_bytes h asked log ls ≡ cases_bytes h asked log ms
+pub bytes_same : (h : HeadValue) (asked : Losses) (log : LogValue) (ls ms : List CutFound) → CutsSame log h.by asked.tears ls ms → cases_bytes h asked log ls ≡ cases_bytes h asked log ms
 unfolding cases_bytes
 bytes_same h asked log ls ms same =
     let lines = cut_lines log h.by asked.tears ls ms same in
@@ -229,13 +232,37 @@ cut_each own log way tears tells (c ∷ cs) (d ∷ ds) same =
     let rest = cut_each own log way tears tells cs ds same.2 in
     λ i. here i ++ rest i
 
-why_same : (h : HeadValue) (asked : Losses) (log : LogValue) (ls ms : List CutFound) (bytes others : List ℕ) → CutsSame log h.by asked.tears ls ms → TellsWhy h asked log ls bytes
+pub failures_same : (log : LogValue) (way : By) (tears : Bool) (ls ms : List CutFound) → CutsSame log way tears ls ms → all_failures log way tears ls ≡ all_failures log way tears ms
+failures_same log way tears ls ms same =
+    cut_each (λ at. found_failures at tears) log way tears (λ at n f g own. ap (λ (ts : List ToldValue). map (failure_of n) ts) (told_same at tears f g own)) ls ms same
+
+-- and so are those without a window, and how a cure begins with them
+uncured_known : CutValue → Bool → ℕ → KnownCase → List (List ℕ)
+uncured_known at tears program k = line_without (case_window at k.is) (known_line at tears program k)
+
+uncured_all : (at : CutValue) (tears : Bool) (program : ℕ) (items : List FailingCase) → program_uncured at tears program items ≡ flat_map (uncured_known at tears program) (map (known_case at tears) items)
+unfolding case_line known_line uncured_known
+uncured_all at tears program [] = refl
+uncured_all at tears program (f ∷ items) =
+    ap (λ (xs : List (List ℕ)). uncured_line at tears program (failing_value f) ++ xs) (uncured_all at tears program items)
+
+uncured_same : (log : LogValue) (way : By) (tears : Bool) (ls ms : List CutFound) → CutsSame log way tears ls ms → all_uncured log way tears ls ≡ all_uncured log way tears ms
+uncured_same log way tears ls ms same =
+    cut_each (λ at. found_uncured at tears) log way tears
+    (λ at n f g own. uncured_all at tears n f.failing.items ∙ ap (flat_map (uncured_known at tears n)) own.failing ∙ sym (uncured_all at tears n g.failing.items)) ls ms same
+
+pub cure_begins : (h : HeadValue) (asked : Losses) (log : LogValue) (ls ms : List CutFound) → CutsSame log h.by asked.tears ls ms → cure_begin h asked log ls ≡ cure_begin h asked log ms
+cure_begins h asked log ls ms same =
+    let failures = failures_same log h.by asked.tears ls ms same in
+    let uncured = uncured_same log h.by asked.tears ls ms same in
+    λ i. cured.begin_text h asked (failures i) (slice_get (uncured i) 0)
+
+pub why_same : (h : HeadValue) (asked : Losses) (log : LogValue) (ls ms : List CutFound) (bytes others : List ℕ) → CutsSame log h.by asked.tears ls ms → TellsWhy h asked log ls bytes
     → TellsWhy h asked log ms others → bytes ≡ others
 unfolding why_bytes parts_bytes begin_text
 why_same h asked log ls ms bytes others same a b =
     let totals = totals_same log h.by asked.tears ls ms same in
-    let failures : all_failures log h.by asked.tears ls ≡ all_failures log h.by asked.tears ms =
-    cut_each (λ at. found_failures at asked.tears) log h.by asked.tears (λ at n f g own. ap (λ (ts : List ToldValue). map (failure_of n) ts) (told_same at asked.tears f g own)) ls ms same in
+    let failures = failures_same log h.by asked.tears ls ms same in
     let causes : flat_map (cut_causes log h.by asked.tears) ls ≡ flat_map (cut_causes log h.by asked.tears) ms =
     cut_each (λ at. found_causes at asked.tears) log h.by asked.tears
     (λ at n f g own. ap (λ (ts : List ToldValue). told_text at.cut n ts) (told_same at asked.tears f g own)) ls ms same in
@@ -245,20 +272,6 @@ why_same h asked log ls ms bytes others same a b =
     let text : why_bytes h asked log ls a.missing ≡ why_bytes h asked log ms b.missing =
     λ i. codes "crash why cases 1\n" ++ options_text h asked ++ totals i ++ missing_text (length h.programs) (failures i) (missing i) ++ causes i in
     a.text ∙ text ∙ sym b.text
-
-text_same : (why : Bool) (h : HeadValue) (asked : Losses) (log : LogValue) (ls ms : List CutFound) (bytes others : List ℕ) → CutsSame log h.by asked.tears ls ms
-    → IsTextOf why h asked log ls bytes → IsTextOf why h asked log ms others → bytes ≡ others
-text_same false h asked log ls ms bytes others same a b = a ∙ bytes_same h asked log ls ms same ∙ sym b
-text_same true h asked log ls ms bytes others same a b = why_same h asked log ls ms bytes others same a b
-
-pub tells_once : FindingIsOne → (l : AnyLosses) (s : Settings) (value : LogValue) (checkers : List CheckerValue) (bytes others : List ℕ) (failing fails : Bool)
-    → TellsCases l s value checkers bytes failing → TellsCases l s value checkers others fails → (bytes ≡ others) × (failing ≡ fails)
-unfolding head_of
-tells_once one l s value checkers bytes others failing fails a b =
-    let same = cuts_same one (losses_of l s) value s.by (case_cuts l s.cuts value) checkers a.found b.found a.are b.are in (
-      text_same l.why (head_of (with_first false s) value checkers) (losses_of l s) value a.found b.found bytes others same a.text b.text,
-      a.fails ∙ any_same value s.by s.tears a.found b.found same ∙ sym b.fails,
-    )
 
 -- the cases of the first checkers, and those of the next one, are among all
 pub first_at : FindingIsOne → (asked : Losses) (at : CutValue) (checkers : List CheckerValue) (n : ℕ) (before found : List Found) (f : Found) → AreFirstAt asked at checkers n before
@@ -323,16 +336,17 @@ past_at one asked at checkers left found are past =
     let more = past.past.past in
     omega (arith, among, many, counted, more)
 
--- where cases are told there aren't too many
-pub not_too_many : FindingIsOne → (l : AnyLosses) (s : Settings) (value : LogValue) (checkers : List CheckerValue) (bytes : List ℕ) (failing : Bool) (cut : ℕ)
-    → TellsCases l s value checkers bytes failing → AreTooMany (losses_of l s) value s.by (case_cuts l s.cuts value) checkers cut → ⊥
-not_too_many one l s value checkers bytes failing cut h many =
-    let asked = losses_of l s in
-    let cuts = case_cuts l s.cuts value in
-    let there = there_too cuts h.found many.place cut h.are.count many.own in
-    let own = h.are.each many.place cut there.0 many.own there.1 in
-    let among = first_in one asked value s.by cuts checkers many.place many.before h.found there.0 many.are h.are there.1 in
-    let past = past_at one asked (cut_value value s.by cut) checkers many.rest there.0.programs.items own many.past in
+-- where cases are found there aren't too many
+pub not_many : FindingIsOne → (asked : Losses) (log : LogValue) (way : By) (cuts : List ℕ) (checkers : List CheckerValue) (found : List CutFound) (cut : ℕ)
+    → AreFoundIn asked log way cuts checkers found → cases_in found ≤ most_cases → AreTooMany asked log way cuts checkers cut → ⊥
+not_many one asked log way cuts checkers found cut are few many =
+    let there = there_too cuts found many.place cut are.count many.own in
+    let own = are.each many.place cut there.0 many.own there.1 in
+    let among = first_in one asked log way cuts checkers many.place many.before found there.0 many.are are there.1 in
+    let past = past_at one asked (cut_value log way cut) checkers many.rest there.0.programs.items own many.past in
     let counted = many.counted in
-    let few = h.few in
     omega (arith, among, past, counted, few)
+
+pub not_too_many : FindingIsOne → (l : AnyLosses) (s : Settings) (value : LogValue) (checkers : List CheckerValue) (bytes : List ℕ) (failing : Bool) (cut : ℕ)
+    → TellsCases l s value checkers bytes failing → AreTooMany (losses_of l s) value s.by (case_cuts l.at_most s.cuts value.entries) checkers cut → ⊥
+not_too_many one l s value checkers bytes failing cut h many = not_many one (losses_of l s) value s.by (case_cuts l.at_most s.cuts value.entries) checkers h.found cut h.are h.few many

@@ -1,5 +1,5 @@
 -- The cure of a log, tried, has one text.
-use Rattle.std.proofs.Common.{ℕ, zero, suc, ◌≡◌, ◌+◌, ◌<◌, ◌≤◌, false, List, [], ◌∷◌, ◌++◌, length, take, length-append, Some, slice_get, refl, sym, ◌∙◌, ap, subst, arith}
+use Rattle.std.proofs.Common.{ℕ, zero, suc, ◌≡◌, ◌+◌, ◌<◌, ◌≤◌, ◌⊎◌, inl, inr, Bool, false, Option, None, List, [], ◌∷◌, ◌++◌, length, take, length-append, Some, slice_get, refl, sym, ◌∙◌, ap, subst, arith}
 use Rattle.logfmt.specs.Bounds.{LogValue}
 use Rattle.logfmt.specs.Flushed.{with_flushes}
 use Rattle.logfmt.specs.declared.entry.Entry.{Entry}
@@ -11,18 +11,22 @@ use Rattle.checker.specs.Checker.{CheckerValue}
 use Rattle.losses.specs.declared.flushes.window.Window.{Window}
 use Rattle.losses.specs.declared.flushes.counted.MissingFlush.{MissingFlush}
 use Rattle.losses.specs.Counted.{AreMissing}
-use Rattle.report.specs.Line.{FailingLine}
-use Rattle.report.specs.Report.{HeadValue}
 use Rattle.losses.specs.declared.cure.failure.Failure.{Failure}
 use Rattle.losses.specs.FailureWindows.{windows_in, places_in}
 use Rattle.losses.specs.CureText.{begin_text, uncured_text, rounds_text, refused_line}
+use Rattle.case_runs.specs.Found.{FindingIsOne}
+use Rattle.request.specs.declared.any_losses.AnyLosses.{AnyLosses}
 use Rattle.request.specs.declared.settings.Settings.{Settings}
 use Rattle.request.specs.Source.{plan_of}
 use Rattle.runs.specs.Explore.{head_of}
 use Rattle.runs.specs.Why.{with_first}
-use Rattle.runs.specs.Cured.{run_lines, FailAs, IsRound, AreRounds, with_rounds, Ends, with_totals, with_refusal, TellsRounds, TellsCure}
+use Rattle.case_runs.specs.Cuts.{case_cuts}
+use Rattle.runs.specs.CaseCuts.{losses_of}
+use Rattle.runs.specs.Cured.{run_lines, Finds, IsPast, IsRound, AreRounds, with_rounds, Ends, with_totals, with_refusal, TellsRounds, TellsCure, Cures}
 use Rattle.commands.proofs.OneMissing.{one_end, same_failures, same_missing}
-use Rattle.commands.proofs.OneReport.{not_past}
+use Rattle.commands.proofs.OneReport.{not_past, same_test}
+use Rattle.commands.proofs.OneCases.{cuts_same, failures_same, cure_begins, totals_same, not_many}
+use Rattle.commands.proofs.OneFirst.{many_once}
 
 -- more cuts have no fewer choices
 more_over : (way : By) (es : List Entry) (m bound place : ℕ) (k n : ℕ) (cuts : List ℕ) → k ≤ n
@@ -55,62 +59,106 @@ same_past s value c d a b =
     let both : Some c ≡ Some d = sym a.wanted ∙ ap (λ n. slice_get (cuts_of s.cuts value.entries) n) place ∙ b.wanted in
     cc
 
--- a run has one list of failures
-same_fails : (s : Settings) (cs : List CheckerValue) (value : LogValue) (fs gs : List Failure) → FailAs s cs value fs → FailAs s cs value gs → fs ≡ gs
-same_fails s cs value fs gs a b = same_failures s.by value.entries (run_lines s cs value) fs gs a b
+-- what a run finds is one
+record SameFinds (fs gs : List Failure) (begin begun last ended : List ℕ) : Type 0 where
+  pub failures : fs ≡ gs
+  pub begins : begin ≡ begun
+  pub ends : last ≡ ended
+
+images_begin : Settings → List CheckerValue → LogValue → List Failure → List ℕ
+images_begin s cs value fs = begin_text (head_of (with_first false s) value cs) fs ++ uncured_text (run_lines s cs value) fs
+
+same_finds : FindingIsOne → (o : Option AnyLosses) (s : Settings) (cs : List CheckerValue) (value : LogValue) (fs gs : List Failure) (begin begun last ended : List ℕ)
+    → Finds o s cs value fs begin last → Finds o s cs value gs begun ended → SameFinds fs gs begin begun last ended
+unfolding head_of images_begin
+same_finds one None s cs value fs gs begin begun last ended a b =
+    let failures = same_failures s.by value.entries (run_lines s cs value) fs gs a.fail b.fail in
+    let text : images_begin s cs value fs ≡ images_begin s cs value gs = ap (images_begin s cs value) failures in
+    record { failures = failures; begins = a.begins ∙ text ∙ sym b.begins; ends = a.ends ∙ sym b.ends }
+same_finds one (Some l) s cs value fs gs begin begun last ended a b =
+    let same = cuts_same one (losses_of l s) value s.by (case_cuts l.at_most s.cuts value.entries) cs a.found b.found a.are b.are in
+    record {
+      failures = a.fail ∙ failures_same value s.by s.tears a.found b.found same ∙ sym b.fail;
+      begins = a.begins ∙ cure_begins (head_of (with_first false s) value cs) (losses_of l s) value a.found b.found same ∙ sym b.begins;
+      ends = a.ends ∙ totals_same value s.by s.tears a.found b.found same ∙ sym b.ends;
+    }
+
+-- and where it finds something there aren't too many images or cases
+finds_few : FindingIsOne → (o : Option AnyLosses) (s : Settings) (cs : List CheckerValue) (value : LogValue) (fs : List Failure) (begin last : List ℕ) (cut : ℕ)
+    → Finds o s cs value fs begin last → IsPast o s cs value cut → ⊥
+finds_few one None s cs value fs begin last cut h past = not_past limit s value cut h.few past
+finds_few one (Some l) s cs value fs begin last cut h past = elim past [
+  | inl images ↦ not_past limit s value cut h.images images
+  | inr cases ↦ not_many one (losses_of l s) value s.by (case_cuts l.at_most s.cuts value.entries) cs h.found cut h.are h.few cases.1
+]
+
+-- the cut with which there are too many is one
+same_cut : FindingIsOne → (o : Option AnyLosses) (s : Settings) (cs : List CheckerValue) (value : LogValue) (c d : ℕ) → IsPast o s cs value c → IsPast o s cs value d → c ≡ d
+same_cut one None s cs value c d a b = same_past s value c d a b
+same_cut one (Some l) s cs value c d a b = elim a [
+  | inl images ↦ elim b [ inl others ↦ same_past s value c d images others | inr cases ↦ absurd (not_past limit s value c cases.0 images) ]
+  | inr cases ↦ elim b [
+    | inl images ↦ absurd (not_past limit s value d cases.0 images)
+    | inr others ↦ many_once one (losses_of l s) value s.by (case_cuts l.at_most s.cuts value.entries) cs c d cases.1 others.1
+  ]
+]
 
 -- the last run says one thing
-same_end : (s : Settings) (cs : List CheckerValue) (value : LogValue) (end other : List ℕ) → Ends s cs value end → Ends s cs value other → end ≡ other
-same_end s cs value _ _ (with_totals fs few fail none) (with_totals gs small fails nothing) = refl
-same_end s cs value _ _ (with_totals fs few fail none) (with_refusal cut past) = absurd (not_past limit s value cut few past)
-same_end s cs value _ _ (with_refusal cut past) (with_totals fs few fail none) = absurd (not_past limit s value cut few past)
-same_end s cs value _ _ (with_refusal cut past) (with_refusal other beyond) =
-    ap refused_line (same_past s value cut other past beyond)
+same_end : FindingIsOne → (o : Option AnyLosses) (s : Settings) (cs : List CheckerValue) (value : LogValue) (end other : List ℕ) → Ends o s cs value end → Ends o s cs value other → end ≡ other
+same_end one o s cs value _ _ (with_totals fs begin last finds none) (with_totals gs begun ended found nothing) = (same_finds one o s cs value fs gs begin begun last ended finds found).ends
+same_end one o s cs value _ _ (with_totals fs begin last finds none) (with_refusal cut past) = absurd (finds_few one o s cs value fs begin last cut finds past)
+same_end one o s cs value _ _ (with_refusal cut past) (with_totals fs begin last finds none) = absurd (finds_few one o s cs value fs begin last cut finds past)
+same_end one o s cs value _ _ (with_refusal cut past) (with_refusal other beyond) = ap refused_line (same_cut one o s cs value cut other past beyond)
 
 -- after the last run there is no round
-no_round : (s : Settings) (cs : List CheckerValue) (value : LogValue) (ms : List MissingFlush) (end : List ℕ) → IsRound s cs value ms → Ends s cs value end → ⊥
-no_round s cs value ms _ round (with_totals fs few fail none) =
-    round.some (ap windows_in (same_fails s cs value round.failures fs round.fail fail) ∙ none)
-no_round s cs value ms _ round (with_refusal cut past) = not_past limit s value cut round.few past
+no_round : FindingIsOne → (o : Option AnyLosses) (s : Settings) (cs : List CheckerValue) (value : LogValue) (ms : List MissingFlush) (end : List ℕ) → IsRound o s cs value ms → Ends o s cs value end → ⊥
+no_round one o s cs value ms _ round (with_totals fs begin last finds none) =
+    round.some (ap windows_in (same_finds one o s cs value round.failures fs round.begin begin round.last last round.finds finds).failures ∙ none)
+no_round one o s cs value ms _ round (with_refusal cut past) = finds_few one o s cs value round.failures round.begin round.last cut round.finds past
 
-same_round : (s : Settings) (cs : List CheckerValue) (value : LogValue) (ms ns : List MissingFlush) → IsRound s cs value ms → IsRound s cs value ns → ms ≡ ns
-same_round s cs value ms ns a b =
-    let windows = ap windows_in (same_fails s cs value a.failures b.failures a.fail b.fail) in
+same_round : FindingIsOne → (o : Option AnyLosses) (s : Settings) (cs : List CheckerValue) (value : LogValue) (ms ns : List MissingFlush) → IsRound o s cs value ms → IsRound o s cs value ns → ms ≡ ns
+same_round one o s cs value ms ns a b =
+    let windows = ap windows_in (same_finds one o s cs value a.failures b.failures a.begin b.begin a.last b.last a.finds b.finds).failures in
     same_missing (windows_in a.failures) ms ns a.missing (subst (λ (ws : List Window). AreMissing ws ns) (sym windows) b.missing)
 
 -- the rounds from a log on, and the last run
-pub record Rounds (s : Settings) (cs : List CheckerValue) (value : LogValue) (rounds : List (List MissingFlush)) (end : List ℕ) : Type 0 where
-  pub are : AreRounds s cs value rounds
-  pub ends : Ends s cs (with_rounds value rounds) end
+pub record Rounds (o : Option AnyLosses) (s : Settings) (cs : List CheckerValue) (value : LogValue) (rounds : List (List MissingFlush)) (end : List ℕ) : Type 0 where
+  pub are : AreRounds o s cs value rounds
+  pub ends : Ends o s cs (with_rounds value rounds) end
 
-same_rounds : (s : Settings) (cs : List CheckerValue) (value : LogValue) (rs qs : List (List MissingFlush)) (end other : List ℕ)
-    → Rounds s cs value rs end → Rounds s cs value qs other → (rs ≡ qs) × (end ≡ other)
-same_rounds s cs value [] [] end other a b = (refl, same_end s cs value end other a.ends b.ends)
-same_rounds s cs value [] (q ∷ qs) end other a b = absurd (no_round s cs value q end b.are.0 a.ends)
-same_rounds s cs value (r ∷ rs) [] end other a b = absurd (no_round s cs value r other a.are.0 b.ends)
-same_rounds s cs value (r ∷ rs) (q ∷ qs) end other a b =
-    let one : r ≡ q = same_round s cs value r q a.are.0 b.are.0 in
-    let beyond : Rounds s cs (with_flushes (places_in q) value) qs other = record { are = b.are.1; ends = b.ends } in
-    let moved : Rounds s cs (with_flushes (places_in r) value) qs other = subst (λ (ms : List MissingFlush). Rounds s cs (with_flushes (places_in ms) value) qs other) (sym one) beyond in
-    let own : Rounds s cs (with_flushes (places_in r) value) rs end = record { are = a.are.1; ends = a.ends } in
-    let rest = same_rounds s cs (with_flushes (places_in r) value) rs qs end other own moved in
-    (λ i. one i ∷ rest.0 i, rest.1)
+same_rounds : FindingIsOne → (o : Option AnyLosses) (s : Settings) (cs : List CheckerValue) (value : LogValue) (rs qs : List (List MissingFlush)) (end other : List ℕ)
+    → Rounds o s cs value rs end → Rounds o s cs value qs other → (rs ≡ qs) × (end ≡ other)
+same_rounds one o s cs value [] [] end other a b = (refl, same_end one o s cs value end other a.ends b.ends)
+same_rounds one o s cs value [] (q ∷ qs) end other a b = absurd (no_round one o s cs value q end b.are.0 a.ends)
+same_rounds one o s cs value (r ∷ rs) [] end other a b = absurd (no_round one o s cs value r other a.are.0 b.ends)
+same_rounds one o s cs value (r ∷ rs) (q ∷ qs) end other a b =
+    let same : r ≡ q = same_round one o s cs value r q a.are.0 b.are.0 in
+    let beyond : Rounds o s cs (with_flushes (places_in q) value) qs other = record { are = b.are.1; ends = b.ends } in
+    let moved : Rounds o s cs (with_flushes (places_in r) value) qs other = subst (λ (ms : List MissingFlush). Rounds o s cs (with_flushes (places_in ms) value) qs other) (sym same) beyond in
+    let own : Rounds o s cs (with_flushes (places_in r) value) rs end = record { are = a.are.1; ends = a.ends } in
+    let rest = same_rounds one o s cs (with_flushes (places_in r) value) rs qs end other own moved in
+    (λ i. same i ∷ rest.0 i, rest.1)
 
-same_tale : (s : Settings) (cs : List CheckerValue) (value : LogValue) (number : ℕ) (text other : List ℕ) → TellsRounds s cs value number text
-    → TellsRounds s cs value number other → text ≡ other
-same_tale s cs value number text other a b =
-    let same = same_rounds s cs value a.rounds b.rounds a.end b.end (record { are = a.are; ends = a.ends }) (record { are = b.are; ends = b.ends }) in
+same_tale : FindingIsOne → (o : Option AnyLosses) (s : Settings) (cs : List CheckerValue) (value : LogValue) (number : ℕ) (text other : List ℕ) → TellsRounds o s cs value number text
+    → TellsRounds o s cs value number other → text ≡ other
+same_tale one o s cs value number text other a b =
+    let same = same_rounds one o s cs value a.rounds b.rounds a.end b.end (record { are = a.are; ends = a.ends }) (record { are = b.are; ends = b.ends }) in
     let told : rounds_text number a.rounds ++ a.end ≡ rounds_text number b.rounds ++ b.end = λ i. rounds_text number (same.0 i) ++ same.1 i in
     a.told ∙ told ∙ sym b.told
 
--- the whole text of the failures of a first run, and of what follows
-abbrev whole_text : HeadValue → List FailingLine → List Failure → List ℕ → List ℕ
-whole_text h ls fs rounds = begin_text h fs ++ uncured_text ls fs ++ rounds
-
-pub one_cure : (s : Settings) (value : LogValue) (cs : List CheckerValue) (bytes others : List ℕ) → TellsCure s value cs bytes → TellsCure s value cs others → bytes ≡ others
-one_cure s value cs bytes others a b =
-    let failures = same_fails s cs value a.failures b.failures a.fail b.fail in
-    let rounds = same_tale s cs value 1 a.rounds b.rounds a.tells b.tells in
-    let same : whole_text (head_of (with_first false s) value cs) (run_lines s cs value) a.failures a.rounds ≡ whole_text (head_of (with_first false s) value cs) (run_lines s cs value) b.failures b.rounds =
-    λ i. whole_text (head_of (with_first false s) value cs) (run_lines s cs value) (failures i) (rounds i) in
+-- the whole text is one
+pub one_cure : FindingIsOne → (o : Option AnyLosses) (s : Settings) (value : LogValue) (cs : List CheckerValue) (bytes others : List ℕ) → TellsCure o s value cs bytes → TellsCure o s value cs others → bytes ≡ others
+one_cure one o s value cs bytes others a b =
+    let begins = (same_finds one o s cs value a.failures b.failures a.begin b.begin a.last b.last a.finds b.finds).begins in
+    let rounds = same_tale one o s cs value 1 a.rounds b.rounds a.tells b.tells in
+    let same : a.begin ++ a.rounds ≡ b.begin ++ b.rounds = λ i. begins i ++ rounds i in
     a.text ∙ same ∙ sym b.text
+
+-- and so is whether the first run has a failure
+pub one_cures : FindingIsOne → (o : Option AnyLosses) (s : Settings) (value : LogValue) (cs : List CheckerValue) (bytes others : List ℕ) (failing fails : Bool) → Cures o s value cs bytes failing
+    → Cures o s value cs others fails → (bytes ≡ others) × (failing ≡ fails)
+one_cures one o s value cs bytes others failing fails a b =
+    let p = a.tells in
+    let q = b.tells in
+    let failures = (same_finds one o s cs value p.failures q.failures p.begin q.begin p.last q.last p.finds q.finds).failures in
+    (one_cure one o s value cs bytes others p q, same_test failing fails p.failures q.failures a.fails b.fails failures)

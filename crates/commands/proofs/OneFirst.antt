@@ -25,14 +25,18 @@ use Rattle.case_runs.specs.First.{NoneFailsAt, NoneFails, FailsFirst, PassesMost
 use Rattle.case_text.specs.Text.{head_text, case_line, fails_in, fails_at, is_any_failing}
 use Rattle.case_text.specs.First.{first_text, first_bytes}
 use Rattle.request.specs.declared.any_losses.AnyLosses.{AnyLosses}
+use Rattle.request.specs.declared.settings.CaseTelling.{CaseTelling}
+use Rattle.request.specs.declared.settings.CaseTelling.TheVariants as telling
 use Rattle.request.specs.declared.settings.Settings.{Settings}
 use Rattle.request.specs.Source.{Recording}
-use Rattle.runs.specs.CaseCuts.{losses_of, case_cuts, AreMore}
-use Rattle.runs.specs.Cases.{TellsCases, TellsFirst, of_first, of_none, TellsLosses, IsLosses}
+use Rattle.case_runs.specs.Cuts.{case_cuts}
+use Rattle.runs.specs.CaseCuts.{losses_of, AreMore}
+use Rattle.runs.specs.Cases.{IsTextOf, TellsCases, TellsFirst, of_first, of_none, TellsLosses, IsByCases, IsLosses}
 use Rattle.runs.specs.Explore.{head_of}
 use Rattle.runs.specs.Why.{with_first}
 use Rattle.commands.proofs.OneReport.{same_log, same_checkers}
-use Rattle.commands.proofs.OneCases.{cut_value, CutsSame, each_same, cuts_same, known_line, sum_each, first_at, first_in, there_too, past_at, tells_once, not_too_many}
+use Rattle.commands.proofs.OneCases.{cut_value, CutsSame, each_same, cuts_same, known_line, sum_each, any_same, bytes_same, why_same, first_at, first_in, there_too, past_at, not_too_many}
+use Rattle.commands.proofs.OneCasePage.{page_same}
 
 -- what is found of cases is one
 pub record CasesAreOne : Type 0 where
@@ -323,6 +327,32 @@ few_in findings one asked log way cuts checkers first cut a m = elim (three a.pl
         let others = m.counted in
         omega (arith, past, among, counted, others)
 
+-- the cut with which there are too many cases is one
+
+not_sooner : FindingIsOne → (asked : Losses) (log : LogValue) (way : By) (cuts : List ℕ) (checkers : List CheckerValue) (c d : ℕ)
+    → (a : AreTooMany asked log way cuts checkers c) → (b : AreTooMany asked log way cuts checkers d) → a.place < b.place → ⊥
+not_sooner findings asked log way cuts checkers c d a b less =
+    let low = slice_get_within cuts b.place d b.own in
+    let count = b.are.count in
+    let there = there_at b.before a.place (omega (arith, count, less)) in
+    let own = b.are.each a.place c there.0 a.own there.1 in
+    let past = past_at findings asked (cut_value log way c) checkers a.rest there.0.programs.items own a.past in
+    let among = first_in findings asked log way (take b.place cuts) checkers a.place a.before b.before there.0 (some_in asked log way cuts checkers b.place a.place a.before a.are)
+    (all_in asked log way cuts checkers b.place b.before b.are (omega (arith, low))) there.1 in
+    let counted = a.counted in
+    let others = b.counted in
+    omega (arith, past, among, counted, others)
+
+pub many_once : FindingIsOne → (asked : Losses) (log : LogValue) (way : By) (cuts : List ℕ) (checkers : List CheckerValue) (c d : ℕ)
+    → AreTooMany asked log way cuts checkers c → AreTooMany asked log way cuts checkers d → c ≡ d
+many_once findings asked log way cuts checkers c d a b = elim (three a.place b.place) [
+  | inl less ↦ absurd (not_sooner findings asked log way cuts checkers c d a b less)
+  | inr more ↦ elim more [
+    | inl same ↦ same_Some c d (sym a.own ∙ ap (λ i. slice_get cuts i) same ∙ b.own)
+    | inr less ↦ absurd (not_sooner findings asked log way cuts checkers d c b a less)
+  ]
+]
+
 -- so its text is one
 
 abbrev told_text : HeadValue → Losses → LogValue → ℕ → ℕ → KnownCase → List ℕ
@@ -337,20 +367,36 @@ text_once : (h : HeadValue) (asked : Losses) (log : LogValue) (first other : Fir
 text_once h asked log first other same =
     text_of_first h asked log first ∙ (λ i. told_text h asked log (same.cut i) (same.program i) (same.known i)) ∙ sym (text_of_first h asked log other)
 
+-- the text of cases is one, whatever is told of them
+text_same : (telling : CaseTelling) (h : HeadValue) (asked : Losses) (log : LogValue) (ls ms : List CutFound) (bytes others : List ℕ) → CutsSame log h.by asked.tears ls ms
+    → IsTextOf telling h asked log ls bytes → IsTextOf telling h asked log ms others → bytes ≡ others
+text_same telling.Cases h asked log ls ms bytes others same a b = a ∙ bytes_same h asked log ls ms same ∙ sym b
+text_same telling.Causes h asked log ls ms bytes others same a b = why_same h asked log ls ms bytes others same a b
+text_same telling.Page h asked log ls ms bytes others same a b = a ∙ page_same h asked log ls ms same ∙ sym b
+
+tells_once : FindingIsOne → (l : AnyLosses) (s : Settings) (value : LogValue) (checkers : List CheckerValue) (bytes others : List ℕ) (failing fails : Bool)
+    → TellsCases l s value checkers bytes failing → TellsCases l s value checkers others fails → (bytes ≡ others) × (failing ≡ fails)
+unfolding head_of
+tells_once one l s value checkers bytes others failing fails a b =
+    let same = cuts_same one (losses_of l s) value s.by (case_cuts l.at_most s.cuts value.entries) checkers a.found b.found a.are b.are in (
+      text_same l.telling (head_of (with_first false s) value checkers) (losses_of l s) value a.found b.found bytes others same a.text b.text,
+      a.fails ∙ any_same value s.by s.tears a.found b.found same ∙ sym b.fails,
+    )
+
 first_told_once : FindingIsOne → FirstIsOne → (l : AnyLosses) (s : Settings) (value : LogValue) (checkers : List CheckerValue) (bytes others : List ℕ) (failing fails : Bool)
     → TellsFirst l s value checkers bytes failing → TellsFirst l s value checkers others fails → (bytes ≡ others) × (failing ≡ fails)
 unfolding head_of
 first_told_once findings one l s value checkers bytes others _ _ (of_first first is text) (of_first other it written) = (
   text
       ∙ text_once (head_of (with_first false s) value checkers) (losses_of l s) value first other
-      (first_once one (losses_of l s) value s.by (case_cuts l s.cuts value) checkers first other is it)
+      (first_once one (losses_of l s) value s.by (case_cuts l.at_most s.cuts value.entries) checkers first other is it)
       ∙ sym written,
   refl,
 )
 first_told_once findings one l s value checkers bytes others _ _ (of_first first is text) (of_none tells) =
-    absurd (not_passing one (losses_of l s) value s.by (case_cuts l s.cuts value) checkers first tells.found is tells.are (sym tells.fails))
+    absurd (not_passing one (losses_of l s) value s.by (case_cuts l.at_most s.cuts value.entries) checkers first tells.found is tells.are (sym tells.fails))
 first_told_once findings one l s value checkers bytes others _ _ (of_none tells) (of_first other it written) =
-    absurd (not_passing one (losses_of l s) value s.by (case_cuts l s.cuts value) checkers other tells.found it tells.are (sym tells.fails))
+    absurd (not_passing one (losses_of l s) value s.by (case_cuts l.at_most s.cuts value.entries) checkers other tells.found it tells.are (sym tells.fails))
 first_told_once findings one l s value checkers bytes others _ _ (of_none tells) (of_none told) = ((tells_once findings l s value checkers bytes others false false tells told).0, refl)
 
 told_once : FindingIsOne → FirstIsOne → (first : Bool) (l : AnyLosses) (s : Settings) (value : LogValue) (checkers : List CheckerValue) (bytes others : List ℕ) (failing fails : Bool)
@@ -358,24 +404,32 @@ told_once : FindingIsOne → FirstIsOne → (first : Bool) (l : AnyLosses) (s : 
 told_once findings one false l s value checkers bytes others failing fails a b = tells_once findings l s value checkers bytes others failing fails a b
 told_once findings one true l s value checkers bytes others failing fails a b = first_told_once findings one l s value checkers bytes others failing fails a b
 
-pub one_losses : TextOfOneLog → OneProgram → OneVerdict → FindingIsOne → FirstIsOne → (first : Bool) (l : AnyLosses) (text : Recording) (files : List (List ℕ)) (s : Settings)
-    (bytes others : List ℕ) (failing fails : Bool) → IsLosses first l text files s bytes failing → IsLosses first l text files s others fails → (bytes ≡ others) × (failing ≡ fails)
-one_losses texts programs verdicts findings one first l text files s bytes others failing fails h k =
+-- what is told by cases
+pub one_by_cases : TextOfOneLog → OneProgram → OneVerdict → (Tells : Settings → LogValue → List CheckerValue → List ℕ → Bool → Type 0)
+    → ((s : Settings) (value : LogValue) (checkers : List CheckerValue) (bytes others : List ℕ) (failing fails : Bool) → Tells s value checkers bytes failing → Tells s value checkers others fails
+    → (bytes ≡ others) × (failing ≡ fails))
+    → (text : Recording) (files : List (List ℕ)) (s : Settings) (bytes others : List ℕ) (failing fails : Bool) → IsByCases Tells text files s bytes failing
+    → IsByCases Tells text files s others fails → (bytes ≡ others) × (failing ≡ fails)
+one_by_cases texts programs verdicts Tells one text files s bytes others failing fails h k =
     let value = same_log texts text s h.value k.value h.source k.source in
     let checkers = same_checkers programs verdicts s files h.checkers k.checkers h.made k.made in
-    let by_value = subst (λ (v : LogValue). TellsLosses first l s v k.checkers others fails) (sym value) k.tells in
-    let tells = subst (λ (cs : List CheckerValue). TellsLosses first l s h.value cs others fails) (sym checkers) by_value in
-    told_once findings one first l s h.value h.checkers bytes others failing fails h.tells tells
+    let by_value = subst (λ (v : LogValue). Tells s v k.checkers others fails) (sym value) k.tells in
+    let tells = subst (λ (cs : List CheckerValue). Tells s h.value cs others fails) (sym checkers) by_value in
+    one s h.value h.checkers bytes others failing fails h.tells tells
+
+pub one_losses : TextOfOneLog → OneProgram → OneVerdict → FindingIsOne → FirstIsOne → (first : Bool) (l : AnyLosses) (text : Recording) (files : List (List ℕ)) (s : Settings)
+    (bytes others : List ℕ) (failing fails : Bool) → IsLosses first l text files s bytes failing → IsLosses first l text files s others fails → (bytes ≡ others) × (failing ≡ fails)
+one_losses texts programs verdicts findings one first l = one_by_cases texts programs verdicts (TellsLosses first l) (λ s value checkers. told_once findings one first l s value checkers)
 
 -- and it isn't refused
 
 not_more : FindingIsOne → FirstIsOne → (l : AnyLosses) (s : Settings) (value : LogValue) (checkers : List CheckerValue) (bytes : List ℕ) (failing : Bool) (cut : ℕ)
-    → TellsFirst l s value checkers bytes failing → PassesMostIn (losses_of l s) value s.by (case_cuts l s.cuts value) checkers cut → ⊥
-not_more findings one l s value checkers bytes _ cut (of_first first is text) many = few_in findings one (losses_of l s) value s.by (case_cuts l s.cuts value) checkers first cut is many
+    → TellsFirst l s value checkers bytes failing → PassesMostIn (losses_of l s) value s.by (case_cuts l.at_most s.cuts value.entries) checkers cut → ⊥
+not_more findings one l s value checkers bytes _ cut (of_first first is text) many = few_in findings one (losses_of l s) value s.by (case_cuts l.at_most s.cuts value.entries) checkers first cut is many
 not_more findings one l s value checkers bytes _ cut (of_none tells) many =
-    not_too_many findings l s value checkers bytes false cut tells (many_of (losses_of l s) value s.by (case_cuts l s.cuts value) checkers cut many)
+    not_too_many findings l s value checkers bytes false cut tells (many_of (losses_of l s) value s.by (case_cuts l.at_most s.cuts value.entries) checkers cut many)
 
 pub not_refused : FindingIsOne → FirstIsOne → (first : Bool) (l : AnyLosses) (s : Settings) (value : LogValue) (checkers : List CheckerValue) (bytes : List ℕ) (failing : Bool) (cut : ℕ)
-    → TellsLosses first l s value checkers bytes failing → AreMore first (losses_of l s) value s.by (case_cuts l s.cuts value) checkers cut → ⊥
+    → TellsLosses first l s value checkers bytes failing → AreMore first (losses_of l s) value s.by (case_cuts l.at_most s.cuts value.entries) checkers cut → ⊥
 not_refused findings one false l s value checkers bytes failing cut tells many = not_too_many findings l s value checkers bytes failing cut tells many
 not_refused findings one true l s value checkers bytes failing cut tells many = not_more findings one l s value checkers bytes failing cut tells many

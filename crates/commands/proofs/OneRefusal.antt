@@ -25,13 +25,14 @@ use Rattle.request.specs.Settings.{option_refusal, settings_refusal}
 use Rattle.request.specs.OptionWords.{AskFor, settings_with, words_refusal}
 use Rattle.request.specs.Source.{Recording, plan_of, images_of, HasImages}
 use Rattle.checker.specs.Checker.{CheckerValue}
-use Rattle.runs.specs.CaseCuts.{HasTooMany}
+use Rattle.case_runs.specs.Cuts.{case_cuts}
+use Rattle.runs.specs.CaseCuts.{HasTooMany, HasMore, losses_of}
 use Rattle.request.specs.AnyLosses.{losses_asked, losses_refusal}
 use Rattle.request.specs.declared.any_losses.AnyLosses.{AnyLosses}
 use Rattle.request.specs.declared.any_losses.LossWords.{LossWords}
-use Rattle.runs.specs.Explore.{RefusesWanted, for_extent, for_rest, for_cases}
+use Rattle.runs.specs.Explore.{RefusesWanted, for_extent, for_rest, for_cases, for_cure}
 use Rattle.runs.specs.Inputs.{inputs_number}
-use Rattle.runs.specs.Cured.{TellsCure, IsAnswered}
+use Rattle.runs.specs.Cured.{TellsCure, IsCasesCured, IsAnswered}
 use Rattle.runs.specs.Cases.{IsLosses}
 use Rattle.runs.specs.Why.{Tells}
 use Rattle.runs.specs.Judged.{takes}
@@ -47,6 +48,9 @@ use Rattle.inspect.specs.Image as image
 use Rattle.inspect.specs.Image.{IsImage, RefusesImage, IsShown}
 use Rattle.inspect.specs.AnyImage as any
 use Rattle.inspect.specs.AnyImage.{IsAnyImage, IsMeantLoss, RefusesAnyImage}
+use Rattle.inspect.specs.CutLayout.{is_cut_layout}
+use Rattle.inspect.specs.CutSurvey as cuts
+use Rattle.inspect.specs.CutSurvey.{CanBeLaid, IsCutSurvey, RefusesCutSurvey}
 use Rattle.inspect.specs.Survey as survey
 use Rattle.inspect.specs.Survey.{Fits, IsSurvey, RefusesSurvey}
 use Rattle.inspect.specs.Export as export
@@ -57,7 +61,7 @@ use Rattle.inspect.specs.Table.{IsTable, RefusesTable}
 use Rattle.inspect.specs.Verifying.{IsAcceptedText, RefusesVerified, with_code_fault, no_code_memory, with_verifier_fault, no_verifier_memory, no_text_memory}
 use Rattle.inspect.specs.Assembly as assembly
 use Rattle.inspect.specs.Assembly.{IsAssembled, IsListed, RefusesText, RefusesBytes}
-use Rattle.commands.specs.Acting.{Files, initial_of, recording, first_held, unread, AnswersRun, AnswersFiles, AnswersExplore, AnswersCases, AnswersFile, AnswersOf, AnswersWith, Answers, RefusesWith, for_words, for_settings, RefusesFile, for_file, for_held, RefusesRecording, for_log_file, for_base_file, for_recording, RefusesCases, for_losses, for_cases_of, RefusesFiles, for_unread, for_base, for_run, for_memory, RefusesToAct}
+use Rattle.commands.specs.Acting.{Files, initial_of, recording, first_held, unread, AnswersRun, AnswersFiles, AnswersExplore, AnswersCases, wanted_by, AnswersFile, AnswersOf, AnswersWith, Answers, RefusesWith, for_words, for_settings, RefusesFile, for_file, for_held, RefusesRecording, for_log_file, for_base_file, for_recording, RefusesCases, for_losses, for_cases_of, RefusesFiles, for_unread, for_base, for_run, for_memory, RefusesToAct}
 use Rattle.request.specs.declared.trials.Trial.{Trial}
 use Rattle.request.specs.declared.trials.TrialWords.{TrialWords}
 use Rattle.inspect.specs.TrialImage.{sectors_of}
@@ -65,12 +69,13 @@ use Rattle.notes.specs.SourceLines.{LineOfC, AreLines, NoLines}
 use Rattle.inspect.specs.TrialText as trials
 use Rattle.inspect.specs.TrialText.{Bound, IsBoundBy, IsTried, RefusesLimit, RefusesTrial}
 use Rattle.commands.specs.Acting.{AnswersRetold, RefusesReportOf, for_log_of_report, for_report_file, for_base_of_report, for_retold}
-use Rattle.commands.specs.Acting.{AnswersAny, RefusesAny, for_any_losses, for_any_recording, form_of}
+use Rattle.commands.specs.Acting.{AnswersLosses, RefusesLosses, any_words, for_any_losses, for_any_recording, form_of}
 use Rattle.commands.specs.Acting.{AnswersTrial, RefusesCheck, for_trial_words, for_program_file, for_image_file, for_lines_file, for_trial}
 use Rattle.commands.specs.Acting.{AnswersJoin, JoinsTexts, RefusesTexts, for_texts, RefusesParts, for_no_part, for_many_parts, for_unread_part, for_parts, for_part_memory}
 use Rattle.commands.specs.Laws.{IsOfMemory}
 use Rattle.commands.proofs.OneJoin.{joined_or_refused}
-use Rattle.commands.proofs.OneReport.{Below, same_log, same_asked, same_checkers, of_log, of_source, refused_as, of_refuses, told_apart, cured_apart, wanted_or_refusal}
+use Rattle.commands.proofs.OneReport.{Below, same_log, same_asked, same_checkers, of_log, of_source, refused_as, of_refuses, told_apart, told_uncured, cured_apart, cured_by_images, wanted_or_refusal}
+use Rattle.commands.proofs.OneCases.{not_many}
 use Rattle.commands.proofs.OneFirst.{CasesAreOne, not_refused}
 use Rattle.commands.proofs.OneRetold.{retold_or_refusal}
 use Rattle.retold.specs.Retold.{RefusesRetold}
@@ -173,16 +178,36 @@ cases_or_refusal below one l text files s bytes failing _ taken h (for_cases m v
     let by_value = subst (λ (v : LogValue). HasTooMany l s v checkers cut) (same_log below.texts text s value h.value source h.source) losses in
     let by_checkers = subst (λ (cs : List CheckerValue). HasTooMany l s h.value cs cut) (same_checkers below.programs below.verdicts s files checkers h.checkers made h.made) by_value in
     absurd (not_refused one.findings one.first s.first l s h.value h.checkers bytes failing cut h.tells by_checkers)
+cases_or_refusal below one l text files s bytes failing _ taken h (for_cure m value checkers cut is chosen count source made many) =
+    absurd (let bad : wanted.Cases l ≡ wanted.CuredCases m = is in cc)
+
+-- a cure by cases
+same_cured : (l m : AnyLosses) → wanted.CuredCases l ≡ wanted.CuredCases m → m ≡ l
+same_cured l m is = let both : wanted.CuredCases l ≡ wanted.CuredCases m = is in cc
+
+cured_or_refusal : Below → CasesAreOne → (l : AnyLosses) (text : Recording) (files : List (List ℕ)) (s : Settings) (bytes : List ℕ) (failing : Bool) (r : Refusal)
+    → takes (wanted.CuredCases l) s.extent ≡ true → IsCasesCured l text files s bytes failing → RefusesWanted (wanted.CuredCases l) text files s r → IsOfMemory r.code
+cured_or_refusal below one l text files s bytes failing _ taken h (for_extent other) = absurd (false≢true (sym other ∙ taken))
+cured_or_refusal below one l text files s bytes failing _ taken h (for_rest r chosen why) = of_refuses below text files s h.value h.checkers r h.count h.source h.made why
+cured_or_refusal below one l text files s bytes failing _ taken h (for_cases m value checkers cut is chosen count source made many) =
+    absurd (let bad : wanted.CuredCases l ≡ wanted.Cases m = is in cc)
+cured_or_refusal below one l text files s bytes failing _ taken h (for_cure m value checkers cut is chosen count source made many) =
+    let losses = subst (λ (x : AnyLosses). HasMore x s value checkers cut) (same_cured l m is) many in
+    let by_value = subst (λ (v : LogValue). HasMore l s v checkers cut) (same_log below.texts text s value h.value source h.source) losses in
+    let by_checkers = subst (λ (cs : List CheckerValue). HasMore l s h.value cs cut) (same_checkers below.programs below.verdicts s files checkers h.checkers made h.made) by_value in
+    let finds = h.tells.tells.finds in
+    absurd (not_many one.findings (losses_of l s) h.value s.by (case_cuts l.at_most s.cuts h.value.entries) h.checkers finds.found cut finds.are finds.few by_checkers)
 
 -- whatever is wanted
 answer_or_none : Below → CasesAreOne → (t : Wanted) (text : Recording) (files : List (List ℕ)) (s : Settings) (bytes : List ℕ) (failing : Bool) (r : Refusal)
     → takes t s.extent ≡ true → IsAnswered t text files s bytes failing → RefusesWanted t text files s r → IsOfMemory r.code
 answer_or_none below one (wanted.Told kind) text files s bytes failing r taken h why =
-    wanted_or_refusal below (wanted.Told kind) (λ s value checkers bytes. Tells kind (inputs_number text.text files) s value checkers bytes) (λ l is. told_apart kind l is) text files s bytes
-    failing r taken h why
+    wanted_or_refusal below (wanted.Told kind) (λ s value checkers bytes. Tells kind (inputs_number text.text files) s value checkers bytes) (λ l is. told_apart kind l is)
+    (λ l is. told_uncured kind l is) text files s bytes failing r taken h why
 answer_or_none below one wanted.Cured text files s bytes failing r taken h why =
-    wanted_or_refusal below wanted.Cured TellsCure (λ l is. cured_apart l is) text files s bytes failing r taken h why
+    wanted_or_refusal below wanted.Cured (TellsCure None) (λ l is. cured_apart l is) (λ l is. cured_by_images l is) text files s bytes failing r taken h why
 answer_or_none below one (wanted.Cases l) text files s bytes failing r taken h why = cases_or_refusal below one l text files s bytes failing r taken h why
+answer_or_none below one (wanted.CuredCases l) text files s bytes failing r taken h why = cured_or_refusal below one l text files s bytes failing r taken h why
 
 of_files : Below → CasesAreOne → (t : Wanted) (files : Files) (s : Settings) (bytes : List ℕ) (status : ℕ) (r : Refusal) → AnswersFiles t s files bytes status → RefusesFiles t files s r
     → IsOfMemory r.code
@@ -205,13 +230,13 @@ of_explore : Below → CasesAreOne → (t : Wanted) (w : OptionWords) (files : F
 of_explore below one t w files bytes status r h why =
     of_words w h.settings (RefusesFiles t files) r h.asked (λ q. of_files below one t files h.settings bytes status q h.answers) why
 
-of_cases : Below → CasesAreOne → (w : OptionWords) (l : LossWords) (files : Files) (bytes : List ℕ) (status : ℕ) (r : Refusal) → AnswersCases w l files bytes status
-    → RefusesWith w (RefusesCases l files) r → IsOfMemory r.code
-of_cases below one w l files bytes status r h why = of_words w h.settings (RefusesCases l files) r h.asked (λ q. rest q) why
+of_cases : Below → CasesAreOne → (cured : Bool) (w : OptionWords) (l : LossWords) (files : Files) (bytes : List ℕ) (status : ℕ) (r : Refusal) → AnswersCases cured w l files bytes status
+    → RefusesWith w (RefusesCases cured l files) r → IsOfMemory r.code
+of_cases below one cured w l files bytes status r h why = of_words w h.settings (RefusesCases cured l files) r h.asked (λ q. rest q) why
   where
-    rest : (q : Refusal) → RefusesCases l files h.settings q → IsOfMemory q.code
+    rest : (q : Refusal) → RefusesCases cured l files h.settings q → IsOfMemory q.code
     rest _ (for_losses q bad) = absurd (let both : None ≡ Some q = sym h.good ∙ bad in cc)
-    rest _ (for_cases_of q good refused) = of_files below one (wanted.Cases (losses_asked l h.settings)) files h.settings bytes status q h.answers refused
+    rest _ (for_cases_of q good refused) = of_files below one (wanted_by cured (losses_asked l h.settings)) files h.settings bytes status q h.answers refused
 
 of_stored : Below → CasesAreOne → (t : Wanted) (text : Recording) (files : List (List ℕ)) (s : Settings) (bytes : List ℕ) (status : ℕ) (r : Refusal) → AnswersRun t s text files bytes status
     → (r ≡ memory_refusal) ⊎ RefusesWanted t text files s r → IsOfMemory r.code
@@ -260,16 +285,30 @@ of_any_image below in_words cut said s text bytes _ h (any.for_choice other read
     absurd (none.none h.shown.departures (subst (λ (v : LogValue). IsMeantLoss s v cut said h.shown.departures) same h.shown.meant))
 of_any_image below in_words cut said s text bytes _ h (any.for_any_memory other reads) = refl
 
-of_any : Below → (w : OptionWords) (cut : ℕ) (in_words : Bool) (files : Files) (bytes : List ℕ) (status : ℕ) (r : Refusal) → AnswersAny w cut in_words files bytes status
-    → RefusesWith w (RefusesAny cut files) r → IsOfMemory r.code
-of_any below w cut in_words files bytes status r h why = of_words w h.settings (RefusesAny cut files) r h.asked (λ q. rest q) why
+-- a run by cuts can be laid out so
+not_laid_by_cuts : (parts : Option ℕ) (count : ℕ) → parts ≡ Some count → CanBeLaid parts → is_cut_layout count ≡ false → ⊥
+not_laid_by_cuts None count same can lack = let bad : None ≡ Some count = same in cc
+not_laid_by_cuts (Some parts) count same can lack =
+    let both : Some parts ≡ Some count = same in
+    let is : parts ≡ count = cc in
+    false≢true (sym lack ∙ ap is_cut_layout (sym is) ∙ can)
+
+of_cut_survey : Below → (parts : Option ℕ) (l : LossWords) (s : Settings) (text : Recording) (bytes : List ℕ) (r : Refusal) → IsCutSurvey parts (losses_asked l s) text s bytes
+    → RefusesCutSurvey parts text s r → IsOfMemory r.code
+of_cut_survey below parts l s text bytes _ h (cuts.for_cut_log r why) = of_log below text s h.value r h.reads why
+of_cut_survey below parts l s text bytes _ h (cuts.for_cut_parts value count reads same lack) = absurd (not_laid_by_cuts parts count same h.can lack)
+of_cut_survey below parts l s text bytes _ h (cuts.for_cut_memory value reads) = refl
+
+of_losses : (w : OptionWords) (l : LossWords) (Is : Settings → Recording → List ℕ → Type 0) (Rest : Settings → Recording → Refusal → Type 0)
+    → ((s : Settings) (held : Recording) (bytes : List ℕ) (r : Refusal) → Is s held bytes → Rest s held r → IsOfMemory r.code)
+    → (files : Files) (bytes : List ℕ) (status : ℕ) (r : Refusal) → AnswersLosses w l Is files bytes status → RefusesWith w (RefusesLosses l Rest files) r → IsOfMemory r.code
+of_losses w l Is Rest one files bytes status r h why = of_words w h.settings (RefusesLosses l Rest files) r h.asked (λ q. rest q) why
   where
-    rest : (q : Refusal) → RefusesAny cut files h.settings q → IsOfMemory q.code
+    rest : (q : Refusal) → RefusesLosses l Rest files h.settings q → IsOfMemory q.code
     rest _ (for_any_losses q bad) = absurd (let both : None ≡ Some q = sym h.good ∙ bad in cc)
     rest _ (for_any_recording q good refused) =
         let own = h.answers in
-        of_recording files own.held own.initial (λ text. RefusesAnyImage text h.settings cut files.choice) q own.read own.based
-        (λ p. of_any_image below in_words cut files.choice h.settings (recording own.held own.initial) bytes p own.is) refused
+        of_recording files own.held own.initial (Rest h.settings) q own.read own.based (λ p. one h.settings (recording own.held own.initial) bytes p own.is) refused
 
 of_verified : Below → (listed : Bool) (s : Settings) (code bytes : List ℕ) (r : Refusal) → IsAcceptedText code s listed bytes → RefusesVerified code s r → IsOfMemory r.code
 of_verified below listed s code bytes _ h (with_code_fault cause slot fault) = absurd (below.spelled code h.verified.program h.spelled cause slot fault)
@@ -373,13 +412,17 @@ pub answer_or_refusal : Below → CasesAreOne → (r : Request) (files : Files) 
     → IsOfMemory refusal.code
 answer_or_refusal below findings request.StoredRun files bytes status refusal h why = of_stored below findings (wanted.Told telling.Report) _ _ _ bytes status refusal h why
 answer_or_refusal below findings (request.Explore w) files bytes status refusal h why = of_explore below findings (wanted.Told telling.Report) w files bytes status refusal h why
-answer_or_refusal below findings (request.Cases w l) files bytes status refusal h why = of_cases below findings w l files bytes status refusal h why
+answer_or_refusal below findings (request.Cases w l) files bytes status refusal h why = of_cases below findings false w l files bytes status refusal h why
+answer_or_refusal below findings (request.CureCases w l) files bytes status refusal h why = of_cases below findings true w l files bytes status refusal h why
 answer_or_refusal below findings (request.Why w) files bytes status refusal h why = of_explore below findings (wanted.Told telling.Causes) w files bytes status refusal h why
 answer_or_refusal below findings (request.Cure w) files bytes status refusal h why = of_explore below findings wanted.Cured w files bytes status refusal h why
 answer_or_refusal below findings (request.Page w) files bytes status refusal h why = of_explore below findings (wanted.Told telling.Page) w files bytes status refusal h why
 answer_or_refusal below findings (request.Retold w t) files bytes status refusal h why = of_retold below t w files bytes status refusal h why
 answer_or_refusal below findings (request.Images w parts) files bytes status refusal h why =
     of_log_with w (λ s text. IsSurvey parts text s) (λ s text. RefusesSurvey parts text s) (of_survey below parts) files bytes status refusal h why
+answer_or_refusal below findings (request.Cuts w l parts) files bytes status refusal h why =
+    of_losses w l (λ s text. IsCutSurvey parts (losses_asked l s) text s) (λ s text. RefusesCutSurvey parts text s)
+    (λ s held text r is refuses. of_cut_survey below parts l s held text r is refuses) files bytes status refusal h why
 answer_or_refusal below findings (request.Export w) files bytes status refusal h why =
     of_log_with w (λ s text. IsExport text s) (λ s text. RefusesExport text s) (of_export below) files bytes status refusal h why
 answer_or_refusal below findings (request.Log w) files bytes status refusal h why =
@@ -390,7 +433,9 @@ answer_or_refusal below findings (request.Image w which) files bytes status refu
 answer_or_refusal below findings (request.Show w which) files bytes status refusal h why =
     of_log_with w (λ s text. IsShown text s which) (λ s text. RefusesImage text s which)
     (λ s text shown r k. of_meant below which s text k.value k.choice r k.source k.meant.is) files bytes status refusal h why
-answer_or_refusal below findings (request.AnyImage w cut in_words) files bytes status refusal h why = of_any below w cut in_words files bytes status refusal h why
+answer_or_refusal below findings (request.AnyImage w cut in_words) files bytes status refusal h why =
+    of_losses w any_words (λ s text. IsAnyImage (form_of in_words) text s cut files.choice) (λ s text. RefusesAnyImage text s cut files.choice)
+    (λ s held text r is refuses. of_any_image below in_words cut files.choice s held text r is refuses) files bytes status refusal h why
 answer_or_refusal below findings (request.Verify w listed) files bytes status refusal h why =
     of_with w (λ s code. IsAcceptedText code s listed) (λ s code. RefusesVerified code s) (of_verified below listed) files bytes status refusal h why
 answer_or_refusal below findings (request.Import limits) files bytes status refusal h why =

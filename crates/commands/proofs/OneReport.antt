@@ -31,7 +31,7 @@ use Rattle.runs.specs.declared.explore_command.Wanted.{Wanted}
 use Rattle.runs.specs.declared.explore_command.Wanted.TheVariants as wanted
 use Rattle.runs.specs.Programs.{IsAcceptedChecker, IsRunWithin}
 use Rattle.runs.specs.Explore as explore
-use Rattle.runs.specs.Explore.{IsProgramCount, IsCheckerOf, AreCheckersOf, subject_of, report_of, IsRun, RefusesProgram, with_code_fault, with_verifier_fault, no_code_memory, no_verifier_memory, no_list_memory, Refuses, for_count, for_program, RefusesWanted, for_extent, for_rest, for_cases}
+use Rattle.runs.specs.Explore.{IsProgramCount, IsCheckerOf, AreCheckersOf, subject_of, report_of, IsRun, RefusesProgram, with_code_fault, with_verifier_fault, no_code_memory, no_verifier_memory, no_list_memory, Refuses, for_count, for_program, RefusesWanted, for_extent, for_rest, for_cases, for_cure}
 use Rattle.commands.specs.Laws.{IsOfMemory, OneReport}
 
 same_recorded : TextOfOneLog → (text : Recording) (s : Settings) (v w : LogValue) → IsRecorded text s v → IsRecorded text s w → v ≡ w
@@ -206,13 +206,21 @@ of_refuses below text files s value checkers _ counted source made (for_program 
 pub told_apart : (t : Telling) (l : AnyLosses) → wanted.Told t ≡ wanted.Cases l → ⊥
 told_apart t l is = let bad : wanted.Told t ≡ wanted.Cases l = is in cc
 
+pub told_uncured : (t : Telling) (l : AnyLosses) → wanted.Told t ≡ wanted.CuredCases l → ⊥
+told_uncured t l is = let bad : wanted.Told t ≡ wanted.CuredCases l = is in cc
+
 pub cured_apart : (l : AnyLosses) → wanted.Cured ≡ wanted.Cases l → ⊥
 cured_apart l is = let bad : wanted.Cured ≡ wanted.Cases l = is in cc
 
+pub cured_by_images : (l : AnyLosses) → wanted.Cured ≡ wanted.CuredCases l → ⊥
+cured_by_images l is = let bad : wanted.Cured ≡ wanted.CuredCases l = is in cc
+
 -- a run that judges the images that are meant, and isn't asked for cases
 pub wanted_or_refusal : Below → (w : Wanted) (Tells : Settings → LogValue → List CheckerValue → List ℕ → Type 0) → ((l : AnyLosses) → w ≡ wanted.Cases l → ⊥)
+    → ((l : AnyLosses) → w ≡ wanted.CuredCases l → ⊥)
     → (text : Recording) (files : List (List ℕ)) (s : Settings) (bytes : List ℕ) (failing : Bool) (r : Refusal) → takes w s.extent ≡ true → IsRun Tells text files s bytes failing
     → RefusesWanted w text files s r → IsOfMemory r.code
-wanted_or_refusal below w Tells apart text files s bytes failing _ taken h (for_extent other) = absurd (false≢true (sym other ∙ taken))
-wanted_or_refusal below w Tells apart text files s bytes failing _ taken h (for_rest r chosen why) = of_refuses below text files s h.value h.checkers r h.count h.source h.made why
-wanted_or_refusal below w Tells apart text files s bytes failing _ taken h (for_cases l value checkers cut is chosen count source made many) = absurd (apart l is)
+wanted_or_refusal below w Tells apart uncured text files s bytes failing _ taken h (for_extent other) = absurd (false≢true (sym other ∙ taken))
+wanted_or_refusal below w Tells apart uncured text files s bytes failing _ taken h (for_rest r chosen why) = of_refuses below text files s h.value h.checkers r h.count h.source h.made why
+wanted_or_refusal below w Tells apart uncured text files s bytes failing _ taken h (for_cases l value checkers cut is chosen count source made many) = absurd (apart l is)
+wanted_or_refusal below w Tells apart uncured text files s bytes failing _ taken h (for_cure l value checkers cut is chosen count source made many) = absurd (uncured l is)

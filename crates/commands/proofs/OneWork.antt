@@ -1,5 +1,5 @@
 -- Who does the work changes no answer.
-use Rattle.std.proofs.Common.{ℕ, ◌≡◌, ◌==◌, nat_le, Bool, true, false, not, ◌&&◌, ◌||◌, is_some, List, [], ◌∷◌, Option, None, Some, option_map, refl, sym, ◌∙◌, ap, subst}
+use Rattle.std.proofs.Common.{ℕ, ◌≡◌, ◌==◌, nat_le, Bool, true, false, not, ◌&&◌, ◌||◌, is_some, List, [], ◌∷◌, Option, None, Some, ◌⊎◌, inl, inr, option_map, refl, sym, ◌∙◌, ap, subst}
 use Rattle.std.specs.Option.{option_map_or, option_and_then}
 use Rattle.base.specs.Check.{Check, check, first_failing}
 use Rattle.logfmt.specs.Bounds.{LogValue}
@@ -26,13 +26,15 @@ use Rattle.request.specs.Extents.{is_extent, is_whole}
 use Rattle.runs.specs.Inputs.{inputs_number}
 use Rattle.request.specs.Settings.{is_one_kind, is_ordered, option_refusal, option_checks, settings_refusal}
 use Rattle.request.specs.OptionWords.{settings_with, AskFor}
-use Rattle.request.specs.Source.{Recording, IsLogOf, HasImages}
+use Rattle.request.specs.Source.{plan_of, Recording, IsLogOf, HasImages}
 use Rattle.runs.specs.Explore.{AreCheckersOf, head_of}
+use Rattle.choices.specs.Choices.{IsFirstPast}
 use Rattle.checker.specs.Checker.{CheckerValue}
 use Rattle.logfmt.specs.Flushed.{with_flushes}
 use Rattle.losses.specs.FailureWindows.{places_in}
-use Rattle.runs.specs.Cured.{AreRounds, Ends, with_totals, with_refusal, TellsCure, IsAnswered}
-use Rattle.runs.specs.Cases.{TellsCases, TellsFirst, of_first, of_none, TellsLosses, IsLosses}
+use Rattle.losses.specs.declared.cure.failure.Failure.{Failure}
+use Rattle.runs.specs.Cured.{Finds, IsPast, AreRounds, with_rounds, Ends, with_totals, with_refusal, TellsCure, Cures, IsAnswered}
+use Rattle.runs.specs.Cases.{TellsCases, TellsFirst, of_first, of_none, TellsLosses, IsByCases}
 use Rattle.runs.specs.Explore.{IsRun}
 use Rattle.runs.specs.Why.{Tells}
 use Rattle.join.specs.Given.{GivenValue}
@@ -41,12 +43,13 @@ use Rattle.losses.specs.declared.flushes.counted.MissingFlush.{MissingFlush}
 use Rattle.runs.specs.declared.explore_command.Wanted.{Wanted}
 use Rattle.runs.specs.declared.explore_command.Wanted.TheVariants as wanted
 use Rattle.inspect.specs.Image.{IsImage, IsShown}
-use Rattle.inspect.specs.AnyImage.{any_text_in}
+use Rattle.inspect.specs.AnyImage.{any_text_in, IsAnyImage}
+use Rattle.inspect.specs.CutSurvey.{IsCutSurvey}
 use Rattle.inspect.specs.Survey.{IsSurvey}
 use Rattle.inspect.specs.Export.{IsExport}
 use Rattle.inspect.specs.Table.{IsTable}
 use Rattle.inspect.specs.Verifying.{IsAcceptedText}
-use Rattle.commands.specs.Acting.{Files, recording, any_words, form_of, AnswersExplore, AnswersCases, AnswersRetold, AnswersOf, AnswersAny, AnswersWith, Answers}
+use Rattle.commands.specs.Acting.{Files, recording, any_words, form_of, AnswersExplore, AnswersCases, wanted_by, AnswersRetold, AnswersOf, AnswersLosses, AnswersWith, Answers}
 use Rattle.commands.specs.OneAnswer.{OneAnswer, alone, asked_alone, WorkChangesNothing}
 
 -- the same settings for one worker without a cache
@@ -112,14 +115,37 @@ checkers_alone s (bytes ∷ files) [] h = h
 checkers_alone s (bytes ∷ files) (c ∷ cs) h =
     (record { spelled = h.0.spelled; clean = h.0.clean; within = h.0.within }, checkers_alone s files cs h.1)
 
-rounds_alone : (s : Settings) (cs : List CheckerValue) (v : LogValue) (rounds : List (List MissingFlush)) → AreRounds s cs v rounds → AreRounds (set_alone s) cs v rounds
-rounds_alone s cs v [] h = h
-rounds_alone s cs v (ms ∷ rounds) h =
-    (record { few = h.0.few; failures = h.0.failures; fail = h.0.fail; some = h.0.some; missing = h.0.missing }, rounds_alone s cs (with_flushes (places_in ms) v) rounds h.1)
+-- what a run of a cure finds, and where it has too many images or cases
+finds_alone : (o : Option AnyLosses) (s : Settings) (cs : List CheckerValue) (v : LogValue) (fs : List Failure) (begin last : List ℕ) → Finds o s cs v fs begin last
+    → Finds o (set_alone s) cs v fs begin last
+unfolding head_of
+finds_alone None s cs v fs begin last h = record { few = h.few; fail = h.fail; begins = h.begins; ends = h.ends }
+finds_alone (Some l) s cs v fs begin last h = record { images = h.images; found = h.found; are = h.are; few = h.few; fail = h.fail; begins = h.begins; ends = h.ends }
 
-ends_alone : {s : Settings} {cs : List CheckerValue} {v : LogValue} {end : List ℕ} → Ends s cs v end → Ends (set_alone s) cs v end
-ends_alone (with_totals failures few fail none) = with_totals failures few fail none
-ends_alone (with_refusal cut past) = with_refusal cut (record { place = past.place; wanted = past.wanted; before = past.before; past = past.past })
+first_past_alone : (s : Settings) (v : LogValue) (cut : ℕ) → IsFirstPast (plan_of s v) s.bound s.tears cut → IsFirstPast (plan_of (set_alone s) v) s.bound s.tears cut
+first_past_alone s v cut past = record { place = past.place; wanted = past.wanted; before = past.before; past = past.past }
+
+past_alone : (o : Option AnyLosses) (s : Settings) (cs : List CheckerValue) (v : LogValue) (cut : ℕ) → IsPast o s cs v cut → IsPast o (set_alone s) cs v cut
+past_alone None s cs v cut past = first_past_alone s v cut past
+past_alone (Some l) s cs v cut past = elim past [ inl images ↦ inl (first_past_alone s v cut images) | inr cases ↦ inr cases ]
+
+rounds_alone : (o : Option AnyLosses) (s : Settings) (cs : List CheckerValue) (v : LogValue) (rounds : List (List MissingFlush)) → AreRounds o s cs v rounds → AreRounds o (set_alone s) cs v rounds
+rounds_alone o s cs v [] h = h
+rounds_alone o s cs v (ms ∷ rounds) h = (
+  record {
+    failures = h.0.failures;
+    begin = h.0.begin;
+    last = h.0.last;
+    finds = finds_alone o s cs v h.0.failures h.0.begin h.0.last h.0.finds;
+    some = h.0.some;
+    missing = h.0.missing;
+  },
+  rounds_alone o s cs (with_flushes (places_in ms) v) rounds h.1,
+)
+
+ends_alone : (o : Option AnyLosses) (s : Settings) (cs : List CheckerValue) (v : LogValue) (end : List ℕ) → Ends o s cs v end → Ends o (set_alone s) cs v end
+ends_alone o s cs v _ (with_totals failures begin last finds none) = with_totals failures begin last (finds_alone o s cs v failures begin last finds) none
+ends_alone o s cs v _ (with_refusal cut past) = with_refusal cut (past_alone o s cs v cut past)
 
 -- what is told is the same
 tells_alone : (t : Telling) (inputs : ℕ) (s : Settings) (value : LogValue) (cs : List CheckerValue) (bytes : List ℕ) → Tells t inputs s value cs bytes
@@ -147,23 +173,29 @@ tells_alone telling.Page inputs s value cs bytes h =
       };
     }
 
-cure_alone : (s : Settings) (value : LogValue) (cs : List CheckerValue) (bytes : List ℕ) → TellsCure s value cs bytes → TellsCure (set_alone s) value cs bytes
-unfolding head_of
-cure_alone s value cs bytes h =
+cure_alone : (o : Option AnyLosses) (s : Settings) (value : LogValue) (cs : List CheckerValue) (bytes : List ℕ) → TellsCure o s value cs bytes → TellsCure o (set_alone s) value cs bytes
+cure_alone o s value cs bytes h =
     let tells = h.tells in
     record {
       failures = h.failures;
-      fail = h.fail;
+      begin = h.begin;
+      last = h.last;
+      finds = finds_alone o s cs value h.failures h.begin h.last h.finds;
       rounds = h.rounds;
       tells = record {
         rounds = tells.rounds;
-        are = rounds_alone s cs value tells.rounds tells.are;
+        are = rounds_alone o s cs value tells.rounds tells.are;
         end = tells.end;
-        ends = ends_alone tells.ends;
+        ends = ends_alone o s cs (with_rounds value tells.rounds) tells.end tells.ends;
         told = tells.told;
       };
       text = h.text;
     }
+
+cures_alone : (o : Option AnyLosses) (s : Settings) (value : LogValue) (cs : List CheckerValue) (bytes : List ℕ) (failing : Bool) → Cures o s value cs bytes failing
+    → Cures o (set_alone s) value cs bytes failing
+unfolding cure_alone
+cures_alone o s value cs bytes failing h = record { tells = cure_alone o s value cs bytes h.tells; fails = h.fails }
 
 run_alone : (Is : Settings → LogValue → List CheckerValue → List ℕ → Type 0)
     → ((s : Settings) (value : LogValue) (cs : List CheckerValue) (bytes : List ℕ) → Is s value cs bytes → Is (set_alone s) value cs bytes)
@@ -196,24 +228,28 @@ tells_losses_alone : (first : Bool) (l : AnyLosses) (s : Settings) (value : LogV
 tells_losses_alone false l s value cs bytes failing tells = tells_cases_alone l s value cs bytes failing tells
 tells_losses_alone true l s value cs bytes failing tells = tells_first_alone l s value cs bytes failing tells
 
-cases_alone : (first : Bool) (l : AnyLosses) (text : Recording) (files : List (List ℕ)) (s : Settings) (bytes : List ℕ) (failing : Bool) → IsLosses first l text files s bytes failing
-    → IsLosses first l text files (set_alone s) bytes failing
-cases_alone first l text files s bytes failing h =
+by_cases_alone : (Is : Settings → LogValue → List CheckerValue → List ℕ → Bool → Type 0)
+    → ((s : Settings) (value : LogValue) (cs : List CheckerValue) (bytes : List ℕ) (failing : Bool) → Is s value cs bytes failing → Is (set_alone s) value cs bytes failing)
+    → (text : Recording) (files : List (List ℕ)) (s : Settings) (bytes : List ℕ) (failing : Bool) → IsByCases Is text files s bytes failing → IsByCases Is text files (set_alone s) bytes failing
+by_cases_alone Is keeps text files s bytes failing h =
     record {
       count = h.count;
       value = h.value;
       source = images_alone h.source;
       checkers = h.checkers;
       made = checkers_alone s files h.checkers h.made;
-      tells = tells_losses_alone first l s h.value h.checkers bytes failing h.tells;
+      tells = keeps s h.value h.checkers bytes failing h.tells;
     }
 
 answered_alone : (w : Wanted) (text : Recording) (files : List (List ℕ)) (s : Settings) (bytes : List ℕ) (failing : Bool)
     → IsAnswered w text files s bytes failing → IsAnswered w text files (set_alone s) bytes failing
 answered_alone (wanted.Told t) text files s bytes failing h =
     run_alone (λ s value checkers bytes. Tells t (inputs_number text.text files) s value checkers bytes) (tells_alone t (inputs_number text.text files)) text files s bytes failing h
-answered_alone wanted.Cured text files s bytes failing h = run_alone TellsCure cure_alone text files s bytes failing h
-answered_alone (wanted.Cases l) text files s bytes failing h = cases_alone s.first l text files s bytes failing h
+answered_alone wanted.Cured text files s bytes failing h = run_alone (TellsCure None) (λ s value cs bytes. cure_alone None s value cs bytes) text files s bytes failing h
+answered_alone (wanted.Cases l) text files s bytes failing h =
+    by_cases_alone (TellsLosses s.first l) (λ t value cs bytes failing. tells_losses_alone s.first l t value cs bytes failing) text files s bytes failing h
+answered_alone (wanted.CuredCases l) text files s bytes failing h =
+    by_cases_alone (Cures (Some l)) (λ s value cs bytes failing. cures_alone (Some l) s value cs bytes failing) text files s bytes failing h
 
 explore_alone : (t : Wanted) (w : OptionWords) (files : Files) (bytes : List ℕ) (status : ℕ)
     → AnswersExplore t w files bytes status → AnswersExplore t (alone w) files bytes status
@@ -250,10 +286,10 @@ losses_alone l s h =
     by_checks true true true true false f k = absurd (let bad : Some (option_refusal place.Cache) ≡ None = k in cc)
     by_checks true true true true true f k = k
 
-cases_answered_alone : (w : OptionWords) (l : LossWords) (files : Files) (bytes : List ℕ) (status : ℕ) → AnswersCases w l files bytes status → AnswersCases (alone w) l files bytes status
-cases_answered_alone w l files bytes status h =
+cases_answered_alone : (cured : Bool) (w : OptionWords) (l : LossWords) (files : Files) (bytes : List ℕ) (status : ℕ) → AnswersCases cured w l files bytes status → AnswersCases cured (alone w) l files bytes status
+cases_answered_alone cured w l files bytes status h =
     let run = h.answers.answers in
-    let t = wanted.Cases (losses_asked l h.settings) in
+    let t = wanted_by cured (losses_asked l h.settings) in
     record {
       settings = set_alone h.settings;
       asked = ask_alone w h.settings h.asked;
@@ -308,33 +344,38 @@ tells_retold retelling.Causes s v g bytes h = h
 tells_retold retelling.Page s v g bytes h = h
 tells_retold retelling.Places s v g bytes h = h
 
-any_alone : (w : OptionWords) (cut : ℕ) (in_words : Bool) (files : Files) (bytes : List ℕ) (status : ℕ) → AnswersAny w cut in_words files bytes status
-    → AnswersAny (alone w) cut in_words files bytes status
-any_alone w cut in_words files bytes status h =
+-- of a command on a log with any number of losses
+losses_log_alone : (w : OptionWords) (l : LossWords) (Is : Settings → Recording → List ℕ → Type 0) → ((s : Settings) (held : Recording) (bytes : List ℕ) → Is s held bytes → Is (set_alone s) held bytes)
+    → (files : Files) (bytes : List ℕ) (status : ℕ) → AnswersLosses w l Is files bytes status → AnswersLosses (alone w) l Is files bytes status
+losses_log_alone w l Is keeps files bytes status h =
     let own = h.answers in
-    let shown = own.is.shown in
-    let lost = shown.departures in
-    let value = own.is.value in
     record {
       settings = set_alone h.settings;
       asked = ask_alone w h.settings h.asked;
-      good = losses_alone any_words h.settings h.good;
+      good = losses_alone l h.settings h.good;
       answers = record {
         held = own.held;
         initial = own.initial;
         read = own.read;
         based = own.based;
-        is = record {
-          value = value;
-          reads = log_alone own.is.reads;
-          shown = record {
-            departures = lost;
-            meant = record { place = shown.meant.place; wanted = shown.meant.wanted; is = shown.meant.is };
-            only = λ others m. shown.only others (record { place = m.place; wanted = m.wanted; is = m.is });
-            told = shown.told ∙ told_alone in_words h.settings value cut lost;
-          };
-        };
+        is = keeps h.settings (recording own.held own.initial) bytes own.is;
         ends = own.ends;
+      };
+    }
+
+any_image_alone : (in_words : Bool) (cut : ℕ) (choice : List ℕ) (s : Settings) (held : Recording) (bytes : List ℕ) → IsAnyImage (form_of in_words) held s cut choice bytes
+    → IsAnyImage (form_of in_words) held (set_alone s) cut choice bytes
+any_image_alone in_words cut choice s held bytes is =
+    let shown = is.shown in
+    let lost = shown.departures in
+    record {
+      value = is.value;
+      reads = log_alone is.reads;
+      shown = record {
+        departures = lost;
+        meant = record { place = shown.meant.place; wanted = shown.meant.wanted; is = shown.meant.is };
+        only = λ others m. shown.only others (record { place = m.place; wanted = m.wanted; is = m.is });
+        told = shown.told ∙ told_alone in_words s is.value cut lost;
       };
     }
 
@@ -365,7 +406,8 @@ retold_alone t w files bytes status h =
 pub answers_alone : (r : Request) (files : Files) (bytes : List ℕ) (status : ℕ) → Answers r files bytes status → Answers (asked_alone r) files bytes status
 answers_alone request.StoredRun files bytes status h = h
 answers_alone (request.Explore w) files bytes status h = explore_alone (wanted.Told telling.Report) w files bytes status h
-answers_alone (request.Cases w l) files bytes status h = cases_answered_alone w l files bytes status h
+answers_alone (request.Cases w l) files bytes status h = cases_answered_alone false w l files bytes status h
+answers_alone (request.CureCases w l) files bytes status h = cases_answered_alone true w l files bytes status h
 answers_alone (request.Why w) files bytes status h = explore_alone (wanted.Told telling.Causes) w files bytes status h
 answers_alone (request.Cure w) files bytes status h = explore_alone wanted.Cured w files bytes status h
 answers_alone (request.Page w) files bytes status h = explore_alone (wanted.Told telling.Page) w files bytes status h
@@ -373,6 +415,9 @@ answers_alone (request.Retold w t) files bytes status h = retold_alone t w files
 answers_alone (request.Images w parts) files bytes status h =
     of_alone w (λ s text. IsSurvey parts text s)
     (λ s held shown k. record { value = k.value; source = images_alone k.source; fits = k.fits; told = k.told }) files bytes status h
+answers_alone (request.Cuts w l parts) files bytes status h =
+    losses_log_alone w l (λ s text. IsCutSurvey parts (losses_asked l s) text s)
+    (λ s held shown k. record { value = k.value; reads = log_alone k.reads; can = k.can; told = k.told }) files bytes status h
 answers_alone (request.Export w) files bytes status h =
     of_alone w (λ s text. IsExport text s)
     (λ s held shown k. record { taken = k.taken; value = k.value; source = images_alone k.source; told = k.told }) files bytes status h
@@ -385,7 +430,8 @@ answers_alone (request.Image w which) files bytes status h =
 answers_alone (request.Show w which) files bytes status h =
     of_alone w (λ s text. IsShown text s which)
     (λ s held shown k. record { value = k.value; source = images_alone k.source; choice = k.choice; meant = k.meant; shown = k.shown }) files bytes status h
-answers_alone (request.AnyImage w cut in_words) files bytes status h = any_alone w cut in_words files bytes status h
+answers_alone (request.AnyImage w cut in_words) files bytes status h =
+    losses_log_alone w any_words (λ s text. IsAnyImage (form_of in_words) text s cut files.choice) (λ s held text is. any_image_alone in_words cut files.choice s held text is) files bytes status h
 answers_alone (request.Verify w listed) files bytes status h =
     with_alone w (λ s code. IsAcceptedText code s listed)
     (λ s held shown k. record { verified = k.verified; spelled = k.spelled; accepted = k.accepted; guards = k.guards; sectors = k.sectors; says = k.says }) files bytes status h

@@ -11,6 +11,7 @@ use Rattle.commands.specs.declared.action.Look.{Look}
 use Rattle.commands.specs.declared.action.Look.TheVariants as look
 use Rattle.commands.specs.Stored.{stored_log, stored_programs, stored_settings}
 use Rattle.request.specs.declared.settings.Settings.{Settings}
+use Rattle.request.specs.declared.any_losses.AnyLosses.{AnyLosses}
 use Rattle.request.specs.declared.any_losses.LossWords.{LossWords}
 use Rattle.request.specs.AnyLosses.{losses_asked, losses_refusal}
 use Rattle.request.specs.declared.command.OptionWords.{OptionWords}
@@ -22,6 +23,7 @@ use Rattle.request.specs.declared.trials.Trial.{Trial}
 use Rattle.request.specs.declared.trials.TrialWords.{TrialWords}
 use Rattle.request.specs.Trials.{AskForTrial, trial_refusal}
 use Rattle.request.specs.Source.{Recording}
+use Rattle.request.specs.declared.settings.CaseTelling.TheVariants as cases
 use Rattle.request.specs.declared.settings.Telling.TheVariants as telling
 use Rattle.base.specs.declared.causes.RequestCause.TheVariants as asked
 use Rattle.base.specs.declared.refusal.Cause.TheVariants.{Request as AskedFor}
@@ -43,6 +45,7 @@ use Rattle.inspect.specs.Image.{IsImage, RefusesImage, IsShown}
 use Rattle.inspect.specs.AnyImage.{IsAnyImage, RefusesAnyImage}
 use Rattle.inspect.specs.declared.looks.image_command.Form.{Form}
 use Rattle.inspect.specs.declared.looks.image_command.Form.TheVariants as form
+use Rattle.inspect.specs.CutSurvey.{IsCutSurvey, RefusesCutSurvey}
 use Rattle.inspect.specs.Survey.{IsSurvey, RefusesSurvey}
 use Rattle.inspect.specs.Export.{IsExport, RefusesExport}
 use Rattle.inspect.specs.Table.{IsTable, RefusesTable}
@@ -132,12 +135,16 @@ pub record AnswersExplore (t : Wanted) (w : OptionWords) (files : Files) (bytes 
   pub asked : AskFor w settings
   pub answers : AnswersFiles t settings files bytes status
 
--- the same of what the words ask of any number of losses: its cases
-pub record AnswersCases (w : OptionWords) (l : LossWords) (files : Files) (bytes : List ℕ) (status : ℕ) : Type 0 where
+-- what is wanted of any number of losses: its cases, or where flushes are missing for them
+abbrev pub wanted_by : Bool → AnyLosses → Wanted
+wanted_by cured l = if cured then wanted.CuredCases l else wanted.Cases l
+
+-- the same of what the words ask of any number of losses
+pub record AnswersCases (cured : Bool) (w : OptionWords) (l : LossWords) (files : Files) (bytes : List ℕ) (status : ℕ) : Type 0 where
   pub settings : Settings
   pub asked : AskFor w settings
   pub good : losses_refusal l settings ≡ None
-  pub answers : AnswersFiles (wanted.Cases (losses_asked l settings)) settings files bytes status
+  pub answers : AnswersFiles (wanted_by cured (losses_asked l settings)) settings files bytes status
 
 -- what is told of the report that the second file is, of the log that the first one holds, and the status: 1 exactly where it has a
 -- failing line
@@ -156,7 +163,7 @@ pub record AnswersRetold (t : Retelling) (w : OptionWords) (files : Files) (byte
 
 -- what is asked of any number of losses, where no number of them is given
 abbrev pub any_words : LossWords
-any_words = record { any = true; torn = None; at_most = None; why = false }
+any_words = record { any = true; torn = None; at_most = None; telling = cases.Cases }
 
 -- how an image is told
 abbrev pub form_of : Bool → Form
@@ -184,12 +191,20 @@ pub record AnswersOf (w : OptionWords) (Is : Settings → Recording → List ℕ
   pub asked : AskFor w settings
   pub answers : AnswersLog (Is settings) files bytes status
 
--- the same of an image with any number of losses, of the choice that is printed so
-pub record AnswersAny (w : OptionWords) (cut : ℕ) (in_words : Bool) (files : Files) (bytes : List ℕ) (status : ℕ) : Type 0 where
+-- the same of what the words ask of any number of losses
+pub record AnswersLosses (w : OptionWords) (l : LossWords) (Is : Settings → Recording → List ℕ → Type 0) (files : Files) (bytes : List ℕ) (status : ℕ) : Type 0 where
   pub settings : Settings
   pub asked : AskFor w settings
-  pub good : losses_refusal any_words settings ≡ None
-  pub answers : AnswersLog (λ text. IsAnyImage (form_of in_words) text settings cut files.choice) files bytes status
+  pub good : losses_refusal l settings ≡ None
+  pub answers : AnswersLog (Is settings) files bytes status
+
+-- of an image with any number of losses, of the choice that is printed so
+abbrev pub AnswersAny : OptionWords → ℕ → Bool → Files → List ℕ → ℕ → Type 0
+AnswersAny w cut in_words files bytes status = AnswersLosses w any_words (λ s text. IsAnyImage (form_of in_words) text s cut files.choice) files bytes status
+
+-- of the cuts at which cases are looked for
+abbrev pub AnswersCuts : OptionWords → LossWords → Option ℕ → Files → List ℕ → ℕ → Type 0
+AnswersCuts w l parts files bytes status = AnswersLosses w l (λ s text. IsCutSurvey parts (losses_asked l s) text s) files bytes status
 
 -- the same of a command that takes options, but no log
 pub record AnswersWith (w : OptionWords) (Is : Settings → List ℕ → List ℕ → Type 0) (files : Files) (bytes : List ℕ) (status : ℕ) : Type 0 where
@@ -243,12 +258,14 @@ Shows (look.Show which) s text = IsShown text s which
 abbrev pub Answers : Request → Files → List ℕ → ℕ → Type 0
 Answers request.StoredRun files bytes status = AnswersRun (wanted.Told telling.Report) stored_settings (recording stored_log []) stored_programs bytes status
 Answers (request.Explore w) files bytes status = AnswersExplore (wanted.Told telling.Report) w files bytes status
-Answers (request.Cases w l) files bytes status = AnswersCases w l files bytes status
+Answers (request.Cases w l) files bytes status = AnswersCases false w l files bytes status
 Answers (request.Why w) files bytes status = AnswersExplore (wanted.Told telling.Causes) w files bytes status
 Answers (request.Cure w) files bytes status = AnswersExplore wanted.Cured w files bytes status
+Answers (request.CureCases w l) files bytes status = AnswersCases true w l files bytes status
 Answers (request.Page w) files bytes status = AnswersExplore (wanted.Told telling.Page) w files bytes status
 Answers (request.Retold w t) files bytes status = AnswersRetold t w files bytes status
 Answers (request.Images w parts) files bytes status = AnswersOf w (λ s text. IsSurvey parts text s) files bytes status
+Answers (request.Cuts w l parts) files bytes status = AnswersCuts w l parts files bytes status
 Answers (request.Export w) files bytes status = AnswersOf w (λ s text. IsExport text s) files bytes status
 Answers (request.Log w) files bytes status = AnswersOf w (λ s text. IsTable text s) files bytes status
 Answers (request.Image w which) files bytes status = AnswersOf w (λ s text. IsImage text s which) files bytes status
@@ -304,14 +321,22 @@ pub data RefusesReportOf (t : Retelling) (files : Files) (s : Settings) : Refusa
       → RefusesRetold (recording log initial) report s f → RefusesReportOf t files s (retold_refusal f)
 
 -- the refusals of a run by cases after its options: what is asked of losses first
-pub data RefusesCases (l : LossWords) (files : Files) (s : Settings) : Refusal → Type 0 where
-  for_losses : (r : Refusal) → losses_refusal l s ≡ Some r → RefusesCases l files s r
-  for_cases_of : (r : Refusal) → losses_refusal l s ≡ None → RefusesFiles (wanted.Cases (losses_asked l s)) files s r → RefusesCases l files s r
+pub data RefusesCases (cured : Bool) (l : LossWords) (files : Files) (s : Settings) : Refusal → Type 0 where
+  for_losses : (r : Refusal) → losses_refusal l s ≡ Some r → RefusesCases cured l files s r
+  for_cases_of : (r : Refusal) → losses_refusal l s ≡ None → RefusesFiles (wanted_by cured (losses_asked l s)) files s r → RefusesCases cured l files s r
 
--- the refusals of an image with any number of losses after its options: what doesn't go with these first
-pub data RefusesAny (cut : ℕ) (files : Files) (s : Settings) : Refusal → Type 0 where
-  for_any_losses : (r : Refusal) → losses_refusal any_words s ≡ Some r → RefusesAny cut files s r
-  for_any_recording : (r : Refusal) → losses_refusal any_words s ≡ None → RefusesRecording files (λ text. RefusesAnyImage text s cut files.choice) r → RefusesAny cut files s r
+-- the refusals of a command on a log with any number of losses after its options: what doesn't go with these first
+pub data RefusesLosses (l : LossWords) (Rest : Settings → Recording → Refusal → Type 0) (files : Files) (s : Settings) : Refusal → Type 0 where
+  for_any_losses : (r : Refusal) → losses_refusal l s ≡ Some r → RefusesLosses l Rest files s r
+  for_any_recording : (r : Refusal) → losses_refusal l s ≡ None → RefusesRecording files (Rest s) r → RefusesLosses l Rest files s r
+
+-- those of an image
+abbrev pub RefusesAny : ℕ → Files → Settings → Refusal → Type 0
+RefusesAny cut files s r = RefusesLosses any_words (λ t text. RefusesAnyImage text t cut files.choice) files s r
+
+-- those of the cuts
+abbrev pub RefusesCuts : LossWords → Option ℕ → Files → Settings → Refusal → Type 0
+RefusesCuts l parts files s r = RefusesLosses l (λ t text. RefusesCutSurvey parts text t) files s r
 
 -- the refusals of a program on an image: of the words; of good words, that the program's file can't be read; that it can be, and the
 -- image's can't be; that both can be, and that of the lines of C can't be; then those of what they hold
@@ -353,12 +378,14 @@ RefusesLook (look.Show which) s text = RefusesImage text s which
 abbrev pub RefusesToAct : Request → Files → Refusal → Type 0
 RefusesToAct request.StoredRun files r = (r ≡ memory_refusal) ⊎ RefusesWanted (wanted.Told telling.Report) (recording stored_log []) stored_programs stored_settings r
 RefusesToAct (request.Explore w) files r = RefusesWith w (RefusesFiles (wanted.Told telling.Report) files) r
-RefusesToAct (request.Cases w l) files r = RefusesWith w (RefusesCases l files) r
+RefusesToAct (request.Cases w l) files r = RefusesWith w (RefusesCases false l files) r
 RefusesToAct (request.Why w) files r = RefusesWith w (RefusesFiles (wanted.Told telling.Causes) files) r
 RefusesToAct (request.Cure w) files r = RefusesWith w (RefusesFiles wanted.Cured files) r
+RefusesToAct (request.CureCases w l) files r = RefusesWith w (RefusesCases true l files) r
 RefusesToAct (request.Page w) files r = RefusesWith w (RefusesFiles (wanted.Told telling.Page) files) r
 RefusesToAct (request.Retold w t) files r = RefusesWith w (RefusesReportOf t files) r
 RefusesToAct (request.Images w parts) files r = RefusesWith w (λ s. RefusesRecording files (λ text. RefusesSurvey parts text s)) r
+RefusesToAct (request.Cuts w l parts) files r = RefusesWith w (RefusesCuts l parts files) r
 RefusesToAct (request.Export w) files r = RefusesWith w (λ s. RefusesRecording files (λ text. RefusesExport text s)) r
 RefusesToAct (request.Log w) files r = RefusesWith w (λ s. RefusesRecording files (λ text. RefusesTable text s)) r
 RefusesToAct (request.Image w which) files r = RefusesWith w (λ s. RefusesRecording files (λ text. RefusesImage text s which)) r

@@ -7,7 +7,7 @@ ghost use Rattle.request.specs.declared.command.Request.TheVariants as asks;
 ghost use Rattle.runs.specs.Explore.{RefusesWanted};
 ghost use Rattle.request.specs.Refusals.{file_refusal};
 ghost use Rattle.runs.specs.declared.explore_command.Wanted.TheVariants as wants;
-ghost use Rattle.commands.specs.Acting.{first_held, second_held, lines_held, files_of, held_by, initial_of, recording, status_of, HoldsRecording, RefusesRecording, AnswersRun, AnswersFiles, AnswersExplore, AnswersCases, AnswersRetold, RefusesReportOf, retold_refusal, AnswersAny, RefusesAny, any_words, form_of, Shows, AnswersOf, Answers, JoinsTexts, RefusesTexts, join_refusal, most_texts, RefusesWith, RefusesCases, RefusesLook, RefusesToAct, RefusesFiles};
+ghost use Rattle.commands.specs.Acting.{first_held, second_held, lines_held, files_of, held_by, initial_of, recording, status_of, HoldsRecording, RefusesRecording, AnswersRun, AnswersFiles, AnswersExplore, AnswersCases, wanted_by, AnswersCuts, RefusesCuts, AnswersRetold, RefusesReportOf, retold_refusal, AnswersAny, RefusesAny, any_words, form_of, Shows, AnswersOf, Answers, JoinsTexts, RefusesTexts, join_refusal, most_texts, RefusesWith, RefusesCases, RefusesLook, RefusesToAct, RefusesFiles};
 ghost use Rattle.commands.specs.Stored.{stored_log, stored_programs, stored_settings};
 ghost use Rattle.request.specs.declared.settings.Telling.TheVariants as tells;
 
@@ -18,14 +18,14 @@ use base::refusal::{Cause, Refusal};
 use command_line::Words;
 use inspect::looks::{
     Form, any_image, assemble, export_images, image, import, list, show, shown_log, survey,
-    verify_program,
+    survey_cuts, verify_program,
 };
 use inspect::trial::try_image;
 use join::{JoinFault, join};
 use request::facts::{Facts, Recording};
 use request::{
-    LossWords, OptionWords, Options, Request, Retelling, Telling, TrialWords, Which, losses_of,
-    options_of, trial_of, unreadable,
+    AnyLosses, CaseTelling, LossWords, OptionWords, Options, Request, Retelling, Telling,
+    TrialWords, Which, losses_of, options_of, trial_of, unreadable,
 };
 use retold::{Fault, retell};
 use runs::{Question, Wanted, run_with};
@@ -188,24 +188,37 @@ fn act_explore<G: Gate + Sync, R: Threads + Wait + Sync>(
     explore_readable(rt, alloc, gate, asked, &options, facts)
 }
 
-/// Finds the failing cases of any number of losses in the files of a command, of which the first is the log.
+/// What is wanted of any number of losses.
+fn wanted_by(cured: bool, losses: AnyLosses) -> Wanted
+    ensures { result ≡ wanted_by cured losses }
+{
+    if cured {
+        Wanted::CuredCases(losses)
+    } else {
+        Wanted::Cases(losses)
+    }
+}
+
+/// Finds the failing cases of any number of losses in the files of a command, of which the first is the log, or where flushes are
+/// missing for them.
 #[inline(never)]
 fn act_cases<G: Gate + Sync, R: Threads + Wait + Sync>(
     rt: &R,
     alloc: Global,
     gate: &G,
+    cured: bool,
     words: OptionWords,
     losses: LossWords,
     files: &Held<'_>,
     facts: &mut Facts,
 ) -> Result<(Vec<u8>, u8), Refusal>
-    ensures answers { IfOk result (λ answer. AnswersCases words losses (held_by files.now) answer.0.items answer.1) }
-    ensures refused { IfErr result (RefusesWith words (RefusesCases losses (held_by files.now))) }
+    ensures answers { IfOk result (λ answer. AnswersCases cured words losses (held_by files.now) answer.0.items answer.1) }
+    ensures refused { IfErr result (RefusesWith words (RefusesCases cured losses (held_by files.now))) }
 {
     let options = options_of(words)?;
     let meant = losses_of(losses, &options)?;
     let asked = Asked {
-        wanted: Wanted::Cases(meant),
+        wanted: wanted_by(cured, meant),
         words,
         files,
     };
@@ -321,7 +334,7 @@ fn any_words() -> LossWords
         any: true,
         torn: None,
         at_most: None,
-        why: false,
+        telling: CaseTelling::Cases,
     }
 }
 
@@ -350,6 +363,26 @@ fn act_any_image(
     let recording = files.recording()?;
     let form = form_of(in_words);
     let bytes = any_image(alloc, form, &recording, cut, files.choice, &options, facts)?;
+    Ok((bytes, 0))
+}
+
+/// The cuts at which cases are looked for, of the log that the first file holds.
+#[inline(never)]
+fn act_cuts(
+    alloc: Global,
+    words: OptionWords,
+    losses: LossWords,
+    parts: Option<u64>,
+    files: &Held<'_>,
+    facts: &mut Facts,
+) -> Result<(Vec<u8>, u8), Refusal>
+    ensures answers { IfOk result (λ answer. AnswersCuts words losses parts (held_by files.now) answer.0.items answer.1) }
+    ensures refused { IfErr result (RefusesWith words (RefusesCuts losses parts (held_by files.now))) }
+{
+    let options = options_of(words)?;
+    let meant = losses_of(losses, &options)?;
+    let recording = files.recording()?;
+    let bytes = survey_cuts(alloc, &recording, parts, meant, &options, facts)?;
     Ok((bytes, 0))
 }
 
@@ -537,7 +570,12 @@ pub(crate) fn act_known<G: Gate + Sync, R: Threads + Wait + Sync>(
             let asked = files.run_asked_for(Wanted::Told(Telling::Report), words);
             act_explore(rt, alloc, gate, &asked, facts)
         }
-        Request::Cases(words, losses) => { act_cases(rt, alloc, gate, words, losses, files, facts) }
+        Request::Cases(words, losses) => {
+            act_cases(rt, alloc, gate, false, words, losses, files, facts)
+        }
+        Request::CureCases(words, losses) => {
+            act_cases(rt, alloc, gate, true, words, losses, files, facts)
+        }
         Request::Why(words) => {
             let asked = files.run_asked_for(Wanted::Told(Telling::Causes), words);
             act_explore(rt, alloc, gate, &asked, facts)
@@ -552,6 +590,9 @@ pub(crate) fn act_known<G: Gate + Sync, R: Threads + Wait + Sync>(
         }
         Request::Retold(words, telling) => act_retold(alloc, telling, words, files, facts),
         Request::Images(words, parts) => act_look(alloc, Look::Images(parts), words, files, facts),
+        Request::Cuts(words, losses, parts) => {
+            act_cuts(alloc, words, losses, parts, files, facts)
+        }
         Request::Export(words) => act_look(alloc, Look::Export, words, files, facts),
         Request::Log(words) => act_look(alloc, Look::Log, words, files, facts),
         Request::Import(limits) => act_import(alloc, limits, files),

@@ -2,55 +2,87 @@
 
 use crate::largest::{LARGE, most_bytes};
 use std::sync::atomic::{AtomicU64, Ordering};
-use std::time::{Clock, Instant};
+use std::sync::{Condvar, Mutex, Wait};
+use std::time::{Clock, Duration};
 use workers::{BLOCK, Gate};
 
-/// A gate that says on standard error how many images are judged, of how many. Of each exploration it is one
-/// line, which is written again once a second at most, with a carriage return after it. It is ended where the
-/// next exploration begins, and by `end`. Of any number of losses no number of images is known: it says how many cases are found, and is
-/// told of each as of a block. Where that isn't asked for, or the clock can't be read, nothing is said. Before the first
-/// image is judged it says how large the report may get, where that is much.
+/// A gate that counts how many images are judged, of how many, and says it on standard error. Of each exploration it is one line, which
+/// `watch` writes again each second, with a carriage return after it, `begun` until an exploration begins. It is ended where the next
+/// exploration begins, and by `end`. Of any number of losses no number of images is known: it says how many cases are found, and is told
+/// of each as of a block.
+/// Where that isn't asked for nothing is said. Before the first image is judged it says how large the report may get, where that is
+/// much.
 #[derive(Drop)]
 pub struct Progress<'r, R> {
     rt: &'r R,
+    /// Whether it is asked for.
+    wanted: bool,
     /// How many lines the report may have for each image; 0 where no report is printed.
     lines: u64,
-    /// When it was made, where progress is asked for.
-    start: Option<Instant>,
     /// How many images there are; 0 until the exploration begins, and where cases are found.
     images: AtomicU64,
     /// How many images are judged or passed over, or how many cases are found.
     judged: AtomicU64,
-    /// The second from the start in which the line was last written.
-    second: AtomicU64,
+    /// How many times the line was written.
+    said: AtomicU64,
+    /// Whether all is over. Who holds it may write the line.
+    over: Mutex<bool>,
+    /// Rung where all is over.
+    bell: Condvar,
 }
 
-impl<'r, R: Clock + Eprint> Progress<'r, R> {
+impl<'r, R: Clock + Eprint + Wait> Progress<'r, R> {
     /// The progress of an exploration that hasn't begun, whose report may have that many lines for each image.
     pub fn new(rt: &'r R, wanted: bool, lines: u64) -> Progress<'r, R> {
         Progress {
             rt,
+            wanted,
             lines,
-            start: if wanted { Instant::now(rt).ok() } else { None },
             images: AtomicU64::new(0),
             judged: AtomicU64::new(0),
-            second: AtomicU64::new(0),
+            said: AtomicU64::new(0),
+            over: Mutex::new(false),
+            bell: Condvar::new(),
         }
     }
 
-    /// Writes the line of the exploration a last time and ends it, if one has begun.
+    /// Writes the line each second, until all is over.
+    pub fn watch(&self) {
+        let mut over = self.over.lock(self.rt);
+        for _ in self.rt.forever() {
+            if *over {
+                return;
+            }
+            let (held, waited) = self
+                .bell
+                .wait_timeout(self.rt, over, Duration::from_secs(1));
+            if waited.timed_out() && !*held {
+                self.say("\r");
+            }
+            over = held;
+        }
+    }
+
+    /// Says that all is over, and writes the line a last time and ends it, if an exploration has begun or it was written.
     pub fn end(&self) {
-        if self.start.is_some() && self.has_begun() {
+        let mut over = self.over.lock(self.rt);
+        *over = true;
+        if self.has_begun() || self.said.load(Ordering::SeqCst) > 0 {
+            self.end_line();
+        }
+        self.bell.notify_all();
+    }
+
+    /// Ends the line, where it is asked for.
+    fn end_line(&self) {
+        if self.wanted {
             self.say("\n");
         }
     }
 
-    /// Whether an exploration has begun: of images, or of cases, of which one is found or the line was written.
+    /// Whether an exploration has begun: of images, or of cases, of which one is found.
     fn has_begun(&self) -> bool {
-        let images = self.images.load(Ordering::SeqCst);
-        let judged = self.judged.load(Ordering::SeqCst);
-        let second = self.second.load(Ordering::SeqCst);
-        images > 0 || judged > 0 || second > 0
+        self.images.load(Ordering::SeqCst) > 0 || self.judged.load(Ordering::SeqCst) > 0
     }
 
     /// Says how large the report of that many images may get, where that is more than a GiB.
@@ -70,30 +102,15 @@ impl<'r, R: Clock + Eprint> Progress<'r, R> {
 
     /// Writes the line. Where standard error doesn't take it, it is left out.
     fn say(&self, end: &str) {
+        self.said.fetch_add(1, Ordering::SeqCst);
         let judged = self.judged.load(Ordering::SeqCst);
         let images = self.images.load(Ordering::SeqCst);
         if images > 0 {
             eprint!(self.rt; "progress: {judged} of {images} images{end}").ok();
-        } else {
+        } else if judged > 0 {
             eprint!(self.rt; "progress: {judged} cases{end}").ok();
-        }
-    }
-
-    /// Writes the line, where a second has passed.
-    fn say_if_due(&self) {
-        if self.is_due() {
-            self.say("\r");
-        }
-    }
-
-    /// Whether a second has passed since the line was last written. One worker alone is told so.
-    fn is_due(&self) -> bool {
-        match self.start.map(|start: Instant| start.elapsed(self.rt)) {
-            Some(Ok(elapsed)) => {
-                let second = elapsed.as_secs();
-                self.second.fetch_max(second, Ordering::SeqCst) < second
-            }
-            _ => false,
+        } else {
+            eprint!(self.rt; "progress: begun{end}").ok();
         }
     }
 }
@@ -106,28 +123,23 @@ fn images_in(block: u32, images: u64) -> u64 {
     images.saturating_sub(BLOCK * u64::from(block)).min(BLOCK)
 }
 
-impl<R: Clock + Eprint> Gate for Progress<'_, R> {
+impl<R: Clock + Eprint + Wait + Sync> Gate for Progress<'_, R> {
     fn begin(&self, images: u64) {
-        self.end();
+        let over = self.over.lock(self.rt);
+        if self.has_begun() {
+            self.end_line();
+        }
         self.warn(images);
         self.judged.store(0, Ordering::SeqCst);
         self.images.store(images, Ordering::SeqCst);
+        drop(over);
     }
 
-    fn before(&self, _worker: u8, _block: u32) {
-        // A program is run for a case, of which there may be none for long.
-        if self.start.is_some() && self.images.load(Ordering::SeqCst) == 0 {
-            self.say_if_due();
-        }
-    }
+    fn before(&self, _worker: u8, _block: u32) {}
 
     fn after(&self, _worker: u8, block: u32) {
-        if self.start.is_none() {
-            return;
-        }
         let images = self.images.load(Ordering::SeqCst);
         self.judged
             .fetch_add(images_in(block, images), Ordering::SeqCst);
-        self.say_if_due();
     }
 }

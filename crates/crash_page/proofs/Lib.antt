@@ -5,3 +5,5 @@ pub mod Markup
 pub mod Taken
 pub mod Labels
 pub mod Owned
+pub mod Summed
+pub mod CaseTexts

@@ -1,15 +1,17 @@
 -- A large log on a page: its entries and its cuts in blocks, in the row and in the list of entries (docs/OUTPUT.md, The page of `page`).
-use Rattle.std.specs.Prelude.{ℕ, ◌+◌, ◌-◌, ◌/◌, ◌%◌, ◌==◌, min, nat_le, nat_lt, Bool, not, ◌&&◌, if◌then◌else◌, List, [], ◌++◌, codes, length, take, filter}
+use Rattle.std.specs.Prelude.{ℕ, ◌+◌, ◌-◌, ◌/◌, ◌%◌, ◌==◌, min, nat_le, nat_lt, Bool, not, ◌&&◌, if◌then◌else◌, List, [], ◌++◌, codes, length, take, filter, slice_get}
 use Rattle.std.specs.List.{flat_map, range_with_len, slice_range, list_any, find}
 use Rattle.std.specs.Option.{option_map_or}
 use Rattle.std.specs.Fmt.{decimal}
 use Rattle.logfmt.specs.declared.entry.Entry.{Entry}
 use Rattle.epochs.specs.Units.{epoch_at}
-use Rattle.notes.specs.LogTable.{word_text, is_write, line_at}
+use Rattle.notes.specs.LogTable.{word_text, is_write, what_text}
 use Rattle.losses.specs.declared.flushes.counted.MissingFlush.{MissingFlush}
-use Rattle.losses.specs.declared.why.cut.CutFailures.{CutFailures}
 use Rattle.crash_page.specs.declared.pieces.Piece.TheVariants as piece
 use Rattle.crash_page.specs.Pieces.{piece_text}
+use Rattle.crash_page.specs.declared.counts.CutCount.{CutCount}
+use Rattle.crash_page.specs.declared.counts.Kind.{Kind}
+use Rattle.crash_page.specs.Counts.{kind_word}
 use Rattle.crash_page.specs.Html.{html}
 use Rattle.crash_page.specs.Lacking.{flush_name, flush_title, most_named}
 use Rattle.crash_page.specs.Entries.{shade_text}
@@ -39,18 +41,18 @@ end_of es from = min (beyond es from) (length es)
 unfoldable pub range_text : ℕ → ℕ → List ℕ
 range_text from end = decimal from ++ codes " to " ++ decimal (end - 1)
 
--- a cut of a block, and one at which images fail
-abbrev pub is_within : ℕ → ℕ → CutFailures → Bool
+-- a cut of a block, and one at which something fails
+abbrev pub is_within : ℕ → ℕ → CutCount → Bool
 is_within from to c = nat_le from c.cut && nat_lt c.cut to
 
-abbrev pub fails_within : ℕ → ℕ → CutFailures → Bool
+abbrev pub fails_within : ℕ → ℕ → CutCount → Bool
 fails_within from to c = not (c.failing == 0) && is_within from to c
 
-abbrev pub count_within : ℕ → ℕ → List CutFailures → ℕ
+abbrev pub count_within : ℕ → ℕ → List CutCount → ℕ
 count_within from to cs = length (filter (fails_within from to) cs)
 
 -- the failing cuts of a block from there on are among those that are listed
-abbrev pub is_listed : List CutFailures → ℕ → Bool
+abbrev pub is_listed : List CutCount → ℕ → Bool
 is_listed cs from = nat_lt (count_within 0 from cs) most_cells
 
 -- the name of the place that tells how many failing cuts aren't listed
@@ -60,23 +62,23 @@ more_name program = codes "p" ++ decimal program ++ codes "more"
 abbrev pub listed_name : ℕ → Bool → ℕ → List ℕ
 listed_name program listed cut = if listed then place_name program cut else more_name program
 
-unfoldable pub block_link : ℕ → Bool → CutFailures → List ℕ
+unfoldable pub block_link : ℕ → Bool → CutCount → List ℕ
 block_link program listed c = piece_text piece.FailingLink ++ listed_name program listed c.cut
 
 -- what stands beside the pointer: the first failing cut, and how many of the block fail
-unfoldable pub block_title : ℕ → ℕ → ℕ → CutFailures → List ℕ
+unfoldable pub block_title : ℕ → ℕ → ℕ → CutCount → List ℕ
 block_title from to count c = failing_title c ++ piece_text piece.BlockCuts ++ range_text from to ++ piece_text piece.BlockFailing ++ decimal count
 
--- the cuts of a block at which images fail, in the colour of the first
-unfoldable pub block_failing : List Entry → ℕ → List CutFailures → ℕ → ℕ → CutFailures → List ℕ
+-- the cuts of a block at which something fails, in the colour of the first
+unfoldable pub block_failing : List Entry → ℕ → List CutCount → ℕ → ℕ → CutCount → List ℕ
 block_failing es program cs from to c =
     failing_class (epoch_at es from) c ++ block_link program (is_listed cs from) c ++ block_title from to (count_within from to cs) c ++ piece_text piece.FailingClose
 
 -- the cuts of a block, if it has wanted ones
-abbrev pub no_failing : List Entry → List CutFailures → ℕ → ℕ → List ℕ
+abbrev pub no_failing : List Entry → List CutCount → ℕ → ℕ → List ℕ
 no_failing es cs from to = if list_any (is_within from to) cs then passing_text (epoch_at es from) else []
 
-abbrev pub block_cuts : List Entry → ℕ → List CutFailures → ℕ → ℕ → List ℕ
+abbrev pub block_cuts : List Entry → ℕ → List CutCount → ℕ → ℕ → List ℕ
 block_cuts es program cs from to = option_map_or (block_failing es program cs from to) (find (fails_within from to) cs) (no_failing es cs from to)
 
 -- a flush that is missing in a block; it leads to the block's lines
@@ -120,26 +122,32 @@ abbrev pub block_cell : List Entry → ℕ → List ℕ
 block_cell es from = if nat_lt from (length es) then entries_cell es from (end_of es from) else []
 
 -- a block in the row: its cuts, the flushes that are missing, and its entries
-unfoldable pub row_block : List Entry → ℕ → List MissingFlush → List CutFailures → ℕ → List ℕ
+unfoldable pub row_block : List Entry → ℕ → List MissingFlush → List CutCount → ℕ → List ℕ
 row_block es program ms cs from =
     block_cuts es program cs from (beyond es from) ++ block_lacks program from (beyond es from) ms ++ block_cell es from
 
-abbrev pub row_at : List Entry → ℕ → List MissingFlush → List CutFailures → ℕ → List ℕ
+abbrev pub row_at : List Entry → ℕ → List MissingFlush → List CutCount → ℕ → List ℕ
 row_at es program ms cs n = if begins_block es n then row_block es program ms cs n else []
 
-unfoldable pub row_blocks : List Entry → ℕ → List MissingFlush → List CutFailures → List ℕ
+unfoldable pub row_blocks : List Entry → ℕ → List MissingFlush → List CutCount → List ℕ
 row_blocks es program ms cs = flat_map (row_at es program ms cs) (range_with_len 0 (length es + 1))
 
 -- for what a cell of a large log stands
-unfoldable pub cell_means : List Entry → List ℕ
-cell_means es = piece_text piece.WidthOpen ++ decimal (width_of es) ++ piece_text piece.WidthClose
+unfoldable pub cell_means : Kind → List Entry → List ℕ
+cell_means of es = piece_text piece.WidthOpen ++ decimal (width_of es) ++ piece_text piece.WidthClose ++ kind_word of ++ piece_text piece.WidthEnd
 
-abbrev pub width_text : List Entry → List ℕ
-width_text es = if is_large es then cell_means es else []
+abbrev pub width_text : Kind → List Entry → List ℕ
+width_text of es = if is_large es then cell_means of es else []
 
--- the lines of a block, as `log` prints them
+-- the line of an entry in its block: its number, its epoch, and what it asks of the device
+unfoldable pub short_line : ℕ → ℕ → Entry → List ℕ
+short_line number epoch e = decimal number ++ codes " " ++ decimal epoch ++ what_text e ++ codes "\n"
+
+abbrev pub short_at : List Entry → ℕ → List ℕ
+short_at es n = option_map_or (short_line n (epoch_at es n)) (slice_get es n) []
+
 abbrev pub line_text : List Entry → ℕ → List ℕ
-line_text es n = html (line_at es n)
+line_text es n = html (short_at es n)
 
 unfoldable pub lines_text : List Entry → ℕ → ℕ → List ℕ
 lines_text es from end = flat_map (line_text es) (range_with_len from (end - from))

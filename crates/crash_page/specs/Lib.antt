@@ -2,6 +2,7 @@
 pub mod Html
 pub mod Judges
 pub mod Pieces
+pub mod Counts
 pub mod Shares
 pub mod Lacking
 pub mod Entries
@@ -9,5 +10,7 @@ pub mod Cells
 pub mod Blocks
 pub mod Groups
 pub mod Page
+pub mod CaseRows
+pub mod CasePage
 pub mod Failing
 pub mod Laws

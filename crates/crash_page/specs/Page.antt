@@ -1,5 +1,5 @@
 -- The page of a run (docs/OUTPUT.md, The page of `page`).
-use Rattle.std.specs.Prelude.{ℕ, ◌+◌, ◌-◌, ◌≤◌, ◌==◌, not, nat_lt, Bool, if◌then◌else◌, List, [], ◌∷◌, ◌++◌, All, codes, length, map, filter}
+use Rattle.std.specs.Prelude.{ℕ, ◌+◌, ◌-◌, ◌≤◌, ◌==◌, nat_lt, if◌then◌else◌, List, [], ◌∷◌, ◌++◌, All, codes, length, map}
 use Rattle.std.specs.Fmt.{decimal}
 use Rattle.logfmt.specs.declared.entry.Entry.{Entry}
 use Rattle.logfmt.specs.Bounds.{LogValue}
@@ -8,6 +8,10 @@ use Rattle.choices.specs.Sums.{StartsValue}
 use Rattle.losses.specs.declared.flushes.counted.MissingFlush.{MissingFlush}
 use Rattle.losses.specs.declared.why.cut.CutFailures.{CutFailures}
 use Rattle.losses.specs.WhyText.{IsNumbered}
+use Rattle.crash_page.specs.declared.counts.CutCount.{CutCount}
+use Rattle.crash_page.specs.declared.counts.Kind.{Kind}
+use Rattle.crash_page.specs.declared.counts.Kind.TheVariants as kind
+use Rattle.crash_page.specs.Counts.{count_fails, image_count}
 use Rattle.crash_page.specs.declared.pieces.Piece.TheVariants as piece
 use Rattle.crash_page.specs.Pieces.{piece_text}
 use Rattle.crash_page.specs.declared.program.ProgramFailures.{ProgramFailures}
@@ -21,33 +25,32 @@ use Rattle.crash_page.specs.Cells.{strip_from}
 use Rattle.crash_page.specs.Blocks.{most_cells, is_large, width_text, row_blocks, large_list}
 use Rattle.crash_page.specs.Groups.{cuts_text, unlisted_text}
 
--- images fail at a cut
-abbrev pub fails : CutFailures → Bool
-fails c = not (c.failing == 0)
+-- what fails at each wanted cut
+abbrev pub counts_of : ProgramFailures → List CutCount
+counts_of f = map image_count f.cuts.items
 
--- on how many images a program fails, at how many of that many cuts
-unfoldable pub bad_text : ProgramFailures → List ℕ
-bad_text f = piece_text piece.BadOpen ++ decimal f.failing ++ piece_text piece.BadCuts ++ decimal (length (filter fails f.cuts.items)) ++ piece_text piece.Of
+-- on that many images a program fails, at how many of these cuts
+unfoldable pub bad_text : ℕ → List CutCount → List ℕ
+bad_text failing cs = piece_text piece.BadOpen ++ decimal failing ++ piece_text piece.BadCuts ++ decimal (count_fails cs) ++ piece_text piece.Of
 
-unfoldable pub judged_text : ProgramFailures → List ℕ
-judged_text f =
-    (if f.failing == 0 then piece_text piece.GoodOpen else bad_text f) ++ decimal (length f.cuts.items) ++ piece_text piece.GoodClose
+unfoldable pub judged_text : ℕ → List CutCount → List ℕ
+judged_text failing cs = (if failing == 0 then piece_text piece.GoodOpen else bad_text failing cs) ++ decimal (length cs) ++ piece_text piece.GoodClose
 
 -- what a program comes to; without a wanted cut nothing was judged
-abbrev pub verdict_text : ProgramFailures → List ℕ
-verdict_text f = if length f.cuts.items == 0 then piece_text piece.NoCuts else judged_text f
+abbrev pub verdict_text : ℕ → List CutCount → List ℕ
+verdict_text failing cs = if length cs == 0 then piece_text piece.NoCuts else judged_text failing cs
 
 -- the row of entries and cuts, narrow where there are many entries, and in blocks where the log is large
-unfoldable pub strip_open : List Entry → List ℕ
-strip_open es = width_text es ++ piece_text piece.StripOpen ++ word_text (nat_lt 400 (length es)) (codes "many") ++ piece_text piece.OpenEnd
+unfoldable pub strip_open : Kind → List Entry → List ℕ
+strip_open of es = width_text of es ++ piece_text piece.StripOpen ++ word_text (nat_lt 400 (length es)) (codes "many") ++ piece_text piece.OpenEnd
 
-abbrev pub row_of : List Entry → ℕ → List MissingFlush → List CutFailures → List ℕ
+abbrev pub row_of : List Entry → ℕ → List MissingFlush → List CutCount → List ℕ
 row_of es program ms cs = if is_large es then row_blocks es program ms cs else strip_from es program ms 0 cs
 
-unfoldable pub strip_text : List Entry → ℕ → ProgramFailures → List ℕ
-strip_text es program f = strip_open es ++ row_of es program f.missing.items f.cuts.items ++ piece_text piece.StripClose
+unfoldable pub strip_text : Kind → List Entry → ℕ → List MissingFlush → List CutCount → List ℕ
+strip_text of es program ms cs = strip_open of es ++ row_of es program ms cs ++ piece_text piece.StripClose
 
--- how many groups of a program are shown, fewer where the log is large
+-- how many groups or cases of a program are shown, fewer where the log is large
 abbrev pub most_of_program : List Entry → ℕ
 most_of_program es = if is_large es then 100 else 500
 
@@ -62,7 +65,7 @@ title_text program j =
 
 -- what it comes to, and what flushes would do
 unfoldable pub summary_text : ℕ → ProgramFailures → List ℕ
-summary_text program f = title_text program f.judge ++ verdict_text f ++ advice_text program f.missing.items f.uncured
+summary_text program f = title_text program f.judge ++ verdict_text f.failing (counts_of f) ++ advice_text program f.missing.items f.uncured
 
 -- what it ends in on each image on which it fails
 abbrev pub outcomes_of : ProgramFailures → List (List ℕ)
@@ -71,12 +74,14 @@ outcomes_of f = map (λ o. o.now) f.outcomes.items
 -- the first cuts at which it fails, and how many more there are
 unfoldable pub shown_cuts : StartsValue → ℕ → ProgramFailures → List ℕ
 shown_cuts s program f =
-    cuts_text s (outcomes_of f) program most_cells (most_of_program s.plan.log.entries) f.cuts.items ++ unlisted_text program (length (filter fails f.cuts.items) - most_cells)
+    cuts_text s (outcomes_of f) program most_cells (most_of_program s.plan.log.entries) f.cuts.items
+    ++ unlisted_text kind.Images program (count_fails (counts_of f) - most_cells)
 
 -- a program: what it comes to, the log with its cuts, and what is said of the cuts at which it fails
 unfoldable pub program_text : StartsValue → ℕ → ProgramFailures → List ℕ
 program_text s program f =
-    summary_text program f ++ strip_text s.plan.log.entries program f ++ legend_text ++ shown_cuts s program f ++ piece_text piece.SectionClose
+    summary_text program f ++ strip_text kind.Images s.plan.log.entries program f.missing.items (counts_of f) ++ legend_text kind.Images ++ shown_cuts s program f
+    ++ piece_text piece.SectionClose
 
 -- programs, of which the first has that number
 abbrev pub programs_text : StartsValue → ℕ → List ProgramFailures → List ℕ
@@ -96,13 +101,21 @@ list_text es = if is_large es then large_list es else small_list es
 unfoldable pub log_name : LogValue → List ℕ
 log_name l = codes "entries " ++ decimal (length l.entries) ++ codes ", sectors " ++ decimal l.sectors
 
+-- the style, with that of cases where these stand on the page
+abbrev pub own_style : Kind → List ℕ
+own_style kind.Images = []
+own_style kind.Cases = piece_text piece.CaseStyle
+
+unfoldable pub style_text : Kind → List ℕ
+style_text of = piece_text piece.Style ++ own_style of ++ piece_text piece.StyleEnd
+
 -- the head of the page, which names the log in its title and in its first line
-unfoldable pub head_text : LogValue → List ℕ
-head_text l = piece_text piece.Opening ++ log_name l ++ piece_text piece.Style ++ log_name l ++ piece_text piece.HeadClose
+unfoldable pub head_text : Kind → LogValue → List ℕ
+head_text of l = piece_text piece.Opening ++ log_name l ++ style_text of ++ log_name l ++ piece_text piece.HeadClose
 
 -- the page, with a text about the run at its head
 unfoldable pub page_text : List ℕ → StartsValue → List ProgramFailures → List ℕ
-page_text about s fs = head_text s.plan.log ++ about_text about ++ programs_text s 0 fs ++ list_text s.plan.log.entries ++ piece_text piece.Closing
+page_text about s fs = head_text kind.Images s.plan.log ++ about_text about ++ programs_text s 0 fs ++ list_text s.plan.log.entries ++ piece_text piece.Closing
 
 -- what fails at a cut is of the images of a run, of which that many fail
 pub record IsOfRun (s : StartsValue) (lines : ℕ) (c : CutFailures) : Type 0 where

@@ -1,13 +1,16 @@
 -- The parts of a page that are the same wherever they stand.
 use Rattle.std.specs.Prelude.{ℕ, List, codes}
-use Rattle.crash_page.specs.declared.dress.TheConstants.{OPENING, STYLE, LEGEND, CLOSING}
+use Rattle.crash_page.specs.declared.dress.TheConstants.{OPENING, STYLE, CASE_STYLE, STYLE_END, LEGEND, CASE_KEYS, CLOSING}
 use Rattle.crash_page.specs.declared.pieces.Piece.{Piece}
 use Rattle.crash_page.specs.declared.pieces.Piece.TheVariants as piece
 
 unfoldable pub piece_text : Piece → List ℕ
 piece_text piece.Opening = OPENING.now
 piece_text piece.Style = STYLE.now
+piece_text piece.CaseStyle = CASE_STYLE.now
+piece_text piece.StyleEnd = STYLE_END.now
 piece_text piece.Legend = LEGEND.now
+piece_text piece.CaseKeys = CASE_KEYS.now
 piece_text piece.Closing = CLOSING.now
 piece_text piece.AboutOpen = codes "<pre class='about'>"
 piece_text piece.AboutClose = codes "</pre>\n</header>\n<main>\n"
@@ -19,10 +22,14 @@ piece_text piece.ProgramId = codes "'>\n<h2 id='p"
 piece_text piece.ProgramName = codes "'>Program "
 piece_text piece.ProgramClose = codes "</h2>\n"
 piece_text piece.NoCuts = codes "<p class='none'>The log has no wanted cut: no image was judged.</p>\n"
+piece_text piece.NoCaseCuts = codes "<p class='none'>The log has no wanted cut: no case was judged.</p>\n"
 piece_text piece.GoodOpen = codes "<p class='good'>No image fails, at "
+piece_text piece.GoodCases = codes "<p class='good'>No case fails, of "
+piece_text piece.AtCuts = codes " at "
 piece_text piece.GoodClose = codes " cuts.</p>\n"
 piece_text piece.BadOpen = codes "<p class='bad'>"
 piece_text piece.BadCuts = codes " images fail, at "
+piece_text piece.BadCases = codes " cases fail, at "
 piece_text piece.Of = codes " of "
 piece_text piece.CureEntry = codes "<p class='cure'>A flush right before entry "
 piece_text piece.CureEntries = codes "<p class='cure'>A flush right before each of the entries "
@@ -50,7 +57,8 @@ piece_text piece.FailingOpen = codes "<a tabindex='-1' class='c "
 piece_text piece.FailingLink = codes "' href='#"
 piece_text piece.FailingTitle = codes "' title='cut "
 piece_text piece.FailingClose = codes "'></a>\n"
-piece_text piece.ImagesFail = codes " images fail"
+piece_text piece.KeysOpen = codes "<span>"
+piece_text piece.KeysClose = codes " of a cut that fail:</span>"
 piece_text piece.KeyOpen = codes "<span><b class='"
 piece_text piece.KeyColour = codes "'></b>"
 piece_text piece.KeyClose = codes "</span>"
@@ -88,12 +96,25 @@ piece_text piece.LongOpen = codes "<p class='about'>Its text has "
 piece_text piece.LongClose = codes " bytes: crashbpf show prints it.</p>\n"
 piece_text piece.RestOpen = codes "<p class='about'>"
 piece_text piece.RestClose = codes " more groups of this cut: crashbpf why lists them.</p>\n"
+piece_text piece.RestCases = codes " more cases of this cut: crashbpf why lists them.</p>\n"
+piece_text piece.CaseOpen = codes "<div class='case'>case "
+piece_text piece.NoFlushHelps = codes "no flush takes it away"
+piece_text piece.FlushHelps = codes "a flush before any of the entries "
+piece_text piece.OneFlushHelps = codes "a flush before entry "
+piece_text piece.HelpsClose = codes " takes it away"
+piece_text piece.CaseParts = codes "\n<div class='log'>\n"
+piece_text piece.PartOpen = codes "<b class='p "
+piece_text piece.PartTitle = codes "' title='"
+piece_text piece.PartClose = codes "</b>\n"
+piece_text piece.PartsOpen = codes "<small>"
+piece_text piece.PartsClose = codes " more parts</small>\n"
+piece_text piece.CaseClose = codes "</div></div>\n"
 piece_text piece.SectionClose = codes "</section>\n"
 piece_text piece.ListOpen = codes "<section aria-labelledby='entries'>\n<h2 id='entries'>Entries</h2>\n<ol>\n"
 piece_text piece.RowOpen = codes "<li id='e"
 piece_text piece.RowClose = codes "</li>\n"
 piece_text piece.ListClose = codes "</ol>\n</section>\n"
-piece_text piece.BlocksOpen = codes "<section aria-labelledby='entries'>\n<h2 id='entries'>Entries</h2>\n"
+piece_text piece.BlocksOpen = codes "<section aria-labelledby='entries'>\n<h2 id='entries'>Entries</h2>\n<p class='about'>Each by its number, its epoch and what it asks of the device.</p>\n"
 piece_text piece.BlockOpen = codes "<details id='e"
 piece_text piece.BlockName = codes "'><summary>entries "
 piece_text piece.BlockLines = codes "</summary>\n<pre>"
@@ -101,6 +122,8 @@ piece_text piece.BlockClose = codes "</pre></details>\n"
 piece_text piece.BlockCuts = codes "; of cuts "
 piece_text piece.BlockFailing = codes " fail: "
 piece_text piece.WidthOpen = codes "<p class='about'>A cell stands for up to "
-piece_text piece.WidthClose = codes " entries, and the one before it for as many cuts, in the colour of the first at which images fail.</p>\n"
+piece_text piece.WidthClose = codes " entries, and the one before it for as many cuts, in the colour of the first at which "
+piece_text piece.WidthEnd = codes " fail.</p>\n"
 piece_text piece.MoreOpen = codes "<p class='about' id='"
-piece_text piece.MoreClose = codes " more cuts at which images fail: crashbpf why lists them.</p>\n"
+piece_text piece.MoreCuts = codes " more cuts at which "
+piece_text piece.MoreClose = codes " fail: crashbpf why lists them.</p>\n"

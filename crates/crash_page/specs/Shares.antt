@@ -5,6 +5,9 @@ use Rattle.crash_page.specs.declared.share.Share.{Share}
 use Rattle.crash_page.specs.declared.share.Share.TheVariants as share
 use Rattle.crash_page.specs.declared.pieces.Piece.TheVariants as piece
 use Rattle.crash_page.specs.Pieces.{piece_text}
+use Rattle.crash_page.specs.declared.counts.Kind.{Kind}
+use Rattle.crash_page.specs.declared.counts.Kind.TheVariants as kind
+use Rattle.crash_page.specs.Counts.{kind_word}
 
 -- a share with a bound is at most one image in that many
 abbrev pub one_in : Share → ℕ
@@ -32,17 +35,24 @@ share_class share.More = codes "s4"
 share_class share.All = codes "s5"
 
 -- and its words
-unfoldable pub share_words : Share → List ℕ
-share_words share.No = codes "no image fails"
-share_words share.More = codes "more"
-share_words share.All = codes "all of them"
-share_words s = codes "up to 1 in " ++ decimal (one_in s)
+abbrev pub none_words : Kind → List ℕ
+none_words kind.Images = codes "no image fails"
+none_words kind.Cases = codes "no case fails"
+
+unfoldable pub share_words : Kind → Share → List ℕ
+share_words of share.No = none_words of
+share_words of share.More = codes "more"
+share_words of share.All = codes "all of them"
+share_words of s = codes "up to 1 in " ++ decimal (one_in s)
 
 -- a share in the legend
-unfoldable pub key_text : Share → List ℕ
-key_text s = piece_text piece.KeyOpen ++ share_class s ++ piece_text piece.KeyColour ++ share_words s ++ piece_text piece.KeyClose
+unfoldable pub key_text : Kind → Share → List ℕ
+key_text of s = piece_text piece.KeyOpen ++ share_class s ++ piece_text piece.KeyColour ++ share_words of s ++ piece_text piece.KeyClose
 
-unfoldable pub legend_text : List ℕ
-legend_text =
-    piece_text piece.Legend ++ key_text share.No ++ key_text share.Hundredth ++ key_text share.Tenth ++ key_text share.Half
-    ++ key_text share.More ++ key_text share.All ++ piece_text piece.LegendClose
+unfoldable pub keys_open : Kind → List ℕ
+keys_open of = piece_text piece.Legend ++ piece_text piece.KeysOpen ++ kind_word of ++ piece_text piece.KeysClose
+
+unfoldable pub legend_text : Kind → List ℕ
+legend_text of =
+    keys_open of ++ key_text of share.No ++ key_text of share.Hundredth ++ key_text of share.Tenth ++ key_text of share.Half ++ key_text of share.More
+    ++ key_text of share.All ++ piece_text piece.LegendClose

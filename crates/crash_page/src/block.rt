@@ -1,20 +1,21 @@
 //! A large log: its entries and its cuts in blocks, in the row and in the list of entries.
 
-ghost use Rattle.std.specs.Prelude.{◌≡◌, ◌+◌, ◌<◌, ◌≤◌, ◌++◌, ◌∷◌, [], length, filter, option_copied, option_map, OnOk, string_bytes};
+ghost use Rattle.std.specs.Prelude.{◌≡◌, ◌+◌, ◌<◌, ◌≤◌, ◌++◌, ◌∷◌, [], length, filter, option_copied, option_map, IfOk, OnOk, string_bytes};
 ghost use Rattle.std.specs.List.{flat_map, list_any, find};
 ghost use Rattle.notes.specs.LogTable.{is_write};
-ghost use Rattle.crash_page.specs.Blocks.{is_large, width_of, begins_block, beyond, end_of, range_text, is_within, fails_within, count_within, is_listed, more_name, listed_name, block_link, block_title, block_failing, no_failing, block_cuts, lack_link, lack_text, lacks_within, block_lack, first_lack, block_lacks, is_mark, kinds_text, entries_class, entries_link, entries_cell, block_cell, row_block, row_at, row_blocks, cell_means, width_text, line_text, lines_text, block_name, list_block, list_at, list_blocks, large_list};
+ghost use Rattle.crash_page.specs.Blocks.{is_large, width_of, begins_block, beyond, end_of, range_text, is_within, fails_within, count_within, is_listed, more_name, listed_name, block_link, block_title, block_failing, no_failing, block_cuts, lack_link, lack_text, lacks_within, block_lack, first_lack, block_lacks, is_mark, kinds_text, entries_class, entries_link, entries_cell, block_cell, row_block, row_at, row_blocks, cell_means, width_text, short_line, short_at, line_text, lines_text, block_name, list_block, list_at, list_blocks, large_list};
 
-use crate::entry::{is_write, line_of, put_shade, put_word};
+use crate::counts::{CutCount, Kind, put_kind};
+use crate::entry::{is_write, put_shade, put_word};
 use crate::html::put_html;
 use crate::lacking::{Lacking, MOST_NAMED, put_flush_title, put_name as put_flush_name};
 use crate::pieces::{Piece, put, put_number};
-use crate::run::Run;
+use crate::run::Logged;
 use crate::strip::{put_failing_class, put_failing_title, put_passing, put_place_name};
 use epochs::Plan;
 use logfmt::{Entry, Log};
 use losses::flushes::MissingFlush;
-use losses::why::CutFailures;
+use notes::put_what;
 use std::alloc::{AllocError, Global};
 
 /// From how many entries on a log is large.
@@ -80,21 +81,21 @@ fn put_range(out: &mut String, from: u32, end: u64) -> Result<(), AllocError>
 }
 
 /// Whether a cut is one of a block.
-fn is_within(block: Block, cut: &CutFailures) -> bool
+fn is_within(block: Block, cut: &CutCount) -> bool
     ensures { result ≡ is_within block.from block.to cut.now }
 {
     block.from <= cut.cut && u64::from(cut.cut) < block.to
 }
 
-/// Whether images fail at a cut of a block.
-fn fails_within(block: Block, cut: &CutFailures) -> bool
+/// Whether something fails at a cut of a block.
+fn fails_within(block: Block, cut: &CutCount) -> bool
     ensures { result ≡ fails_within block.from block.to cut.now }
 {
     cut.failing != 0 && is_within(block, cut)
 }
 
-/// One for a cut of a block at which images fail, else none.
-fn count_one(block: Block, cut: &CutFailures) -> usize
+/// One for a cut of a block at which something fails, else none.
+fn count_one(block: Block, cut: &CutCount) -> usize
     ensures value { result ≡ length (filter (fails_within block.from block.to) (cut.now ∷ [])) }
     ensures bound { result ≤ 1 }
 {
@@ -102,7 +103,7 @@ fn count_one(block: Block, cut: &CutFailures) -> usize
 }
 
 /// At how many cuts of a block images fail.
-fn count_within(block: Block, cuts: &[CutFailures]) -> usize
+fn count_within(block: Block, cuts: &[CutCount]) -> usize
     ensures value { result ≡ count_within block.from block.to cuts.now }
     ensures bound { result ≤ length cuts.now }
 {
@@ -113,15 +114,15 @@ fn count_within(block: Block, cuts: &[CutFailures]) -> usize
     count
 }
 
-/// The first cut of a block at which images fail.
-fn first_within(block: Block, cuts: &[CutFailures]) -> Option<&CutFailures>
+/// The first cut of a block at which something fails.
+fn first_within(block: Block, cuts: &[CutCount]) -> Option<&CutCount>
     ensures { option_map (λ c. c.now) result ≡ find (fails_within block.from block.to) cuts.now }
 {
     cuts.iter().find(|cut| fails_within(block, cut))
 }
 
 /// Whether the failing cuts from that number on are among those that are listed.
-fn is_listed(cuts: &[CutFailures], from: u32) -> bool
+fn is_listed(cuts: &[CutCount], from: u32) -> bool
     ensures { result ≡ is_listed cuts.now from }
 {
     let before = Block {
@@ -161,7 +162,7 @@ fn put_block_link(
     out: &mut String,
     program: usize,
     listed: bool,
-    cut: &CutFailures,
+    cut: &CutCount,
 ) -> Result<(), AllocError>
     ensures { OnOk result (string_bytes out.new ≡ string_bytes out.old ++ block_link program listed cut.now) }
 {
@@ -175,7 +176,7 @@ fn put_block_title(
     out: &mut String,
     block: Block,
     count: usize,
-    cut: &CutFailures,
+    cut: &CutCount,
 ) -> Result<(), AllocError>
     ensures { OnOk result (string_bytes out.new ≡ string_bytes out.old ++ block_title block.from block.to count cut.now) }
 {
@@ -186,20 +187,20 @@ fn put_block_title(
     put_number(out, count as u64)
 }
 
-/// Appends the cell of the cuts of a block at which images fail, of which that is the first.
+/// Appends the cell of the cuts of a block at which something fails, of which that is the first.
 #[tactic(auto, unfolding(crate::specs::Blocks::block_failing))]
 fn put_block_failing(
     out: &mut String,
-    run: &Run<'_>,
+    logged: &Logged<'_>,
     program: usize,
-    cuts: &[CutFailures],
+    cuts: &[CutCount],
     block: Block,
-    cut: &CutFailures,
+    cut: &CutCount,
 ) -> Result<(), AllocError>
-    requires from { block.from ≤ length run.now.numbering.log.now.entries }
-    ensures { OnOk result (string_bytes out.new ≡ string_bytes out.old ++ block_failing run.now.numbering.log.now.entries program cuts.now block.from block.to cut.now) }
+    requires from { block.from ≤ length logged.now.log.now.entries }
+    ensures { OnOk result (string_bytes out.new ≡ string_bytes out.old ++ block_failing logged.now.log.now.entries program cuts.now block.from block.to cut.now) }
 {
-    let (plan, _log) = (run.starts.plan(), run.numbering.log);
+    let (plan, _log) = (logged.plan, logged.log);
     put_failing_class(out, plan.epoch(block.from), cut)?;
     put_block_link(out, program, is_listed(cuts, block.from), cut)?;
     put_block_title(out, block, count_within(block, cuts), cut)?;
@@ -207,23 +208,23 @@ fn put_block_failing(
 }
 
 /// Whether a block has wanted cuts.
-fn has_cuts(block: Block, cuts: &[CutFailures]) -> bool
+fn has_cuts(block: Block, cuts: &[CutCount]) -> bool
     ensures { result ≡ list_any (is_within block.from block.to) cuts.now }
 {
     cuts.iter().any(|cut| is_within(block, cut))
 }
 
-/// Appends the cell of the cuts of a block at which no image fails, if it has wanted ones.
+/// Appends the cell of the cuts of a block at which nothing fails, if it has wanted ones.
 fn put_no_failing(
     out: &mut String,
-    run: &Run<'_>,
-    cuts: &[CutFailures],
+    logged: &Logged<'_>,
+    cuts: &[CutCount],
     block: Block,
 ) -> Result<(), AllocError>
-    requires from { block.from ≤ length run.now.numbering.log.now.entries }
-    ensures { OnOk result (string_bytes out.new ≡ string_bytes out.old ++ no_failing run.now.numbering.log.now.entries cuts.now block.from block.to) }
+    requires from { block.from ≤ length logged.now.log.now.entries }
+    ensures { OnOk result (string_bytes out.new ≡ string_bytes out.old ++ no_failing logged.now.log.now.entries cuts.now block.from block.to) }
 {
-    let (plan, _log) = (run.starts.plan(), run.numbering.log);
+    let (plan, _log) = (logged.plan, logged.log);
     if has_cuts(block, cuts) {
         put_passing(out, plan.epoch(block.from))
     } else {
@@ -234,17 +235,17 @@ fn put_no_failing(
 /// Appends the cell of the cuts of a block, if it has wanted ones.
 fn put_block_cuts(
     out: &mut String,
-    run: &Run<'_>,
+    logged: &Logged<'_>,
     program: usize,
-    cuts: &[CutFailures],
+    cuts: &[CutCount],
     block: Block,
 ) -> Result<(), AllocError>
-    requires from { block.from ≤ length run.now.numbering.log.now.entries }
-    ensures { OnOk result (string_bytes out.new ≡ string_bytes out.old ++ block_cuts run.now.numbering.log.now.entries program cuts.now block.from block.to) }
+    requires from { block.from ≤ length logged.now.log.now.entries }
+    ensures { OnOk result (string_bytes out.new ≡ string_bytes out.old ++ block_cuts logged.now.log.now.entries program cuts.now block.from block.to) }
 {
     match first_within(block, cuts) {
-        Some(cut) => put_block_failing(out, run, program, cuts, block, cut),
-        None => put_no_failing(out, run, cuts, block),
+        Some(cut) => put_block_failing(out, logged, program, cuts, block, cut),
+        None => put_no_failing(out, logged, cuts, block),
     }
 }
 
@@ -379,13 +380,18 @@ fn put_kinds(out: &mut String, entries: &[Entry]) -> Result<(), AllocError>
 
 /// Appends the classes of the cell of the entries from `from` to before `end`.
 #[tactic(auto, unfolding(crate::specs::Blocks::entries_class))]
-fn put_entries_class(out: &mut String, run: &Run<'_>, from: u32, end: u32) -> Result<(), AllocError>
-    requires there { from < length run.now.numbering.log.now.entries }
+fn put_entries_class(
+    out: &mut String,
+    logged: &Logged<'_>,
+    from: u32,
+    end: u32,
+) -> Result<(), AllocError>
+    requires there { from < length logged.now.log.now.entries }
     requires order { from ≤ end }
-    requires end { end ≤ length run.now.numbering.log.now.entries }
-    ensures { OnOk result (string_bytes out.new ≡ string_bytes out.old ++ entries_class run.now.numbering.log.now.entries from end) }
+    requires end { end ≤ length logged.now.log.now.entries }
+    ensures { OnOk result (string_bytes out.new ≡ string_bytes out.old ++ entries_class logged.now.log.now.entries from end) }
 {
-    let (plan, log) = (run.starts.plan(), run.numbering.log);
+    let (plan, log) = (logged.plan, logged.log);
     put(out, Piece::CellOpen)?;
     put_shade(out, plan.epoch(from))?;
     put_kinds(out, &log.entries()[from as usize..end as usize])
@@ -404,24 +410,29 @@ fn put_entries_link(out: &mut String, from: u32, end: u32) -> Result<(), AllocEr
 
 /// Appends the cell of the entries from `from` to before `end`.
 #[tactic(auto, unfolding(crate::specs::Blocks::entries_cell))]
-fn put_entries_cell(out: &mut String, run: &Run<'_>, from: u32, end: u32) -> Result<(), AllocError>
-    requires there { from < length run.now.numbering.log.now.entries }
+fn put_entries_cell(
+    out: &mut String,
+    logged: &Logged<'_>,
+    from: u32,
+    end: u32,
+) -> Result<(), AllocError>
+    requires there { from < length logged.now.log.now.entries }
     requires order { from ≤ end }
-    requires end { end ≤ length run.now.numbering.log.now.entries }
-    ensures { OnOk result (string_bytes out.new ≡ string_bytes out.old ++ entries_cell run.now.numbering.log.now.entries from end) }
+    requires end { end ≤ length logged.now.log.now.entries }
+    ensures { OnOk result (string_bytes out.new ≡ string_bytes out.old ++ entries_cell logged.now.log.now.entries from end) }
 {
-    put_entries_class(out, run, from, end)?;
+    put_entries_class(out, logged, from, end)?;
     put_entries_link(out, from, end)?;
     put(out, Piece::CellClose)
 }
 
 /// Appends the cell of the entries of the block from that entry on, if there are some.
-fn put_block_cell(out: &mut String, run: &Run<'_>, from: u32) -> Result<(), AllocError>
-    ensures { OnOk result (string_bytes out.new ≡ string_bytes out.old ++ block_cell run.now.numbering.log.now.entries from) }
+fn put_block_cell(out: &mut String, logged: &Logged<'_>, from: u32) -> Result<(), AllocError>
+    ensures { OnOk result (string_bytes out.new ≡ string_bytes out.old ++ block_cell logged.now.log.now.entries from) }
 {
-    let log = run.numbering.log;
+    let log = logged.log;
     if (from as usize) < log.entries().len() {
-        put_entries_cell(out, run, from, end_of(log, from))
+        put_entries_cell(out, logged, from, end_of(log, from))
     } else {
         Ok(())
     }
@@ -431,33 +442,33 @@ fn put_block_cell(out: &mut String, run: &Run<'_>, from: u32) -> Result<(), Allo
 #[tactic(auto, unfolding(crate::specs::Blocks::row_block))]
 fn put_row_block(
     out: &mut String,
-    run: &Run<'_>,
+    logged: &Logged<'_>,
     lacking: &Lacking<'_>,
-    cuts: &[CutFailures],
+    cuts: &[CutCount],
     from: u32,
 ) -> Result<(), AllocError>
-    requires from { from ≤ length run.now.numbering.log.now.entries }
-    ensures { OnOk result (string_bytes out.new ≡ string_bytes out.old ++ row_block run.now.numbering.log.now.entries lacking.now.program lacking.now.flushes.now cuts.now from) }
+    requires from { from ≤ length logged.now.log.now.entries }
+    ensures { OnOk result (string_bytes out.new ≡ string_bytes out.old ++ row_block logged.now.log.now.entries lacking.now.program lacking.now.flushes.now cuts.now from) }
 {
-    let block = block_at(run.numbering.log, from);
-    put_block_cuts(out, run, lacking.program, cuts, block)?;
+    let block = block_at(logged.log, from);
+    put_block_cuts(out, logged, lacking.program, cuts, block)?;
     put_block_lacks(out, lacking, block)?;
-    put_block_cell(out, run, from)
+    put_block_cell(out, logged, from)
 }
 
 /// Appends the block of the row that begins at that number, if one does.
 fn put_row_at(
     out: &mut String,
-    run: &Run<'_>,
+    logged: &Logged<'_>,
     lacking: &Lacking<'_>,
-    cuts: &[CutFailures],
+    cuts: &[CutCount],
     number: u32,
 ) -> Result<(), AllocError>
-    requires number { number ≤ length run.now.numbering.log.now.entries }
-    ensures { OnOk result (string_bytes out.new ≡ string_bytes out.old ++ row_at run.now.numbering.log.now.entries lacking.now.program lacking.now.flushes.now cuts.now number) }
+    requires number { number ≤ length logged.now.log.now.entries }
+    ensures { OnOk result (string_bytes out.new ≡ string_bytes out.old ++ row_at logged.now.log.now.entries lacking.now.program lacking.now.flushes.now cuts.now number) }
 {
-    if begins_block(run.numbering.log, number) {
-        put_row_block(out, run, lacking, cuts, number)
+    if begins_block(logged.log, number) {
+        put_row_block(out, logged, lacking, cuts, number)
     } else {
         Ok(())
     }
@@ -467,38 +478,66 @@ fn put_row_at(
 #[tactic(auto, using(crash_text::proofs::Steps::text_next), unfolding(crate::specs::Blocks::row_blocks))]
 pub(crate) fn put_row_blocks(
     out: &mut String,
-    run: &Run<'_>,
+    logged: &Logged<'_>,
     lacking: &Lacking<'_>,
-    cuts: &[CutFailures],
+    cuts: &[CutCount],
 ) -> Result<(), AllocError>
-    ensures { OnOk result (string_bytes out.new ≡ string_bytes out.old ++ row_blocks run.now.numbering.log.now.entries lacking.now.program lacking.now.flushes.now cuts.now) }
+    ensures { OnOk result (string_bytes out.new ≡ string_bytes out.old ++ row_blocks logged.now.log.now.entries lacking.now.program lacking.now.flushes.now cuts.now) }
 {
-    let count = run.numbering.log.entries().len() as u32;
+    let count = logged.log.entries().len() as u32;
     for number in 0..count + 1 {
-        put_row_at(out, run, lacking, cuts, number)?;
+        put_row_at(out, logged, lacking, cuts, number)?;
     }
     Ok(())
 }
 
 /// Appends for what a cell of a large log stands.
 #[tactic(auto, unfolding(crate::specs::Blocks::cell_means))]
-fn put_cell_means(out: &mut String, log: &Log) -> Result<(), AllocError>
-    ensures { OnOk result (string_bytes out.new ≡ string_bytes out.old ++ cell_means log.now.entries) }
+fn put_cell_means(out: &mut String, of: Kind, log: &Log) -> Result<(), AllocError>
+    ensures { OnOk result (string_bytes out.new ≡ string_bytes out.old ++ cell_means of log.now.entries) }
 {
     put(out, Piece::WidthOpen)?;
     put_number(out, width_of(log))?;
-    put(out, Piece::WidthClose)
+    put(out, Piece::WidthClose)?;
+    put_kind(out, of)?;
+    put(out, Piece::WidthEnd)
 }
 
 /// Appends for what a cell stands, where the log is large.
-pub(crate) fn put_width(out: &mut String, log: &Log) -> Result<(), AllocError>
-    ensures { OnOk result (string_bytes out.new ≡ string_bytes out.old ++ width_text log.now.entries) }
+pub(crate) fn put_width(out: &mut String, of: Kind, log: &Log) -> Result<(), AllocError>
+    ensures { OnOk result (string_bytes out.new ≡ string_bytes out.old ++ width_text of log.now.entries) }
 {
     if is_large(log) {
-        put_cell_means(out, log)
+        put_cell_means(out, of, log)
     } else {
         Ok(())
     }
+}
+
+/// Appends an entry of that number and epoch as it stands in a block.
+#[tactic(auto, unfolding(crate::specs::Blocks::short_line))]
+fn put_short(out: &mut String, number: u32, epoch: u32, entry: &Entry) -> Result<(), AllocError>
+    ensures { OnOk result (string_bytes out.new ≡ string_bytes out.old ++ short_line number epoch entry.now) }
+{
+    write!(out, "{number} {epoch}")?;
+    put_what(out, entry)?;
+    out.push_str("\n")
+}
+
+/// The line of an entry in its block.
+fn short_of(alloc: Global, plan: &Plan<'_>, log: &Log, number: u32) -> Result<String, AllocError>
+    requires log { plan.now.log ≡ log.now }
+    requires there { number < length log.now.entries }
+    ensures { IfOk result (λ line. string_bytes line ≡ short_at log.now.entries number) }
+{
+    let mut line = String::new(alloc);
+    put_short(
+        &mut line,
+        number,
+        plan.epoch(number),
+        &log.entries()[number as usize],
+    )?;
+    Ok(line)
 }
 
 /// Appends the line of an entry.
@@ -513,7 +552,7 @@ fn put_line(
     requires there { number < length log.now.entries }
     ensures { OnOk result (string_bytes out.new ≡ string_bytes out.old ++ line_text log.now.entries number) }
 {
-    let line = line_of(alloc, plan, log, number)?;
+    let line = short_of(alloc, plan, log, number)?;
     put_html(out, line.as_bytes())
 }
 

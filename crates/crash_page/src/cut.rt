@@ -1,33 +1,36 @@
-//! What is said of a cut at which images fail.
+//! What is said of a cut at which something fails, and of one at which images do.
 
 ghost use Rattle.std.specs.Prelude.{◌≡◌, ◌<◌, ◌≤◌, ◌++◌, ◌-◌, All, false, length, map, take, OnOk, string_bytes};
 ghost use Rattle.std.specs.List.{flat_map};
 ghost use Rattle.choices.specs.Choices.{ranked_choices};
 ghost use Rattle.losses.specs.declared.why.group.Group.{Group as GroupValue};
 ghost use Rattle.losses.specs.WhyText.{IsNumbered};
-ghost use Rattle.crash_page.specs.Groups.{group_text, groups_text, first_text, stand_text, bar_text, cut_line, cut_open, cut_body, cut_head, rest_text, most_of_cut, shown_of, cut_shown, cut_text};
+ghost use Rattle.crash_page.specs.Counts.{image_count};
+ghost use Rattle.crash_page.specs.Groups.{group_text, groups_text, first_text, stand_text, bar_text, cut_line, cut_open, cut_body, cut_begin, cut_head, rest_text, most_of_cut, shown_of, cut_shown, cut_text};
 ghost use Rattle.crash_page.specs.Page.{IsOfRun};
 
+use crate::counts::{CutCount, image_count};
 use crate::group::{put_choice_at, put_group};
 use crate::pieces::{Piece, put, put_number};
 use crate::run::Run;
 use crate::share::{put_class, share_of};
 use crate::strip::{put_count, put_place_name};
+use epochs::Plan;
 use losses::why::{CutFailures, Group};
 use std::alloc::{AllocError, Global};
 
-/// How many groups of a cut are shown.
-const MOST_GROUPS_OF_CUT: usize = 8;
+/// How many groups or cases of a cut are shown.
+const MOST_OF_CUT: usize = 8;
 
 /// How a cut is shown.
 #[derive(Clone, Copy)]
 pub(crate) struct Showing {
     /// The number of the program.
     pub(crate) program: usize,
-    /// Whether it and its first group are open.
+    /// Whether it is open, and its first group.
     pub(crate) is_open: bool,
-    /// How many of its groups are shown.
-    pub(crate) groups: usize,
+    /// How many of its groups or cases are shown.
+    pub(crate) rows: usize,
 }
 
 /// Appends the first of the choices of a cut, and how many there are.
@@ -50,31 +53,30 @@ fn put_first(out: &mut String, run: &Run<'_>, groups: &[Group]) -> Result<(), Al
 
 /// Appends where a cut stands.
 #[tactic(auto, unfolding(crate::specs::Groups::stand_text))]
-fn put_stand(out: &mut String, run: &Run<'_>, cut: &CutFailures) -> Result<(), AllocError>
-    requires { cut.now.cut ≤ length run.now.starts.now.plan.log.entries }
-    ensures { OnOk result (string_bytes out.new ≡ string_bytes out.old ++ stand_text run.now.starts.now cut.now) }
+fn put_stand(out: &mut String, plan: &Plan<'_>, cut: u32) -> Result<(), AllocError>
+    requires { cut ≤ length plan.now.log.entries }
+    ensures { OnOk result (string_bytes out.new ≡ string_bytes out.old ++ stand_text plan.now.log.entries cut) }
 {
-    let plan = run.starts.plan();
     put(out, Piece::CutNumber)?;
-    put_number(out, u64::from(cut.cut))?;
+    put_number(out, u64::from(cut))?;
     put(out, Piece::CutEpoch)?;
-    put_number(out, u64::from(plan.epoch(cut.cut)))?;
+    put_number(out, u64::from(plan.epoch(cut)))?;
     put(out, Piece::CutMarks)?;
-    put_number(out, u64::from(plan.marks(cut.cut)))?;
+    put_number(out, u64::from(plan.marks(cut)))?;
     put(out, Piece::CutMarksEnd)
 }
 
-/// Appends how many images of a cut fail, in words and as a bar.
+/// Appends how much of a cut fails, in words and as a bar.
 #[tactic(auto, unfolding(crate::specs::Groups::bar_text))]
-fn put_bar(out: &mut String, cut: &CutFailures) -> Result<(), AllocError>
+fn put_bar(out: &mut String, cut: &CutCount) -> Result<(), AllocError>
     ensures { OnOk result (string_bytes out.new ≡ string_bytes out.old ++ bar_text cut.now) }
 {
     put(out, Piece::BarOpen)?;
     put_count(out, cut)?;
     put(out, Piece::BarMost)?;
-    put_number(out, cut.images)?;
+    put_number(out, cut.all)?;
     put(out, Piece::BarValue)?;
-    put_number(out, cut.failing as u64)?;
+    put_number(out, cut.failing)?;
     put(out, Piece::BarClose)
 }
 
@@ -91,23 +93,39 @@ fn put_line(out: &mut String, is_open: bool) -> Result<(), AllocError>
 
 /// Appends what begins a cut.
 #[tactic(auto, unfolding(crate::specs::Groups::cut_open))]
-fn put_open(out: &mut String, is_open: bool, cut: &CutFailures) -> Result<(), AllocError>
+fn put_open(out: &mut String, is_open: bool, cut: &CutCount) -> Result<(), AllocError>
     ensures { OnOk result (string_bytes out.new ≡ string_bytes out.old ++ cut_open is_open cut.now) }
 {
-    let share = share_of(cut.images, cut.failing as u64);
+    let share = share_of(cut.all, cut.failing);
     put(out, Piece::CutOpen)?;
     put_class(out, share)?;
     put_line(out, is_open)
 }
 
-/// Appends what stands between the line of a cut and its groups.
+/// Appends what stands between the line of a cut and its groups or cases.
 #[tactic(auto, unfolding(crate::specs::Groups::cut_body))]
-fn put_body(out: &mut String, program: usize, cut: &CutFailures) -> Result<(), AllocError>
-    ensures { OnOk result (string_bytes out.new ≡ string_bytes out.old ++ cut_body program cut.now) }
+pub(crate) fn put_body(out: &mut String, program: usize, cut: u32) -> Result<(), AllocError>
+    ensures { OnOk result (string_bytes out.new ≡ string_bytes out.old ++ cut_body program cut) }
 {
     put(out, Piece::CutBody)?;
-    put_place_name(out, program, cut.cut)?;
+    put_place_name(out, program, cut)?;
     put(out, Piece::OpenEnd)
+}
+
+/// Appends the line of a cut, open or not, without what only a cut of images has.
+#[tactic(auto, unfolding(crate::specs::Groups::cut_begin))]
+pub(crate) fn put_begin(
+    out: &mut String,
+    plan: &Plan<'_>,
+    is_open: bool,
+    cut: &CutCount,
+) -> Result<(), AllocError>
+    requires { cut.now.cut ≤ length plan.now.log.entries }
+    ensures { OnOk result (string_bytes out.new ≡ string_bytes out.old ++ cut_begin plan.now.log.entries is_open cut.now) }
+{
+    put_open(out, is_open, cut)?;
+    put_stand(out, plan, cut.cut)?;
+    put_bar(out, cut)
 }
 
 /// Appends the line of a cut.
@@ -122,11 +140,10 @@ fn put_head(
     requires images { All (λ (g : GroupValue). g.image < length (ranked_choices run.now.starts.now.plan run.now.starts.now.bound run.now.starts.now.tears)) cut.now.groups.items }
     ensures { OnOk result (string_bytes out.new ≡ string_bytes out.old ++ cut_head run.now.starts.now how cut.now) }
 {
-    put_open(out, how.is_open, cut)?;
-    put_stand(out, run, cut)?;
-    put_bar(out, cut)?;
+    let count = image_count(cut);
+    put_begin(out, run.starts.plan(), how.is_open, &count)?;
     put_first(out, run, cut.groups.as_slice())?;
-    put_body(out, how.program, cut)
+    put_body(out, how.program, cut.cut)
 }
 
 /// Appends how many groups aren't shown.
@@ -181,13 +198,13 @@ fn put_groups(
     }
 }
 
-/// How many groups of a cut are shown, where that many may still be.
-pub(crate) fn shown_of(left: usize, cut: &CutFailures) -> usize
-    ensures value { result ≡ shown_of left cut.now }
+/// How many of a cut's groups or cases are shown, where `left` more may be on the page.
+pub(crate) fn shown_of(left: usize, rows: usize) -> usize
+    ensures value { result ≡ shown_of left rows }
     ensures left { result ≤ left }
-    ensures there { result ≤ length cut.now.groups.items }
+    ensures there { result ≤ rows }
 {
-    cut.groups.len().min(MOST_GROUPS_OF_CUT).min(left)
+    left.min(MOST_OF_CUT.min(rows))
 }
 
 /// Appends a cut with some of its groups.
@@ -200,21 +217,14 @@ fn put_shown_cut(
     how: Showing,
     cut: &CutFailures,
 ) -> Result<(), AllocError>
-    requires shown { how.groups ≤ length cut.now.groups.items }
+    requires shown { how.rows ≤ length cut.now.groups.items }
     requires cut { IsOfRun run.now.starts.now (length outcomes.now) cut.now }
     ensures { OnOk result (string_bytes out.new ≡ string_bytes out.old ++ cut_shown run.now.starts.now (map (λ o. o.now) outcomes.now) how cut.now) }
 {
     let groups = cut.groups.as_slice();
     put_head(out, run, how, cut)?;
-    put_groups(
-        alloc,
-        out,
-        run,
-        outcomes,
-        how.is_open,
-        &groups[..how.groups],
-    )?;
-    put_rest(out, groups.len() - how.groups)?;
+    put_groups(alloc, out, run, outcomes, how.is_open, &groups[..how.rows])?;
+    put_rest(out, groups.len() - how.rows)?;
     put(out, Piece::CutClose)
 }
 
@@ -227,7 +237,7 @@ pub(crate) fn put_cut(
     how: Showing,
     cut: &CutFailures,
 ) -> Result<(), AllocError>
-    requires shown { how.groups ≤ length cut.now.groups.items }
+    requires shown { how.rows ≤ length cut.now.groups.items }
     requires cut { IsOfRun run.now.starts.now (length outcomes.now) cut.now }
     ensures { OnOk result (string_bytes out.new ≡ string_bytes out.old ++ cut_text run.now.starts.now (map (λ o. o.now) outcomes.now) how cut.now) }
 {

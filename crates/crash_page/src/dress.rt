@@ -9,7 +9,7 @@ pub(crate) const OPENING: &str = "<!DOCTYPE html>
 <meta name='viewport' content='width=device-width, initial-scale=1'>
 <title>crashbpf: ";
 
-/// What stands between the name of the log in the title and that in the first line: the style.
+/// What stands after the name of the log in the title: the style.
 pub(crate) const STYLE: &str = "</title>
 <style>
 :root{color-scheme:light dark;--paper:#fff;--ink:#1c2024;--faint:#59636b;--line:#d5dade;--even:#dfe4e8;--odd:#8f9ba5;--write:#dbe8fb;--write-ink:#1d3655;--discard:#e3d8f2;--discard-ink:#402a5c;--mark:#fff0b8;--mark-ink:#574500;--flush:#2f5f9f;--s0:#7fbf93;--s1:#ffd978;--s2:#ffb347;--s3:#f4803c;--s4:#d8452f;--s5:#9c1420;--aim:#fff8d8;--wrong:#b3261e;--good:#17653a}
@@ -74,7 +74,21 @@ li{content-visibility:auto;contain-intrinsic-size:auto 20px;white-space:pre-wrap
 li:target,details:has(>:target){background:var(--aim)}
 .lack:target{outline:3px solid var(--ink)}
 @media (max-width:600px){body{padding:.8rem}.cut>div{padding-left:.3rem}.cut pre{padding:.5rem .4rem;font-size:11px}}
-</style>
+";
+
+/// The style of cases and their parts.
+pub(crate) const CASE_STYLE: &str = ".case{margin:.2rem 0 .6rem}
+.case .log{margin:.2rem 0}
+.p{padding:0 4px;margin-right:1px;background:var(--line);color:var(--ink);font-weight:400}
+.p.kept{background:var(--s0);color:#000}
+.p.some{background:var(--s2);color:#000}
+.p.lost{background:var(--s5);color:var(--paper)}
+.log>.p{border-block-width:0;line-height:26px}
+.log>.p.in{border-left:3px solid var(--flush)}
+";
+
+/// What stands between the style and the name of the log in the first line.
+pub(crate) const STYLE_END: &str = "</style>
 </head>
 <body>
 <header>
@@ -82,7 +96,16 @@ li:target,details:has(>:target){background:var(--aim)}
 
 /// What the colours and lines of entries mean, before those of cuts.
 pub(crate) const LEGEND: &str =
-    "<p class='key'><span><b class='write'></b>write</span><span><b class='discard'></b>discard</span><span><u>17</u> FUA</span><span><b class='flush'></b>flush</span><span><b class='lack'></b>flush missing</span><span><b class='mark'></b>mark</span><span><b class='even'></b><b class='odd'></b>epochs in turn</span><span>images of a cut that fail:</span>";
+    "<p class='key'><span><b class='write'></b>write</span><span><b class='discard'></b>discard</span><span><u>17</u> FUA</span><span><b class='flush'></b>flush</span><span><b class='lack'></b>flush missing</span><span><b class='mark'></b>mark</span><span><b class='even'></b><b class='odd'></b>epochs in turn</span>";
+
+/// What the colours of the parts of a case mean.
+pub(crate) const CASE_KEYS: &str = "<p class='log'><b class='p lost'>lost or torn</b>
+<b class='p kept'>kept</b>
+<b class='p some'>some of both</b>
+<b class='p free'>either</b>
+<b class='p in'>a flush before it helps</b>
+</p>
+";
 
 /// What stands after the list of entries: a script that opens the cut to which a link leads, shows the line of an entry beside
 /// the pointer, and leads from cell to cell of the row of entries by the arrow keys. Without it the page has the same text.

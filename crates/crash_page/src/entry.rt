@@ -8,7 +8,7 @@ ghost use Rattle.crash_page.specs.Entries.{shade_text, class_text, label_text, l
 use crate::html::{put_html, put_mark_label};
 use crate::lacking::{Lacking, put_lacking};
 use crate::pieces::{Piece, put, put_number};
-use crate::run::Run;
+use crate::run::Logged;
 use epochs::Plan;
 use logfmt::{Entry, Log};
 use notes::put_entry_line;
@@ -104,13 +104,13 @@ fn put_cell(
 fn put_cell_of(
     alloc: Global,
     out: &mut String,
-    run: &Run<'_>,
+    logged: &Logged<'_>,
     number: u32,
 ) -> Result<(), AllocError>
-    requires there { number < length run.now.numbering.log.now.entries }
-    ensures { OnOk result (string_bytes out.new ≡ string_bytes out.old ++ cell_at run.now.numbering.log.now.entries number) }
+    requires there { number < length logged.now.log.now.entries }
+    ensures { OnOk result (string_bytes out.new ≡ string_bytes out.old ++ cell_at logged.now.log.now.entries number) }
 {
-    let (plan, log) = (run.starts.plan(), run.numbering.log);
+    let (plan, log) = (logged.plan, logged.log);
     put_cell(
         alloc,
         out,
@@ -125,15 +125,15 @@ fn put_cell_of(
 fn put_place(
     alloc: Global,
     out: &mut String,
-    run: &Run<'_>,
+    logged: &Logged<'_>,
     lacking: &Lacking<'_>,
     number: u32,
 ) -> Result<(), AllocError>
-    requires there { number < length run.now.numbering.log.now.entries }
-    ensures { OnOk result (string_bytes out.new ≡ string_bytes out.old ++ place_at run.now.numbering.log.now.entries lacking.now.program lacking.now.flushes.now number) }
+    requires there { number < length logged.now.log.now.entries }
+    ensures { OnOk result (string_bytes out.new ≡ string_bytes out.old ++ place_at logged.now.log.now.entries lacking.now.program lacking.now.flushes.now number) }
 {
     put_lacking(out, lacking, number)?;
-    put_cell_of(alloc, out, run, number)
+    put_cell_of(alloc, out, logged, number)
 }
 
 /// Appends the cells of the entries from `from` to before `to`, with the flushes that are missing.
@@ -141,27 +141,22 @@ fn put_place(
 pub(crate) fn put_cells(
     alloc: Global,
     out: &mut String,
-    run: &Run<'_>,
+    logged: &Logged<'_>,
     lacking: &Lacking<'_>,
     from: u32,
     to: u32,
 ) -> Result<(), AllocError>
-    requires to { to ≤ length run.now.numbering.log.now.entries }
-    ensures { OnOk result (string_bytes out.new ≡ string_bytes out.old ++ cells_text run.now.numbering.log.now.entries lacking.now.program lacking.now.flushes.now from to) }
+    requires to { to ≤ length logged.now.log.now.entries }
+    ensures { OnOk result (string_bytes out.new ≡ string_bytes out.old ++ cells_text logged.now.log.now.entries lacking.now.program lacking.now.flushes.now from to) }
 {
     for step in 0..to.saturating_sub(from) {
-        put_place(alloc, out, run, lacking, from + step)?;
+        put_place(alloc, out, logged, lacking, from + step)?;
     }
     Ok(())
 }
 
 /// The line of an entry, as `log` prints it.
-pub(crate) fn line_of(
-    alloc: Global,
-    plan: &Plan<'_>,
-    log: &Log,
-    number: u32,
-) -> Result<String, AllocError>
+fn line_of(alloc: Global, plan: &Plan<'_>, log: &Log, number: u32) -> Result<String, AllocError>
     requires log { plan.now.log ≡ log.now }
     requires there { number < length log.now.entries }
     ensures { IfOk result (λ line. string_bytes line ≡ line_at log.now.entries number) }

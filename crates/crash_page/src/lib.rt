@@ -1,17 +1,20 @@
 //! crash_page, a run as a page for a browser: the log as a row of entries with the cuts between them and the flushes that are
 //! missing, and of each cut at which images fail its groups, each with the image of its example in words (docs/OUTPUT.md, The page
-//! of `page`).
+//! of `page`). Of a run of any number of losses the page has cases in place of images: of each cut at which cases fail its first ones,
+//! each with a row of the parts at risk, and which of these are lost, kept or either.
 //!
 //! # Place
 //!
 //! On `losses`, whose groups (`why`) it shows and whose missing flushes (`flushes`) it draws, on `crash_text` for the text of an
 //! image, on `images`, which forms the two images that this text compares, on `report` for what it says of a program at its head,
-//! and on `notes` for the lines of entries. It judges nothing: `runs` hands it what fails of checkers, and `retold` what a report says.
+//! and on `notes` for the lines of entries. What is known of a case it has of `case_text`, of what `case_runs` found. It judges
+//! nothing: `runs` hands it what fails of checkers, and `retold` what a report says.
 //!
 //! | Call | Does |
 //! |---|---|
 //! | `program_failures(alloc, run, failures, program, judge, images, outcomes)` | is what a page takes of a program: it fails on these images, and ends so on each |
 //! | `put_page(alloc, out, about, run, programs)` | appends the page, of programs that fail on that many images at these cuts |
+//! | `case_page(alloc, head, log, plan, asked, found)` | the bytes of the page of the failing cases of a run |
 //!
 //! # What is proved
 //!
@@ -22,13 +25,18 @@
 //! `put_page` asks of the failures that it is given holds of what `program_failures` answers: these are, of the images on which a program
 //! fails, what fails at each cut and which flushes are missing (`specs/Failing.antt`).
 //!
+//! `case_page` gives exactly the bytes of its definition (`case_page_text` in `specs/CasePage.antt`). A case is a row of the parts at risk
+//! (`case_row` in `specs/CaseRows.antt`), by its fates and by its window, which are those of the text of cases (`case_text`). Its one
+//! error is want of memory.
+//!
 //! # How it is written
 //!
 //! Each call appends to the page, piece after piece, as its definition is composed. `entry` has the cells and lines of entries,
 //! `lacking` the flushes that are missing, in the row and in words, `strip` the cells of cuts between entries, `share` their colours,
-//! `cut` and `group` what stands after a click on a cut. Of a large log `block` has the cells and the lines, many entries and cuts a
-//! block, so that the page of any log stays small: at most some thousand cells, thousand cuts and five hundred groups a program,
-//! and a line for each entry.
+//! `cut` and `group` what stands after a click on a cut. How much of a cut fails is one type, whether these are images or cases
+//! (`counts`), so the row is the same of both. `parts`, `case_row` and `case_cut` have the cases of a cut. Of a large log `block` has the cells and the lines, many entries and cuts a
+//! block, so that the page of any log stays small: at most some thousand cells, thousand cuts and five hundred groups or cases a
+//! program, 32 parts of each colour a case, and a line for each entry.
 //!
 //! # How it is proved
 //!
@@ -67,6 +75,10 @@
 #![tactic(auto)]
 
 mod block;
+mod case_cut;
+mod case_row;
+mod cases_page;
+mod counts;
 mod cut;
 mod dress;
 mod entry;
@@ -77,12 +89,14 @@ mod judge;
 mod lacking;
 mod laws;
 mod page;
+mod parts;
 mod pieces;
 mod program;
 mod run;
 mod share;
 mod strip;
 
+pub use cases_page::case_page;
 pub use failing::program_failures;
 pub use judge::Judge;
 pub use laws::{failures_are_of_run, text_is_no_markup};

@@ -2,14 +2,15 @@
 
 ghost use Rattle.std.specs.Prelude.{◌≡◌, ◌++◌, All, OnOk, string_bytes};
 ghost use Rattle.crash_page.specs.Html.{html};
-ghost use Rattle.crash_page.specs.Page.{log_name, head_text, programs_text, about_text, small_list, list_text, page_text, AreOfRun};
+ghost use Rattle.crash_page.specs.Page.{log_name, own_style, style_text, head_text, programs_text, about_text, small_list, list_text, page_text, AreOfRun};
 
 use crate::block::{is_large, put_large_list};
+use crate::counts::Kind;
 use crate::entry::put_rows;
 use crate::html::put_html;
 use crate::pieces::{Piece, put};
 use crate::program::{ProgramFailures, put_program};
-use crate::run::Run;
+use crate::run::{Logged, Run, logged_of};
 use logfmt::Log;
 use std::alloc::{AllocError, Global};
 
@@ -22,21 +23,41 @@ fn put_log_name(out: &mut String, log: &Log) -> Result<(), AllocError>
     write!(out, "entries {entries}, sectors {sectors}")
 }
 
+/// Appends the style of cases, where these stand on the page.
+fn put_own_style(out: &mut String, of: Kind) -> Result<(), AllocError>
+    ensures { OnOk result (string_bytes out.new ≡ string_bytes out.old ++ own_style of) }
+{
+    match of {
+        Kind::Images => Ok(()),
+        Kind::Cases => put(out, Piece::CaseStyle),
+    }
+}
+
+/// Appends the style.
+#[tactic(auto, unfolding(crate::specs::Page::style_text))]
+fn put_style(out: &mut String, of: Kind) -> Result<(), AllocError>
+    ensures { OnOk result (string_bytes out.new ≡ string_bytes out.old ++ style_text of) }
+{
+    put(out, Piece::Style)?;
+    put_own_style(out, of)?;
+    put(out, Piece::StyleEnd)
+}
+
 /// Appends the head of the page.
 #[tactic(auto, unfolding(crate::specs::Page::head_text))]
-fn put_head(out: &mut String, log: &Log) -> Result<(), AllocError>
-    ensures { OnOk result (string_bytes out.new ≡ string_bytes out.old ++ head_text log.now) }
+pub(crate) fn put_head(out: &mut String, of: Kind, log: &Log) -> Result<(), AllocError>
+    ensures { OnOk result (string_bytes out.new ≡ string_bytes out.old ++ head_text of log.now) }
 {
     put(out, Piece::Opening)?;
     put_log_name(out, log)?;
-    put(out, Piece::Style)?;
+    put_style(out, of)?;
     put_log_name(out, log)?;
     put(out, Piece::HeadClose)
 }
 
 /// Appends the text about the run.
 #[tactic(auto, unfolding(crate::specs::Page::about_text))]
-fn put_about(out: &mut String, about: &str) -> Result<(), AllocError>
+pub(crate) fn put_about(out: &mut String, about: &str) -> Result<(), AllocError>
     ensures { OnOk result (string_bytes out.new ≡ string_bytes out.old ++ about_text about.now) }
 {
     put(out, Piece::AboutOpen)?;
@@ -46,22 +67,26 @@ fn put_about(out: &mut String, about: &str) -> Result<(), AllocError>
 
 /// Appends the list of the entries of a log that isn't large.
 #[tactic(auto, unfolding(crate::specs::Page::small_list))]
-fn put_small_list(alloc: Global, out: &mut String, run: &Run<'_>) -> Result<(), AllocError>
-    ensures { OnOk result (string_bytes out.new ≡ string_bytes out.old ++ small_list run.now.numbering.log.now.entries) }
+fn put_small_list(alloc: Global, out: &mut String, logged: &Logged<'_>) -> Result<(), AllocError>
+    ensures { OnOk result (string_bytes out.new ≡ string_bytes out.old ++ small_list logged.now.log.now.entries) }
 {
     put(out, Piece::ListOpen)?;
-    put_rows(alloc, out, run.starts.plan(), run.numbering.log)?;
+    put_rows(alloc, out, logged.plan, logged.log)?;
     put(out, Piece::ListClose)
 }
 
 /// Appends the list of entries.
-fn put_list(alloc: Global, out: &mut String, run: &Run<'_>) -> Result<(), AllocError>
-    ensures { OnOk result (string_bytes out.new ≡ string_bytes out.old ++ list_text run.now.numbering.log.now.entries) }
+pub(crate) fn put_list(
+    alloc: Global,
+    out: &mut String,
+    logged: &Logged<'_>,
+) -> Result<(), AllocError>
+    ensures { OnOk result (string_bytes out.new ≡ string_bytes out.old ++ list_text logged.now.log.now.entries) }
 {
-    if is_large(run.numbering.log) {
-        put_large_list(alloc, out, run.starts.plan(), run.numbering.log)
+    if is_large(logged.log) {
+        put_large_list(alloc, out, logged.plan, logged.log)
     } else {
-        put_small_list(alloc, out, run)
+        put_small_list(alloc, out, logged)
     }
 }
 
@@ -101,9 +126,10 @@ pub fn put_page(
     requires programs { All (AreOfRun run.now.starts.now) programs.now }
     ensures { OnOk result (string_bytes out.new ≡ string_bytes out.old ++ page_text about.now run.now.starts.now programs.now) }
 {
-    put_head(out, run.numbering.log)?;
+    let logged = logged_of(run);
+    put_head(out, Kind::Images, run.numbering.log)?;
     put_about(out, about)?;
     put_programs(alloc, out, run, programs)?;
-    put_list(alloc, out, run)?;
+    put_list(alloc, out, &logged)?;
     put(out, Piece::Closing)
 }

@@ -4,7 +4,7 @@ ghost use Rattle.std.specs.Prelude.{ℕ, ◌≡◌, ◌++◌, OnOk, string_bytes
 ghost use Rattle.std.specs.Fmt.{decimal};
 ghost use Rattle.crash_page.specs.Pieces.{piece_text};
 
-use crate::dress::{CLOSING, LEGEND, OPENING, STYLE};
+use crate::dress::{CASE_KEYS, CASE_STYLE, CLOSING, LEGEND, OPENING, STYLE, STYLE_END};
 use std::alloc::AllocError;
 
 /// A part of a page.
@@ -12,7 +12,10 @@ use std::alloc::AllocError;
 pub(crate) enum Piece {
     Opening,
     Style,
+    CaseStyle,
+    StyleEnd,
     Legend,
+    CaseKeys,
     Closing,
     AboutOpen,
     AboutClose,
@@ -24,10 +27,14 @@ pub(crate) enum Piece {
     ProgramName,
     ProgramClose,
     NoCuts,
+    NoCaseCuts,
     GoodOpen,
+    GoodCases,
+    AtCuts,
     GoodClose,
     BadOpen,
     BadCuts,
+    BadCases,
     Of,
     CureEntry,
     CureEntries,
@@ -55,7 +62,8 @@ pub(crate) enum Piece {
     FailingLink,
     FailingTitle,
     FailingClose,
-    ImagesFail,
+    KeysOpen,
+    KeysClose,
     KeyOpen,
     KeyColour,
     KeyClose,
@@ -93,6 +101,19 @@ pub(crate) enum Piece {
     LongClose,
     RestOpen,
     RestClose,
+    RestCases,
+    CaseOpen,
+    NoFlushHelps,
+    FlushHelps,
+    OneFlushHelps,
+    HelpsClose,
+    CaseParts,
+    PartOpen,
+    PartTitle,
+    PartClose,
+    PartsOpen,
+    PartsClose,
+    CaseClose,
     SectionClose,
     ListOpen,
     RowOpen,
@@ -107,7 +128,9 @@ pub(crate) enum Piece {
     BlockFailing,
     WidthOpen,
     WidthClose,
+    WidthEnd,
     MoreOpen,
+    MoreCuts,
     MoreClose,
 }
 
@@ -119,7 +142,10 @@ fn text_of(piece: Piece) -> &'static str
     match piece {
         Piece::Opening => OPENING,
         Piece::Style => STYLE,
+        Piece::CaseStyle => CASE_STYLE,
+        Piece::StyleEnd => STYLE_END,
         Piece::Legend => LEGEND,
+        Piece::CaseKeys => CASE_KEYS,
         Piece::Closing => CLOSING,
         Piece::AboutOpen => "<pre class='about'>",
         Piece::AboutClose => "</pre>\n</header>\n<main>\n",
@@ -131,10 +157,14 @@ fn text_of(piece: Piece) -> &'static str
         Piece::ProgramName => "'>Program ",
         Piece::ProgramClose => "</h2>\n",
         Piece::NoCuts => "<p class='none'>The log has no wanted cut: no image was judged.</p>\n",
+        Piece::NoCaseCuts => "<p class='none'>The log has no wanted cut: no case was judged.</p>\n",
         Piece::GoodOpen => "<p class='good'>No image fails, at ",
+        Piece::GoodCases => "<p class='good'>No case fails, of ",
+        Piece::AtCuts => " at ",
         Piece::GoodClose => " cuts.</p>\n",
         Piece::BadOpen => "<p class='bad'>",
         Piece::BadCuts => " images fail, at ",
+        Piece::BadCases => " cases fail, at ",
         Piece::Of => " of ",
         Piece::CureEntry => "<p class='cure'>A flush right before entry ",
         Piece::CureEntries => "<p class='cure'>A flush right before each of the entries ",
@@ -168,7 +198,8 @@ fn text_of(piece: Piece) -> &'static str
         Piece::FailingLink => "' href='#",
         Piece::FailingTitle => "' title='cut ",
         Piece::FailingClose => "'></a>\n",
-        Piece::ImagesFail => " images fail",
+        Piece::KeysOpen => "<span>",
+        Piece::KeysClose => " of a cut that fail:</span>",
         Piece::KeyOpen => "<span><b class='",
         Piece::KeyColour => "'></b>",
         Piece::KeyClose => "</span>",
@@ -208,6 +239,19 @@ fn text_of(piece: Piece) -> &'static str
         Piece::LongClose => " bytes: crashbpf show prints it.</p>\n",
         Piece::RestOpen => "<p class='about'>",
         Piece::RestClose => " more groups of this cut: crashbpf why lists them.</p>\n",
+        Piece::RestCases => " more cases of this cut: crashbpf why lists them.</p>\n",
+        Piece::CaseOpen => "<div class='case'>case ",
+        Piece::NoFlushHelps => "no flush takes it away",
+        Piece::FlushHelps => "a flush before any of the entries ",
+        Piece::OneFlushHelps => "a flush before entry ",
+        Piece::HelpsClose => " takes it away",
+        Piece::CaseParts => "\n<div class='log'>\n",
+        Piece::PartOpen => "<b class='p ",
+        Piece::PartTitle => "' title='",
+        Piece::PartClose => "</b>\n",
+        Piece::PartsOpen => "<small>",
+        Piece::PartsClose => " more parts</small>\n",
+        Piece::CaseClose => "</div></div>\n",
         Piece::SectionClose => "</section>\n",
         Piece::ListOpen => {
             "<section aria-labelledby='entries'>\n<h2 id='entries'>Entries</h2>\n<ol>\n"
@@ -216,7 +260,7 @@ fn text_of(piece: Piece) -> &'static str
         Piece::RowClose => "</li>\n",
         Piece::ListClose => "</ol>\n</section>\n",
         Piece::BlocksOpen => {
-            "<section aria-labelledby='entries'>\n<h2 id='entries'>Entries</h2>\n"
+            "<section aria-labelledby='entries'>\n<h2 id='entries'>Entries</h2>\n<p class='about'>Each by its number, its epoch and what it asks of the device.</p>\n"
         }
         Piece::BlockOpen => "<details id='e",
         Piece::BlockName => "'><summary>entries ",
@@ -226,10 +270,12 @@ fn text_of(piece: Piece) -> &'static str
         Piece::BlockFailing => " fail: ",
         Piece::WidthOpen => "<p class='about'>A cell stands for up to ",
         Piece::WidthClose => {
-            " entries, and the one before it for as many cuts, in the colour of the first at which images fail.</p>\n"
+            " entries, and the one before it for as many cuts, in the colour of the first at which "
         }
+        Piece::WidthEnd => " fail.</p>\n",
         Piece::MoreOpen => "<p class='about' id='",
-        Piece::MoreClose => " more cuts at which images fail: crashbpf why lists them.</p>\n",
+        Piece::MoreCuts => " more cuts at which ",
+        Piece::MoreClose => " fail: crashbpf why lists them.</p>\n",
     }
 }
 

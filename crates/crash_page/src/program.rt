@@ -1,20 +1,23 @@
 //! What is said of a program.
 
-ghost use Rattle.std.specs.Prelude.{◌≡◌, ◌==◌, if◌then◌else◌, ◌≤◌, ◌++◌, [], ◌∷◌, All, length, map, filter, OnOk, string_bytes};
+ghost use Rattle.std.specs.Prelude.{◌≡◌, ◌==◌, if◌then◌else◌, ◌≤◌, ◌++◌, [], ◌∷◌, All, length, map, OnOk, string_bytes};
 ghost use Rattle.crash_page.specs.declared.pieces.Piece.TheVariants as piece;
 ghost use Rattle.crash_page.specs.Pieces.{piece_text};
-ghost use Rattle.losses.specs.declared.why.cut.CutFailures.{CutFailures as CutValue};
+ghost use Rattle.crash_page.specs.declared.counts.CutCount.{CutCount as CutValue};
+ghost use Rattle.crash_page.specs.declared.counts.Kind.TheVariants as kind;
 ghost use Rattle.crash_page.specs.Blocks.{most_cells};
-ghost use Rattle.crash_page.specs.Groups.{one_failing, listed_text, cuts_text, unlisted_text};
-ghost use Rattle.crash_page.specs.Page.{fails, bad_text, judged_text, verdict_text, strip_open, row_of, strip_text, name_text, title_text, summary_text, most_of_program, shown_cuts, program_text, IsOfRun, AreOfRun};
+ghost use Rattle.crash_page.specs.Groups.{one_failing, listed_text, cuts_text, more_count, unlisted_text};
+ghost use Rattle.crash_page.specs.Counts.{count_fails};
+ghost use Rattle.crash_page.specs.Page.{counts_of, bad_text, judged_text, verdict_text, strip_open, row_of, strip_text, name_text, title_text, summary_text, most_of_program, shown_cuts, program_text, IsOfRun, AreOfRun};
 
 use crate::block::{MOST_CELLS, is_large, put_more_name, put_row_blocks, put_width};
+use crate::counts::{CutCount, Kind, count_failing, image_counts, put_kind};
 use crate::cut::{Showing, put_cut, shown_of};
 use crate::entry::put_word;
 use crate::judge::{Judge, put_judge};
 use crate::lacking::{Lacking, put_advice};
 use crate::pieces::{Piece, put, put_number};
-use crate::run::Run;
+use crate::run::{Logged, Run, logged_of};
 use crate::share::put_legend;
 use crate::strip::put_strip;
 use logfmt::Log;
@@ -22,11 +25,11 @@ use losses::flushes::MissingFlush;
 use losses::why::CutFailures;
 use std::alloc::{AllocError, Global};
 
-/// How many groups of a program are shown.
-const MOST_GROUPS_OF_PROGRAM: usize = 500;
+/// How many groups or cases of a program are shown.
+const MOST_OF_PROGRAM: usize = 500;
 
 /// How many of them where the log is large.
-const MOST_GROUPS_OF_LARGE: usize = 100;
+const MOST_OF_LARGE: usize = 100;
 
 /// Above how many entries their cells are narrow.
 const MANY: usize = 400;
@@ -48,76 +51,56 @@ pub struct ProgramFailures<'a> {
     pub uncured: usize,
 }
 
-/// One where images fail at a cut, else none.
-fn count_failing(cut: &CutFailures) -> usize
-    ensures value { result ≡ length (filter fails (cut.now ∷ [])) }
-    ensures bound { result ≤ 1 }
-{
-    if cut.failing == 0 { 0 } else { 1 }
-}
-
-/// At how many cuts images fail.
-fn failing_cuts(cuts: &[CutFailures]) -> usize
-    ensures value { result ≡ length (filter fails cuts.now) }
-    ensures bound { result ≤ length cuts.now }
-{
-    let mut count = 0;
-    for cut in cuts {
-        count += count_failing(cut);
-    }
-    count
-}
-
 /// Appends on how many images a program fails, and at how many cuts.
 #[tactic(auto, unfolding(crate::specs::Page::bad_text))]
-fn put_bad(out: &mut String, failures: &ProgramFailures<'_>) -> Result<(), AllocError>
-    ensures { OnOk result (string_bytes out.new ≡ string_bytes out.old ++ bad_text failures.now) }
+fn put_bad(out: &mut String, failing: usize, cuts: &[CutCount]) -> Result<(), AllocError>
+    ensures { OnOk result (string_bytes out.new ≡ string_bytes out.old ++ bad_text failing cuts.now) }
 {
     put(out, Piece::BadOpen)?;
-    put_number(out, failures.failing as u64)?;
+    put_number(out, failing as u64)?;
     put(out, Piece::BadCuts)?;
-    put_number(out, failing_cuts(failures.cuts.as_slice()) as u64)?;
+    put_number(out, count_failing(cuts) as u64)?;
     put(out, Piece::Of)
 }
 
 /// Appends whether a program fails.
-fn put_failing(out: &mut String, failures: &ProgramFailures<'_>) -> Result<(), AllocError>
-    ensures { OnOk result (string_bytes out.new ≡ string_bytes out.old ++ (if failures.now.failing == 0 then piece_text piece.GoodOpen else bad_text failures.now)) }
+fn put_failing(out: &mut String, failing: usize, cuts: &[CutCount]) -> Result<(), AllocError>
+    ensures { OnOk result (string_bytes out.new ≡ string_bytes out.old ++ (if failing == 0 then piece_text piece.GoodOpen else bad_text failing cuts.now)) }
 {
-    if failures.failing == 0 {
+    if failing == 0 {
         put(out, Piece::GoodOpen)
     } else {
-        put_bad(out, failures)
+        put_bad(out, failing, cuts)
     }
 }
 
 /// Appends what a program comes to, of that many cuts.
 #[tactic(auto, unfolding(crate::specs::Page::judged_text))]
-fn put_judged(out: &mut String, failures: &ProgramFailures<'_>) -> Result<(), AllocError>
-    ensures { OnOk result (string_bytes out.new ≡ string_bytes out.old ++ judged_text failures.now) }
+fn put_judged(out: &mut String, failing: usize, cuts: &[CutCount]) -> Result<(), AllocError>
+    ensures { OnOk result (string_bytes out.new ≡ string_bytes out.old ++ judged_text failing cuts.now) }
 {
-    put_failing(out, failures)?;
-    put_number(out, failures.cuts.len() as u64)?;
+    put_failing(out, failing, cuts)?;
+    put_number(out, cuts.len() as u64)?;
     put(out, Piece::GoodClose)
 }
 
 /// Appends what a program comes to, or that nothing was judged.
-fn put_verdict(out: &mut String, failures: &ProgramFailures<'_>) -> Result<(), AllocError>
-    ensures { OnOk result (string_bytes out.new ≡ string_bytes out.old ++ verdict_text failures.now) }
+fn put_verdict(out: &mut String, failing: usize, cuts: &[CutCount]) -> Result<(), AllocError>
+    ensures { OnOk result (string_bytes out.new ≡ string_bytes out.old ++ verdict_text failing cuts.now) }
 {
-    if failures.cuts.is_empty() {
+    if cuts.is_empty() {
         put(out, Piece::NoCuts)
     } else {
-        put_judged(out, failures)
+        put_judged(out, failing, cuts)
     }
 }
 
 /// Appends what begins a row of that many entries.
 #[tactic(auto, unfolding(crate::specs::Page::strip_open))]
-fn put_strip_open(out: &mut String, log: &Log) -> Result<(), AllocError>
-    ensures { OnOk result (string_bytes out.new ≡ string_bytes out.old ++ strip_open log.now.entries) }
+fn put_strip_open(out: &mut String, of: Kind, log: &Log) -> Result<(), AllocError>
+    ensures { OnOk result (string_bytes out.new ≡ string_bytes out.old ++ strip_open of log.now.entries) }
 {
-    put_width(out, log)?;
+    put_width(out, of, log)?;
     put(out, Piece::StripOpen)?;
     put_word(out, log.entries().len() > MANY, "many")?;
     put(out, Piece::OpenEnd)
@@ -127,43 +110,43 @@ fn put_strip_open(out: &mut String, log: &Log) -> Result<(), AllocError>
 fn put_row_of(
     alloc: Global,
     out: &mut String,
-    run: &Run<'_>,
+    logged: &Logged<'_>,
     lacking: &Lacking<'_>,
-    cuts: &[CutFailures],
+    cuts: &[CutCount],
 ) -> Result<(), AllocError>
-    requires cuts { All (λ (c : CutValue). c.cut ≤ length run.now.numbering.log.now.entries) cuts.now }
-    ensures { OnOk result (string_bytes out.new ≡ string_bytes out.old ++ row_of run.now.numbering.log.now.entries lacking.now.program lacking.now.flushes.now cuts.now) }
+    requires cuts { All (λ (c : CutValue). c.cut ≤ length logged.now.log.now.entries) cuts.now }
+    ensures { OnOk result (string_bytes out.new ≡ string_bytes out.old ++ row_of logged.now.log.now.entries lacking.now.program lacking.now.flushes.now cuts.now) }
 {
-    if is_large(run.numbering.log) {
-        put_row_blocks(out, run, lacking, cuts)
+    if is_large(logged.log) {
+        put_row_blocks(out, logged, lacking, cuts)
     } else {
-        put_strip(alloc, out, run, lacking, cuts)
+        put_strip(alloc, out, logged, lacking, cuts)
     }
 }
 
 /// Appends the row of entries and cuts, with the flushes that are missing.
-#[tactic(auto, using(crate::proofs::Rows::cuts_within), unfolding(crate::specs::Page::strip_text))]
-fn put_row(
+#[tactic(auto, unfolding(crate::specs::Page::strip_text))]
+pub(crate) fn put_row(
     alloc: Global,
     out: &mut String,
-    run: &Run<'_>,
-    program: usize,
-    failures: &ProgramFailures<'_>,
+    of: Kind,
+    logged: &Logged<'_>,
+    lacking: &Lacking<'_>,
+    cuts: &[CutCount],
 ) -> Result<(), AllocError>
-    requires cuts { AreOfRun run.now.starts.now failures.now }
-    ensures { OnOk result (string_bytes out.new ≡ string_bytes out.old ++ strip_text run.now.numbering.log.now.entries program failures.now) }
+    requires cuts { All (λ (c : CutValue). c.cut ≤ length logged.now.log.now.entries) cuts.now }
+    ensures { OnOk result (string_bytes out.new ≡ string_bytes out.old ++ strip_text of logged.now.log.now.entries lacking.now.program lacking.now.flushes.now cuts.now) }
 {
-    let lacking = lacking_of(program, failures);
-    put_strip_open(out, run.numbering.log)?;
-    put_row_of(alloc, out, run, &lacking, failures.cuts.as_slice())?;
+    put_strip_open(out, of, logged.log)?;
+    put_row_of(alloc, out, logged, lacking, cuts)?;
     put(out, Piece::StripClose)
 }
 
-/// How many cuts a cut at which images fail is.
-fn one_failing(cut: &CutFailures) -> usize
-    ensures { result ≡ one_failing cut.now }
+/// How many cuts a cut at which that much fails is.
+pub(crate) fn one_failing(failing: usize) -> usize
+    ensures { result ≡ one_failing failing }
 {
-    if cut.failing == 0 { 0 } else { 1 }
+    if failing == 0 { 0 } else { 1 }
 }
 
 /// Appends a cut, where that many failing cuts may still be listed.
@@ -176,7 +159,7 @@ fn put_listed(
     how: Showing,
     cut: &CutFailures,
 ) -> Result<(), AllocError>
-    requires shown { how.groups ≤ length cut.now.groups.items }
+    requires shown { how.rows ≤ length cut.now.groups.items }
     requires cut { IsOfRun run.now.starts.now (length outcomes.now) cut.now }
     ensures { OnOk result (string_bytes out.new ≡ string_bytes out.old ++ listed_text run.now.starts.now (map (λ o. o.now) outcomes.now) lines how cut.now) }
 {
@@ -206,19 +189,35 @@ fn put_cuts(
         let how = Showing {
             program,
             is_open: lines == MOST_CELLS,
-            groups: shown_of(left, cut),
+            rows: shown_of(left, cut.groups.len()),
         };
         put_listed(alloc, out, run, outcomes, lines, how, cut)?;
-        lines = lines.saturating_sub(one_failing(cut));
-        left -= how.groups;
+        lines = lines.saturating_sub(one_failing(cut.failing));
+        left -= how.rows;
     }
     Ok(())
 }
 
-/// Appends how many cuts at which images fail aren't listed, if there are any.
+/// Appends how many cuts more there are at which something fails.
+#[tactic(auto, unfolding(crate::specs::Groups::more_count))]
+fn put_more_count(out: &mut String, of: Kind, count: usize) -> Result<(), AllocError>
+    ensures { OnOk result (string_bytes out.new ≡ string_bytes out.old ++ more_count of count) }
+{
+    put_number(out, count as u64)?;
+    put(out, Piece::MoreCuts)?;
+    put_kind(out, of)?;
+    put(out, Piece::MoreClose)
+}
+
+/// Appends how many cuts at which something fails aren't listed, if there are any.
 #[tactic(auto, unfolding(crate::specs::Groups::unlisted_text))]
-fn put_unlisted(out: &mut String, program: usize, count: usize) -> Result<(), AllocError>
-    ensures { OnOk result (string_bytes out.new ≡ string_bytes out.old ++ unlisted_text program count) }
+pub(crate) fn put_unlisted(
+    out: &mut String,
+    of: Kind,
+    program: usize,
+    count: usize,
+) -> Result<(), AllocError>
+    ensures { OnOk result (string_bytes out.new ≡ string_bytes out.old ++ unlisted_text of program count) }
 {
     if count == 0 {
         return Ok(());
@@ -226,18 +225,17 @@ fn put_unlisted(out: &mut String, program: usize, count: usize) -> Result<(), Al
     put(out, Piece::MoreOpen)?;
     put_more_name(out, program)?;
     put(out, Piece::LinkEnd)?;
-    put_number(out, count as u64)?;
-    put(out, Piece::MoreClose)
+    put_more_count(out, of, count)
 }
 
-/// How many groups of a program are shown, of that log.
-fn most_of_program(log: &Log) -> usize
+/// How many groups or cases of a program are shown, of that log.
+pub(crate) fn most_of_program(log: &Log) -> usize
     ensures { result ≡ most_of_program log.now.entries }
 {
     if is_large(log) {
-        MOST_GROUPS_OF_LARGE
+        MOST_OF_LARGE
     } else {
-        MOST_GROUPS_OF_PROGRAM
+        MOST_OF_PROGRAM
     }
 }
 
@@ -249,14 +247,17 @@ fn put_shown_cuts(
     run: &Run<'_>,
     program: usize,
     failures: &ProgramFailures<'_>,
+    counts: &[CutCount],
 ) -> Result<(), AllocError>
     requires cuts { AreOfRun run.now.starts.now failures.now }
+    requires counts { counts.now ≡ counts_of failures.now }
     ensures { OnOk result (string_bytes out.new ≡ string_bytes out.old ++ shown_cuts run.now.starts.now program failures.now) }
 {
     let (outcomes, cuts) = (failures.outcomes.as_slice(), failures.cuts.as_slice());
     let most = most_of_program(run.numbering.log);
     put_cuts(alloc, out, run, program, outcomes, most, cuts)?;
-    put_unlisted(out, program, failing_cuts(cuts).saturating_sub(MOST_CELLS))
+    let count = count_failing(counts).saturating_sub(MOST_CELLS);
+    put_unlisted(out, Kind::Images, program, count)
 }
 
 /// The flushes that are missing for a program.
@@ -281,7 +282,11 @@ fn put_name(out: &mut String, program: usize, judge: &Judge<'_>) -> Result<(), A
 
 /// Appends the title of a program.
 #[tactic(auto, unfolding(crate::specs::Page::title_text))]
-fn put_title(out: &mut String, program: usize, judge: &Judge<'_>) -> Result<(), AllocError>
+pub(crate) fn put_title(
+    out: &mut String,
+    program: usize,
+    judge: &Judge<'_>,
+) -> Result<(), AllocError>
     ensures { OnOk result (string_bytes out.new ≡ string_bytes out.old ++ title_text program judge.now) }
 {
     put(out, Piece::ProgramOpen)?;
@@ -299,17 +304,19 @@ fn put_summary(
     out: &mut String,
     program: usize,
     failures: &ProgramFailures<'_>,
+    counts: &[CutCount],
 ) -> Result<(), AllocError>
+    requires { counts.now ≡ counts_of failures.now }
     ensures { OnOk result (string_bytes out.new ≡ string_bytes out.old ++ summary_text program failures.now) }
 {
     let lacking = lacking_of(program, failures);
     put_title(out, program, &failures.judge)?;
-    put_verdict(out, failures)?;
+    put_verdict(out, failures.failing, counts)?;
     put_advice(out, &lacking, failures.uncured)
 }
 
 /// Appends a program.
-#[tactic(auto, unfolding(crate::specs::Page::program_text))]
+#[tactic(auto, using(crate::proofs::Rows::counts_within), unfolding(crate::specs::Page::program_text))]
 pub(crate) fn put_program(
     alloc: Global,
     out: &mut String,
@@ -320,9 +327,18 @@ pub(crate) fn put_program(
     requires cuts { AreOfRun run.now.starts.now failures.now }
     ensures { OnOk result (string_bytes out.new ≡ string_bytes out.old ++ program_text run.now.starts.now program failures.now) }
 {
-    put_summary(out, program, failures)?;
-    put_row(alloc, out, run, program, failures)?;
-    put_legend(out)?;
-    put_shown_cuts(alloc, out, run, program, failures)?;
+    let counts = image_counts(alloc, failures.cuts.as_slice())?;
+    let (logged, lacking) = (logged_of(run), lacking_of(program, failures));
+    put_summary(out, program, failures, counts.as_slice())?;
+    put_row(
+        alloc,
+        out,
+        Kind::Images,
+        &logged,
+        &lacking,
+        counts.as_slice(),
+    )?;
+    put_legend(out, Kind::Images)?;
+    put_shown_cuts(alloc, out, run, program, failures, counts.as_slice())?;
     put(out, Piece::SectionClose)
 }

@@ -1,10 +1,12 @@
-//! The run of which a page is.
+//! The run of which a page is, and its log.
 
 ghost use Rattle.std.specs.Prelude.{◌≡◌};
 
 use choices::Starts;
 use crash_text::Numbering;
+use epochs::{By, Plan};
 use images::History;
+use logfmt::Log;
 
 /// The run of which a page is: the table of its choices, the images, and what these are numbered by.
 #[derive(Clone, Copy)]
@@ -21,4 +23,32 @@ pub struct Run<'a> {
     pub ghost by_is: { starts.now.plan.by ≡ numbering.by },
     pub ghost bound_is: { starts.now.bound ≡ numbering.bound },
     pub ghost tears_are: { starts.now.tears ≡ numbering.tears },
+}
+
+/// A log with its plan.
+#[derive(Clone, Copy)]
+pub(crate) struct Logged<'a> {
+    pub(crate) plan: &'a Plan<'a>,
+    pub(crate) log: &'a Log,
+    pub(crate) ghost log_is: { plan.now.log ≡ log.now },
+}
+
+/// Of which log cases are, what departs as one, and whether parts may be torn.
+#[derive(Clone, Copy)]
+pub(crate) struct CaseRun<'a> {
+    pub(crate) plan: &'a Plan<'a>,
+    pub(crate) log: &'a Log,
+    pub(crate) by: By,
+    pub(crate) tears: bool,
+    pub(crate) ghost log_is: { plan.now.log ≡ log.now },
+}
+
+/// The log of a run.
+pub(crate) fn logged_of<'a>(run: &Run<'a>) -> Logged<'a>
+    ensures { result.log.now ≡ run.now.numbering.log.now }
+{
+    Logged {
+        plan: run.numbering.plan,
+        log: run.numbering.log,
+    }
 }

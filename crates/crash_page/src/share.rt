@@ -1,8 +1,9 @@
 //! Which share of the images of a cut fails, with its colour, and the legend.
 
 ghost use Rattle.std.specs.Prelude.{◌≡◌, ◌≤◌, ◌++◌, OnOk, string_bytes};
-ghost use Rattle.crash_page.specs.Shares.{one_in, is_within, share_of, share_class, share_words, key_text, legend_text};
+ghost use Rattle.crash_page.specs.Shares.{one_in, is_within, share_of, share_class, none_words, share_words, key_text, keys_open, legend_text};
 
+use crate::counts::{Kind, put_kind};
 use crate::pieces::{Piece, put};
 use std::alloc::AllocError;
 
@@ -78,13 +79,23 @@ pub(crate) fn put_class(out: &mut String, share: Share) -> Result<(), AllocError
     out.push_str(class_of(share))
 }
 
+/// Appends that nothing fails.
+fn put_none(out: &mut String, of: Kind) -> Result<(), AllocError>
+    ensures { OnOk result (string_bytes out.new ≡ string_bytes out.old ++ none_words of) }
+{
+    match of {
+        Kind::Images => out.push_str("no image fails"),
+        Kind::Cases => out.push_str("no case fails"),
+    }
+}
+
 /// Appends the words of a share.
 #[tactic(auto, unfolding(crate::specs::Shares::share_words))]
-fn put_words(out: &mut String, share: Share) -> Result<(), AllocError>
-    ensures { OnOk result (string_bytes out.new ≡ string_bytes out.old ++ share_words share) }
+fn put_words(out: &mut String, of: Kind, share: Share) -> Result<(), AllocError>
+    ensures { OnOk result (string_bytes out.new ≡ string_bytes out.old ++ share_words of share) }
 {
     match share {
-        Share::No => out.push_str("no image fails"),
+        Share::No => put_none(out, of),
         Share::More => out.push_str("more"),
         Share::All => out.push_str("all of them"),
         _ => write!(out, "up to 1 in {}", one_in(share)),
@@ -93,27 +104,38 @@ fn put_words(out: &mut String, share: Share) -> Result<(), AllocError>
 
 /// Appends a share to the legend.
 #[tactic(auto, unfolding(crate::specs::Shares::key_text))]
-fn put_key(out: &mut String, share: Share) -> Result<(), AllocError>
-    ensures { OnOk result (string_bytes out.new ≡ string_bytes out.old ++ key_text share) }
+fn put_key(out: &mut String, of: Kind, share: Share) -> Result<(), AllocError>
+    ensures { OnOk result (string_bytes out.new ≡ string_bytes out.old ++ key_text of share) }
 {
     put(out, Piece::KeyOpen)?;
     put_class(out, share)?;
     put(out, Piece::KeyColour)?;
-    put_words(out, share)?;
+    put_words(out, of, share)?;
     put(out, Piece::KeyClose)
+}
+
+/// Appends what the colours and lines of entries mean, and of what those of cuts tell.
+#[tactic(auto, unfolding(crate::specs::Shares::keys_open))]
+fn put_keys_open(out: &mut String, of: Kind) -> Result<(), AllocError>
+    ensures { OnOk result (string_bytes out.new ≡ string_bytes out.old ++ keys_open of) }
+{
+    put(out, Piece::Legend)?;
+    put(out, Piece::KeysOpen)?;
+    put_kind(out, of)?;
+    put(out, Piece::KeysClose)
 }
 
 /// Appends what the colours and lines in a row of entries mean.
 #[tactic(auto, unfolding(crate::specs::Shares::legend_text))]
-pub(crate) fn put_legend(out: &mut String) -> Result<(), AllocError>
-    ensures { OnOk result (string_bytes out.new ≡ string_bytes out.old ++ legend_text) }
+pub(crate) fn put_legend(out: &mut String, of: Kind) -> Result<(), AllocError>
+    ensures { OnOk result (string_bytes out.new ≡ string_bytes out.old ++ legend_text of) }
 {
-    put(out, Piece::Legend)?;
-    put_key(out, Share::No)?;
-    put_key(out, Share::Hundredth)?;
-    put_key(out, Share::Tenth)?;
-    put_key(out, Share::Half)?;
-    put_key(out, Share::More)?;
-    put_key(out, Share::All)?;
+    put_keys_open(out, of)?;
+    put_key(out, of, Share::No)?;
+    put_key(out, of, Share::Hundredth)?;
+    put_key(out, of, Share::Tenth)?;
+    put_key(out, of, Share::Half)?;
+    put_key(out, of, Share::More)?;
+    put_key(out, of, Share::All)?;
     put(out, Piece::LegendClose)
 }

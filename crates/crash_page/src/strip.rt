@@ -2,16 +2,16 @@
 
 ghost use Rattle.std.specs.Prelude.{◌≡◌, ◌≤◌, ◌++◌, All, length, OnOk, string_bytes};
 ghost use Rattle.crash_page.specs.Cells.{place_name, count_text, passing_text, failing_class, failing_link, failing_title, failing_text, cut_cell, strip_from};
-ghost use Rattle.losses.specs.declared.why.cut.CutFailures.{CutFailures as CutValue};
+ghost use Rattle.crash_page.specs.declared.counts.CutCount.{CutCount as CutValue};
 
+use crate::counts::{CutCount, put_kind};
 use crate::entry::{put_cells, put_shade};
 use crate::lacking::Lacking;
 use crate::pieces::{Piece, put, put_number};
-use crate::run::Run;
+use crate::run::Logged;
 use crate::share::{Share, put_class, share_of};
 use epochs::Plan;
 use logfmt::Log;
-use losses::why::CutFailures;
 use std::alloc::{AllocError, Global};
 
 /// Appends the name of a cut's place on the page.
@@ -22,18 +22,20 @@ pub(crate) fn put_place_name(out: &mut String, program: usize, cut: u32) -> Resu
     write!(out, "p{program}c{cut}")
 }
 
-/// Appends how many images of a cut fail.
+/// Appends how much of a cut fails.
 #[tactic(auto, unfolding(crate::specs::Cells::count_text))]
-pub(crate) fn put_count(out: &mut String, cut: &CutFailures) -> Result<(), AllocError>
+pub(crate) fn put_count(out: &mut String, cut: &CutCount) -> Result<(), AllocError>
     ensures { OnOk result (string_bytes out.new ≡ string_bytes out.old ++ count_text cut.now) }
 {
-    put_number(out, cut.failing as u64)?;
+    put_number(out, cut.failing)?;
     put(out, Piece::Of)?;
-    put_number(out, cut.images)?;
-    put(out, Piece::ImagesFail)
+    put_number(out, cut.all)?;
+    out.push_str(" ")?;
+    put_kind(out, cut.of)?;
+    out.push_str(" fail")
 }
 
-/// Appends the cell of a cut of that epoch at which no image fails.
+/// Appends the cell of a cut of that epoch at which nothing fails.
 #[tactic(auto, unfolding(crate::specs::Cells::passing_text))]
 pub(crate) fn put_passing(out: &mut String, epoch: u32) -> Result<(), AllocError>
     ensures { OnOk result (string_bytes out.new ≡ string_bytes out.old ++ passing_text epoch) }
@@ -44,16 +46,16 @@ pub(crate) fn put_passing(out: &mut String, epoch: u32) -> Result<(), AllocError
     put(out, Piece::PassingClose)
 }
 
-/// Appends the classes of the cell of a cut at which images fail.
+/// Appends the classes of the cell of a cut at which something fails.
 #[tactic(auto, unfolding(crate::specs::Cells::failing_class))]
 pub(crate) fn put_failing_class(
     out: &mut String,
     epoch: u32,
-    cut: &CutFailures,
+    cut: &CutCount,
 ) -> Result<(), AllocError>
     ensures { OnOk result (string_bytes out.new ≡ string_bytes out.old ++ failing_class epoch cut.now) }
 {
-    let share = share_of(cut.images, cut.failing as u64);
+    let share = share_of(cut.all, cut.failing);
     put(out, Piece::FailingOpen)?;
     put_class(out, share)?;
     put_shade(out, epoch)
@@ -61,7 +63,7 @@ pub(crate) fn put_failing_class(
 
 /// Appends to where the cell of a cut leads.
 #[tactic(auto, unfolding(crate::specs::Cells::failing_link))]
-fn put_failing_link(out: &mut String, program: usize, cut: &CutFailures) -> Result<(), AllocError>
+fn put_failing_link(out: &mut String, program: usize, cut: &CutCount) -> Result<(), AllocError>
     ensures { OnOk result (string_bytes out.new ≡ string_bytes out.old ++ failing_link program cut.now) }
 {
     put(out, Piece::FailingLink)?;
@@ -70,7 +72,7 @@ fn put_failing_link(out: &mut String, program: usize, cut: &CutFailures) -> Resu
 
 /// Appends what stands beside the pointer at the cell of a cut.
 #[tactic(auto, unfolding(crate::specs::Cells::failing_title))]
-pub(crate) fn put_failing_title(out: &mut String, cut: &CutFailures) -> Result<(), AllocError>
+pub(crate) fn put_failing_title(out: &mut String, cut: &CutCount) -> Result<(), AllocError>
     ensures { OnOk result (string_bytes out.new ≡ string_bytes out.old ++ failing_title cut.now) }
 {
     put(out, Piece::FailingTitle)?;
@@ -79,13 +81,13 @@ pub(crate) fn put_failing_title(out: &mut String, cut: &CutFailures) -> Result<(
     put_count(out, cut)
 }
 
-/// Appends the cell of a cut of that epoch at which images fail.
+/// Appends the cell of a cut of that epoch at which something fails.
 #[tactic(auto, unfolding(crate::specs::Cells::failing_text))]
 fn put_failing(
     out: &mut String,
     program: usize,
     epoch: u32,
-    cut: &CutFailures,
+    cut: &CutCount,
 ) -> Result<(), AllocError>
     ensures { OnOk result (string_bytes out.new ≡ string_bytes out.old ++ failing_text program epoch cut.now) }
 {
@@ -101,7 +103,7 @@ fn put_cut_cell(
     plan: &Plan<'_>,
     log: &Log,
     program: usize,
-    cut: &CutFailures,
+    cut: &CutCount,
 ) -> Result<(), AllocError>
     requires log { plan.now.log ≡ log.now }
     requires cut { cut.now.cut ≤ length log.now.entries }
@@ -121,20 +123,20 @@ fn put_cut_cell(
 pub(crate) fn put_strip(
     alloc: Global,
     out: &mut String,
-    run: &Run<'_>,
+    logged: &Logged<'_>,
     lacking: &Lacking<'_>,
-    cuts: &[CutFailures],
+    cuts: &[CutCount],
 ) -> Result<(), AllocError>
-    requires cuts { All (λ (c : CutValue). c.cut ≤ length run.now.numbering.log.now.entries) cuts.now }
-    ensures { OnOk result (string_bytes out.new ≡ string_bytes out.old ++ strip_from run.now.numbering.log.now.entries lacking.now.program lacking.now.flushes.now 0 cuts.now) }
+    requires cuts { All (λ (c : CutValue). c.cut ≤ length logged.now.log.now.entries) cuts.now }
+    ensures { OnOk result (string_bytes out.new ≡ string_bytes out.old ++ strip_from logged.now.log.now.entries lacking.now.program lacking.now.flushes.now 0 cuts.now) }
 {
-    let (plan, log) = (run.starts.plan(), run.numbering.log);
+    let (plan, log) = (logged.plan, logged.log);
     let mut from = 0;
     for cut in cuts {
-        put_cells(alloc, out, run, lacking, from, cut.cut)?;
+        put_cells(alloc, out, logged, lacking, from, cut.cut)?;
         put_cut_cell(out, plan, log, lacking.program, cut)?;
         from = cut.cut;
     }
     let end = log.entries().len() as u32;
-    put_cells(alloc, out, run, lacking, from, end)
+    put_cells(alloc, out, logged, lacking, from, end)
 }

@@ -16,6 +16,11 @@ pub given_as_read : {V : Type 0} → (items : V → List ℕ) (named : List (Opt
     → map (option_map items) named ≡ inputs.files → option_map (option_map items) base ≡ inputs.base → given ≡ choice → files_of items named base given ≡ held_in inputs choice
 given_as_read items named base given choice inputs files based same = λ i. record { named = files i; base = based i; choice = same i }
 
+-- how the process ends on that
+pub exits_as_read : (request : _) (given held : Files) (output : List ℕ) (refusal : Option Refusal) (status : ℕ) → Exits request given output refusal status → given ≡ held
+    → Exits request held output refusal status
+exits_as_read request given held output refusal status exits same = subst (λ f. Exits request f output refusal status) same exits
+
 -- the answer, or the refusal, on that
 pub answered_on : (request : _) (given held : Files) (output : List ℕ) (refusal : Option Refusal) (status : ℕ) → Exits request given output refusal status → given ≡ held → refusal ≡ None
     → Answers request held output status

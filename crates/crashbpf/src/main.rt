@@ -30,13 +30,15 @@ ghost use Rattle.std.specs.Io.KnownBytes.{Appends};
 ghost use Rattle.request.specs.declared.command.Request.TheVariants as asks;
 ghost use Rattle.command_line.specs.Words.{limits_asked, sectors_asked};
 ghost use Rattle.commands.specs.Acting.{Answers, RefusesToAct};
+ghost use Rattle.commands.specs.Exits.{Exits};
+ghost use Rattle.std.specs.Thread.{IsSync};
 ghost use Rattle.input_files.specs.Reads.{AreInputs};
 ghost use Rattle.crashbpf.specs.Ending.{held_in, files_name, Ends, EndsOn};
 
 use base::refusal::Refusal;
 use clap::error::ErrorKind as WordsFault;
 use commands::{
-    Facts, Fault, OptionWords, Output, Progress, Request, Stopped, Streamed, Words, emit,
+    Exit, Facts, Fault, OptionWords, Output, Progress, Request, Stopped, Streamed, Words, emit,
     escaped_words, fault_line, lines_of_image, notes_after, notes_beside, perform, perform_export,
 };
 use input_files::{DeviceSize, Inputs, Source};
@@ -47,7 +49,7 @@ use std::rt::Env;
 use std::sync::Wait;
 use std::thread::Threads;
 use std::time::Clock;
-use std::{env, io};
+use std::{env, io, thread};
 
 /// The status of a run that was refused or could not be written.
 const REFUSED: u8 = 2;
@@ -111,6 +113,68 @@ fn put_answer<W: Write>(writer: W, answer: &[u8]) -> (Result<(), u64>, W)
     (written, output.into_writer())
 }
 
+/// Performs a command on the files that were read for it.
+fn perform_on<R: AllocGlobal + Eprint + Clock + Threads + Wait + Sync>(
+    rt: &R,
+    progress: &Progress<'_, R>,
+    words: &Words,
+    inputs: &Inputs,
+) -> Exit
+    ensures { Exits words.now.request (held_in inputs.now words.now.choice) result.output.items result.refusal result.status }
+{
+    let files = inputs.contents();
+    perform(rt, rt.alloc(), progress, words, files, inputs.base())
+}
+
+/// Performs a command on the files that were read for it, and ends the line that says how far it is.
+fn perform_to_the_end<R: AllocGlobal + Eprint + Clock + Threads + Wait + Sync>(
+    rt: &R,
+    progress: &Progress<'_, R>,
+    words: &Words,
+    inputs: &Inputs,
+) -> Exit
+    ensures { Exits words.now.request (held_in inputs.now words.now.choice) result.output.items result.refusal result.status }
+{
+    let exit = perform_on(rt, progress, words, inputs);
+    progress.end();
+    exit
+}
+
+/// Performs a command on the files that were read for it, while a thread of its own says how far it is.
+fn perform_watched<R: AllocGlobal + Eprint + Clock + Threads + Wait + Sync>(
+    rt: &R,
+    progress: &Progress<'_, R>,
+    words: &Words,
+    inputs: &Inputs,
+) -> Exit
+    ensures { Exits words.now.request (held_in inputs.now words.now.choice) result.output.items result.refusal result.status }
+{
+    let watch = || progress.watch();
+    let act = || -> Exit
+        requires { IsSync R.row }
+        ensures { Exits words.entry.now.request (held_in inputs.entry.now words.entry.now.choice) result.output.items result.refusal result.status }
+    { perform_to_the_end(rt, progress, words, inputs) };
+    // Where no thread can be made, the watch comes last, and ends at once.
+    let (_watched, exit) = thread::join(rt, watch, act);
+    exit
+}
+
+/// Performs a command on the files that were read for it, and says how far it is where that is asked for.
+fn performed<R: AllocGlobal + Eprint + Clock + Threads + Wait + Sync>(
+    rt: &R,
+    words: &Words,
+    inputs: &Inputs,
+) -> Exit
+    ensures { Exits words.now.request (held_in inputs.now words.now.choice) result.output.items result.refusal result.status }
+{
+    let progress = Progress::new(rt, words.progress(), lines_of_image(words));
+    if words.progress() {
+        perform_watched(rt, &progress, words, inputs)
+    } else {
+        perform_on(rt, &progress, words, inputs)
+    }
+}
+
 /// Performs a command on the files that were read for it, whose whole answer is made and then written, and ends as it says: with its
 /// answer on standard output, or with the line of its refusal on standard error, and with the notes on it there.
 fn run_whole<R: AllocGlobal + Eprint + Clock + Threads + Wait + Sync, W: Write>(
@@ -122,9 +186,7 @@ fn run_whole<R: AllocGlobal + Eprint + Clock + Threads + Wait + Sync, W: Write>(
     ensures { Ends (Answers words.now.request (held_in inputs.now words.now.choice)) (RefusesToAct words.now.request (held_in inputs.now words.now.choice)) (W.contents writer) (W.contents result.writer) result.status }
 {
     let files = inputs.contents();
-    let progress = Progress::new(rt, words.progress(), lines_of_image(words));
-    let exit = perform(rt, rt.alloc(), &progress, words, files, inputs.base());
-    progress.end();
+    let exit = performed(rt, words, inputs);
     match exit.refusal {
         None => {
             let (written, writer) = put_answer(writer, exit.output.as_slice());

@@ -1,5 +1,5 @@
 -- Images that are the same.
-use Rattle.std.proofs.Common.{ℕ, ◌≡◌, ◌<◌, ◌==◌, nat_eq, Bool, true, false, ◌&&◌, Option, Some, None, refl, sym, ◌∙◌, ap, arith}
+use Rattle.std.proofs.Common.{ℕ, ◌≡◌, ◌<◌, ◌==◌, nat_eq, Bool, true, false, ◌&&◌, Some, None, refl, sym, ◌∙◌, ap, arith}
 use Rattle.std.specs.Option.{is_none}
 use Rattle.std.specs.Cmp.Lexicographic.{pointwise, pointwise_decides}
 use Rattle.std.proofs.lemmas.Bool.Decides.{Decides-eqb}
@@ -88,11 +88,3 @@ new_flag a i h = ap is_none h
 pub same_flag : (a : AskedValue) (i j : ℕ) → first_same a i ≡ Some j → is_new a i ≡ false
 unfolding is_new
 same_flag a i j h = ap is_none h
-
-pub flag_new : (a : AskedValue) (i : ℕ) → is_new a i ≡ true → first_same a i ≡ None
-unfolding is_new
-flag_new a i h = by (first_same a i) refl
-  where
-    by : (o : Option ℕ) → first_same a i ≡ o → o ≡ None
-    by None e = refl
-    by (Some j) e = absurd (let bad : false ≡ true = sym (same_flag a i j e) ∙ h in cc)

@@ -1,5 +1,5 @@
 -- What is put after what.
-use Rattle.std.proofs.Common.{ℕ, ◌≡◌, ◌==◌, ◌<◌, ◌+◌, ◌-◌, ◌≤◌, ◌⊎◌, Bool, true, false, List, [], ◌∷◌, ◌++◌, length, map, take, drop, slice_get, Option, None, Some, Result, Ok, Err, OnOk, OnErr, refl, sym, ◌∙◌, ap, subst, inl, inr, append_assoc, length-append, arith}
+use Rattle.std.proofs.Common.{ℕ, ◌≡◌, ◌==◌, ◌<◌, ◌+◌, ◌-◌, Bool, true, false, List, [], ◌∷◌, ◌++◌, length, map, take, drop, slice_get, Option, None, Some, Result, Ok, Err, OnOk, OnErr, refl, sym, ◌∙◌, ap, subst, inl, inr, append_assoc, length-append, arith}
 use Rattle.std.proofs.lemmas.List.{append-nil, take-append-drop, length-drop, take_at, take_more, map-append}
 use Rattle.std.proofs.lemmas.Bool.{ne_eqb}
 use Rattle.std.proofs.lemmas.Bool.Decides.{eqb_tells}
@@ -35,9 +35,6 @@ puts_nothing contents waiting false = goes_on [] refl refl (nothing_appended con
 
 pub puts_empty : (contents : Option (List ℕ)) (waiting : List ℕ) (closed : Bool) (bytes : List ℕ) → bytes ≡ [] → Puts (stream_of contents waiting closed) (stream_of contents waiting closed) bytes
 puts_empty contents waiting closed bytes none = subst (Puts (stream_of contents waiting closed) (stream_of contents waiting closed)) (sym none) (puts_nothing contents waiting closed)
-
-pub puts_closed : (contents : Option (List ℕ)) (waiting : List ℕ) (closed : Bool) (bytes : List ℕ) → closed ≡ true → Puts (stream_of contents waiting closed) (stream_of contents waiting closed) bytes
-puts_closed contents waiting closed bytes is = stopped is is (nothing_kept contents)
 
 no_length : (xs : List ℕ) → length xs ≡ 0 → xs ≡ []
 no_length [] none = refl

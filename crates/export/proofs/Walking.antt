@@ -14,7 +14,7 @@ use Rattle.images.specs.Views.{ViewValue, view_of, sectors_of}
 use Rattle.images.proofs.Members.{member_cut}
 use Rattle.images.specs.Keys.{differs}
 use Rattle.images.specs.Whole.{length_view}
-use Rattle.export.specs.Export.{AskedValue, no_choice, choice_at, device_at, marks_before, is_same, first_same, is_new, image_text, new_count, total_text, export_text}
+use Rattle.export.specs.Export.{AskedValue, no_choice, choice_at, device_at, marks_before, is_same, first_same, image_text}
 use Rattle.export.specs.Kept.{sum_of, key_by, key_at, key_after, IsIndex, AreOthers, IsFree, IsAsked}
 use Rattle.export.proofs.Same.{same_told, same_if, same_chain, same_back}
 use Rattle.export.proofs.Keeping.{nowhere_differs, nothing_differs}
@@ -62,10 +62,6 @@ pub key_is : (a : AskedValue) (i sum marks key step at : ℕ) → sum ≡ sum_of
 unfolding key_at
 key_is a i sum marks key step at s m k is =
     is ∙ ap (λ n. (n + step) % 2 ^ 64) (k ∙ ap (λ n. key_by n marks) s ∙ ap (key_by (sum_of (device_at a i))) m)
-
--- none of the keys before the first
-pub no_others : (a : AskedValue) (i : ℕ) (at : ℕ → Option ℕ) → AreOthers a i at 0
-no_others a i at = record { others = λ s lt. absurd (omega (arith, lt)) }
 
 pub free_here : (a : AskedValue) (i step key : ℕ) (at : ℕ → Option ℕ) → key ≡ key_after (key_at a i) step → AreOthers a i at step → at key ≡ None → IsFree a i at key
 unfolding IsFree
@@ -117,29 +113,6 @@ pub goes_on : (xs : List ChoiceValue) (n : ℕ) (moved : Bool) (old new : Choice
     → (moved ≡ false → (k : ℕ) → slice_get xs k ≡ Some old → k + 1 ≡ length xs) → slice_get xs (n + 1) ≡ Some new
 goes_on xs n true old new there lt goes ends = goes refl n there
 goes_on xs n false old new there lt goes ends = let end = ends refl n there in absurd (omega (arith, end, lt))
-
--- the whole text
-pub all_text : (a : AskedValue) (head before beyond : List ℕ) (count fresh : ℕ) → before ≡ head ++ flat_map (image_text a) (range_with_len 0 (a.to - a.from))
-    → fresh ≡ new_count a (a.to - a.from) → a.from + count ≡ a.to → beyond ≡ before ++ total_text count fresh → beyond ≡ head ++ export_text a
-unfolding export_text
-all_text a head before beyond count fresh was new size is =
-    let all : count ≡ a.to - a.from = omega (arith, size) in
-    is ∙ ap (λ xs. xs ++ total_text count fresh) was
-    ∙ append_assoc head (flat_map (image_text a) (range_with_len 0 (a.to - a.from))) (total_text count fresh)
-    ∙ ap (λ n. head ++ (flat_map (image_text a) (range_with_len 0 (a.to - a.from)) ++ total_text n fresh)) all
-    ∙ ap (λ n. head ++ (flat_map (image_text a) (range_with_len 0 (a.to - a.from)) ++ total_text (a.to - a.from) n)) new
-
--- no image
-pub none_text : (a : AskedValue) (head : List ℕ) (count : ℕ) → a.from + count ≡ a.to → count ≡ 0 → head ≡ head ++ flat_map (image_text a) (range_with_len 0 (a.to - a.from))
-none_text a head count size none =
-    let all : a.to - a.from ≡ 0 = omega (arith, size, none) in
-    sym (ap (λ n. head ++ flat_map (image_text a) (range_with_len 0 n)) all ∙ append-nil head)
-
-pub none_new : (a : AskedValue) (count : ℕ) → a.from + count ≡ a.to → count ≡ 0 → 0 ≡ new_count a (a.to - a.from)
-unfolding new_count
-none_new a count size none =
-    let all : a.to - a.from ≡ 0 = omega (arith, size, none) in
-    sym (ap (λ n. length (filter (is_new a) (range_with_len 0 n))) all)
 
 -- the choice after one, as the walk goes on to it
 pub next_there : (a : AskedValue) (plan : PlanValue) (bound : ℕ) (tears : Bool) (place count : ℕ) (moved : Bool) (old new : ChoiceValue)

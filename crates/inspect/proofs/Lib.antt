@@ -1,6 +1,10 @@
 -- Lemmas of `looks`.
 pub mod Counts
 pub mod EvenParts
+pub mod CutParts
+pub mod CutPieces
+pub mod CutRuns
+pub mod Risks
 pub mod Refused
 pub mod Texts
 pub mod Printed

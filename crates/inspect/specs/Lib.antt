@@ -8,6 +8,9 @@ pub mod AnyImage
 pub mod Export
 pub mod Layout
 pub mod Survey
+pub mod CutLayout
+pub mod CutParts
+pub mod CutSurvey
 pub mod Table
 pub mod Import
 pub mod Assembly

@@ -9,7 +9,7 @@
 //! # Place
 //!
 //! Below `commands`, which performs these commands, and beside `runs`. `request` says what is asked, reads the log and counts its images,
-//! `choices` and `images` find and form an image, `cases` one with any number of losses, `report` reads and prints a choice, `crash_text` puts an image into words, `export`
+//! `choices` and `images` find and form an image, `cases` one with any number of losses, `case_runs` says which cuts such a run explores, `report` reads and prints a choice, `crash_text` puts an image into words, `export`
 //! writes all images, `notes` has tables and listings, `raw_log` imports, `bpf_isa`, `bpf_asm` and `verifier` decode, assemble, list and
 //! verify a program, and `interp` makes the steps of a run.
 //!
@@ -18,6 +18,7 @@
 //! | Call | Command | Answers |
 //! |---|---|---|
 //! | `survey(alloc, recording, parts, options, facts)` | `images` | the number of crash images, cut by cut, and how the run is laid out in parts |
+//! | `survey_cuts(alloc, recording, parts, losses, options, facts)` | `images --bound any` | the cuts at which a run looks for cases, with what each leaves open, or how the run is laid out in parts by these cuts |
 //! | `image(alloc, recording, which, options, facts)` | `image` | the bytes of one crash image |
 //! | `show(alloc, recording, which, options, facts)` | `show` | one crash image in words |
 //! | `any_image(alloc, form, recording, cut, said, options, facts)` | both with `--bound any` | one crash image with any number of lost or torn parts, by the text of its choice |
@@ -42,7 +43,9 @@
 //! may be named, is what `show` prints of it, and no choice's text has more than 96 bytes (`report_prints_choices`,
 //! `choices_are_short`). `any_image` answers the same of the choice of a cut that is printed so, of any number of parts at risk there, of
 //! which there is one (`specs/AnyImage.antt`). `survey` answers the text of `specs/Survey.antt`. The parts in which it lays a run out have each image
-//! once, in their order, and each can be asked for (`parts_are_even`, `specs/Layout.antt`). `shown_log` answers the table of the log
+//! once, in their order, and each can be asked for (`parts_are_even`, `specs/Layout.antt`). `survey_cuts` answers the text of
+//! `specs/CutSurvey.antt`. The parts in which it lays a run out follow one another, and their runs look for cases at the cuts of the
+//! whole run, each part at some of them (`cut_parts_are_run`, `specs/CutParts.antt`). `shown_log` answers the table of the log
 //! (`specs/Table.antt`). `import` answers the text of `raw_log` for the largest device within the limits (`specs/Import.antt`).
 //!
 //! What `verify_program` answers is the budget of an accepted program, and with guards how many of its slots are guarded, and

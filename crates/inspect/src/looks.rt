@@ -2,11 +2,14 @@
 //!
 //! `which.rt` finds the choice of the image that is meant, by its number, or by its cut and its choice as the report prints it;
 //! `laws.rt` has what holds of the texts of choices, and of the parts of a run. `any_image_command.rt` has the image of a choice of any number
-//! of parts; `names.rt` reads the text of such a choice, and `lost.rt` finds what becomes of each part by it.
+//! of parts; `names.rt` reads the text of such a choice, and `lost.rt` finds what becomes of each part by it. `cuts_command.rt` tells of the cuts at which
+//! a run looks for cases: `risks.rt` finds what each leaves open, and `cut_layout.rt` lays the run out in parts.
 #![tactic(auto)]
 
 mod any_image_command;
 mod asm_command;
+mod cut_layout;
+mod cuts_command;
 mod export_command;
 mod image_command;
 mod images_command;
@@ -17,18 +20,22 @@ mod list_command;
 mod log_command;
 mod lost;
 mod names;
+mod risks;
 mod show_command;
 mod verify_command;
 mod which;
 
 pub use any_image_command::any_image;
 pub use asm_command::assemble;
+pub use cut_layout::CutRange;
+pub use cuts_command::survey_cuts;
 pub use export_command::{Stopped, export_images, write_images};
 pub use image_command::{Form, image};
 pub use images_command::survey;
 pub use import_command::import;
-pub use laws::{choices_are_short, parts_are_even, report_prints_choices};
+pub use laws::{choices_are_short, cut_parts_are_run, parts_are_even, report_prints_choices};
 pub use list_command::list;
 pub use log_command::shown_log;
+pub use risks::CutRisk;
 pub use show_command::show;
 pub use verify_command::verify_program;

@@ -1,6 +1,7 @@
 -- Failing lines, read from a text to the byte.
-use Rattle.std.proofs.Common.{ℕ, ◌≡◌, ◌≢◌, ◌+◌, ◌<◌, ◌^◌, true, false, List, map, ◌∷◌, ◌++◌, length, length-append, append_assoc, codes, refl, sym, subst, ◌∙◌, ap, arith}
+use Rattle.std.proofs.Common.{ℕ, ◌≡◌, ◌≢◌, ◌+◌, ◌<◌, ◌≤◌, ◌^◌, nat_lt, ◌↔◌, IsTrue, true, false, List, map, ◌∷◌, ◌++◌, length, length-append, append_assoc, codes, refl, sym, subst, ◌∙◌, ap, arith}
 use Rattle.std.specs.Fmt.{decimal}
+use Rattle.std.proofs.lemmas.Bool.Decides.{nat_tests}
 use Rattle.report.specs.declared.lines.marks.Mark.{Mark}
 use Rattle.report.specs.Line.{FailingLine}
 use Rattle.report.specs.MarkReading.{lacks, ReadsField}
@@ -51,6 +52,25 @@ too_large h line words reads large = record {
       let same = of_line line words reads l small e in
       large (record { cut = rw same small.cut; program = rw same small.program });
 }
+
+-- where the cut is within its range, the program's test tells whether the words fit
+pub fit_by_program : (words : Words) → words.cut < 2 ^ 32 → IsTrue (nat_lt words.program 256) ↔ Fit words
+fit_by_program words small = (
+  λ test. let yes : nat_lt words.program 256 ≡ true = test in record { cut = small; program = grind (arith, nat_tests, yes) },
+  λ f.
+      let low : words.program < 256 = f.program in
+      let yes : nat_lt words.program 256 ≡ true = grind (arith, nat_tests, low) in
+      yes,
+)
+
+pub unfit : (words : Words) → 2 ^ 32 ≤ words.cut → IsTrue (nat_lt words.cut (2 ^ 32)) ↔ Fit words
+unfit words large = (
+  λ test.
+      let yes : nat_lt words.cut (2 ^ 32) ≡ true = test in
+      let small : words.cut < 2 ^ 32 = grind (arith, nat_tests, yes) in
+      absurd (omega (arith, large, small)),
+  λ f. let small = f.cut in absurd (omega (arith, large, small)),
+)
 
 pub not_there : (h : HeadValue) (line : List ℕ) (words : Words) → ReadsWords line words → has_program_and_cut h words.cut words.program ≡ false → NoBody h line
 not_there h line words reads lack = record {

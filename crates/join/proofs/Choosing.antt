@@ -1,5 +1,5 @@
 -- The choice of a line, read to the byte.
-use Rattle.std.proofs.Common.{ℕ, zero, suc, ◌≡◌, ◌≢◌, ◌<◌, ◌≤◌, ◌⊎◌, ◌↔◌, inl, inr, Bool, true, false, IsTrue, IfOk, Result, Ok, Err, List, [], ◌∷◌, ◌++◌, All, length, length-append, get_or, map, append_assoc, codes, refl, sym, ◌∙◌, ap, subst, arith}
+use Rattle.std.proofs.Common.{ℕ, zero, suc, ◌≡◌, ◌≢◌, ◌<◌, ◌≤◌, ◌↔◌, Bool, true, IsTrue, IfOk, Result, Ok, Err, List, [], ◌∷◌, ◌++◌, All, length, length-append, get_or, map, append_assoc, codes, refl, sym, ◌∙◌, ap, subst, arith}
 use Rattle.std.specs.List.{flat_map}
 use Rattle.epochs.specs.declared.part.By.{By}
 use Rattle.epochs.specs.declared.part.By.TheVariants as by
@@ -15,7 +15,7 @@ use Rattle.losses.proofs.Plain.{ending_lacks}
 use Rattle.join.specs.Printable.{IsEnd}
 use Rattle.join.specs.Reading.{IsCut, NoCut}
 use Rattle.report.specs.Report.{HeadValue}
-use Rattle.join.specs.Endings.{IsEnding, AreNamesOf, AreNamesAt, IsChoiceBy, IsChoice, IsAtChoice, NoChoice}
+use Rattle.join.specs.Endings.{IsEnding, AreNamesOf, AreNamesAt, IsChoice, IsAtChoice, NoChoice}
 use Rattle.join.proofs.Texts.{one_cut, has_it, cancel}
 use Rattle.join.proofs.Endings.{like}
 

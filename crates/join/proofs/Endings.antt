@@ -221,10 +221,6 @@ codes_said text are = by_numbers are.numbers are.few are.within are.is
     by_numbers [] few within is = inl is
     by_numbers (n ∷ ns) few within is = inr (record { first = n; more = ns; few = omega (arith, few); small = within 0 n (omega arith); within = λ k d l. within (suc k) d (omega (arith, l)); is = is ∙ next_numbers n ns })
 
--- codes where they are no hyphen
-pub other_codes : (text : List ℕ) → (text ≡ codes "-" → ⊥) → AreCodes text → AreNumbers 16 text
-other_codes text other are = elim (codes_said text are) [ inl is ↦ absurd (other is) | inr numbers ↦ numbers ]
-
 -- a verdict after `answer `
 verdict_words : (a : ℕ) (said : List ℕ) → decimal a ++ codes " codes " ++ said ≡ decimal a ++ 32 ∷ (codes "codes " ++ said)
 verdict_words a said = append_assoc (decimal a) (codes " codes ") said

@@ -1,5 +1,5 @@
 -- A report that is given in place of programs, read to the byte and in one way alone.
-use Rattle.std.proofs.Common.{ℕ, ◌≡◌, ◌≢◌, ◌+◌, ◌<◌, ◌≤◌, ◌^◌, ◌==◌, Bool, true, false, List, map, [], ◌∷◌, ◌++◌, length, get_or, append_assoc, codes, None, refl, sym, subst, ◌∙◌, ap, arith}
+use Rattle.std.proofs.Common.{ℕ, ◌≡◌, ◌≢◌, ◌+◌, ◌≤◌, ◌^◌, Bool, true, false, List, map, [], ◌∷◌, ◌++◌, length, get_or, append_assoc, codes, None, refl, sym, subst, ◌∙◌, ap, arith}
 use Rattle.std.specs.Fmt.{decimal}
 use Rattle.std.specs.List.{flat_map}
 use Rattle.std.specs.Str.{IsUtf8}
@@ -11,12 +11,12 @@ use Rattle.report.specs.declared.lines.marks.Mark.{Mark}
 use Rattle.report.specs.declared.span.Span.{Span}
 use Rattle.report.specs.Line.{FailingLine}
 use Rattle.report.specs.Marks.{marks_of}
-use Rattle.report.specs.Images.{images_of, failing_images, distinct_count}
+use Rattle.report.specs.Images.{images_of, distinct_count}
 use Rattle.join.specs.declared.tally.Tally.{Tally}
 use Rattle.join.specs.Heads.{NoProgram}
 use Rattle.join.specs.Order.{in_order}
 use Rattle.join.specs.Reading.{none_read, tallied, last_text, words_text}
-use Rattle.join.specs.Given.{ToldLine, IsTold, AreToldOf, AreJudges, GivenValue, IsReport, NoReport, IsReportRead, chosen_told, judge_count, marks_told, images_told, told_line, told_totals}
+use Rattle.join.specs.Given.{ToldLine, AreToldOf, GivenValue, IsReport, NoReport, IsReportRead, chosen_told, judge_count, marks_told, images_told, told_line, told_totals}
 use Rattle.join.specs.GivenReading.{AreJudgesRead, NoJudges, AreToldRead, NoToldLine}
 use Rattle.join.proofs.Texts.{cancel}
 use Rattle.join.proofs.Counts.{counted_order, counted_images, counted_lines}

@@ -15,8 +15,8 @@ use Rattle.report.specs.declared.span.Span.{Span}
 use Rattle.join.specs.declared.tally.Tally.{Tally}
 use Rattle.join.specs.declared.joining.JoinedText.{JoinedText}
 use Rattle.join.specs.Reading.{PartRead, IsPartText, NoPartText, none_read, last_text}
-use Rattle.join.specs.Joining.{ArePartTexts, LacksImages, IsOfRun, AreOfRun, AreInRow, IsJoined, size_of, IsFirstLong, IsFirstOther, IsFirstStrange, IsFirstApart, IsJoin, RefusesJoin, no_part, of_other_run, with_gap, with_overlap, short_of_run, no_memory, span_between, opening_text, shown_bytes, first_some, added, totalled}
-use Rattle.join.specs.Rows.{AreAlikeTo, NoneIsStrange, IsStrangeAt, AreJoinedTo, NoneIsApart, IsApart, IsApartAt, IsWritten, IsRow, IsRowWhole, IsRowShort, WhyNoRow, for_break, for_ends, IsRowText, IsSortedText, IsSortedApart, WhyNotJoined, for_memory, for_run, for_images}
+use Rattle.join.specs.Joining.{ArePartTexts, LacksImages, IsOfRun, AreOfRun, AreInRow, size_of, IsFirstLong, IsFirstOther, IsFirstStrange, IsFirstApart, IsJoin, RefusesJoin, no_part, of_other_run, with_gap, with_overlap, short_of_run, no_memory, span_between, opening_text, shown_bytes, first_some, added, totalled}
+use Rattle.join.specs.Rows.{AreAlikeTo, NoneIsStrange, IsStrangeAt, AreJoinedTo, NoneIsApart, IsApartAt, IsWritten, IsRow, IsRowWhole, IsRowShort, WhyNoRow, for_break, for_ends, IsRowText, IsSortedText, IsSortedApart, WhyNotJoined, for_memory, for_run, for_images}
 use Rattle.join.proofs.Rows.{texts_push, texts_long, IsTold, Any, all_told, made_lines, lines_of, row_lines, row_text}
 
 -- one more element of a mapped list
@@ -166,47 +166,6 @@ joined_more rs n left right all at next own = λ k a b small one two. by_place k
 
 pub all_joined : (rs : List PartRead) (n : ℕ) → length rs ≤ n + 1 → AreJoinedTo rs n → NoneIsApart rs
 all_joined rs n past all = record { joined = λ m k left right small one two. let within = inside_of rs (k + 1) right two in all k left right (omega (arith, past, within)) one two }
-
--- one step of a loop that looks at neighbours in a row
-neighbour : (rs : List PartRead) (place : ℕ) (x : PartRead) → place < length rs → x ≡ get_or rs place x → slice_get rs place ≡ Some x
-neighbour rs place x small at = there rs place x small ∙ ap (λ (r : PartRead). Some r) (sym at)
-
-second_there : (rs : List PartRead) (place : ℕ) (right : PartRead) → 1 ≤ place → place < length rs → right ≡ get_or rs place right → slice_get rs (place - 1 + 1) ≡ Some right
-second_there rs place right low small next = let e : place - 1 + 1 ≡ place = omega (arith, low) in rw e (neighbour rs place right small next)
-
-pub joined_step : (rs : List PartRead) (place : ℕ) (left right : PartRead) → 1 ≤ place → place < length rs → left ≡ get_or rs (place - 1) left → right ≡ get_or rs place right
-    → AreJoinedTo rs (place - 1) → left.span.to ≡ right.span.from → AreJoinedTo rs (place + 1 - 1)
-joined_step rs place left right low small at next all own =
-    let more = joined_more rs (place - 1) left right all (neighbour rs (place - 1) left (omega (arith, low, small)) at) (second_there rs place right low small next) own in
-    let e : place - 1 + 1 ≡ place + 1 - 1 = omega (arith, low) in
-    subst (λ (n : ℕ). AreJoinedTo rs n) e more
-
-pub apart_at : (rs : List PartRead) (place : ℕ) (left right : PartRead) (fault : JoinFault) → 1 ≤ place → place < length rs → left ≡ get_or rs (place - 1) left → right ≡ get_or rs place right
-    → AreJoinedTo rs (place - 1) → fault.file ≡ right.file → IsApart left right fault.cause → IsApartAt rs fault
-apart_at rs place left right fault low small at next all file kind = record {
-  place = place - 1;
-  left = left;
-  left_there = neighbour rs (place - 1) left (omega (arith, low, small)) at;
-  right = right;
-  right_there = second_there rs place right low small next;
-  joined = all;
-  file = file;
-  kind = kind;
-}
-
-pub alike_step : (rs : List PartRead) (place : ℕ) (run r : PartRead) → place < length rs → run ≡ get_or rs 0 run → r ≡ get_or rs place r → AreAlikeTo rs place → IsOfRun run r → AreAlikeTo rs (place + 1)
-alike_step rs place run r small first at all own = alike_more rs place run r all (neighbour rs 0 run (omega (arith, small)) first) (neighbour rs place r small at) own
-
-pub strange_at : (rs : List PartRead) (place : ℕ) (run r : PartRead) → place < length rs → run ≡ get_or rs 0 run → r ≡ get_or rs place r → AreAlikeTo rs place → (IsOfRun run r → ⊥) → IsStrangeAt rs place
-strange_at rs place run r small first at all other = record {
-  within = small;
-  run = run;
-  run_there = neighbour rs 0 run (omega (arith, small)) first;
-  read = r;
-  there = neighbour rs place r small at;
-  alike = all;
-  strange = other;
-}
 
 -- a row that isn't whole
 pub starts_late : (rs : List PartRead) (first last : PartRead) (fault : JoinFault) → slice_get rs 0 ≡ Some first → slice_get rs (length rs - 1) ≡ Some last → 0 < first.span.from

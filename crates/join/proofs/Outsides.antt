@@ -15,7 +15,7 @@ use Rattle.report.proofs.Back.{lacks_both, end_lacks}
 use Rattle.losses.proofs.Plain.{ending_lacks}
 use Rattle.join.specs.Given.{IsBelow, IsStatus, IsOutside, IsOutcome, out_of_time, with_status, with_signal}
 use Rattle.join.proofs.Texts.{cancel}
-use Rattle.join.proofs.Spans.{number_lacks, line_lacks}
+use Rattle.join.proofs.Spans.{number_lacks}
 use Rattle.join.proofs.Choosing.{prints_choices}
 
 -- a number from 1 to below a bound

@@ -1,5 +1,5 @@
 -- The text of a part, read to the byte and in one way alone.
-use Rattle.std.proofs.Common.{ℕ, ◌≡◌, ◌≢◌, ◌-◌, Bool, true, List, [], ◌∷◌, ◌++◌, get_or, None, refl, sym, ◌∙◌, ap, subst, arith}
+use Rattle.std.proofs.Common.{ℕ, ◌≡◌, ◌≢◌, ◌-◌, Bool, true, List, [], ◌∷◌, ◌++◌, get_or, None, refl, sym, ◌∙◌, ap, arith}
 use Rattle.std.specs.List.{flat_map}
 use Rattle.report.specs.Marks.{marks_of}
 use Rattle.report.specs.LineText.{line_text}

@@ -1,5 +1,5 @@
 -- The lines of a report that is given in place of programs, read to the byte and in one way alone.
-use Rattle.std.proofs.Common.{ℕ, ◌≡◌, ◌≢◌, ◌+◌, ◌<◌, ◌≤◌, ◌^◌, ◌↔◌, IsTrue, Bool, true, false, if◌then◌else◌, List, map, [], ◌∷◌, ◌++◌, length, length-append, append_assoc, append-nil, codes, Option, Some, None, slice_get, Result, Ok, Err, IfOk, refl, sym, subst, ◌∙◌, ap, get_or, arith}
+use Rattle.std.proofs.Common.{ℕ, ◌≡◌, ◌≢◌, ◌+◌, ◌<◌, ◌≤◌, ◌^◌, Bool, true, false, if◌then◌else◌, List, [], ◌∷◌, ◌++◌, length, append_assoc, append-nil, codes, Option, Some, slice_get, refl, sym, subst, ◌∙◌, ap, get_or, arith}
 use Rattle.std.specs.Fmt.{decimal}
 use Rattle.std.specs.List.{flat_map}
 use Rattle.std.specs.Option.{option_map_or}
@@ -17,14 +17,13 @@ use Rattle.report.proofs.Back.{lacks_both}
 use Rattle.join.specs.declared.line.Words.{Words}
 use Rattle.join.specs.declared.tally.Tally.{Tally}
 use Rattle.join.specs.Endings.{IsAtChoice, NoChoice}
-use Rattle.join.specs.Reading.{words_text, ReadsWords, IsCut, NoCut, none_read, one_more, is_new, tallied}
+use Rattle.join.specs.Reading.{words_text, ReadsWords, IsCut, NoCut, none_read, one_more, is_new}
 use Rattle.join.specs.Given.{ToldLine, IsOutcome, IsTold, AreToldOf, chosen_told, told_body, told_line, marks_told}
 use Rattle.join.specs.GivenReading.{IsChoiceOf, IsToldBody, NoToldBody, IsToldLine, NoToldLine, AreToldRead}
 use Rattle.join.proofs.Texts.{one_cut, cancel, has_it}
 use Rattle.join.proofs.Spans.{line_lacks, blank_lacks}
 use Rattle.join.proofs.Bodies.{by_words}
 use Rattle.join.proofs.Counts.{tallied_push, tallied_none}
-use Rattle.join.proofs.Endings.{like}
 use Rattle.join.proofs.Outsides.{cancel_back, choice_lacks, outcome_lacks, outcome_lacks_h}
 
 -- the words of a line of an image with that choice
@@ -137,16 +136,6 @@ other_cut s image at text c there other ic =
     let both : Some c ≡ Some ic.choice = sym there ∙ ic.there in
     let same : c ≡ ic.choice = cc in
     other (ap (λ (x : ChoiceValue). x.cut) same ∙ ic.at)
-
-pub choice_decided : (E : Type 0) (s : StartsValue) (way : By) (image at : ℕ) (text : List ℕ) (c : ChoiceValue) (r : Result Bool E) → way ≡ s.plan.by → slice_get (ranked_choices s.plan s.bound s.tears) image ≡ Some c → c.cut < 2 ^ 32 → c.cut ≡ at
-    → IfOk r (λ is. IsTrue is ↔ (text ≡ departures_text way c.departures)) → IfOk r (λ is. IsTrue is ↔ IsChoiceOf s image at text)
-choice_decided E s way image at text c (Ok is) by there small same test =
-    like is test (λ e. record { choice = c; there = there; small = small; at = same; is = e ∙ ap (λ (w : By). departures_text w c.departures) by })
-    (λ ic.
-    let both : Some ic.choice ≡ Some c = sym ic.there ∙ there in
-    let one : ic.choice ≡ c = cc in
-    ic.is ∙ ap (λ (x : ChoiceValue). departures_text s.plan.by x.departures) one ∙ ap (λ (w : By). departures_text w c.departures) (sym by))
-choice_decided E s way image at text c (Err e) by there small same test = tt
 
 -- a line without its newline has none
 pub told_lacks : (outside : Bool) (programs : ℕ) (s : StartsValue) (t : ToldLine) → programs ≤ 8 → IsTold outside programs s t → lacks 10 (told_body s t) ≡ true

@@ -13,7 +13,6 @@ use Rattle.report.specs.declared.lines.marks.Mark.{Mark}
 use Rattle.report.specs.ChoiceText.{departures_text}
 use Rattle.report.specs.Images.{distinct_count}
 use Rattle.report.specs.Report.{program_lines}
-use Rattle.join.specs.declared.line.Words.{Words}
 use Rattle.join.specs.declared.given.told.Told.{Told}
 use Rattle.join.specs.Endings.{IsEnding}
 use Rattle.join.specs.Heads.{IsProgramHead, are_programs_of_run}

@@ -118,7 +118,6 @@ fn is_fault(text: &str) -> bool
 }
 
 /// Whether a text says what a program ended in.
-#[tactic(auto, using(crate::proofs::Endings::steps_are_ending, crate::proofs::Endings::verdict_is_ending, crate::proofs::Endings::fault_is_ending, crate::proofs::Endings::ending_is_verdict, crate::proofs::Endings::ending_is_fault, crate::proofs::Endings::stray_is_ending, crate::proofs::Endings::ending_is_stray, crate::proofs::Endings::no_ending))]
 pub(crate) fn is_ending(text: &str) -> bool
     ensures { IsTrue result ↔ IsEnding text.now }
 {

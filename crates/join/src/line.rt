@@ -94,7 +94,6 @@ fn has_program_and_cut(head: &Head, words: Words) -> bool
 }
 
 /// The mark of a line without its newline, if it is one of a run with that head, to the byte.
-#[tactic(auto, using(crate::proofs::Bodies::too_large, crate::proofs::Bodies::not_there, crate::proofs::Bodies::other_words, crate::proofs::Bodies::other_end, crate::proofs::Bodies::is_body))]
 fn mark_of(alloc: Global, head: &Head, line: &str) -> Result<Option<Mark>, AllocError>
     ensures { IfOk result (λ found. MatchOption found (NoBody head.now line.now) (λ mark. IsBody head.now line.now mark)) }
 {

@@ -141,7 +141,7 @@ fn is_whole(span: Span, first: bool, tally: Tally) -> bool
 }
 
 /// The part of which a text is that, to the byte; none where it is that of no part.
-#[tactic(auto, using(crate::proofs::Parts::no_span_no_part, crate::proofs::Parts::no_head_no_part, crate::proofs::Parts::no_last_no_part, crate::proofs::Parts::other_kind_no_part, crate::proofs::Parts::not_whole_no_part, crate::proofs::Parts::other_head_no_part, crate::proofs::Parts::lines_after_head, crate::proofs::Parts::part_found, crate::proofs::Parts::head_in_front, crate::proofs::Parts::lines_in_front))]
+#[tactic(auto, using(crate::proofs::Parts::lines_after_head, crate::proofs::Parts::head_in_front, crate::proofs::Parts::lines_in_front))]
 fn read_text<'t>(alloc: Global, file: u32, text: &'t str) -> Result<Option<Part<'t>>, AllocError>
     requires { length text.now ≤ 2 ^ 30 }
     ensures { IfOk result (λ found. MatchOption found (NoPartText text.now) (λ part. IsPartText text.now part × (part.file ≡ file))) }

@@ -26,7 +26,7 @@
 //! | `put_refused(out, rule, cure)` | what a refusal means, and what helps, if anything is known |
 //! | `put_known(out, instr, state)` | what is known of the registers that an instruction reads, and what an access wants |
 //! | `put_entry(alloc, out, log, number)` | an entry, as in the table |
-//! | `put_entry_line(out, number, epoch, entry)` | a line of the table |
+//! | `put_entry_line(out, number, epoch, entry)`, `put_what(out, entry)` | a line of the table, what stands in it after the epoch |
 //! | `put_least(out, log)` | the size of the least device that holds a log |
 //! | `source_lines(alloc, bytes)` | the lines of a text that says at which line of C each slot comes; none where it is no such text |
 //! | `put_source(alloc, out, lines, slot)` | the place in C of a slot, as ` # check.c:41` |
@@ -102,4 +102,4 @@ pub use known::put_known;
 pub use line::{put_note, put_refused};
 pub use listing::{numbered_listing, put_slot};
 pub use sources::{SourceLine, put_source, source_lines};
-pub use table::{log_table, put_entry, put_entry_line};
+pub use table::{log_table, put_entry, put_entry_line, put_what};

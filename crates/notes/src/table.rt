@@ -67,9 +67,9 @@ fn put_head(out: &mut String, number: usize, epoch: u32) -> Result<(), AllocErro
     write!(out, "entry {number} epoch {epoch}")
 }
 
-/// Appends what an entry asks of the device.
+/// Appends what an entry asks of the device, as in the table.
 #[tactic(auto, unfolding(crate::specs::LogTable::what_text))]
-fn put_what(out: &mut String, entry: &Entry) -> Result<(), AllocError>
+pub fn put_what(out: &mut String, entry: &Entry) -> Result<(), AllocError>
     ensures { OnOk result (string_bytes out.new ≡ string_bytes out.old ++ what_text entry.now) }
 {
     put_word(out, is_write(entry), "write")?;

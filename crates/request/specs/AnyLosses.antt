@@ -40,4 +40,4 @@ torn_asked number tears = if tears then unwrap_or number 1 else 0
 
 -- what the words ask for, beside these options
 abbrev pub losses_asked : LossWords → Settings → AnyLosses
-losses_asked w s = record { torn = torn_asked w.torn s.tears; at_most = w.at_most; why = w.why }
+losses_asked w s = record { torn = torn_asked w.torn s.tears; at_most = w.at_most; telling = w.telling }

@@ -5,7 +5,7 @@ ghost use Rattle.request.specs.AnyLosses.{is_lost_asked, is_torn_asked, losses_a
 
 use crate::options::Options;
 use crate::refusals::option_refusal_of;
-use crate::settings::OptionPlace;
+use crate::settings::{CaseTelling, OptionPlace};
 use base::refusal::Refusal;
 
 /// The most parts that may be torn.
@@ -23,8 +23,8 @@ pub struct LossWords {
     pub torn: Option<u64>,
     /// The number after `--at-most`, where that stands there.
     pub at_most: Option<u64>,
-    /// Whether `why` asks, and not `explore`.
-    pub why: bool,
+    /// What is to be told of the failing cases.
+    pub telling: CaseTelling,
 }
 
 /// What is asked of any number of losses.
@@ -34,8 +34,8 @@ pub struct AnyLosses {
     pub torn: u32,
     /// How many parts may be lost or torn, 1 to 64, where that is bounded.
     pub at_most: Option<u32>,
-    /// Whether it is told why cases fail, and not only which do.
-    pub why: bool,
+    /// What is to be told of the failing cases.
+    pub telling: CaseTelling,
 }
 
 /// How many parts may be torn, by the number after `--torn`: none where that number isn't 1 to 3, or stands there without tears.
@@ -93,6 +93,6 @@ pub fn losses_of(words: LossWords, options: &Options) -> Result<AnyLosses, Refus
     Ok(AnyLosses {
         torn,
         at_most,
-        why: words.why,
+        telling: words.telling,
     })
 }

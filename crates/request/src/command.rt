@@ -70,18 +70,22 @@ pub enum Request {
     StoredRun,
     /// `explore LOG PROGRAM..`
     Explore(OptionWords),
-    /// `explore LOG PROGRAM..` with any number of losses: `--bound any`, `--torn` or `--at-most` stands there.
+    /// `explore LOG PROGRAM..` or `why LOG PROGRAM..` with any number of losses: `--bound any`, `--torn` or `--at-most` stands there.
     Cases(OptionWords, LossWords),
     /// `why LOG PROGRAM..`
     Why(OptionWords),
     /// `cure LOG PROGRAM..`, which takes no `--first`.
     Cure(OptionWords),
+    /// The same with any number of losses.
+    CureCases(OptionWords, LossWords),
     /// `page LOG PROGRAM..`
     Page(OptionWords),
     /// `why LOG --report REPORT`, or `page` or `cure` so.
     Retold(OptionWords, Retelling),
     /// `images LOG`, with the number after `--parts`, where that stands there.
     Images(OptionWords, Option<u64>),
+    /// The same with any number of losses.
+    Cuts(OptionWords, LossWords, Option<u64>),
     /// `export LOG`.
     Export(OptionWords),
     /// `log LOG`, of which the number of sectors counts.

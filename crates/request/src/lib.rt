@@ -150,6 +150,6 @@ pub use command::{OptionWords, Request, Which, options_of};
 pub use extent::Extent;
 pub use options::{MOST_PROGRAMS, Options};
 pub use refusals::{bytes_refusal_of, fault_line, option_refusal_of, unreadable};
-pub use settings::{OptionPlace, Retelling, Settings, Telling};
+pub use settings::{CaseTelling, OptionPlace, Retelling, Settings, Telling};
 pub use source::{log_refusal_of, plan_of, read_log};
 pub use trials::{Trial, TrialWords, trial_of};

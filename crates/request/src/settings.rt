@@ -47,6 +47,17 @@ pub enum Telling {
     Page,
 }
 
+/// What is to be told of the failing cases of any number of losses.
+#[derive(Clone, Copy)]
+pub enum CaseTelling {
+    /// Each of them.
+    Cases,
+    /// Why the programs fail on them.
+    Causes,
+    /// Where they fail, as a page for a browser.
+    Page,
+}
+
 /// What is to be told of a report that is given in place of programs.
 #[derive(Clone, Copy)]
 pub enum Retelling {

@@ -24,18 +24,21 @@ use Rattle.case_runs.specs.declared.leaves.FailingCase.{FailingCase}
 use Rattle.case_runs.specs.First.{NoneFailsAt, NoneFails, IsFirstFailing, PassesMostIn, IsSought, EndsIn}
 use Rattle.case_text.specs.Text.{fails_at, is_any_failing}
 use Rattle.case_text.specs.First.{first_bytes}
+use Rattle.request.specs.declared.settings.CaseTelling.{CaseTelling}
 use Rattle.request.specs.declared.any_losses.AnyLosses.{AnyLosses}
 use Rattle.request.specs.declared.settings.Settings.{Settings}
 use Rattle.request.specs.Source.{Recording, plan_of, images_refusal, HasImages, for_plan, no_plan_memory}
 use Rattle.runs.specs.declared.task.Task.{Task}
-use Rattle.runs.specs.CaseCuts.{losses_of, case_cuts, AreMore, HasTooMany}
-use Rattle.runs.specs.CaseRefusals.{StopsFor, RefusesFor}
-use Rattle.runs.specs.Cases.{IsTextOf, TellsCases, TellsFirst, of_first, of_none, TellsLosses, IsLosses}
+use Rattle.case_runs.specs.Cuts.{case_cuts}
+use Rattle.runs.specs.CaseCuts.{losses_of, AreMore, HasTooMany}
+use Rattle.runs.specs.CaseRefusals.{StopsFor, RefusesFor, RefusesAll}
+use Rattle.runs.specs.Cases.{IsTextOf, TellsCases, TellsFirst, of_first, of_none, IsByCases, TellsLosses}
 use Rattle.runs.specs.Judged.{takes}
 use Rattle.runs.specs.declared.explore_command.Explored.{Explored}
 use Rattle.runs.specs.declared.explore_command.Wanted.{Wanted}
 use Rattle.runs.specs.declared.explore_command.Wanted.TheVariants as wanted
-use Rattle.runs.specs.Explore.{IsProgramCount, AreCheckersOf, head_of, for_source, RefusesWanted, for_rest, for_cases}
+use Rattle.runs.specs.Explore.{IsProgramCount, AreCheckersOf, head_of, for_source, RefusesWanted, for_rest, for_cases, for_cure}
+use Rattle.runs.specs.Cured.{RefusesRun}
 use Rattle.runs.specs.Why.{with_first}
 
 -- what was found is of cuts of the log
@@ -49,16 +52,17 @@ found_within asked log way cuts checkers found n are within k d lt =
     subst (λ m. m ≤ n) (sym own) (within k 0 here)
 
 -- why they aren't told
-pub why_refused : (l : AnyLosses) (t : Task) (cuts : List ℕ) (why : CasesFault) (r : Refusal) → t.options.now.first ≡ false → cuts ≡ case_cuts l t.options.now.cuts t.log.now
-    → StopsIn (losses_of l t.options.now) t.log.now t.options.now.by cuts t.checkers.now why → StopsFor why r → RefusesFor l t r
-why_refused l t cuts fault.Memory r all are stops is = inl is
-why_refused l t cuts (fault.TooMany cut) r all are stops is =
-    inr (
-      cut,
-      is,
-      subst (λ b. AreMore b (losses_of l t.options.now) t.log.now t.options.now.by (case_cuts l t.options.now.cuts t.log.now) t.checkers.now cut) (sym all)
-          (subst (λ (cs : List ℕ). AreTooMany (losses_of l t.options.now) t.log.now t.options.now.by cs t.checkers.now cut) are stops),
-    )
+pub why_refused : (l : AnyLosses) (t : Task) (cuts : List ℕ) (why : CasesFault) (r : Refusal) → cuts ≡ case_cuts l.at_most t.options.now.cuts t.log.now.entries
+    → StopsIn (losses_of l t.options.now) t.log.now t.options.now.by cuts t.checkers.now why → StopsFor why r → RefusesAll l t r
+why_refused l t cuts fault.Memory r are stops is = inl is
+why_refused l t cuts (fault.TooMany cut) r are stops is =
+    inr (cut, is, subst (λ (cs : List ℕ). AreTooMany (losses_of l t.options.now) t.log.now t.options.now.by cs t.checkers.now cut) are stops)
+
+-- where all are asked for
+pub all_refused : (l : AnyLosses) (t : Task) (r : Refusal) → t.options.now.first ≡ false → RefusesAll l t r → RefusesFor l t r
+all_refused l t r all (inl memory) = inl memory
+all_refused l t r all (inr (cut, is, more)) =
+    inr (cut, is, subst (λ b. AreMore b (losses_of l t.options.now) t.log.now t.options.now.by (case_cuts l.at_most t.options.now.cuts t.log.now.entries) t.checkers.now cut) (sym all) more)
 
 -- with what is known of the arguments
 pub stops_so : (asked own : Losses) (log : LogValue) (way by : By) (cuts : List ℕ) (checkers : List CheckerValue) (why : CasesFault) → own ≡ asked → way ≡ by
@@ -73,23 +77,23 @@ found_so asked own log way by cuts checkers found same kind are =
 
 -- the text of what was found
 pub tells_found : (l : AnyLosses) (t : Task) (cuts : List ℕ) (found : List CutFound) (h : HeadValue) (bytes : List ℕ) (failing : Bool)
-    → cuts ≡ case_cuts l t.options.now.cuts t.log.now → AreFoundIn (losses_of l t.options.now) t.log.now t.options.now.by cuts t.checkers.now found → cases_in found ≤ most_cases
-    → h ≡ head_of (with_first false t.options.now) t.log.now t.checkers.now → IsTextOf l.why h (losses_of l t.options.now) t.log.now found bytes
+    → cuts ≡ case_cuts l.at_most t.options.now.cuts t.log.now.entries → AreFoundIn (losses_of l t.options.now) t.log.now t.options.now.by cuts t.checkers.now found → cases_in found ≤ most_cases
+    → h ≡ head_of (with_first false t.options.now) t.log.now t.checkers.now → IsTextOf l.telling h (losses_of l t.options.now) t.log.now found bytes
     → failing ≡ is_any_failing found → TellsCases l t.options.now t.log.now t.checkers.now bytes failing
 tells_found l t cuts found h bytes failing are those few head text fails = record {
   found = found;
   are = subst (λ (cs : List ℕ). AreFoundIn (losses_of l t.options.now) t.log.now t.options.now.by cs t.checkers.now found) are those;
   few = few;
-  text = subst (λ (x : HeadValue). IsTextOf l.why x (losses_of l t.options.now) t.log.now found bytes) head text;
+  text = subst (λ (x : HeadValue). IsTextOf l.telling x (losses_of l t.options.now) t.log.now found bytes) head text;
   fails = fails;
 }
 
 -- the text is that which is asked for
-pub text_by : (b : Bool) (why : Bool) (h : HeadValue) (asked own : Losses) (log : LogValue) (found : List CutFound) (r : Result (Vec ℕ Global) AllocError) → why ≡ b → own ≡ asked
-    → IfOk r (λ bytes. IsTextOf b h own log found bytes.items) → IfOk r (λ bytes. IsTextOf why h asked log found bytes.items)
-text_by b why h asked own log found r same losses told =
-    subst (λ (x : Bool). IfOk r (λ bytes. IsTextOf x h asked log found bytes.items)) (sym same)
-    (subst (λ (x : Losses). IfOk r (λ bytes. IsTextOf b h x log found bytes.items)) losses told)
+pub text_by : (t : CaseTelling) (telling : CaseTelling) (h : HeadValue) (asked own : Losses) (log : LogValue) (found : List CutFound) (r : Result (Vec ℕ Global) AllocError) → telling ≡ t
+    → own ≡ asked → IfOk r (λ bytes. IsTextOf t h own log found bytes.items) → IfOk r (λ bytes. IsTextOf telling h asked log found bytes.items)
+text_by t telling h asked own log found r same losses told =
+    subst (λ (x : CaseTelling). IfOk r (λ bytes. IsTextOf x h asked log found bytes.items)) (sym same)
+    (subst (λ (x : Losses). IfOk r (λ bytes. IsTextOf t h x log found bytes.items)) losses told)
 
 -- at each cut something is found with each checker, of which there are few
 pub found_few : (asked : Losses) (log : LogValue) (way : By) (cuts : List ℕ) (checkers : List CheckerValue) (found : List CutFound) → AreFoundIn asked log way cuts checkers found
@@ -123,7 +127,7 @@ tells_none l s value checkers bytes failing found none is tells =
     subst (λ b. TellsFirst l s value checkers bytes b) (sym passes) (of_none (subst (λ b. TellsCases l s value checkers bytes b) passes tells))
 
 pub tells_first : (l : AnyLosses) (t : Task) (cuts : List ℕ) (first : FirstCase) (h : HeadValue) (asked : Losses) (bytes : List ℕ)
-    → cuts ≡ case_cuts l t.options.now.cuts t.log.now → IsFirstFailing (losses_of l t.options.now) t.log.now t.options.now.by cuts t.checkers.now first
+    → cuts ≡ case_cuts l.at_most t.options.now.cuts t.log.now.entries → IsFirstFailing (losses_of l t.options.now) t.log.now t.options.now.by cuts t.checkers.now first
     → h ≡ head_of (with_first false t.options.now) t.log.now t.checkers.now → asked ≡ losses_of l t.options.now → bytes ≡ first_bytes h asked t.log.now first
     → TellsFirst l t.options.now t.log.now t.checkers.now bytes true
 tells_first l t cuts first h asked bytes are is head same text =
@@ -147,14 +151,14 @@ ends_so asked own log way by cuts checkers why same kind stops =
     subst (λ (x : Losses). EndsIn x log by cuts checkers why) same (subst (λ (b : By). EndsIn own log b cuts checkers why) kind stops)
 
 -- why it isn't told
-pub first_refused : (l : AnyLosses) (t : Task) (cuts : List ℕ) (why : CasesFault) (r : Refusal) → t.options.now.first ≡ true → cuts ≡ case_cuts l t.options.now.cuts t.log.now
+pub first_refused : (l : AnyLosses) (t : Task) (cuts : List ℕ) (why : CasesFault) (r : Refusal) → t.options.now.first ≡ true → cuts ≡ case_cuts l.at_most t.options.now.cuts t.log.now.entries
     → EndsIn (losses_of l t.options.now) t.log.now t.options.now.by cuts t.checkers.now why → StopsFor why r → RefusesFor l t r
 first_refused l t cuts fault.Memory r first are stops is = inl is
 first_refused l t cuts (fault.TooMany cut) r first are stops is =
     inr (
       cut,
       is,
-      subst (λ b. AreMore b (losses_of l t.options.now) t.log.now t.options.now.by (case_cuts l t.options.now.cuts t.log.now) t.checkers.now cut) (sym first)
+      subst (λ b. AreMore b (losses_of l t.options.now) t.log.now t.options.now.by (case_cuts l.at_most t.options.now.cuts t.log.now.entries) t.checkers.now cut) (sym first)
           (subst (λ (cs : List ℕ). PassesMostIn (losses_of l t.options.now) t.log.now t.options.now.by cs t.checkers.now cut) are stops),
     )
 
@@ -164,10 +168,10 @@ pub told_as : (l : AnyLosses) (s : Settings) (value : LogValue) (checkers : List
 told_as l s value checkers b r same told = subst (λ (x : Bool). IfOk r (λ e. TellsLosses x l s value checkers e.bytes.items e.failing)) (sym same) told
 
 -- what a run answers by cases
-pub is_cases : (l : AnyLosses) (text : Recording) (files : List (List ℕ)) (s : Settings) (log : LogValue) (checkers now : List CheckerValue) (bytes : List ℕ) (failing : Bool)
-    → IsProgramCount (length files) → HasImages text s log → AreCheckersOf s files checkers → now ≡ checkers → TellsLosses s.first l s log now bytes failing
-    → IsLosses s.first l text files s bytes failing
-is_cases l text files s log checkers now bytes failing count source made same tells =
+pub is_cases : (Tells : Settings → LogValue → List CheckerValue → List ℕ → Bool → Type 0) (text : Recording) (files : List (List ℕ)) (s : Settings) (log : LogValue) (checkers now : List CheckerValue)
+    (bytes : List ℕ) (failing : Bool) → IsProgramCount (length files) → HasImages text s log → AreCheckersOf s files checkers → now ≡ checkers → Tells s log now bytes failing
+    → IsByCases Tells text files s bytes failing
+is_cases Tells text files s log checkers now bytes failing count source made same tells =
     record { count = count; value = log; source = source; checkers = now; made = subst (AreCheckersOf s files) (sym same) made; tells = tells }
 
 -- and when it is refused
@@ -179,3 +183,13 @@ refused_for w l text files s log checkers now r is taken count source made same 
 refused_for w l text files s log checkers now r is taken count source made same (inr (cut, at, many)) =
     subst (λ (q : Refusal). RefusesWanted w text files s q) (sym at)
     (for_cases l log now cut is taken count source (subst (AreCheckersOf s files) (sym same) made) many)
+
+-- or of a cure by cases
+pub cure_refused : (w : Wanted) (l : AnyLosses) (text : Recording) (files : List (List ℕ)) (s : Settings) (log : LogValue) (checkers now : List CheckerValue) (r : Refusal)
+    → w ≡ wanted.CuredCases l → takes w s.extent ≡ true → IsProgramCount (length files) → HasImages text s log → AreCheckersOf s files checkers → now ≡ checkers
+    → RefusesRun (Some l) s now log r → RefusesWanted w text files s r
+cure_refused w l text files s log checkers now r is taken count source made same (inl plan) =
+    for_rest r taken (for_source r count (for_plan r log source.reads plan))
+cure_refused w l text files s log checkers now r is taken count source made same (inr (cut, at, more)) =
+    subst (λ (q : Refusal). RefusesWanted w text files s q) (sym at)
+    (for_cure l log now cut is taken count source (subst (AreCheckersOf s files) (sym same) made) more.1)

@@ -1,5 +1,5 @@
 -- Which images of a run are judged.
-use Rattle.std.proofs.Common.{ℕ, ◌≡◌, ◌-◌, ◌<◌, ◌≤◌, ◌^◌, ◌==◌, ◌&&◌, ◌||◌, nat_le, nat_lt, Bool, true, false, length, refl, sym, subst, arith}
+use Rattle.std.proofs.Common.{◌∙◌, ℕ, ◌≡◌, ◌-◌, ◌<◌, ◌≤◌, ◌^◌, ◌==◌, ◌&&◌, ◌||◌, nat_le, nat_lt, Bool, true, false, length, refl, sym, subst, arith}
 use Rattle.std.proofs.lemmas.Bool.{and_parts, false≢true}
 use Rattle.std.proofs.lemmas.Bool.Decides.{nat_tests, eqb_tells, leb_tells}
 use Rattle.epochs.specs.Plan.{PlanValue}
@@ -13,8 +13,7 @@ use Rattle.request.specs.Extents.{first_meant, end_meant, is_extent, has_extent,
 use Rattle.request.specs.Source.{plan_of, images_of}
 use Rattle.request.proofs.Plans.{counted_of}
 use Rattle.runs.specs.declared.explore_command.Wanted.{Wanted}
-use Rattle.runs.specs.declared.explore_command.Wanted.TheVariants as wanted
-use Rattle.runs.specs.Judged.{takes, IsJudged}
+use Rattle.runs.specs.Judged.{takes_part, takes, IsJudged}
 
 pub ordered : (from to : ℕ) → (nat_lt from to || (from == 0 && to == 0)) ≡ true → from ≤ to
 ordered from to h = by_test (nat_lt from to) refl h
@@ -99,8 +98,8 @@ few_judged e images span whole judged =
 pub judged_of : (e f : Extent) (images : ℕ) (span : Span) → e ≡ f → IsJudged e images span → IsJudged f images span
 judged_of e f images span same judged = subst (λ (x : Extent). IsJudged x images span) same judged
 
--- a cure judges all images
-pub whole_of : (e : Extent) → takes wanted.Cured e ≡ true → e ≡ extent.Whole
-whole_of extent.Whole taken = refl
-whole_of extent.Wide taken = absurd (false≢true taken)
-whole_of (extent.Part from to) taken = absurd (false≢true taken)
+-- where no part is taken, all images are judged
+pub whole_of : (w : Wanted) (e : Extent) → takes_part w ≡ false → takes w e ≡ true → e ≡ extent.Whole
+whole_of w extent.Whole none taken = refl
+whole_of w extent.Wide none taken = absurd (false≢true taken)
+whole_of w (extent.Part from to) none taken = absurd (false≢true (sym none ∙ taken))

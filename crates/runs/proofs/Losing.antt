@@ -34,7 +34,8 @@ use Rattle.request.specs.declared.any_losses.AnyLosses.{AnyLosses}
 use Rattle.request.specs.declared.settings.Settings.{Settings}
 use Rattle.request.specs.Source.{Recording}
 use Rattle.request.proofs.Logs.{bounds_of}
-use Rattle.runs.specs.CaseCuts.{losses_of, is_all, are_last_enough, first_wanted, last_wanted, case_cuts}
+use Rattle.case_runs.specs.Cuts.{is_all, are_last_enough, first_wanted, last_wanted, case_cuts}
+use Rattle.runs.specs.CaseCuts.{losses_of}
 use Rattle.runs.specs.Cases.{IsCases}
 use Rattle.runs.specs.AnyLoss.{IsOfAll, IsInFailing, AnyLossIsTold}
 
@@ -56,18 +57,18 @@ kept_there p a (suc n) k low high is = elim (eqb_tells a k) [
     later false it = it
 
 -- where all cuts are wanted the last ones are explored
-all_cuts : (l : AnyLosses) (s : Settings) (value : LogValue) → IsOfAll l s → case_cuts l s.cuts value ≡ explored_cuts value.entries 0 (length value.entries)
+all_cuts : (l : AnyLosses) (s : Settings) (value : LogValue) → IsOfAll l s → case_cuts l.at_most s.cuts value.entries ≡ explored_cuts value.entries 0 (length value.entries)
 unfolding case_cuts
 all_cuts l s value all =
     let n = length value.entries in
-    let enough : are_last_enough l s.cuts ≡ true = ap (λ b. b && is_none l.at_most) all.kind ∙ ap is_none all.lost in
+    let enough : are_last_enough l.at_most s.cuts ≡ true = ap (λ b. b && is_none l.at_most) all.kind ∙ ap is_none all.lost in
     let first : first_wanted s.cuts n ≡ 0 = ap (λ o. min (unwrap_or o 0) n) all.from ∙ omega arith in
     let last : last_wanted s.cuts n ≡ n = ap (λ o. min (unwrap_or o n) n) all.to ∙ omega arith in
     ap (λ b. if b then explored_cuts value.entries (first_wanted s.cuts n) (last_wanted s.cuts n) else cuts_of s.cuts value.entries) enough
     ∙ (λ i. explored_cuts value.entries (first i) (last i))
 
 last_there : (l : AnyLosses) (s : Settings) (value : LogValue) (last : ℕ) → IsOfAll l s → last ≤ length value.entries → is_last_cut value.entries last ≡ true
-    → (i : ℕ) × (slice_get (case_cuts l s.cuts value) i ≡ Some last)
+    → (i : ℕ) × (slice_get (case_cuts l.at_most s.cuts value.entries) i ≡ Some last)
 last_there l s value last all within is =
     let n = length value.entries in
     let it = kept_there (is_explored value.entries n) 0 (n + 1 - 0) last (omega arith) (omega (arith, within)) (ap (λ b. b || (last == n)) is) in
@@ -157,7 +158,7 @@ any_loss_told law = record {
       let last = found.0 in
       let j = found.1 in
       let place = last_there l s value last all j.within j.is_last in
-      let at = there_too (case_cuts l s.cuts value) h.tells.found place.0 last h.tells.are.count place.1 in
+      let at = there_too (case_cuts l.at_most s.cuts value.entries) h.tells.found place.0 last h.tells.are.count place.1 in
       let own_cut = h.tells.are.cut place.0 last at.0 place.1 at.1 in
       let each = h.tells.are.each place.0 last at.0 place.1 at.1 in
       let own = there_too h.checkers at.0.programs.items program checker each.count runs in

@@ -17,7 +17,7 @@ use Rattle.case_runs.specs.Laws.{judged_at}
 use Rattle.request.specs.declared.any_losses.AnyLosses.{AnyLosses}
 use Rattle.request.specs.declared.settings.Settings.{Settings}
 use Rattle.request.specs.Source.{Recording}
-use Rattle.runs.specs.CaseCuts.{is_all}
+use Rattle.case_runs.specs.Cuts.{is_all}
 use Rattle.runs.specs.Cases.{IsCases}
 
 -- all cuts of a log are wanted, and any number of parts may be lost

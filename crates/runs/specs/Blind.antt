@@ -80,6 +80,7 @@ pub record IsLastContext (plan : PlanValue) (place last cut : ℕ) : Type 0 wher
 abbrev pub blind_found : Wanted → PlanValue → List CheckerValue → List Bool
 blind_found (wanted.Told t) plan checkers = map (is_noticed plan) checkers
 blind_found wanted.Cured plan checkers = []
+blind_found (wanted.CuredCases l) plan checkers = []
 blind_found (wanted.Cases l) plan checkers = []
 
 -- that is found of a run

@@ -7,7 +7,7 @@ use Rattle.case_runs.specs.declared.found.CasesFault.TheVariants as fault
 use Rattle.request.specs.declared.any_losses.AnyLosses.{AnyLosses}
 use Rattle.request.specs.Source.{images_refusal}
 use Rattle.runs.specs.declared.task.Task.{Task}
-use Rattle.runs.specs.CaseCuts.{HasTooMany}
+use Rattle.runs.specs.CaseCuts.{HasTooMany, HasMore}
 
 -- the refusal that says why cases weren't found
 abbrev pub StopsFor : CasesFault → Refusal → Type 0
@@ -17,3 +17,7 @@ StopsFor (fault.TooMany cut) r = r ≡ images_refusal cut
 -- memory was wanting, or there are too many cases, by the cut with which there are
 abbrev pub RefusesFor : AnyLosses → Task → Refusal → Type 0
 RefusesFor l t r = (r ≡ memory_refusal) ⊎ ((cut : ℕ) × (r ≡ images_refusal cut) × HasTooMany l t.options.now t.log.now t.checkers.now cut)
+
+-- the same where all are asked for
+abbrev pub RefusesAll : AnyLosses → Task → Refusal → Type 0
+RefusesAll l t r = (r ≡ memory_refusal) ⊎ ((cut : ℕ) × (r ≡ images_refusal cut) × HasMore l t.options.now t.log.now t.checkers.now cut)

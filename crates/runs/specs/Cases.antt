@@ -11,31 +11,36 @@ use Rattle.case_runs.specs.First.{IsFirstFailing}
 use Rattle.case_text.specs.First.{first_bytes}
 use Rattle.case_text.specs.Text.{cases_bytes, is_any_failing}
 use Rattle.case_text.specs.Why.{TellsWhy}
+use Rattle.crash_page.specs.CasePage.{case_page_text}
 use Rattle.request.specs.declared.any_losses.AnyLosses.{AnyLosses}
+use Rattle.request.specs.declared.settings.CaseTelling.{CaseTelling}
+use Rattle.request.specs.declared.settings.CaseTelling.TheVariants as telling
 use Rattle.request.specs.declared.settings.Settings.{Settings}
 use Rattle.request.specs.Source.{Recording, HasImages}
-use Rattle.runs.specs.CaseCuts.{losses_of, case_cuts}
+use Rattle.case_runs.specs.Cuts.{case_cuts}
+use Rattle.runs.specs.CaseCuts.{losses_of}
 use Rattle.runs.specs.Explore.{IsProgramCount, AreCheckersOf, head_of}
 use Rattle.runs.specs.Why.{with_first}
 
--- the text of what was found: which cases fail, or why they do
-abbrev pub IsTextOf : Bool → HeadValue → Losses → LogValue → List CutFound → List ℕ → Type 0
-IsTextOf false h asked value found bytes = bytes ≡ cases_bytes h asked value found
-IsTextOf true h asked value found bytes = TellsWhy h asked value found bytes
+-- the text of what was found: which cases fail, why they do, or the page of them
+abbrev pub IsTextOf : CaseTelling → HeadValue → Losses → LogValue → List CutFound → List ℕ → Type 0
+IsTextOf telling.Cases h asked value found bytes = bytes ≡ cases_bytes h asked value found
+IsTextOf telling.Causes h asked value found bytes = TellsWhy h asked value found bytes
+IsTextOf telling.Page h asked value found bytes = bytes ≡ case_page_text h asked value found
 
 -- the cases of a log that fail, at each of these cuts, with each of these checkers: there aren't too many, the text tells of them, and
 -- whether there is one
 pub record TellsCases (l : AnyLosses) (s : Settings) (value : LogValue) (checkers : List CheckerValue) (bytes : List ℕ) (failing : Bool) : Type 0 where
   pub found : List CutFound
-  pub are : AreFoundIn (losses_of l s) value s.by (case_cuts l s.cuts value) checkers found
+  pub are : AreFoundIn (losses_of l s) value s.by (case_cuts l.at_most s.cuts value.entries) checkers found
   pub few : cases_in found ≤ most_cases
-  pub text : IsTextOf l.why (head_of (with_first false s) value checkers) (losses_of l s) value found bytes
+  pub text : IsTextOf l.telling (head_of (with_first false s) value checkers) (losses_of l s) value found bytes
   pub fails : failing ≡ is_any_failing found
 
 -- the first of them alone: within 16,777,216 cases it is the first that fails, and the text has its line and no other; or none of all cases
 -- fails, and the text is that of all
 pub data TellsFirst (l : AnyLosses) (s : Settings) (value : LogValue) (checkers : List CheckerValue) (bytes : List ℕ) : Bool → Type 0 where
-  of_first : (first : FirstCase) → IsFirstFailing (losses_of l s) value s.by (case_cuts l s.cuts value) checkers first
+  of_first : (first : FirstCase) → IsFirstFailing (losses_of l s) value s.by (case_cuts l.at_most s.cuts value.entries) checkers first
       → bytes ≡ first_bytes (head_of (with_first false s) value checkers) (losses_of l s) value first → TellsFirst l s value checkers bytes true
   of_none : TellsCases l s value checkers bytes false → TellsFirst l s value checkers bytes false
 
@@ -44,14 +49,18 @@ abbrev pub TellsLosses : Bool → AnyLosses → Settings → LogValue → List C
 TellsLosses false l s value checkers bytes failing = TellsCases l s value checkers bytes failing
 TellsLosses true l s value checkers bytes failing = TellsFirst l s value checkers bytes failing
 
--- the bytes tell of the programs which cases of the log fail, or which first, whatever is lost
-pub record IsLosses (first : Bool) (l : AnyLosses) (text : Recording) (files : List (List ℕ)) (s : Settings) (bytes : List ℕ) (failing : Bool) : Type 0 where
+-- the bytes tell this of the programs and the log by their cases, whatever is lost
+pub record IsByCases (Tells : Settings → LogValue → List CheckerValue → List ℕ → Bool → Type 0) (text : Recording) (files : List (List ℕ)) (s : Settings) (bytes : List ℕ) (failing : Bool) : Type 0 where
   pub count : IsProgramCount (length files)
   pub value : LogValue
   pub source : HasImages text s value
   pub checkers : List CheckerValue
   pub made : AreCheckersOf s files checkers
-  pub tells : TellsLosses first l s value checkers bytes failing
+  pub tells : Tells s value checkers bytes failing
+
+-- which of them fail, or which first
+abbrev pub IsLosses : Bool → AnyLosses → Recording → List (List ℕ) → Settings → List ℕ → Bool → Type 0
+IsLosses first l text files s bytes failing = IsByCases (TellsLosses first l) text files s bytes failing
 
 -- which cases fail
 abbrev pub IsCases : AnyLosses → Recording → List (List ℕ) → Settings → List ℕ → Bool → Type 0

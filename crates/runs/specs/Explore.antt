@@ -25,7 +25,7 @@ use Rattle.request.specs.declared.any_losses.AnyLosses.{AnyLosses}
 use Rattle.request.specs.Source.{Recording, plan_of, images_of, images_refusal, HasImages, RefusesSource}
 use Rattle.runs.specs.declared.explore_command.Wanted.{Wanted}
 use Rattle.runs.specs.declared.explore_command.Wanted.TheVariants as wanted
-use Rattle.runs.specs.CaseCuts.{HasTooMany}
+use Rattle.runs.specs.CaseCuts.{HasTooMany, HasMore}
 use Rattle.runs.specs.Inputs.{inputs_number}
 use Rattle.request.specs.Extents.{first_meant, end_meant}
 use Rattle.runs.specs.Judged.{takes}
@@ -154,11 +154,14 @@ pub data Refuses (text : Recording) (files : List (List ℕ)) (s : Settings) : R
   for_source : (r : Refusal) → IsProgramCount (length files) → RefusesSource text s r → Refuses text files s r
   for_program : (r : Refusal) (value : LogValue) → IsProgramCount (length files) → HasImages text s value → RefusesProgram s files r → Refuses text files s r
 
--- a run is refused that doesn't judge the images that are meant; every other one by these rules; and one that is asked for cases where
--- there are too many, by the cut with which there are
+-- a run is refused that doesn't judge the images that are meant; every other one by these rules; and one that is asked for cases, or for a
+-- cure by cases, where there are too many, by the cut with which there are
 pub data RefusesWanted (w : Wanted) (text : Recording) (files : List (List ℕ)) (s : Settings) : Refusal → Type 0 where
   for_extent : takes w s.extent ≡ false → RefusesWanted w text files s (option_refusal place.Images)
   for_rest : (r : Refusal) → takes w s.extent ≡ true → Refuses text files s r → RefusesWanted w text files s r
   for_cases : (l : AnyLosses) (value : LogValue) (checkers : List CheckerValue) (cut : ℕ) → w ≡ wanted.Cases l → takes w s.extent ≡ true
       → IsProgramCount (length files) → HasImages text s value → AreCheckersOf s files checkers → HasTooMany l s value checkers cut
+      → RefusesWanted w text files s (images_refusal cut)
+  for_cure : (l : AnyLosses) (value : LogValue) (checkers : List CheckerValue) (cut : ℕ) → w ≡ wanted.CuredCases l → takes w s.extent ≡ true
+      → IsProgramCount (length files) → HasImages text s value → AreCheckersOf s files checkers → HasMore l s value checkers cut
       → RefusesWanted w text files s (images_refusal cut)

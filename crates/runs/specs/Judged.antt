@@ -15,6 +15,7 @@ takes_part (wanted.Told telling.Report) = true
 takes_part (wanted.Told telling.Causes) = false
 takes_part (wanted.Told telling.Page) = false
 takes_part wanted.Cured = false
+takes_part (wanted.CuredCases l) = false
 takes_part (wanted.Cases l) = false
 
 -- whether a run that is asked for this judges the images that are meant: no run judges all of a run that may have more than 16,777,216

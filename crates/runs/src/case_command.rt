@@ -6,24 +6,25 @@ ghost use Rattle.checker.specs.Checker.{AreFor};
 ghost use Rattle.case_runs.specs.Found.{AreFoundIn, cases_in, most_cases};
 ghost use Rattle.case_runs.specs.First.{AllPass, IsSought, IsFirstFailing};
 ghost use Rattle.case_text.specs.Text.{is_any_failing};
-ghost use Rattle.runs.specs.CaseCuts.{losses_of, is_all, are_last_enough, first_wanted, last_wanted, case_cuts, left_out_of};
+ghost use Rattle.case_runs.specs.Cuts.{case_cuts};
+ghost use Rattle.runs.specs.CaseCuts.{losses_of, left_out_of};
 ghost use Rattle.runs.specs.Cases.{IsTextOf, TellsCases, TellsFirst, TellsLosses};
-ghost use Rattle.runs.specs.CaseRefusals.{StopsFor, RefusesFor};
+ghost use Rattle.runs.specs.CaseRefusals.{StopsFor, RefusesFor, RefusesAll};
 
 use crate::explore_command::{Explored, head_of_run};
 use crate::task::Task;
 use base::causes::RequestCause;
 use base::refusal::{Cause, Refusal};
 use case_runs::{
-    CaseGate, CasesFault, CutFound, FirstCase, Losses, Sought, explored_cuts, find_failing,
-    find_first,
+    CaseGate, CasesFault, CutFound, FirstCase, Losses, Sought, case_cuts, find_failing, find_first,
 };
 use case_text::{is_any_failing, left_out, write_cases, write_first, write_why};
-use epochs::{CutKind, Cuts};
+use crash_page::case_page;
 use report::Head;
 use request::facts::LeftOut;
-use request::{AnyLosses, Options};
+use request::{AnyLosses, CaseTelling, Options};
 use std::alloc::{AllocError, Global};
+use std::thread::Threads;
 use workers::Gate;
 
 /// The gate of a run, told of cases one by one: before each run of a program, and after each case, as of a block.
@@ -43,7 +44,7 @@ impl<'g, G: Gate> CaseGate for CasesOf<'g, G> {
 }
 
 /// What is asked of the cases of a run.
-fn losses_of(losses: AnyLosses, options: &Options) -> Losses
+pub(crate) fn losses_of(losses: AnyLosses, options: &Options) -> Losses
     ensures { result ≡ losses_of losses options.now }
 {
     Losses {
@@ -53,63 +54,17 @@ fn losses_of(losses: AnyLosses, options: &Options) -> Losses
     }
 }
 
-/// Whether all cuts are of that kind.
-fn is_all(kind: CutKind) -> bool
-    ensures { result ≡ is_all kind }
-{
-    match kind {
-        CutKind::All => true,
-        CutKind::BeforeFlush | CutKind::AfterMark => false,
-    }
-}
-
-/// The first cut that is wanted of a log with that many entries.
-fn first_wanted(cuts: &Cuts, count: u32) -> u32
-    ensures { result ≡ first_wanted cuts.now count }
-{
-    match cuts.from {
-        Some(from) => from.min(u64::from(count)) as u32,
-        None => 0,
-    }
-}
-
-/// The last.
-fn last_wanted(cuts: &Cuts, count: u32) -> u32
-    ensures { result ≡ last_wanted cuts.now count }
-{
-    match cuts.to {
-        Some(to) => to.min(u64::from(count)) as u32,
-        None => count,
-    }
-}
-
-/// A copy of some cuts.
-fn copy_cuts(alloc: Global, cuts: &[u32]) -> Result<Vec<u32>, AllocError>
-    ensures { IfOk result (λ copy. copy.items ≡ cuts.now) }
-{
-    let mut copy = Vec::new(alloc);
-    copy.extend_from_slice(cuts)?;
-    Ok(copy)
-}
-
 /// The cuts at which cases are looked for.
-#[tactic(auto, unfolding(crate::specs::CaseCuts::case_cuts))]
-fn cuts_of_cases(alloc: Global, task: &Task<'_>, losses: AnyLosses) -> Result<Vec<u32>, AllocError>
-    ensures value { IfOk result (λ cuts. cuts.items ≡ case_cuts losses task.now.options.now.cuts task.now.log.now) }
+pub(crate) fn cuts_of_cases(
+    alloc: Global,
+    task: &Task<'_>,
+    losses: AnyLosses,
+) -> Result<Vec<u32>, AllocError>
+    ensures value { IfOk result (λ cuts. cuts.items ≡ case_cuts losses.at_most task.now.options.now.cuts task.now.log.now.entries) }
     ensures within { IfOk result (λ cuts. All (λ cut. cut ≤ length task.now.log.now.entries) cuts.items) }
 {
-    let (log, cuts) = (task.log, task.options.cuts());
-    let all = is_all(cuts.kind);
-    if all && losses.at_most.is_none() {
-        let count = log.entries().len() as u32;
-        return explored_cuts(
-            alloc,
-            log,
-            first_wanted(&cuts, count),
-            last_wanted(&cuts, count),
-        );
-    }
-    copy_cuts(alloc, task.plan.cuts())
+    let cuts = task.options.cuts();
+    case_cuts(alloc, task.plan, task.log, &cuts, losses.at_most)
 }
 
 /// The refusal that says why cases weren't found.
@@ -127,23 +82,24 @@ fn refusal_of(fault: CasesFault) -> Refusal
 }
 
 /// The failing cases at some cuts.
-fn cases_at<G: Gate>(
+pub(crate) fn cases_at<G: Gate + Sync, R: Threads + Sync>(
+    rt: &R,
     alloc: Global,
     gate: &G,
     task: &Task<'_>,
     losses: AnyLosses,
     cuts: &[u32],
 ) -> Result<Vec<CutFound>, Refusal>
-    requires cuts { cuts.now ≡ case_cuts losses task.now.options.now.cuts task.now.log.now }
+    requires cuts { cuts.now ≡ case_cuts losses.at_most task.now.options.now.cuts task.now.log.now.entries }
     requires within { All (λ cut. cut ≤ length task.now.log.now.entries) cuts.now }
     requires verified { AreFor task.now.options.now.sectors task.now.checkers.now }
-    requires all { task.now.options.now.first ≡ false }
     ensures found { IfOk result (λ found. AreFoundIn (losses_of losses task.now.options.now) task.now.log.now task.now.options.now.by cuts.now task.now.checkers.now found.items) }
     ensures few { IfOk result (λ found. cases_in found.items ≤ most_cases) }
-    ensures refused { IfErr result (RefusesFor losses task.now) }
+    ensures refused { IfErr result (RefusesAll losses task.now) }
 {
     let asked = losses_of(losses, task.options);
     match find_failing(
+        rt,
         alloc,
         &CasesOf { gate },
         task.plan,
@@ -152,6 +108,7 @@ fn cases_at<G: Gate>(
         cuts,
         task.checkers,
         asked,
+        u32::from(task.options.workers()),
     ) {
         Ok(found) => Ok(found),
         Err(fault) => Err(refusal_of(fault)),
@@ -169,7 +126,7 @@ fn left_out_of(found: &[CutFound]) -> Option<LeftOut>
     Some(LeftOut { torn, lost })
 }
 
-/// The text of what was found: which cases fail, or why they do.
+/// The text of what was found: which cases fail, why they do, or the page of them.
 fn bytes_of(
     alloc: Global,
     task: &Task<'_>,
@@ -179,13 +136,14 @@ fn bytes_of(
 ) -> Result<Vec<u8>, AllocError>
     requires cuts { All (λ cut. cut.cut ≤ length task.now.log.now.entries) found.now }
     requires few { All (λ cut. length cut.programs.items ≤ 256) found.now }
-    ensures { IfOk result (λ bytes. IsTextOf losses.why head.now (losses_of losses task.now.options.now) task.now.log.now found.now bytes.items) }
+    ensures { IfOk result (λ bytes. IsTextOf losses.telling head.now (losses_of losses task.now.options.now) task.now.log.now found.now bytes.items) }
 {
     let asked = losses_of(losses, task.options);
-    if losses.why {
-        return write_why(alloc, head, task.log, task.plan, asked, found);
+    match losses.telling {
+        CaseTelling::Cases => write_cases(alloc, head, task.log, task.plan, asked, found),
+        CaseTelling::Causes => write_why(alloc, head, task.log, task.plan, asked, found),
+        CaseTelling::Page => case_page(alloc, head, task.log, task.plan, asked, found),
     }
-    write_cases(alloc, head, task.log, task.plan, asked, found)
 }
 
 /// The text of what was found, and how many cases were left out.
@@ -197,7 +155,7 @@ fn text_of(
     found: &[CutFound],
     out: &mut Option<LeftOut>,
 ) -> Result<Explored, AllocError>
-    requires cuts { cuts.now ≡ case_cuts losses task.now.options.now.cuts task.now.log.now }
+    requires cuts { cuts.now ≡ case_cuts losses.at_most task.now.options.now.cuts task.now.log.now.entries }
     requires within { All (λ cut. cut ≤ length task.now.log.now.entries) cuts.now }
     requires found { AreFoundIn (losses_of losses task.now.options.now) task.now.log.now task.now.options.now.by cuts.now task.now.checkers.now found.now }
     requires small { length task.now.checkers.now ≤ 8 }
@@ -225,7 +183,7 @@ fn first_at<G: Gate>(
     losses: AnyLosses,
     cuts: &[u32],
 ) -> Result<Sought, Refusal>
-    requires cuts { cuts.now ≡ case_cuts losses task.now.options.now.cuts task.now.log.now }
+    requires cuts { cuts.now ≡ case_cuts losses.at_most task.now.options.now.cuts task.now.log.now.entries }
     requires within { All (λ cut. cut ≤ length task.now.log.now.entries) cuts.now }
     requires verified { AreFor task.now.options.now.sectors task.now.checkers.now }
     requires first { task.now.options.now.first ≡ true }
@@ -256,7 +214,7 @@ fn first_text_of(
     cuts: &[u32],
     first: &FirstCase,
 ) -> Result<Explored, AllocError>
-    requires cuts { cuts.now ≡ case_cuts losses task.now.options.now.cuts task.now.log.now }
+    requires cuts { cuts.now ≡ case_cuts losses.at_most task.now.options.now.cuts task.now.log.now.entries }
     requires within { All (λ cut. cut ≤ length task.now.log.now.entries) cuts.now }
     requires first { IsFirstFailing (losses_of losses task.now.options.now) task.now.log.now task.now.options.now.by cuts.now task.now.checkers.now first.now }
     ensures { IfOk result (λ e. TellsFirst losses task.now.options.now task.now.log.now task.now.checkers.now e.bytes.items e.failing) }
@@ -281,7 +239,7 @@ fn passing_text_of(
     found: &[CutFound],
     out: &mut Option<LeftOut>,
 ) -> Result<Explored, AllocError>
-    requires cuts { cuts.now ≡ case_cuts losses task.now.options.now.cuts task.now.log.now }
+    requires cuts { cuts.now ≡ case_cuts losses.at_most task.now.options.now.cuts task.now.log.now.entries }
     requires within { All (λ cut. cut ≤ length task.now.log.now.entries) cuts.now }
     requires small { length task.now.checkers.now ≤ 8 }
     requires passing { AllPass (losses_of losses task.now.options.now) task.now.log.now task.now.options.now.by cuts.now task.now.checkers.now found.now }
@@ -300,7 +258,7 @@ fn sought_text_of(
     sought: &Sought,
     out: &mut Option<LeftOut>,
 ) -> Result<Explored, AllocError>
-    requires cuts { cuts.now ≡ case_cuts losses task.now.options.now.cuts task.now.log.now }
+    requires cuts { cuts.now ≡ case_cuts losses.at_most task.now.options.now.cuts task.now.log.now.entries }
     requires within { All (λ cut. cut ≤ length task.now.log.now.entries) cuts.now }
     requires small { length task.now.checkers.now ≤ 8 }
     requires found { IsSought (losses_of losses task.now.options.now) task.now.log.now task.now.options.now.by cuts.now task.now.checkers.now sought.now }
@@ -315,7 +273,8 @@ fn sought_text_of(
 }
 
 /// All failing cases at some cuts, told as a text.
-fn all_told<G: Gate>(
+fn all_told<G: Gate + Sync, R: Threads + Sync>(
+    rt: &R,
     alloc: Global,
     gate: &G,
     task: &Task<'_>,
@@ -323,7 +282,7 @@ fn all_told<G: Gate>(
     cuts: &[u32],
     out: &mut Option<LeftOut>,
 ) -> Result<Explored, Refusal>
-    requires cuts { cuts.now ≡ case_cuts losses task.now.options.now.cuts task.now.log.now }
+    requires cuts { cuts.now ≡ case_cuts losses.at_most task.now.options.now.cuts task.now.log.now.entries }
     requires within { All (λ cut. cut ≤ length task.now.log.now.entries) cuts.now }
     requires verified { AreFor task.now.options.now.sectors task.now.checkers.now }
     requires small { length task.now.checkers.now ≤ 8 }
@@ -331,7 +290,7 @@ fn all_told<G: Gate>(
     ensures told { IfOk result (λ e. TellsCases losses task.now.options.now task.now.log.now task.now.checkers.now e.bytes.items e.failing) }
     ensures refused { IfErr result (RefusesFor losses task.now) }
 {
-    let found = cases_at(alloc, gate, task, losses, cuts)?;
+    let found = cases_at(rt, alloc, gate, task, losses, cuts)?;
     match text_of(alloc, task, losses, cuts, found.as_slice(), out) {
         Ok(explored) => Ok(explored),
         Err(_error) => Err(Refusal::of_memory()),
@@ -347,7 +306,7 @@ fn first_told<G: Gate>(
     cuts: &[u32],
     out: &mut Option<LeftOut>,
 ) -> Result<Explored, Refusal>
-    requires cuts { cuts.now ≡ case_cuts losses task.now.options.now.cuts task.now.log.now }
+    requires cuts { cuts.now ≡ case_cuts losses.at_most task.now.options.now.cuts task.now.log.now.entries }
     requires within { All (λ cut. cut ≤ length task.now.log.now.entries) cuts.now }
     requires verified { AreFor task.now.options.now.sectors task.now.checkers.now }
     requires small { length task.now.checkers.now ≤ 8 }
@@ -364,7 +323,8 @@ fn first_told<G: Gate>(
 
 /// The failing cases of a task, told as a text; or the first of them alone, where that is asked for. Where none fails, it is found how
 /// many were left out.
-pub(crate) fn told_cases<G: Gate>(
+pub(crate) fn told_cases<G: Gate + Sync, R: Threads + Sync>(
+    rt: &R,
     alloc: Global,
     gate: &G,
     task: &Task<'_>,
@@ -383,5 +343,5 @@ pub(crate) fn told_cases<G: Gate>(
     if task.options.first() {
         return first_told(alloc, gate, task, losses, cuts.as_slice(), out);
     }
-    all_told(alloc, gate, task, losses, cuts.as_slice(), out)
+    all_told(rt, alloc, gate, task, losses, cuts.as_slice(), out)
 }

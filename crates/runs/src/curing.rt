@@ -1,6 +1,6 @@
 //! Where flushes are missing, tried run by run (docs/COMMANDS.md, cure).
 
-ghost use Rattle.std.specs.Prelude.{◌≡◌, ◌≢◌, ◌≤◌, ◌<◌, ◌↔◌, ◌⊎◌, ◌++◌, ℕ, List, [], map, length, true, IsTrue, IfOk, IfErr, IfSome, OnOk, string_bytes};
+ghost use Rattle.std.specs.Prelude.{◌≡◌, ◌≢◌, ◌≤◌, ◌<◌, ◌↔◌, ◌⊎◌, ◌++◌, ℕ, [], map, length, true, All, None, Some, IsTrue, IfOk, IfErr, IfSome, OnOk, string_bytes};
 ghost use Rattle.std.specs.List.{flat_map};
 ghost use Rattle.std.specs.List.Sorted.{IsNonDecreasing};
 ghost use Rattle.logfmt.specs.Bounds.{IsLog};
@@ -11,24 +11,31 @@ ghost use Rattle.losses.specs.Places.{AreWindows};
 ghost use Rattle.losses.specs.Counted.{AreMissing};
 ghost use Rattle.losses.specs.FailureWindows.{windows_in, places_in, calm_entries, HoldNoFlush};
 ghost use Rattle.losses.specs.CureText.{begin_text, uncured_text, flush_line, refused_line};
+ghost use Rattle.case_runs.specs.Found.{AreFoundIn, cases_in, most_cases};
 ghost use Rattle.request.specs.declared.extent.Extent.TheVariants as extent;
 ghost use Rattle.request.specs.Source.{RefusesPlan, images_refusal};
 ghost use Rattle.report.specs.Report.{totals_line};
 ghost use Rattle.runs.specs.declared.explore_command.Wanted.TheVariants as wants;
+ghost use Rattle.case_runs.specs.Cuts.{case_cuts};
+ghost use Rattle.runs.specs.CaseCuts.{losses_of};
+ghost use Rattle.runs.specs.CaseRefusals.{RefusesAll};
 ghost use Rattle.runs.specs.Explore.{RefusesWanted};
 ghost use Rattle.runs.specs.Tasks.{lines_of};
 ghost use Rattle.runs.specs.Why.{starts_of};
-ghost use Rattle.runs.specs.Cured.{IsCured, TellsCure, run_lines};
+ghost use Rattle.runs.specs.Cured.{IsCured, Cures, TellsCure, RefusesRun, run_lines};
 ghost use Rattle.request.specs.Fewer.{FindsFewer};
 ghost use Rattle.request.specs.Promises.{FindsPromises};
 ghost use Rattle.runs.specs.Finds.{FindsBreach, FindsAll};
-ghost use Rattle.runs.specs.Trials.{HasFailures, IsFound, TellsOn};
+ghost use Rattle.runs.specs.Trials.{HasFailures, IsFound, HasFound, TellsOn};
 
 use crate::basis::{Basis, judge_images};
+use crate::case_command::{cases_at, cuts_of_cases, losses_of};
 use crate::explore_command::{Explored, Question, Wanted, head_of_run, run_with};
 use crate::task::Task;
 use base::causes::RequestCause;
 use base::refusal::{Cause, Refusal};
+use case_runs::CutFound;
+use case_text::cure_of_cases;
 use checker::Checker;
 use choices::Starts;
 use images::History;
@@ -41,25 +48,34 @@ use losses::flushes::Window;
 use report::lines::Lines;
 use report::{Head, Span, put_totals};
 use request::facts::Facts;
-use request::{Options, plan_of};
+use request::{AnyLosses, Options, plan_of};
 use std::alloc::{AllocError, Global};
 use std::sync::Wait;
 use std::thread::Threads;
 use workers::{Gate, Work, lines_are_set};
 
-/// What judges the images of each run.
+/// What judges a log in each run: its images, or its cases, where any number of losses is asked for.
 #[derive(Clone, Copy)]
 pub(crate) struct Judges<'x> {
     pub(crate) checkers: &'x [Checker<'x>],
     pub(crate) options: &'x Options,
+    pub(crate) losses: Option<AnyLosses>,
 }
 
-/// What a run of a log finds: its head, what its work says, and the failures with their windows.
+/// What a run finds for a cure: its failures with their windows, the last line of its text, and how many judgements were taken from the
+/// cache.
 #[derive(Drop)]
 pub(crate) struct Found {
-    pub(crate) head: Head,
-    pub(crate) work: Work,
     pub(crate) failures: Vec<Failure>,
+    pub(crate) last: String,
+    pub(crate) hits: u64,
+}
+
+/// What a run of a log finds, and how a cure begins with it.
+#[derive(Drop)]
+pub(crate) struct Run {
+    pub(crate) begin: Vec<u8>,
+    pub(crate) found: Found,
 }
 
 /// A log, and what a run of it finds.
@@ -86,37 +102,72 @@ fn failures_of_lines(
     failures_of(alloc, task.options.by(), starts, task.log, marks.as_slice())
 }
 
-/// What work says of a task, with its head and its failures.
+/// How a cure begins with a run of images: how it fails, and the first failure without a window.
+fn begin_bytes(
+    alloc: Global,
+    head: &Head,
+    lines: &Lines,
+    failures: &[Failure],
+) -> Result<Vec<u8>, AllocError>
+    requires { length failures.now ≡ length lines.now }
+    ensures { IfOk result (λ bytes. bytes.items ≡ begin_text head.now failures.now ++ uncured_text lines.now failures.now) }
+{
+    let mut out = String::new(alloc);
+    put_begin(&mut out, head, failures)?;
+    let line = uncured_line(alloc, lines, failures)?;
+    let mut bytes = out.into_bytes();
+    bytes.extend_from_slice(line.as_slice())?;
+    Ok(bytes)
+}
+
+/// The last line of the report of a run.
+fn last_line(alloc: Global, head: &Head, lines: &Lines) -> Result<String, AllocError>
+    requires { IsNonDecreasing (map (λ l. l.image) lines.now) }
+    ensures { IfOk result (λ last. string_bytes last ≡ totals_line head.now.images lines.now) }
+{
+    let mut last = String::new(alloc);
+    put_totals(&mut last, head.images, lines)?;
+    Ok(last)
+}
+
+/// What work says of a task.
 fn found_by(
     alloc: Global,
     task: &Task<'_>,
     starts: &Starts<'_>,
     work: Work,
-) -> Result<Found, AllocError>
+) -> Result<Run, AllocError>
     requires whole { task.now.options.now.extent ≡ extent.Whole }
     requires starts { starts.now ≡ starts_of task.now.options.now task.now.log.now }
     requires order { IsNonDecreasing (map (λ l. l.image) work.lines) }
     requires lines { work.lines ≡ lines_of task.now }
-    ensures { IfOk result (λ f. IsFound task.now.options.now task.now.checkers.now task.now.log.now f.head f.work.lines f.failures.items) }
+    ensures { IfOk result (λ run. IsFound None task.now.options.now task.now.checkers.now task.now.log.now run.found.failures.items run.begin.items (string_bytes run.found.last)) }
 {
-    Ok(Found {
-        head: head_of_run(alloc, task, false)?,
-        failures: failures_of_lines(alloc, task, starts, &work.lines)?,
-        work,
+    let head = head_of_run(alloc, task, false)?;
+    let failures = failures_of_lines(alloc, task, starts, &work.lines)?;
+    let begin = begin_bytes(alloc, &head, &work.lines, failures.as_slice())?;
+    let last = last_line(alloc, &head, &work.lines)?;
+    Ok(Run {
+        begin,
+        found: Found {
+            failures,
+            last,
+            hits: work.hits,
+        },
     })
 }
 
-/// What a run of a task finds.
-fn found_in<'x, G: Gate + Sync, R: Threads + Wait + Sync>(
+/// What a run of a task finds by its images.
+fn images_found<'x, G: Gate + Sync, R: Threads + Wait + Sync>(
     rt: &R,
     alloc: Global,
     gate: &G,
     task: &'x Task<'x>,
-) -> Result<Found, Refusal>
+) -> Result<Run, Refusal>
     requires checkers { length task.now.checkers.now ≤ 8 }
     requires verified { AreFor task.now.options.now.sectors task.now.checkers.now }
     requires whole { task.now.options.now.extent ≡ extent.Whole }
-    ensures found { IfOk result (λ f. IsFound task.now.options.now task.now.checkers.now task.now.log.now f.head f.work.lines f.failures.items) }
+    ensures found { IfOk result (λ run. IsFound None task.now.options.now task.now.checkers.now task.now.log.now run.found.failures.items run.begin.items (string_bytes run.found.last)) }
     ensures refused { IfErr result (λ r. r ≡ memory_refusal) }
 {
     let (plan, options) = (task.plan, task.options);
@@ -136,25 +187,80 @@ fn found_in<'x, G: Gate + Sync, R: Threads + Wait + Sync>(
     };
     let work = judge_images(rt, alloc, gate, &basis, false)?;
     match found_by(alloc, task, &starts, work) {
-        Ok(found) => Ok(found),
+        Ok(run) => Ok(run),
+        Err(_error) => Err(Refusal::of_memory()),
+    }
+}
+
+/// What these cases of a task say.
+fn run_of_cases(
+    alloc: Global,
+    task: &Task<'_>,
+    losses: AnyLosses,
+    cuts: &[u32],
+    found: &[CutFound],
+) -> Result<Run, AllocError>
+    requires cuts { cuts.now ≡ case_cuts losses.at_most task.now.options.now.cuts task.now.log.now.entries }
+    requires within { All (λ cut. cut ≤ length task.now.log.now.entries) cuts.now }
+    requires found { AreFoundIn (losses_of losses task.now.options.now) task.now.log.now task.now.options.now.by cuts.now task.now.checkers.now found.now }
+    requires small { length task.now.checkers.now ≤ 8 }
+    requires few { cases_in found.now ≤ most_cases }
+    requires whole { task.now.options.now.extent ≡ extent.Whole }
+    ensures { IfOk result (λ run. IsFound (Some losses) task.now.options.now task.now.checkers.now task.now.log.now run.found.failures.items run.begin.items (string_bytes run.found.last)) }
+{
+    let _cuts = cuts;
+    let head = head_of_run(alloc, task, false)?;
+    let asked = losses_of(losses, task.options);
+    let cure = cure_of_cases(alloc, &head, task.log, task.plan, asked, found)?;
+    Ok(Run {
+        begin: cure.begin,
+        found: Found {
+            failures: cure.failures,
+            last: cure.last,
+            hits: 0,
+        },
+    })
+}
+
+/// What a run of a task finds by its cases.
+fn cases_found<G: Gate + Sync, R: Threads + Sync>(
+    rt: &R,
+    alloc: Global,
+    gate: &G,
+    task: &Task<'_>,
+    losses: AnyLosses,
+) -> Result<Run, Refusal>
+    requires checkers { length task.now.checkers.now ≤ 8 }
+    requires verified { AreFor task.now.options.now.sectors task.now.checkers.now }
+    requires whole { task.now.options.now.extent ≡ extent.Whole }
+    ensures found { IfOk result (λ run. IsFound (Some losses) task.now.options.now task.now.checkers.now task.now.log.now run.found.failures.items run.begin.items (string_bytes run.found.last)) }
+    ensures refused { IfErr result (RefusesAll losses task.now) }
+{
+    let cuts = match cuts_of_cases(alloc, task, losses) {
+        Ok(cuts) => cuts,
+        Err(_error) => return Err(Refusal::of_memory()),
+    };
+    let found = cases_at(rt, alloc, gate, task, losses, cuts.as_slice())?;
+    match run_of_cases(alloc, task, losses, cuts.as_slice(), found.as_slice()) {
+        Ok(run) => Ok(run),
         Err(_error) => Err(Refusal::of_memory()),
     }
 }
 
 /// What a run of a log finds.
-fn found_of<G: Gate + Sync, R: Threads + Wait + Sync>(
+fn run_of<G: Gate + Sync, R: Threads + Wait + Sync>(
     rt: &R,
     alloc: Global,
     gate: &G,
     judges: &Judges<'_>,
     log: &Log,
-) -> Result<Found, Refusal>
+) -> Result<Run, Refusal>
     requires checkers { length judges.now.checkers.now ≤ 8 }
     requires verified { AreFor judges.now.options.now.sectors judges.now.checkers.now }
     requires whole { judges.now.options.now.extent ≡ extent.Whole }
     requires device { log.now.sectors ≡ judges.now.options.now.sectors }
-    ensures found { IfOk result (λ f. IsFound judges.now.options.now judges.now.checkers.now log.now f.head f.work.lines f.failures.items) }
-    ensures refused { IfErr result (RefusesPlan judges.now.options.now log.now) }
+    ensures found { IfOk result (λ run. IsFound judges.now.losses judges.now.options.now judges.now.checkers.now log.now run.found.failures.items run.begin.items (string_bytes run.found.last)) }
+    ensures refused { IfErr result (RefusesRun judges.now.losses judges.now.options.now judges.now.checkers.now log.now) }
 {
     let (plan, images) = plan_of(alloc, log, judges.options)?;
     let task = Task {
@@ -169,7 +275,10 @@ fn found_of<G: Gate + Sync, R: Threads + Wait + Sync>(
             inputs: 0,
         },
     };
-    found_in(rt, alloc, gate, &task)
+    match judges.losses {
+        None => images_found(rt, alloc, gate, &task),
+        Some(losses) => cases_found(rt, alloc, gate, &task, losses),
+    }
 }
 
 /// Adds the flushes that are missing for these windows to a log, and tells of them.
@@ -210,7 +319,7 @@ fn windows_found(alloc: Global, failures: &[Failure]) -> Result<Vec<Window>, Ref
     }
 }
 
-/// Tells that a run has too many images, where it was refused for this.
+/// Tells that a run has too many images or cases, where it was refused for this.
 fn end_refused(out: &mut String, refusal: Refusal) -> Result<(), Refusal>
     requires { (refusal ≡ images_refusal refusal.at) ⊎ (refusal ≡ memory_refusal) }
     ensures cause { OnOk result (refusal ≡ images_refusal refusal.at) }
@@ -226,19 +335,18 @@ fn end_refused(out: &mut String, refusal: Refusal) -> Result<(), Refusal>
     }
 }
 
-/// Appends the totals of a run.
-fn end_totals(out: &mut String, found: &Found) -> Result<(), Refusal>
-    requires { IsNonDecreasing (map (λ l. l.image) found.now.work.lines) }
-    ensures told { OnOk result (string_bytes out.new ≡ string_bytes out.old ++ totals_line found.now.head.images found.now.work.lines) }
+/// Appends the last line of a run.
+fn end_line(out: &mut String, last: &str) -> Result<(), Refusal>
+    ensures told { OnOk result (string_bytes out.new ≡ string_bytes out.old ++ last.now) }
     ensures refused { IfErr result (λ r. r ≡ memory_refusal) }
 {
-    match put_totals(out, found.head.images, &found.work.lines) {
+    match out.push_str(last) {
         Ok(()) => Ok(()),
         Err(_error) => Err(Refusal::of_memory()),
     }
 }
 
-/// Makes run after run, until no failure has a window or a run has too many images, and tells of the rounds and of the last run.
+/// Makes run after run, until no failure has a window or a run has too many images or cases, and tells of the rounds and of the last run.
 /// It answers how many judgements were taken from the cache, with those of the first run.
 fn all_rounds<G: Gate + Sync, R: Threads + Wait + Sync>(
     rt: &R,
@@ -253,43 +361,31 @@ fn all_rounds<G: Gate + Sync, R: Threads + Wait + Sync>(
     requires whole { judges.now.options.now.extent ≡ extent.Whole }
     requires log { IsLog first.log }
     requires device { first.log.sectors ≡ judges.now.options.now.sectors }
-    requires found { IsFound judges.now.options.now judges.now.checkers.now first.log first.found.head first.found.work.lines first.found.failures.items }
-    ensures told { IfOk result (λ hits. TellsOn judges.now.options.now judges.now.checkers.now first.log (string_bytes out.old) (string_bytes out.new)) }
+    requires found { HasFound judges.now.losses judges.now.options.now judges.now.checkers.now first.log first.found.failures.items (string_bytes first.found.last) }
+    ensures told { IfOk result (λ hits. TellsOn judges.now.losses judges.now.options.now judges.now.checkers.now first.log (string_bytes out.old) (string_bytes out.new)) }
     ensures refused { IfErr result (λ r. r ≡ memory_refusal) }
 {
     let Trial { mut log, mut found } = first;
-    let mut hits = found.work.hits;
+    let mut hits = found.hits;
     let mut windows = windows_found(alloc, found.failures.as_slice())?;
     let mut round = 1;
     while !windows.is_empty() {
         let added = next_log(alloc, out, round, log, windows.as_slice())?;
         log = added.log;
-        found = match found_of(rt, alloc, gate, judges, &log) {
-            Ok(found) => found,
+        let made = match run_of(rt, alloc, gate, judges, &log) {
+            Ok(made) => made,
             Err(refusal) => {
                 end_refused(out, refusal)?;
                 return Ok(hits);
             }
         };
-        hits = hits.saturating_add(found.work.hits);
+        found = made.found;
+        hits = hits.saturating_add(found.hits);
         windows = windows_found(alloc, found.failures.as_slice())?;
         round += 1;
     }
-    end_totals(out, &found)?;
+    end_line(out, found.last.as_str())?;
     Ok(hits)
-}
-
-/// What stands before the rounds: how the first run fails, and the first failure without a window.
-fn begin_bytes(alloc: Global, found: &Found) -> Result<Vec<u8>, AllocError>
-    requires { length found.now.failures.items ≡ length found.now.work.lines }
-    ensures { IfOk result (λ bytes. bytes.items ≡ begin_text found.now.head found.now.failures.items ++ uncured_text found.now.work.lines found.now.failures.items) }
-{
-    let mut out = String::new(alloc);
-    put_begin(&mut out, &found.head, found.failures.as_slice())?;
-    let line = uncured_line(alloc, &found.work.lines, found.failures.as_slice())?;
-    let mut bytes = out.into_bytes();
-    bytes.extend_from_slice(line.as_slice())?;
-    Ok(bytes)
 }
 
 /// Both, one after the other.
@@ -302,6 +398,13 @@ fn join_texts(begin: Vec<u8>, rounds: &str) -> Result<Vec<u8>, Refusal>
         Ok(()) => Ok(bytes),
         Err(_error) => Err(Refusal::of_memory()),
     }
+}
+
+/// Whether a run has a failure.
+fn is_failing(found: &Found) -> bool
+    ensures { IsTrue result ↔ (found.now.failures.items ≢ []) }
+{
+    !found.failures.is_empty()
 }
 
 /// The cure of a log, tried.
@@ -317,24 +420,75 @@ pub(crate) fn cured_log<G: Gate + Sync, R: Threads + Wait + Sync>(
     requires whole { judges.now.options.now.extent ≡ extent.Whole }
     requires log { IsLog log }
     requires device { log.sectors ≡ judges.now.options.now.sectors }
-    ensures bytes { IfOk result (λ e. TellsCure judges.now.options.now log judges.now.checkers.now e.bytes.items) }
-    ensures failing { IfOk result (λ e. IsTrue e.failing ↔ (run_lines judges.now.options.now judges.now.checkers.now log ≢ [])) }
-    ensures refused { IfErr result (RefusesPlan judges.now.options.now log) }
+    ensures cured { IfOk result (λ e. Cures judges.now.losses judges.now.options.now log judges.now.checkers.now e.bytes.items e.failing) }
+    ensures refused { IfErr result (RefusesRun judges.now.losses judges.now.options.now judges.now.checkers.now log) }
 {
-    let found = found_of(rt, alloc, gate, judges, &log)?;
-    let begin = match begin_bytes(alloc, &found) {
-        Ok(begin) => begin,
-        Err(_error) => return Err(Refusal::of_memory()),
-    };
-    let failing = !found.work.lines.is_empty();
+    let made = run_of(rt, alloc, gate, judges, &log)?;
+    let failing = is_failing(&made.found);
     let mut rounds = String::new(alloc);
-    let hits = all_rounds(rt, alloc, gate, judges, &mut rounds, Trial { log, found })?;
-    let bytes = join_texts(begin, rounds.as_str())?;
+    let first = Trial {
+        log,
+        found: made.found,
+    };
+    let hits = all_rounds(rt, alloc, gate, judges, &mut rounds, first)?;
+    let bytes = join_texts(made.begin, rounds.as_str())?;
     Ok(Explored {
         bytes,
         hits,
         failing,
     })
+}
+
+/// The cure of a log, tried by its images.
+pub(crate) fn cured_images<'x, G: Gate + Sync, R: Threads + Wait + Sync>(
+    rt: &R,
+    alloc: Global,
+    gate: &G,
+    checkers: &'x [Checker<'x>],
+    options: &'x Options,
+    log: Log,
+) -> Result<Explored, Refusal>
+    requires checkers { length checkers.now ≤ 8 }
+    requires verified { AreFor options.now.sectors checkers.now }
+    requires whole { options.now.extent ≡ extent.Whole }
+    requires log { IsLog log }
+    requires device { log.sectors ≡ options.now.sectors }
+    ensures bytes { IfOk result (λ e. TellsCure None options.now log checkers.now e.bytes.items) }
+    ensures failing { IfOk result (λ e. IsTrue e.failing ↔ (run_lines options.now checkers.now log ≢ [])) }
+    ensures refused { IfErr result (RefusesPlan options.now log) }
+{
+    let judges = Judges {
+        checkers,
+        options,
+        losses: None,
+    };
+    cured_log(rt, alloc, gate, &judges, log)
+}
+
+/// The cure of a log, tried by its cases, whatever is lost.
+pub(crate) fn cured_cases<'x, G: Gate + Sync, R: Threads + Wait + Sync>(
+    rt: &R,
+    alloc: Global,
+    gate: &G,
+    checkers: &'x [Checker<'x>],
+    options: &'x Options,
+    losses: AnyLosses,
+    log: Log,
+) -> Result<Explored, Refusal>
+    requires checkers { length checkers.now ≤ 8 }
+    requires verified { AreFor options.now.sectors checkers.now }
+    requires whole { options.now.extent ≡ extent.Whole }
+    requires log { IsLog log }
+    requires device { log.sectors ≡ options.now.sectors }
+    ensures cured { IfOk result (λ e. Cures (Some losses) options.now log checkers.now e.bytes.items e.failing) }
+    ensures refused { IfErr result (RefusesRun (Some losses) options.now checkers.now log) }
+{
+    let judges = Judges {
+        checkers,
+        options,
+        losses: Some(losses),
+    };
+    cured_log(rt, alloc, gate, &judges, log)
 }
 
 /// Tries where flushes would take failing images of a log away (docs/COMMANDS.md, cure): judges its crash images as

@@ -28,7 +28,7 @@ use crate::basis::{Basis, judge_images};
 use crate::blind::find_blind;
 use crate::case_command::told_cases;
 use crate::causes::causes_text;
-use crate::curing::{Judges, cured_log};
+use crate::curing::{cured_cases, cured_images};
 use crate::inputs::number_told;
 use crate::paging::page_bytes;
 use crate::reading::Reading;
@@ -440,6 +440,8 @@ pub enum Wanted {
     Told(Telling),
     /// To be told where flushes are missing, run by run.
     Cured,
+    /// To be told the same of any number of losses, by its cases.
+    CuredCases(AnyLosses),
     /// To be told of any number of losses, by its failing cases.
     Cases(AnyLosses),
 }
@@ -518,11 +520,11 @@ fn make_run<G: Gate + Sync, R: Threads + Wait + Sync>(
         Wanted::Cured => {
             // The log is changed from run to run.
             drop(plan);
-            let judges = Judges {
-                checkers: made,
-                options,
-            };
-            cured_log(rt, alloc, gate, &judges, log)
+            cured_images(rt, alloc, gate, made, options, log)
+        }
+        Wanted::CuredCases(losses) => {
+            drop(plan);
+            cured_cases(rt, alloc, gate, made, options, losses, log)
         }
         Wanted::Cases(losses) => {
             let task = Task {
@@ -532,18 +534,19 @@ fn make_run<G: Gate + Sync, R: Threads + Wait + Sync>(
                 options,
                 span: span_of(question, images),
             };
-            told_cases(alloc, gate, &task, losses, &mut facts.left_out)
+            told_cases(rt, alloc, gate, &task, losses, &mut facts.left_out)
         }
     }
 }
 
 /// Judges the crash images of a log by one to eight programs, and tells of those that fail what is asked for: what
-/// `explore_with`, `why`, `page` or `cure_run` answers, or the failing cases of any number of losses. What is found on the way takes the place of what `facts` held.
+/// `explore_with`, `why`, `page` or `cure_run` answers, or the failing cases of any number of losses, or a cure by these. What is found on
+/// the way takes the place of what `facts` held.
 ///
 /// # Errors
 ///
-/// Those of `explore_with`, and 13 at 17 where the options mean a part of a run and not its report is wanted. Where cases are wanted, 12 at
-/// the cut with which there are more than 16,777,216.
+/// Those of `explore_with`, and 13 at 17 where the options mean a part of a run and not its report is wanted. Where cases or a cure by them
+/// are wanted, 12 at the cut with which there are more than 16,777,216.
 pub fn run_with<G: Gate + Sync, R: Threads + Wait + Sync>(
     rt: &R,
     alloc: Global,

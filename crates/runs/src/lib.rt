@@ -15,7 +15,7 @@
 //! | `explore(rt, alloc, recording, programs, options)` | the bytes of the report |
 //! | `why(rt, alloc, gate, recording, programs, options)` | the same run told by its causes (`causes.rt`) |
 //! | `page(rt, alloc, gate, recording, programs, options)` | the same run as a page for a browser (`paging.rt`) |
-//! | `run_with(rt, alloc, gate, question, facts)` | one of the four, or the failing cases of any number of losses (`case_command.rt`), by what is wanted |
+//! | `run_with(rt, alloc, gate, question, facts)` | one of the four, or the failing cases of any number of losses (`case_command.rt`), or a cure by these, by what is wanted |
 //! | `cure_run(rt, alloc, gate, question, facts)` | where flushes are missing, and what is left with them, run by run (`curing.rt`) |
 //! | `blind_programs_pass()` | a law, by a function that does nothing: what it means that a program is blind (`blind.rt`) |
 //! | `any_loss_is_told()`, `told_cases_fail()` | laws: on which images of any cut a program fails, by the text of cases |
@@ -40,14 +40,20 @@
 //! order of docs/REFUSALS.md (`Refuses` in `specs/Explore.antt`): the number of programs, the log, the number of its images, then
 //! each program; or memory ran out.
 //!
-//! Where cases are wanted, one thread looks for them at the cuts of `specs/CaseCuts.antt`: at the last ones of the range and its end, or at
-//! each that is wanted where not all cuts are or `--at-most` is given. The answer has each failing case of each program, and no other
+//! Where cases are wanted, they are looked for at the cuts that `case_cuts` of `case_runs` says: at the last ones of the range and its end, or at
+//! each that is wanted where not all cuts are or `--at-most` is given. The workers share the work, and how many there are changes nothing
+//! of the answer. The answer has each failing case of each program, and no other
 //! (`IsCases` in `specs/Cases.antt`). The run is refused at the cut with which there are more than 16,777,216 cases. With the option
-//! `first` the answer has the first of them alone, or where none fails that of all (`TellsFirst`); it is refused where none of the first
-//! 16,777,216 cases fails, and there are more. For `why` the answer says why they fail (`IsTextOf`). The gate is told of each run of a program and of each case, as of a block. The law
+//! `first` one thread looks for them, and the answer has the first of them alone, or where none fails that of all (`TellsFirst`); it is
+//! refused where none of the first 16,777,216 cases fails, and there are more. `AnyLosses` says what is told of them (`IsTextOf`). The gate is told of each run of a program and of each case, as of a block. The law
 //! `any_loss_is_told` says what this means where all cuts are wanted, and nothing bounds the losses: each image of any cut on which a
 //! program fails, with as few torn parts as is asked, is one of a failing case that is told. The law `told_cases_fail` says the other
 //! direction: on each image of a case that is told its program fails, and ends as the case says.
+//!
+//! A cure makes one run after the other, each of the log with the flushes that were missing before. What a run finds is one definition with
+//! two cases (`Finds` in `specs/Cured.antt`): its failing lines, or with any number of losses its failing cases (`cured_cases` in
+//! `curing.rt`). Rounds, their text and the end are stated and proved once, for both. A cure by cases has all of them in each run, also with
+//! the option `first`. Where a later run has more than 16,777,216 cases, that ends the text.
 //!
 //! What `run_with` and `cure_run` find for the notes is that of `specs/Finds.antt`: of the log how many entries no image loses as a
 //! whole and how many have FUA, of each program that is verified what no run reaches, and of a refused one the instruction and what is

@@ -196,7 +196,11 @@ fn told<'x>(
 
 /// The plan of the options.
 #[tactic(auto, using(crate::proofs::AnyTold::plan_is))]
-fn plan_for<'x>(alloc: Global, log: &'x Log, options: &Options) -> Result<Plan<'x>, AllocError>
+pub(crate) fn plan_for<'x>(
+    alloc: Global,
+    log: &'x Log,
+    options: &Options,
+) -> Result<Plan<'x>, AllocError>
     ensures { IfOk result (λ plan. plan ≡ plan_of options.now log.now) }
 {
     let plan = Plan::new(alloc, log, options.cuts(), options.by())?;

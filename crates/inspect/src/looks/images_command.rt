@@ -23,7 +23,7 @@ const MOST_COUNTED: u64 = 9_223_372_036_854_775_807;
 
 /// Appends where a cut stands.
 #[tactic(auto, unfolding(crate::specs::Survey::cut_text))]
-fn put_cut(out: &mut String, plan: &Plan<'_>, cut: u32) -> Result<(), AllocError>
+pub(crate) fn put_cut(out: &mut String, plan: &Plan<'_>, cut: u32) -> Result<(), AllocError>
     requires { cut ≤ length plan.now.log.entries }
     ensures { OnOk result (string_bytes out.new ≡ string_bytes out.old ++ cut_text plan.now cut) }
 {

@@ -1,5 +1,6 @@
 //! Laws of the texts of choices, and of how a run is laid out in parts. The functions do nothing; each contract is a theorem.
 
+ghost use Rattle.inspect.specs.CutParts.{CutPartsAreRun};
 ghost use Rattle.inspect.specs.Layout.{PartsAreEven};
 ghost use Rattle.inspect.specs.Which.{ChoicesAreShort, PrintsChoices};
 
@@ -19,4 +20,11 @@ pub fn choices_are_short()
 #[tactic(auto, using(crate::proofs::EvenParts::parts_are_even))]
 pub fn parts_are_even()
     ensures { PartsAreEven }
+{}
+
+/// The parts in which a run of any number of losses is laid out look for cases at its cuts, each cut is of one part, and each part has
+/// one, if there is one. They follow one another.
+#[tactic(auto)]
+pub fn cut_parts_are_run()
+    ensures { CutPartsAreRun }
 {}

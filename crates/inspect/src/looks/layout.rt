@@ -6,7 +6,7 @@ ghost use Rattle.inspect.specs.Layout.{most_parts, part_count, part_start, part_
 use std::alloc::AllocError;
 
 /// The most parts in which a run is laid out.
-const MOST_PARTS: u64 = 1_048_576;
+pub(crate) const MOST_PARTS: u64 = 1_048_576;
 
 /// The most images of a part.
 const MOST_IMAGES: u64 = 16_777_216;

@@ -51,7 +51,7 @@ fn is_choice_of(
 }
 
 /// What a line without its newline says, if it is one of the run, of that many programs.
-#[tactic(auto, using(crate::proofs::ToldLines::image_past, crate::proofs::ToldLines::program_past, crate::proofs::ToldLines::words_differ, crate::proofs::ToldLines::choice_lacking, crate::proofs::ToldLines::outcome_differs, crate::proofs::ToldLines::choice_differs, crate::proofs::ToldLines::body_found))]
+#[tactic(auto, using(crate::proofs::ToldLines::image_past, crate::proofs::ToldLines::program_past, crate::proofs::ToldLines::words_differ, crate::proofs::ToldLines::choice_lacking, crate::proofs::ToldLines::body_found))]
 fn body_said<'t>(
     alloc: Global,
     run: &ReportRun<'_>,
@@ -121,7 +121,7 @@ fn push_told<'t>(lines: &mut Vec<Told<'t>>, told: Told<'t>) -> Result<(), AllocE
     Ok(())
 }
 
-/// How many lines are in order, where so many were before the last one.
+/// How many lines are in order, by how many were before the last one.
 fn ordered_of(before: u64, tally: Tally) -> u64 {
     if tally.ordered { tally.lines } else { before }
 }

@@ -1,6 +1,6 @@
 //! A report as a whole, read and tested.
 
-ghost use Rattle.std.specs.Prelude.{ℕ, ◌≡◌, ◌≢◌, ◌≤◌, ◌^◌, ◌++◌, List, codes, IfOk, IfSome, MatchOption, length};
+ghost use Rattle.std.specs.Prelude.{◌≡◌, ◌≤◌, ◌^◌, ◌++◌, codes, IfOk, MatchOption, length};
 ghost use Rattle.std.specs.Str.{IsUtf8};
 ghost use Rattle.join.specs.Given.{NoReport, IsReportRead};
 ghost use Rattle.join.specs.GivenReading.{given_told};
@@ -48,18 +48,6 @@ fn newlines_before(text: &str, rest: &str) -> u64 {
     match text.as_bytes().get(..end) {
         Some(front) => newlines(front),
         None => 0,
-    }
-}
-
-/// What stands after these words, if a text begins with them.
-#[tactic(auto, using(crate::proofs::JudgesRead::after_front))]
-fn after<'t>(front: &str, text: &'t str) -> Option<&'t str>
-    ensures is { MatchOption result ((rest : List ℕ) → text.now ≢ front.now ++ rest) (λ rest. text.now ≡ front.now ++ rest.now) }
-    ensures shorter { IfSome result (λ rest. length rest.now ≤ length text.now) }
-{
-    match beyond(front, text) {
-        Some(rest) => Some(rest),
-        None => None,
     }
 }
 
@@ -131,11 +119,11 @@ fn text_said<'t>(
     ensures { IfOk result (λ found. MatchOption found (NoReport run.now.options.now run.now.starts.now run.now.images text.now) (λ g. IsReportRead run.now.options.now run.now.starts.now run.now.images text.now (given_told g))) }
 {
     *line = 1;
-    let Some(titled) = after("crash report 2\n", text) else {
+    let Some(titled) = beyond("crash report 2\n", text) else {
         return Ok(None);
     };
     *line = 2;
-    let Some(judged) = after(run.options, titled) else {
+    let Some(judged) = beyond(run.options, titled) else {
         return Ok(None);
     };
     rest_said(alloc, run, text, titled, judged, line)

@@ -249,8 +249,9 @@ fn log_options(request: Request) -> Option<OptionWords> {
     match request {
         Request::Images(words, _) | Request::Image(words, _) => Some(words),
         Request::Show(words, _) | Request::Export(words) => Some(words),
-        Request::AnyImage { words, .. } => Some(words),
-        Request::Cases(words, _) | Request::Retold(words, _) => Some(words),
+        Request::AnyImage { words, .. } | Request::Cuts(words, _, _) => Some(words),
+        Request::Cases(words, _) | Request::CureCases(words, _) => Some(words),
+        Request::Retold(words, _) => Some(words),
         _ => run_options(request),
     }
 }
@@ -282,7 +283,7 @@ fn asks_for_guards(request: &Request) -> bool {
     match request {
         Request::Verify { words, .. } => words.guards,
         Request::Explore(words) | Request::Cases(words, _) => words.guards,
-        Request::Why(words) => words.guards,
+        Request::Why(words) | Request::CureCases(words, _) => words.guards,
         Request::Cure(words) | Request::Page(words) => words.guards,
         Request::Check(words) => words.guards,
         _ => false,
@@ -294,7 +295,8 @@ fn guards_note(request: Request) -> Option<&'static str> {
     match request {
         Request::Verify { .. } | Request::Explore(_) => Some(GUARDS_MAY),
         Request::Cases(_, _) | Request::Why(_) => Some(GUARDS_MAY),
-        Request::Cure(_) | Request::Page(_) => Some(GUARDS_MAY),
+        Request::Cure(_) | Request::CureCases(_, _) => Some(GUARDS_MAY),
+        Request::Page(_) => Some(GUARDS_MAY),
         Request::Check(_) => Some(GUARDS_ELSEWHERE),
         _ => None,
     }
@@ -416,7 +418,9 @@ fn put_images_notes(
 fn put_many_notes(out: &mut String, words: &Words, facts: &Facts) -> Result<(), AllocError> {
     let request = words.request();
     match (request, log_options(request)) {
-        (Request::Cases(options, _losses), _) => put_cases_notes(out, options),
+        (Request::Cases(options, _) | Request::CureCases(options, _), _) => put_cases_notes(
+            out, options,
+        ),
         (_, Some(options)) => put_images_notes(out, options, facts),
         _ => Ok(()),
     }
@@ -480,12 +484,18 @@ fn bound_rule(options: OptionWords) -> &'static str {
 /// What an option of a command has to be, within its limits: some options don't go with any number of losses.
 fn rule_of(words: &Words, place: u64) -> &'static str {
     match (place, words.request()) {
-        (4, Request::Cases(_, LossWords { any: true, .. })) => {
+        (4, Request::Cases(_, LossWords { any: true, .. }))
+        | (4, Request::CureCases(_, LossWords { any: true, .. })) => {
             "--cache doesn't stand beside --bound any"
         }
-        (17, Request::Cases(_, LossWords { any: true, .. })) => {
+        (17, Request::Cases(_, LossWords { any: true, .. }))
+        | (17, Request::CureCases(_, LossWords { any: true, .. })) => {
             "--images doesn't stand beside --bound any"
         }
+        (17, Request::Cuts(_, LossWords { any: true, .. }, _)) => {
+            "--images doesn't stand beside --bound any"
+        }
+        (18, Request::Cuts(_, LossWords { any: true, .. }, _)) => "--parts is 1 to 1048576",
         (17, Request::AnyImage { .. }) => "--images doesn't stand beside --bound any",
         (11, Request::AnyImage { .. }) => {
             "no image of that cut has that choice, as 'explore --bound any' prints it with the same --cuts, --by and --tears"

@@ -87,6 +87,10 @@ pub fn notes_beside(alloc: Global, words: &Words, facts: &Facts) -> Result<Strin
             put_mark_notes(&mut out, facts)?;
             put_survey_notes(&mut out, options, facts)?
         }
+        Request::CureCases(_options, _losses) => {
+            put_explored_notes(&mut out, facts)?;
+            put_mark_notes(&mut out, facts)?;
+        }
         Request::Cases(_options, losses) => {
             put_explored_notes(&mut out, facts)?;
             put_mark_notes(&mut out, facts)?;

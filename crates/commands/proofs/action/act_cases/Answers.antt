@@ -2,8 +2,8 @@ use Rattle.std.proofs.Common.{sym, subst}
 use Rattle.std.proofs.lemmas.Result.{err_from_is_err_and}
 use Rattle.request.proofs.Results.{both_ok, one_err}
 use Rattle.request.specs.declared.any_losses.AnyLosses.{AnyLosses}
-use Rattle.runs.specs.declared.explore_command.Wanted.TheVariants as wanted
-use Rattle.commands.specs.Acting.{held_by, AnswersFiles, for_words, for_settings, RefusesFiles, for_losses, for_cases_of}
+use Rattle.runs.specs.declared.explore_command.Wanted.{Wanted}
+use Rattle.commands.specs.Acting.{held_by, wanted_by, AnswersFiles, for_words, for_settings, RefusesFiles, for_losses, for_cases_of}
 use Rattle.commands.proofs.action.act_cases.Goals as goal
 
 pub returns-in_err-options-clause-refused : goal.returns-in_err-options-clause-refused
@@ -22,7 +22,8 @@ returns-clause-refused g c =
     (λ r refused.
     for_settings c.in_ok-options.options r c.in_ok-options.ensures
     (for_cases_of r c.in_ok-meant.ensures.1
-    (subst (λ (l : AnyLosses). RefusesFiles (wanted.Cases l) (held_by c.args.files.now) c.in_ok-options.options r) (sym c.in_ok-meant.ensures.0) refused)))
+    (subst (λ (l : AnyLosses). RefusesFiles (wanted_by c.args.cured l) (held_by c.args.files.now) c.in_ok-options.options r) (sym c.in_ok-meant.ensures.0)
+    (subst (λ (w : Wanted). RefusesFiles w (held_by c.args.files.now) c.in_ok-options.options r) c.wanted_by.ensures refused))))
 
 pub returns-clause-answers : goal.returns-clause-answers
 returns-clause-answers g c =
@@ -31,5 +32,6 @@ returns-clause-answers g c =
       settings = c.in_ok-options.options;
       asked = c.in_ok-options.ensures;
       good = c.in_ok-meant.ensures.1;
-      answers = subst (λ (l : AnyLosses). AnswersFiles (wanted.Cases l) c.in_ok-options.options (held_by c.args.files.now) x.0.items x.1) (sym c.in_ok-meant.ensures.0) is;
+      answers = subst (λ (l : AnyLosses). AnswersFiles (wanted_by c.args.cured l) c.in_ok-options.options (held_by c.args.files.now) x.0.items x.1) (sym c.in_ok-meant.ensures.0)
+          (subst (λ (w : Wanted). AnswersFiles w c.in_ok-options.options (held_by c.args.files.now) x.0.items x.1) c.wanted_by.ensures is);
     })

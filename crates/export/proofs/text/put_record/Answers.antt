@@ -1,4 +1,4 @@
-use Rattle.std.proofs.Common.{List, ℕ, ◌++◌, ◌∙◌, ap, sym, subst}
+use Rattle.std.proofs.Common.{subst}
 use Rattle.images.specs.Views.{sectors_of}
 use Rattle.export.specs.Streaming.{Puts}
 use Rattle.export.proofs.Streaming.{puts_more, record_is}

@@ -1,4 +1,4 @@
-use Rattle.std.proofs.Common.{rules, ◌<◌, length, slice_get, Some}
+use Rattle.std.proofs.Common.{rules}
 use Rattle.images.specs.Keys.{with_content}
 use Rattle.images.specs.Views.{sectors_of}
 use Rattle.export.specs.Export.{record_text}

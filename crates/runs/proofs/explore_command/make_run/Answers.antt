@@ -1,11 +1,12 @@
-use Rattle.std.proofs.Common.{ℕ, ◌≡◌, true, ◌∙◌, sym, ap, map, subst, arith}
+use Rattle.std.proofs.Common.{ℕ, ◌≡◌, true, None, Some, refl, ◌∙◌, sym, ap, map, subst, arith}
 use Rattle.std.proofs.lemmas.Bool.{false≢true}
 use Rattle.std.proofs.lemmas.Result.{err_from_is_err_and}
 use Rattle.epochs.specs.Plan.{PlanValue}
 use Rattle.request.specs.Source.{for_plan}
 use Rattle.runs.specs.declared.explore_command.Wanted.TheVariants as wanted
 use Rattle.runs.specs.Blind.{is_noticed}
-use Rattle.runs.specs.Cured.{TellsCure}
+use Rattle.runs.specs.Cases.{TellsLosses}
+use Rattle.runs.specs.Cured.{TellsCure, Cures}
 use Rattle.runs.specs.Why.{Tells}
 use Rattle.runs.specs.Explore.{for_count, for_source, for_program, no_list_memory, for_rest}
 use Rattle.runs.specs.Inputs.{inputs_number}
@@ -19,7 +20,7 @@ use Rattle.runs.proofs.Fitting.{made_fit}
 use Rattle.request.proofs.Recorded.{promises_of_log, of_any_ok}
 use Rattle.request.proofs.Logs.{bounds_of, device_of, has_images}
 use Rattle.request.proofs.Results.{both_ok, one_err}
-use Rattle.runs.proofs.Casing.{is_cases, refused_for}
+use Rattle.runs.proofs.Casing.{is_cases, refused_for, cure_refused}
 use Rattle.runs.proofs.Runs.{of_log, run_of}
 use Rattle.runs.proofs.Unseeing.{found_blind}
 use Rattle.runs.proofs.explore_command.make_run.Goals as goal
@@ -131,27 +132,27 @@ pub returns-in-Told-clause-fewer : goal.returns-in-Told-clause-fewer
 returns-in-Told-clause-fewer g c =
     fewer_of_log _ _ c.in_ok-log.log _ _ c.in_ok-log.ensures.log c.in_ok-checkers.ensures.others.fewer c.in_ok-plan.ensures.fewer
 
-pub cured_log-requires-clause-verified : goal.cured_log-requires-clause-verified
-cured_log-requires-clause-verified g c =
+pub cured_images-requires-clause-verified : goal.cured_images-requires-clause-verified
+cured_images-requires-clause-verified g c =
     λ κs lives. rw c.as_slice-made.ensures.value (made_fit c.args.question.now.options.now c.as_slice.result.now c.in_ok-checkers.checkers.items c.in_ok-checkers.ensures.made)
 
-pub cured_log-requires-clause-log : goal.cured_log-requires-clause-log
-cured_log-requires-clause-log g c =
+pub cured_images-requires-clause-log : goal.cured_images-requires-clause-log
+cured_images-requires-clause-log g c =
     λ κs lives. bounds_of _ c.args.question.now.options.now c.in_ok-log.log c.in_ok-log.ensures.log
 
-pub cured_log-requires-clause-device : goal.cured_log-requires-clause-device
-cured_log-requires-clause-device g c =
+pub cured_images-requires-clause-device : goal.cured_images-requires-clause-device
+cured_images-requires-clause-device g c =
     λ κs lives. device_of _ c.args.question.now.options.now c.in_ok-log.log c.in_ok-log.ensures.log
 
-pub cured_log-requires-clause-whole : goal.cured_log-requires-clause-whole
-cured_log-requires-clause-whole g c = λ κs lives. whole_of c.args.question.now.options.now.extent (subst (λ (w : Wanted). takes w c.args.question.now.options.now.extent ≡ true) c.in-Cured.is c.requires)
+pub cured_images-requires-clause-whole : goal.cured_images-requires-clause-whole
+cured_images-requires-clause-whole g c = λ κs lives. whole_of wanted.Cured c.args.question.now.options.now.extent refl (subst (λ (w : Wanted). takes w c.args.question.now.options.now.extent ≡ true) c.in-Cured.is c.requires)
 
 pub returns-in-Cured-clause-told : goal.returns-in-Cured-clause-told
 returns-in-Cured-clause-told g c =
     rw c.in-Cured.is
-    (both_ok c.cured_log.result _ _ _ c.cured_log.ensures.bytes c.cured_log.ensures.failing
+    (both_ok c.cured_images.result _ _ _ c.cured_images.ensures.bytes c.cured_images.ensures.failing
     (λ e bytes failing.
-    run_of c.accepted_checkers_run_safely.ensures TellsCure _ _ _ c.in_ok-log.log c.in_ok-checkers.checkers.items c.as_slice-made.result.now _ _
+    run_of c.accepted_checkers_run_safely.ensures (TellsCure None) _ _ _ c.in_ok-log.log c.in_ok-checkers.checkers.items c.as_slice-made.result.now _ _
     (counted _ c.args.question.now.programs.now (c.is_program_count.ensures.0 c.if-not-is_program_count.false))
     (has_images _ _ _ _ c.in_ok-log.ensures.log c.in_ok-plan.ensures.count c.in_ok-plan.ensures.few c.in_ok-plan.ensures.within)
     (checkers_decoded _ _ _ c.as_slice.result.now _ _ c.as_slice.ensures.value c.in_ok-decoded.ensures.decoded c.in_default.not-Some
@@ -161,7 +162,7 @@ returns-in-Cured-clause-told g c =
 pub returns-in-Cured-clause-blind : goal.returns-in-Cured-clause-blind
 returns-in-Cured-clause-blind g c =
     rw c.in-Cured.is
-    (both_ok c.cured_log.result _ _ _ c.cured_log.ensures.bytes c.cured_log.ensures.failing
+    (both_ok c.cured_images.result _ _ _ c.cured_images.ensures.bytes c.cured_images.ensures.failing
     (λ e bytes failing.
     found_blind wanted.Cured _ _ c.args.question.now.options.now c.in_ok-log.log c.in_ok-checkers.checkers.items c.as_slice-made.result.now _
     (has_images _ _ _ _ c.in_ok-log.ensures.log c.in_ok-plan.ensures.count c.in_ok-plan.ensures.few c.in_ok-plan.ensures.within)
@@ -172,7 +173,7 @@ returns-in-Cured-clause-blind g c =
 
 pub returns-in-Cured-clause-refused : goal.returns-in-Cured-clause-refused
 returns-in-Cured-clause-refused g c =
-    one_err c.cured_log.result _ _ c.cured_log.ensures.refused
+    one_err c.cured_images.result _ _ c.cured_images.ensures.refused
     (λ r refused.
     for_rest r c.requires
     (for_source r (counted _ c.args.question.now.programs.now (c.is_program_count.ensures.0 c.if-not-is_program_count.false))
@@ -189,24 +190,89 @@ returns-in-Told-clause-promises g c =
 
 pub returns-in-Cured-clause-promises : goal.returns-in-Cured-clause-promises
 returns-in-Cured-clause-promises g c =
-    of_any_ok c.cured_log.result _
+    of_any_ok c.cured_images.result _
     (promises_of_log _ _ c.in_ok-log.log _ _ c.in_ok-log.ensures.log (c.in_ok-checkers.ensures.others.promises ∙ c.in_ok-plan.ensures.promises) c.in_ok-log.ensures.promises)
 
-pub told_cases-requires : goal.told_cases-requires
-told_cases-requires g c =
-    let few = few_decoded _ _ c.as_slice.result.now _ (counted _ c.args.question.now.programs.now (c.is_program_count.ensures.0 c.if-not-is_program_count.false)).few c.as_slice.ensures.value c.in_ok-decoded.ensures.decoded in
-    let same = c.in_ok-checkers.ensures.all in
-    rw c.as_slice-made.ensures.value (record {
-      verified = made_fit c.args.question.now.options.now c.as_slice.result.now c.in_ok-checkers.checkers.items c.in_ok-checkers.ensures.made;
-      small = omega (arith, few, same);
-    })
+pub cured_cases-requires-clause-verified : goal.cured_cases-requires-clause-verified
+cured_cases-requires-clause-verified g c =
+    λ κs lives. rw c.as_slice-made.ensures.value (made_fit c.args.question.now.options.now c.as_slice.result.now c.in_ok-checkers.checkers.items c.in_ok-checkers.ensures.made)
+
+pub cured_cases-requires-clause-log : goal.cured_cases-requires-clause-log
+cured_cases-requires-clause-log g c =
+    λ κs lives. bounds_of _ c.args.question.now.options.now c.in_ok-log.log c.in_ok-log.ensures.log
+
+pub cured_cases-requires-clause-device : goal.cured_cases-requires-clause-device
+cured_cases-requires-clause-device g c =
+    λ κs lives. device_of _ c.args.question.now.options.now c.in_ok-log.log c.in_ok-log.ensures.log
+
+pub cured_cases-requires-clause-whole : goal.cured_cases-requires-clause-whole
+cured_cases-requires-clause-whole g c =
+    λ κs lives. whole_of (wanted.CuredCases c.in-CuredCases.losses) c.args.question.now.options.now.extent refl
+    (subst (λ (w : Wanted). takes w c.args.question.now.options.now.extent ≡ true) c.in-CuredCases.is c.requires)
+
+pub returns-in-CuredCases-clause-told : goal.returns-in-CuredCases-clause-told
+returns-in-CuredCases-clause-told g c =
+    rw c.in-CuredCases.is
+    (both_ok c.cured_cases.result _ _ _ c.cured_cases.ensures.cured c.cured_cases.ensures.cured
+    (λ e tells again.
+    is_cases (Cures (Some c.in-CuredCases.losses)) _ _ c.args.question.now.options.now c.in_ok-log.log c.in_ok-checkers.checkers.items c.as_slice-made.result.now _ _
+    (counted _ c.args.question.now.programs.now (c.is_program_count.ensures.0 c.if-not-is_program_count.false))
+    (has_images _ _ _ _ c.in_ok-log.ensures.log c.in_ok-plan.ensures.count c.in_ok-plan.ensures.few c.in_ok-plan.ensures.within)
+    (checkers_decoded _ _ _ c.as_slice.result.now _ _ c.as_slice.ensures.value c.in_ok-decoded.ensures.decoded c.in_default.not-Some
+    c.in_ok-checkers.ensures.made c.in_ok-checkers.ensures.all)
+    c.as_slice-made.ensures.value tells))
+
+pub returns-in-CuredCases-clause-blind : goal.returns-in-CuredCases-clause-blind
+returns-in-CuredCases-clause-blind g c =
+    rw c.in-CuredCases.is
+    (both_ok c.cured_cases.result _ _ _ c.cured_cases.ensures.cured c.cured_cases.ensures.cured
+    (λ e tells again.
+    found_blind (wanted.CuredCases c.in-CuredCases.losses) _ _ c.args.question.now.options.now c.in_ok-log.log c.in_ok-checkers.checkers.items c.as_slice-made.result.now _
+    (has_images _ _ _ _ c.in_ok-log.ensures.log c.in_ok-plan.ensures.count c.in_ok-plan.ensures.few c.in_ok-plan.ensures.within)
+    (checkers_decoded _ _ _ c.as_slice.result.now _ _ c.as_slice.ensures.value c.in_ok-decoded.ensures.decoded c.in_default.not-Some
+    c.in_ok-checkers.ensures.made c.in_ok-checkers.ensures.all)
+    c.as_slice-made.ensures.value
+    (c.in_ok-checkers.ensures.others.blind ∙ c.in_ok-plan.ensures.others.blind ∙ c.in_ok-log.ensures.others.blind ∙ c.new.ensures.blind)))
+
+pub returns-in-CuredCases-clause-refused : goal.returns-in-CuredCases-clause-refused
+returns-in-CuredCases-clause-refused g c =
+    one_err c.cured_cases.result _ _ c.cured_cases.ensures.refused
+    (λ r refused.
+    cure_refused c.args.question.now.wanted c.in-CuredCases.losses _ _ c.args.question.now.options.now c.in_ok-log.log c.in_ok-checkers.checkers.items c.as_slice-made.result.now r
+    c.in-CuredCases.is c.requires
+    (counted _ c.args.question.now.programs.now (c.is_program_count.ensures.0 c.if-not-is_program_count.false))
+    (has_images _ _ _ _ c.in_ok-log.ensures.log c.in_ok-plan.ensures.count c.in_ok-plan.ensures.few c.in_ok-plan.ensures.within)
+    (checkers_decoded _ _ _ c.as_slice.result.now _ _ c.as_slice.ensures.value c.in_ok-decoded.ensures.decoded c.in_default.not-Some
+    c.in_ok-checkers.ensures.made c.in_ok-checkers.ensures.all)
+    c.as_slice-made.ensures.value refused)
+
+pub returns-in-CuredCases-clause-fewer : goal.returns-in-CuredCases-clause-fewer
+returns-in-CuredCases-clause-fewer g c =
+    fewer_of_log _ _ c.in_ok-log.log _ _ c.in_ok-log.ensures.log c.in_ok-checkers.ensures.others.fewer c.in_ok-plan.ensures.fewer
+
+pub returns-in-CuredCases-clause-promises : goal.returns-in-CuredCases-clause-promises
+returns-in-CuredCases-clause-promises g c =
+    of_any_ok c.cured_cases.result _
+    (promises_of_log _ _ c.in_ok-log.log _ _ c.in_ok-log.ensures.log (c.in_ok-checkers.ensures.others.promises ∙ c.in_ok-plan.ensures.promises) c.in_ok-log.ensures.promises)
+
+pub returns-in-CuredCases-clause-found : goal.returns-in-CuredCases-clause-found
+returns-in-CuredCases-clause-found g c =
+    of_any_ok c.cured_cases.result _
+    (finds_all _ _ c.args.question.now.options.now c.in_ok-log.log _ _ c.as_slice.result.now _ c.in_ok-log.ensures.log
+    (c.in_ok-checkers.ensures.others.large ∙ c.in_ok-plan.ensures.large ∙ c.in_ok-log.ensures.large)
+    (c.in_ok-checkers.ensures.others.forced ∙ c.in_ok-plan.ensures.forced ∙ c.in_ok-log.ensures.forced)
+    c.as_slice.ensures.value c.in_ok-decoded.ensures.decoded c.in_default.not-Some c.in_ok-checkers.ensures.unreached)
+
+pub told_cases-requires-clause-verified : goal.told_cases-requires-clause-verified
+told_cases-requires-clause-verified g c =
+    λ κs lives. rw c.as_slice-made.ensures.value (made_fit c.args.question.now.options.now c.as_slice.result.now c.in_ok-checkers.checkers.items c.in_ok-checkers.ensures.made)
 
 pub returns-in-Cases-clause-told : goal.returns-in-Cases-clause-told
 returns-in-Cases-clause-told g c =
     rw c.in-Cases.is
     (both_ok c.told_cases.result _ _ _ c.told_cases.ensures.told c.told_cases.ensures.told
     (λ e tells again.
-    is_cases c.in-Cases.losses _ _ c.args.question.now.options.now c.in_ok-log.log c.in_ok-checkers.checkers.items c.as_slice-made.result.now _ _
+    is_cases (TellsLosses c.args.question.now.options.now.first c.in-Cases.losses) _ _ c.args.question.now.options.now c.in_ok-log.log c.in_ok-checkers.checkers.items c.as_slice-made.result.now _ _
     (counted _ c.args.question.now.programs.now (c.is_program_count.ensures.0 c.if-not-is_program_count.false))
     (has_images _ _ _ _ c.in_ok-log.ensures.log c.in_ok-plan.ensures.count c.in_ok-plan.ensures.few c.in_ok-plan.ensures.within)
     (checkers_decoded _ _ _ c.as_slice.result.now _ _ c.as_slice.ensures.value c.in_ok-decoded.ensures.decoded c.in_default.not-Some
@@ -256,7 +322,7 @@ returns-in-Told-clause-found g c =
 
 pub returns-in-Cured-clause-found : goal.returns-in-Cured-clause-found
 returns-in-Cured-clause-found g c =
-    of_any_ok c.cured_log.result _
+    of_any_ok c.cured_images.result _
     (finds_all _ _ c.args.question.now.options.now c.in_ok-log.log _ _ c.as_slice.result.now _ c.in_ok-log.ensures.log
     (c.in_ok-checkers.ensures.others.large ∙ c.in_ok-plan.ensures.large ∙ c.in_ok-log.ensures.large)
     (c.in_ok-checkers.ensures.others.forced ∙ c.in_ok-plan.ensures.forced ∙ c.in_ok-log.ensures.forced)

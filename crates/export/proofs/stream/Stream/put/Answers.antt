@@ -1,4 +1,3 @@
-use Rattle.std.proofs.Common.{◌≡◌, length, arith}
 use Rattle.export.proofs.Streaming.{puts_none, puts_and_writes}
 use Rattle.export.proofs.stream.Stream.put.Goals as goal
 

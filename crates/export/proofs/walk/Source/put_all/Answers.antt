@@ -1,4 +1,4 @@
-use Rattle.std.proofs.Common.{◌∙◌, ap, inl, arith}
+use Rattle.std.proofs.Common.{◌∙◌, ap, arith}
 use Rattle.export.specs.Export.{AskedValue}
 use Rattle.export.proofs.Putting.{images_part, puts_text}
 use Rattle.export.proofs.walk.Source.put_all.Goals as goal

@@ -1,4 +1,4 @@
-use Rattle.std.proofs.Common.{ℕ, ◌+◌, ◌++◌, ◌<◌, nat_eq, List, length, map, slice_get, string_bytes, sym, subst, ◌∙◌, ap, arith}
+use Rattle.std.proofs.Common.{ℕ, ◌+◌, ◌++◌, ◌<◌, nat_eq, length, map, sym, subst, ◌∙◌, ap, arith}
 use Rattle.std.proofs.lemmas.List.{length-map}
 use Rattle.std.specs.HashMap.{get}
 use Rattle.images.specs.Keys.{with_content}

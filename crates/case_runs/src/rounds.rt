@@ -1,0 +1,273 @@
+//! Rounds of workers, in which what was begun becomes whole.
+
+ghost use Rattle.std.specs.Prelude.{◌≡◌, ◌∷◌, ◌++◌, [], List, All, IfOk, OnOk, IfSome, IsTrue};
+ghost use Rattle.checker.specs.Checker.{AreFor};
+ghost use Rattle.case_runs.specs.declared.pieces.Piece.{Piece as PieceValue};
+ghost use Rattle.case_runs.specs.Pieces.{told_as, open_as};
+ghost use Rattle.case_runs.specs.Shares.{IsAnswer, AreAnswers, IsBegun, AreAllOf, AreBelow, HaveSame};
+
+use crate::found::{Found, MOST_CASES};
+use crate::gate::CaseGate;
+use crate::pieces::{Answer, Begun, Piece, Start, all_choices, are_same};
+use crate::sharing::answers;
+use crate::work::Work;
+use std::alloc::{AllocError, Global};
+use std::thread::Threads;
+
+/// Whether an answer is that of an open piece.
+fn is_of(answer: &Answer, cut: u32, program: usize, start: &Start) -> bool
+    ensures cut { IsTrue result → answer.now.cut ≡ cut }
+    ensures program { IsTrue result → answer.now.program ≡ program }
+    ensures whole { IsTrue result → answer.now.start.whole ≡ start.now.whole }
+    ensures sets { IsTrue result → answer.now.start.sets.items ≡ start.now.sets.items }
+{
+    let same = are_same(&answer.start, start);
+    answer.cut == cut && answer.program == program && same
+}
+
+/// What takes the place of an open piece: what the answer says, if it is that of the piece.
+fn with_answer(
+    alloc: Global,
+    work: &Work<'_>,
+    cut: u32,
+    program: usize,
+    start: Start,
+    answer: Option<Answer>,
+) -> Result<Vec<Piece>, AllocError>
+    requires { IfSome answer (IsAnswer work.now) }
+    ensures { IfOk result (λ pieces. AreBelow work.now cut program start pieces.items) }
+{
+    let _way = work.way;
+    if let Some(answer) = answer {
+        if is_of(&answer, cut, program, &start) {
+            return Ok(answer.pieces);
+        }
+    }
+    let mut pieces = Vec::new(alloc);
+    pieces.push(Piece::Open(start))?;
+    Ok(pieces)
+}
+
+/// Takes the next answer, if there is one.
+fn next_answer(work: &Work<'_>, places: &mut Vec<Option<Answer>>) -> Option<Answer>
+    requires { AreAnswers work.now places.old.items }
+    ensures places { AreAnswers work.now places.new.items }
+    ensures answer { IfSome result (IsAnswer work.now) }
+{
+    let _way = work.way;
+    match places.pop() {
+        Some(answer) => answer,
+        None => None,
+    }
+}
+
+/// Appends what takes the place of an open piece.
+fn put_below(
+    work: &Work<'_>,
+    out: &mut Vec<Piece>,
+    cut: u32,
+    program: usize,
+    start: Start,
+    answer: Option<Answer>,
+) -> Result<(), AllocError>
+    requires { IfSome answer (IsAnswer work.now) }
+    ensures same { (rest : List PieceValue) → OnOk result (HaveSame work.now cut program (out.old.items ++ (open_as start ∷ rest)) (out.new.items ++ rest)) }
+{
+    let mut pieces = with_answer(*out.allocator(), work, cut, program, start, answer)?;
+    out.append(&mut pieces)?;
+    Ok(())
+}
+
+/// Appends what was found.
+fn put_told(
+    work: &Work<'_>,
+    out: &mut Vec<Piece>,
+    cut: u32,
+    program: usize,
+    found: Found,
+) -> Result<(), AllocError>
+    ensures same { (rest : List PieceValue) → OnOk result (HaveSame work.now cut program (out.old.items ++ (told_as found ∷ rest)) (out.new.items ++ rest)) }
+{
+    let _way = work.way;
+    let _of = (cut, program);
+    out.push(Piece::Told(found))?;
+    Ok(())
+}
+
+/// Appends a piece, or what takes its place.
+fn put_piece(
+    work: &Work<'_>,
+    out: &mut Vec<Piece>,
+    cut: u32,
+    program: usize,
+    piece: Piece,
+    places: &mut Vec<Option<Answer>>,
+) -> Result<(), AllocError>
+    requires { AreAnswers work.now places.old.items }
+    ensures places { AreAnswers work.now places.new.items }
+    ensures same { (rest : List PieceValue) → OnOk result (HaveSame work.now cut program (out.old.items ++ (piece ∷ rest)) (out.new.items ++ rest)) }
+{
+    match piece {
+        Piece::Told(found) => put_told(work, out, cut, program, found),
+        Piece::Open(start) => {
+            let answer = next_answer(work, places);
+            put_below(work, out, cut, program, start, answer)
+        }
+    }
+}
+
+/// Whether a piece is still to be explored.
+fn is_open(piece: &Piece) -> bool {
+    match piece {
+        Piece::Told(_found) => false,
+        Piece::Open(_start) => true,
+    }
+}
+
+/// Whether all pieces were found.
+fn is_done(begun: &Begun) -> bool {
+    for piece in begun.pieces.as_slice() {
+        if is_open(piece) {
+            return false;
+        }
+    }
+    true
+}
+
+/// What was begun, with the answers in their places.
+fn gone_on(
+    alloc: Global,
+    work: &Work<'_>,
+    begun: Begun,
+    places: &mut Vec<Option<Answer>>,
+) -> Result<Begun, AllocError>
+    requires places { AreAnswers work.now places.old.items }
+    requires begun { IsBegun work.now begun }
+    ensures places { AreAnswers work.now places.new.items }
+    ensures begun { IfOk result (IsBegun work.now) }
+{
+    if is_done(&begun) {
+        return Ok(begun);
+    }
+    let Begun {
+        cut,
+        program,
+        pieces,
+    } = begun;
+    let mut out = Vec::new(alloc);
+    for piece in pieces {
+        put_piece(work, &mut out, cut, program, piece, places)?;
+    }
+    Ok(Begun {
+        cut,
+        program,
+        pieces: out,
+    })
+}
+
+/// All that was begun, with the answers in their places.
+fn all_gone_on(
+    alloc: Global,
+    work: &Work<'_>,
+    begun: Vec<Begun>,
+    places: Vec<Option<Answer>>,
+) -> Result<Vec<Begun>, AllocError>
+    requires places { AreAnswers work.now places.items }
+    requires begun { All (IsBegun work.now) begun.items }
+    ensures { IfOk result (λ begun. All (IsBegun work.now) begun.items) }
+{
+    let mut places = places;
+    let mut out = Vec::new(alloc);
+    for one in begun {
+        out.push(gone_on(alloc, work, one, &mut places)?)?;
+    }
+    Ok(out)
+}
+
+/// How many leaves were found at a cut with a checker.
+fn leaves_at(begun: &Begun) -> usize {
+    let mut leaves: usize = 0;
+    for piece in begun.pieces.as_slice() {
+        if let Piece::Told(found) = piece {
+            leaves = leaves.saturating_add(found.cases);
+        }
+    }
+    leaves
+}
+
+/// Whether a round more finds more that is wanted: something is still to be explored, and there aren't too many leaves yet.
+fn is_wanted(begun: &[Begun]) -> bool {
+    let mut leaves: usize = 0;
+    let mut done = true;
+    for one in begun {
+        leaves = leaves.saturating_add(leaves_at(one));
+        done = done && is_done(one);
+    }
+    !done && leaves <= MOST_CASES as usize
+}
+
+/// A beginning at each cut with each checker.
+fn beginnings(alloc: Global, work: &Work<'_>, cuts: &[u32]) -> Result<Vec<Begun>, AllocError>
+    ensures { IfOk result (λ begun. All (IsBegun work.now) begun.items) }
+{
+    let mut out = Vec::new(alloc);
+    for cut in cuts {
+        put_beginnings(&mut out, work, *cut)?;
+    }
+    Ok(out)
+}
+
+/// Appends a beginning at a cut with each checker.
+fn put_beginnings(out: &mut Vec<Begun>, work: &Work<'_>, cut: u32) -> Result<(), AllocError>
+    requires { All (IsBegun work.now) out.old.items }
+    ensures { All (IsBegun work.now) out.new.items }
+{
+    for program in 0..work.checkers.len() {
+        let pieces = whole_piece(*out.allocator(), work, cut, program)?;
+        out.push(Begun {
+            cut,
+            program,
+            pieces,
+        })?;
+    }
+    Ok(())
+}
+
+/// All choices of a cut, as a piece.
+pub(crate) fn whole_piece(
+    alloc: Global,
+    work: &Work<'_>,
+    cut: u32,
+    program: usize,
+) -> Result<Vec<Piece>, AllocError>
+    ensures { IfOk result (λ pieces. AreAllOf work.now cut program pieces.items) }
+{
+    let _way = work.way;
+    let _of = (cut, program);
+    let mut pieces = Vec::new(alloc);
+    pieces.push(Piece::Open(all_choices(alloc)))?;
+    Ok(pieces)
+}
+
+/// What workers find at some cuts with each checker, in rounds.
+pub(crate) fn explored<G: CaseGate + Sync, R: Threads + Sync>(
+    rt: &R,
+    alloc: Global,
+    gate: &G,
+    work: &Work<'_>,
+    cuts: &[u32],
+    workers: usize,
+) -> Result<Vec<Begun>, AllocError>
+    requires device { AreFor work.now.log.now.sectors work.now.checkers.now }
+    ensures { IfOk result (λ begun. All (IsBegun work.now) begun.items) }
+{
+    let mut begun = beginnings(alloc, work, cuts)?;
+    for _round in 0..u32::MAX {
+        if !is_wanted(begun.as_slice()) {
+            return Ok(begun);
+        }
+        let places = answers(rt, alloc, gate, work, begun.as_slice(), workers)?;
+        begun = all_gone_on(alloc, work, begun, places)?;
+    }
+    Ok(begun)
+}

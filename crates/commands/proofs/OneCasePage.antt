@@ -1,0 +1,172 @@
+-- The page of the same cases is the same.
+use Rattle.std.proofs.Common.{ℕ, zero, suc, ◌≡◌, ◌==◌, Bool, if◌then◌else◌, List, [], ◌∷◌, ◌++◌, ◌-◌, ◌+◌, length, map, take, slice_get, Option, None, Some, refl, sym, ◌∙◌, ap}
+use Rattle.std.specs.Option.{option_map_or}
+use Rattle.logfmt.specs.Bounds.{LogValue}
+use Rattle.report.specs.Report.{HeadValue}
+use Rattle.report.specs.declared.head.ProgramHead.{ProgramHead}
+use Rattle.cases.specs.AtCut.{CutValue, parts_of}
+use Rattle.case_runs.specs.declared.found.Losses.{Losses}
+use Rattle.case_runs.specs.declared.found.Found.{Found}
+use Rattle.case_runs.specs.declared.found.CutFound.{CutFound}
+use Rattle.case_runs.specs.declared.leaves.FailingCase.{FailingCase}
+use Rattle.case_runs.specs.Leaves.{failing_value}
+use Rattle.case_runs.specs.Found.{KnownCase, known_case, SameFound}
+use Rattle.crash_page.specs.Counts.{failing_of, cases_of, case_count, count_fails}
+use Rattle.crash_page.specs.Blocks.{most_cells}
+use Rattle.crash_page.specs.Groups.{cut_begin, cut_body, shown_of, one_failing, unlisted_text}
+use Rattle.crash_page.specs.Page.{most_of_program}
+use Rattle.crash_page.specs.CaseRows.{row_at, case_said, row_text, case_row}
+use Rattle.crash_page.specs.CasePage.{RunValue, cut_at, case_rows, rest_text, case_head, cut_shown, listed_text, cuts_text, counts_of, summary_text, shown_cuts, program_text, programs_text, parts_text, case_page_text}
+use Rattle.commands.proofs.OneCases.{EachSame, CutsSame, cut_value}
+
+-- a row says what is known of its case
+row_same : (at : CutValue) (tears : Bool) (f g : FailingCase) → known_case at tears f ≡ known_case at tears g → case_row at tears (failing_value f) ≡ case_row at tears (failing_value g)
+unfolding row_text case_said
+row_same at tears f g same = λ i. row_text (row_at at tears (same i).is) (same i).is (parts_of at) (record { number = (same i).number; ending = (same i).ending; sets = [] })
+
+rows_same : (at : CutValue) (tears : Bool) (n : ℕ) (fs gs : List FailingCase) → map (known_case at tears) fs ≡ map (known_case at tears) gs
+    → case_rows at tears (take n fs) ≡ case_rows at tears (take n gs)
+rows_same at tears zero fs gs same = refl
+rows_same at tears (suc n) [] [] same = refl
+rows_same at tears (suc n) [] (g ∷ gs) same = absurd (let bad : [] ≡ known_case at tears g ∷ map (known_case at tears) gs = same in cc)
+rows_same at tears (suc n) (f ∷ fs) [] same = absurd (let bad : known_case at tears f ∷ map (known_case at tears) fs ≡ [] = same in cc)
+rows_same at tears (suc n) (f ∷ fs) (g ∷ gs) same =
+    let both : known_case at tears f ∷ map (known_case at tears) fs ≡ known_case at tears g ∷ map (known_case at tears) gs = same in
+    let one : known_case at tears f ≡ known_case at tears g = cc in
+    let others : map (known_case at tears) fs ≡ map (known_case at tears) gs = cc in
+    let row = row_same at tears f g one in
+    let rest = rows_same at tears n fs gs others in
+    λ i. row i ++ rest i
+
+long_known : (at : CutValue) (tears : Bool) (items : List FailingCase) → length items ≡ length (map (known_case at tears) items)
+long_known at tears [] = refl
+long_known at tears (f ∷ items) = ap suc (long_known at tears items)
+
+-- what was found of a program at a cut is the same
+each_at : {A : Type 0} (own : Found → A) (none : A) (at : CutValue) (tears : Bool) → ((f g : Found) → SameFound at tears f g → own f ≡ own g) → (program : ℕ) (fs gs : List Found)
+    → EachSame at tears fs gs → option_map_or own (slice_get fs program) none ≡ option_map_or own (slice_get gs program) none
+each_at own none at tears tells program [] [] same = refl
+each_at own none at tears tells program [] (g ∷ gs) same = absurd same
+each_at own none at tears tells program (f ∷ fs) [] same = absurd same
+each_at own none at tears tells zero (f ∷ fs) (g ∷ gs) same = tells f g same.0
+each_at own none at tears tells (suc program) (f ∷ fs) (g ∷ gs) same = each_at own none at tears tells program fs gs same.1
+
+-- what is known where nothing was found is nothing
+of_none : (at : CutValue) (tears : Bool) (it : Option Found)
+    → map (known_case at tears) (option_map_or (λ (f : Found). f.failing.items) it []) ≡ option_map_or (λ (f : Found). map (known_case at tears) f.failing.items) it []
+of_none at tears None = refl
+of_none at tears (Some f) = refl
+
+known_same : (run : RunValue) (program : ℕ) (c d : CutFound) → EachSame (cut_value run.log run.way c.cut) run.tears c.programs.items d.programs.items
+    → map (known_case (cut_at run c.cut) run.tears) (failing_of program c) ≡ map (known_case (cut_at run c.cut) run.tears) (failing_of program d)
+known_same run program c d same =
+    let at = cut_value run.log run.way c.cut in
+    of_none at run.tears (slice_get c.programs.items program)
+    ∙ each_at (λ (f : Found). map (known_case at run.tears) f.failing.items) [] at run.tears (λ f g own. own.failing) program c.programs.items d.programs.items same
+    ∙ sym (of_none at run.tears (slice_get d.programs.items program))
+
+cases_same : (run : RunValue) (program : ℕ) (c d : CutFound) → EachSame (cut_value run.log run.way c.cut) run.tears c.programs.items d.programs.items → cases_of program c ≡ cases_of program d
+cases_same run program c d same =
+    each_at (λ (f : Found). f.cases) 0 (cut_value run.log run.way c.cut) run.tears (λ f g own. own.cases) program c.programs.items d.programs.items same
+
+many_same : (run : RunValue) (program : ℕ) (c d : CutFound) → EachSame (cut_value run.log run.way c.cut) run.tears c.programs.items d.programs.items
+    → length (failing_of program c) ≡ length (failing_of program d)
+many_same run program c d same =
+    long_known (cut_at run c.cut) run.tears (failing_of program c) ∙ ap (λ (ks : List KnownCase). length ks) (known_same run program c d same)
+    ∙ sym (long_known (cut_at run c.cut) run.tears (failing_of program d))
+
+-- the line of a cut, and what it lists
+head_same : (run : RunValue) (program : ℕ) (is_open : Bool) (rows : ℕ) (c d : CutFound) → c.cut ≡ d.cut → EachSame (cut_value run.log run.way c.cut) run.tears c.programs.items d.programs.items
+    → case_head run (record { program = program; is_open = is_open; rows = rows }) c ≡ case_head run (record { program = program; is_open = is_open; rows = rows }) d
+unfolding case_head
+head_same run program is_open rows c d cut same =
+    let cases = cases_same run program c d same in
+    let many = many_same run program c d same in
+    λ i. cut_begin run.log.entries is_open (record { cut = cut i; of = (case_count program c).of; all = cases i; failing = many i }) ++ cut_body program (cut i)
+
+join_cut : (a b c d e f g : List ℕ) → a ≡ b → c ≡ d → e ≡ f → a ++ c ++ e ++ g ≡ b ++ d ++ f ++ g
+join_cut a b c d e f g first second third = λ i. first i ++ second i ++ third i ++ g
+
+shown_same : (run : RunValue) (program : ℕ) (is_open : Bool) (rows : ℕ) (c d : CutFound) → c.cut ≡ d.cut → EachSame (cut_value run.log run.way c.cut) run.tears c.programs.items d.programs.items
+    → cut_shown run (record { program = program; is_open = is_open; rows = rows }) c ≡ cut_shown run (record { program = program; is_open = is_open; rows = rows }) d
+unfolding cut_shown
+shown_same run program is_open rows c d cut same =
+    let many = many_same run program c d same in
+    let listed =
+    rows_same (cut_at run c.cut) run.tears rows (failing_of program c) (failing_of program d) (known_same run program c d same)
+    ∙ ap (λ n. case_rows (cut_at run n) run.tears (take rows (failing_of program d))) cut in
+    join_cut _ _ (case_rows (cut_at run c.cut) run.tears (take rows (failing_of program c))) (case_rows (cut_at run d.cut) run.tears (take rows (failing_of program d)))
+    (rest_text (length (failing_of program c) - rows)) (rest_text (length (failing_of program d) - rows)) _ (head_same run program is_open rows c d cut same) listed
+    (ap (λ n. rest_text (n - rows)) many)
+
+listed_same : (run : RunValue) (lines program : ℕ) (is_open : Bool) (rows : ℕ) (c d : CutFound) → c.cut ≡ d.cut → EachSame (cut_value run.log run.way c.cut) run.tears c.programs.items d.programs.items
+    → listed_text run lines (record { program = program; is_open = is_open; rows = rows }) c ≡ listed_text run lines (record { program = program; is_open = is_open; rows = rows }) d
+listed_same run lines program is_open rows c d cut same =
+    let many = many_same run program c d same in
+    let shown = shown_same run program is_open rows c d cut same in
+    λ i. if lines == 0 then [] else if many i == 0 then [] else shown i
+
+texts_same : (run : RunValue) (program : ℕ) (ls ms : List CutFound) → CutsSame run.log run.way run.tears ls ms → (lines left : ℕ)
+    → cuts_text run program lines left ls ≡ cuts_text run program lines left ms
+texts_same run program [] [] same lines left = refl
+texts_same run program [] (d ∷ ds) same lines left = absurd same
+texts_same run program (c ∷ cs) [] same lines left = absurd same
+texts_same run program (c ∷ cs) (d ∷ ds) same lines left =
+    let many = many_same run program c d same.1 in
+    let here =
+    listed_same run lines program (lines == most_cells) (shown_of left (length (failing_of program c))) c d same.0 same.1
+    ∙ ap (λ n. listed_text run lines (record { program = program; is_open = lines == most_cells; rows = shown_of left n }) d) many in
+    let rest =
+    texts_same run program cs ds same.2 (lines - one_failing (length (failing_of program c))) (left - shown_of left (length (failing_of program c)))
+    ∙ ap (λ n. cuts_text run program (lines - one_failing n) (left - shown_of left n) ds) many in
+    λ i. here i ++ rest i
+
+counts_same : (run : RunValue) (program : ℕ) (ls ms : List CutFound) → CutsSame run.log run.way run.tears ls ms → counts_of program ls ≡ counts_of program ms
+counts_same run program [] [] same = refl
+counts_same run program [] (d ∷ ds) same = absurd same
+counts_same run program (c ∷ cs) [] same = absurd same
+counts_same run program (c ∷ cs) (d ∷ ds) same =
+    let cut : c.cut ≡ d.cut = same.0 in
+    let cases = cases_same run program c d same.1 in
+    let many = many_same run program c d same.1 in
+    let rest = counts_same run program cs ds same.2 in
+    λ i. record { cut = cut i; of = (case_count program c).of; all = cases i; failing = many i } ∷ rest i
+
+join_two : (a b c d : List ℕ) → a ≡ b → c ≡ d → a ++ c ≡ b ++ d
+join_two a b c d first second = λ i. first i ++ second i
+
+join_program : (a b c d e : List ℕ) → a ≡ b → c ≡ d → a ++ c ++ e ≡ b ++ d ++ e
+join_program a b c d e first second = λ i. first i ++ second i ++ e
+
+unlisted_same : {K : Type 0} (text : K → ℕ → ℕ → List ℕ) (of : K) (program m n : ℕ) → m ≡ n → text of program m ≡ text of program n
+unlisted_same text of program m n same = ap (text of program) same
+
+shown_cuts_same : (run : RunValue) (ls ms : List CutFound) → CutsSame run.log run.way run.tears ls ms → (program : ℕ) → shown_cuts run program ls ≡ shown_cuts run program ms
+unfolding shown_cuts
+shown_cuts_same run ls ms same program =
+    join_two (cuts_text run program most_cells (most_of_program run.log.entries) ls) (cuts_text run program most_cells (most_of_program run.log.entries) ms) _ _
+    (texts_same run program ls ms same most_cells (most_of_program run.log.entries))
+    (unlisted_same unlisted_text _ program (count_fails (counts_of program ls) - most_cells) (count_fails (counts_of program ms) - most_cells)
+    (λ i. count_fails (counts_same run program ls ms same i) - most_cells))
+
+program_same : (run : RunValue) (ls ms : List CutFound) → CutsSame run.log run.way run.tears ls ms → (program : ℕ) (head : ProgramHead)
+    → program_text run ls program head ≡ program_text run ms program head
+unfolding program_text
+program_same run ls ms same program head =
+    join_program (summary_text run program head (counts_of program ls)) (summary_text run program head (counts_of program ms)) (shown_cuts run program ls) (shown_cuts run program ms) _
+    (λ i. summary_text run program head (counts_same run program ls ms same i)) (shown_cuts_same run ls ms same program)
+
+programs_same : (run : RunValue) (ls ms : List CutFound) → CutsSame run.log run.way run.tears ls ms → (program : ℕ) (heads : List ProgramHead)
+    → programs_text run ls program heads ≡ programs_text run ms program heads
+programs_same run ls ms same program [] = refl
+programs_same run ls ms same program (head ∷ heads) =
+    let first = program_same run ls ms same program head in
+    let rest = programs_same run ls ms same (program + 1) heads in
+    λ i. first i ++ rest i
+
+pub page_same : (h : HeadValue) (asked : Losses) (log : LogValue) (ls ms : List CutFound) → CutsSame log h.by asked.tears ls ms → case_page_text h asked log ls ≡ case_page_text h asked log ms
+unfolding parts_text
+page_same h asked log ls ms same =
+    let run : RunValue = record { log = log; way = h.by; tears = asked.tears } in
+    let programs : programs_text run ls 0 h.programs ≡ programs_text run ms 0 h.programs = programs_same run ls ms same 0 h.programs in
+    rw programs refl

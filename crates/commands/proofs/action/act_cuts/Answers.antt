@@ -1,0 +1,48 @@
+use Rattle.std.proofs.Common.{refl}
+use Rattle.std.proofs.lemmas.Result.{err_from_is_err_and}
+use Rattle.commands.specs.Acting.{for_words, for_settings, for_recording, for_any_losses, for_any_recording}
+use Rattle.commands.proofs.Acts.{unread_recording}
+use Rattle.commands.proofs.action.act_cuts.Goals as goal
+
+pub returns-in_err-options-clause-refused : goal.returns-in_err-options-clause-refused
+returns-in_err-options-clause-refused c =
+    let p = err_from_is_err_and c.from_residual.result c.from_residual.ensures.1 in
+    rw (p.1, p.2) (for_words c.in_err-options.field-0.0 c.in_err-options.ensures)
+
+pub returns-in_err-meant-clause-refused : goal.returns-in_err-meant-clause-refused
+returns-in_err-meant-clause-refused c =
+    let p = err_from_is_err_and c.from_residual-in_err-meant.result c.from_residual-in_err-meant.ensures.1 in
+    rw (p.1, p.2)
+    (for_settings c.in_ok-options.options c.in_err-meant.field-0.0 c.in_ok-options.ensures
+    (for_any_losses c.in_err-meant.field-0.0 c.in_err-meant.ensures))
+
+pub returns-in_err-recording-clause-refused : goal.returns-in_err-recording-clause-refused
+returns-in_err-recording-clause-refused c =
+    let p = err_from_is_err_and c.from_residual-in_err-recording.result c.from_residual-in_err-recording.ensures.1 in
+    rw (p.1, p.2)
+    (for_settings c.in_ok-options.options c.in_err-recording.field-0.0 c.in_ok-options.ensures
+    (for_any_recording c.in_err-recording.field-0.0 c.in_ok-meant.ensures.1 (unread_recording _ _ _ c.in_err-recording.ensures)))
+
+pub returns-in_err-bytes-clause-refused : goal.returns-in_err-bytes-clause-refused
+returns-in_err-bytes-clause-refused c =
+    let p = err_from_is_err_and c.from_residual-in_err-bytes.result c.from_residual-in_err-bytes.ensures.1 in
+    let read = c.in_ok-recording.ensures in
+    rw (p.1, p.2)
+    (for_settings c.in_ok-options.options c.in_err-bytes.field-0.0 c.in_ok-options.ensures
+    (for_any_recording c.in_err-bytes.field-0.0 c.in_ok-meant.ensures.1
+    (for_recording c.in_ok-recording.recording.text c.in_ok-recording.recording.initial c.in_err-bytes.field-0.0 read.read read.based c.in_err-bytes.ensures.refused)))
+
+pub returns-clause-answers : goal.returns-clause-answers
+returns-clause-answers c = record {
+  settings = c.in_ok-options.options;
+  asked = c.in_ok-options.ensures;
+  good = c.in_ok-meant.ensures.1;
+  answers = record {
+    held = c.in_ok-recording.recording.text;
+    initial = c.in_ok-recording.recording.initial;
+    read = c.in_ok-recording.ensures.read;
+    based = c.in_ok-recording.ensures.based;
+    is = rw c.in_ok-meant.ensures.0 c.in_ok-bytes.ensures.told;
+    ends = refl;
+  };
+}

@@ -1,0 +1,44 @@
+-- How much of a cut fails: of its images, or of its cases.
+use Rattle.std.specs.Prelude.{ℕ, ◌==◌, not, Bool, List, [], codes, length, filter, sum_by, slice_get}
+use Rattle.std.specs.Option.{option_map_or}
+use Rattle.losses.specs.declared.why.cut.CutFailures.{CutFailures}
+use Rattle.case_runs.specs.declared.leaves.FailingCase.{FailingCase}
+use Rattle.case_runs.specs.declared.found.Found.{Found}
+use Rattle.case_runs.specs.declared.found.CutFound.{CutFound}
+use Rattle.case_text.specs.Text.{in_word}
+use Rattle.crash_page.specs.declared.counts.Kind.{Kind}
+use Rattle.crash_page.specs.declared.counts.Kind.TheVariants as kind
+use Rattle.crash_page.specs.declared.counts.CutCount.{CutCount}
+
+-- what is judged, by its name
+unfoldable pub kind_word : Kind → List ℕ
+kind_word kind.Images = codes "images"
+kind_word kind.Cases = codes "cases"
+
+-- something fails at a cut, and at how many of some cuts something does
+abbrev pub fails : CutCount → Bool
+fails c = not (c.failing == 0)
+
+abbrev pub count_fails : List CutCount → ℕ
+count_fails cs = length (filter fails cs)
+
+-- how much there is at some cuts, and how much of it fails, each up to what a word holds
+abbrev pub all_in : List CutCount → ℕ
+all_in cs = in_word (sum_by (λ (c : CutCount). c.all) cs)
+
+abbrev pub failing_in : List CutCount → ℕ
+failing_in cs = in_word (sum_by (λ (c : CutCount). c.failing) cs)
+
+-- the images of a cut
+abbrev pub image_count : CutFailures → CutCount
+image_count c = record { cut = c.cut; of = kind.Images; all = c.images; failing = c.failing }
+
+-- what was found at a cut with the program of that number: the cases that fail, and how many there are
+abbrev pub failing_of : ℕ → CutFound → List FailingCase
+failing_of program c = option_map_or (λ (f : Found). f.failing.items) (slice_get c.programs.items program) []
+
+abbrev pub cases_of : ℕ → CutFound → ℕ
+cases_of program c = option_map_or (λ (f : Found). f.cases) (slice_get c.programs.items program) 0
+
+abbrev pub case_count : ℕ → CutFound → CutCount
+case_count program c = record { cut = c.cut; of = kind.Cases; all = cases_of program c; failing = length (failing_of program c) }

@@ -1,0 +1,240 @@
+//! The page of a run of any number of losses.
+
+ghost use Rattle.std.specs.Prelude.{◌≡◌, ◌≤◌, ◌<◌, ◌==◌, ◌++◌, if◌then◌else◌, All, length, map, IfOk, OnOk, string_bytes};
+ghost use Rattle.report.specs.declared.head.ProgramHead.{ProgramHead as HeadOfProgram};
+ghost use Rattle.case_runs.specs.declared.found.CutFound.{CutFound as FoundValue};
+ghost use Rattle.case_text.specs.Text.{options_text};
+ghost use Rattle.crash_page.specs.declared.counts.CutCount.{CutCount as CountValue};
+ghost use Rattle.crash_page.specs.Counts.{count_fails, all_in, failing_in, case_count};
+ghost use Rattle.crash_page.specs.CasePage.{run_of, bad_text, good_text, judged_text, verdict_text, counts_of, summary_text, shown_cuts, program_text, programs_text, parts_text, case_page_text};
+
+use crate::block::MOST_CELLS;
+use crate::case_cut::put_cuts;
+use crate::counts::{CutCount, Kind, all_in, case_counts, count_failing, failing_in};
+use crate::judge::Judge;
+use crate::lacking::Lacking;
+use crate::page::{put_about, put_head, put_list};
+use crate::pieces::{Piece, put, put_number};
+use crate::program::{most_of_program, put_row, put_title, put_unlisted};
+use crate::run::{CaseRun, Logged};
+use crate::share::put_legend;
+use case_runs::{CutFound, Losses};
+use case_text::put_options;
+use epochs::Plan;
+use logfmt::Log;
+use report::{Head, ProgramHead};
+use std::alloc::{AllocError, Global};
+
+/// Appends how many cases fail, at how many cuts.
+#[tactic(auto, unfolding(crate::specs::CasePage::bad_text))]
+fn put_bad(out: &mut String, cuts: &[CutCount]) -> Result<(), AllocError>
+    ensures { OnOk result (string_bytes out.new ≡ string_bytes out.old ++ bad_text cuts.now) }
+{
+    put(out, Piece::BadOpen)?;
+    put_number(out, failing_in(cuts))?;
+    put(out, Piece::Of)?;
+    put_number(out, all_in(cuts))?;
+    put(out, Piece::BadCases)?;
+    put_number(out, count_failing(cuts) as u64)?;
+    put(out, Piece::Of)
+}
+
+/// Appends that no case fails.
+#[tactic(auto, unfolding(crate::specs::CasePage::good_text))]
+fn put_good(out: &mut String, cuts: &[CutCount]) -> Result<(), AllocError>
+    ensures { OnOk result (string_bytes out.new ≡ string_bytes out.old ++ good_text cuts.now) }
+{
+    put(out, Piece::GoodCases)?;
+    put_number(out, all_in(cuts))?;
+    put(out, Piece::AtCuts)
+}
+
+/// Appends whether cases fail.
+fn put_failing(out: &mut String, cuts: &[CutCount]) -> Result<(), AllocError>
+    ensures { OnOk result (string_bytes out.new ≡ string_bytes out.old ++ (if failing_in cuts.now == 0 then good_text cuts.now else bad_text cuts.now)) }
+{
+    if failing_in(cuts) == 0 {
+        put_good(out, cuts)
+    } else {
+        put_bad(out, cuts)
+    }
+}
+
+/// Appends what a program comes to, of these cuts.
+#[tactic(auto, unfolding(crate::specs::CasePage::judged_text))]
+fn put_judged(out: &mut String, cuts: &[CutCount]) -> Result<(), AllocError>
+    ensures { OnOk result (string_bytes out.new ≡ string_bytes out.old ++ judged_text cuts.now) }
+{
+    put_failing(out, cuts)?;
+    put_number(out, cuts.len() as u64)?;
+    put(out, Piece::GoodClose)
+}
+
+/// Appends what a program comes to, or that nothing was judged.
+fn put_verdict(out: &mut String, cuts: &[CutCount]) -> Result<(), AllocError>
+    ensures { OnOk result (string_bytes out.new ≡ string_bytes out.old ++ verdict_text cuts.now) }
+{
+    if cuts.is_empty() {
+        put(out, Piece::NoCaseCuts)
+    } else {
+        put_judged(out, cuts)
+    }
+}
+
+/// Appends what a program comes to, and the log with its cuts.
+#[tactic(auto, unfolding(crate::specs::CasePage::summary_text))]
+fn put_summary(
+    alloc: Global,
+    out: &mut String,
+    run: &CaseRun<'_>,
+    program: usize,
+    head: ProgramHead,
+    cuts: &[CutCount],
+) -> Result<(), AllocError>
+    requires cuts { All (λ (c : CountValue). c.cut ≤ length run.now.log.now.entries) cuts.now }
+    ensures { OnOk result (string_bytes out.new ≡ string_bytes out.old ++ summary_text (run_of run.now) program head cuts.now) }
+{
+    let logged = Logged {
+        plan: run.plan,
+        log: run.log,
+    };
+    let lacking = Lacking {
+        program,
+        flushes: &[],
+    };
+    put_title(out, program, &Judge::Checker(head))?;
+    put_verdict(out, cuts)?;
+    put_row(alloc, out, Kind::Cases, &logged, &lacking, cuts)?;
+    put_legend(out, Kind::Cases)?;
+    put(out, Piece::CaseKeys)
+}
+
+/// Appends the first cuts at which cases fail, and how many more there are.
+#[tactic(auto, unfolding(crate::specs::CasePage::shown_cuts))]
+fn put_shown_cuts(
+    alloc: Global,
+    out: &mut String,
+    run: &CaseRun<'_>,
+    program: usize,
+    found: &[CutFound],
+    counts: &[CutCount],
+) -> Result<(), AllocError>
+    requires cuts { All (λ (c : FoundValue). c.cut ≤ length run.now.log.now.entries) found.now }
+    requires counts { counts.now ≡ counts_of program found.now }
+    ensures { OnOk result (string_bytes out.new ≡ string_bytes out.old ++ shown_cuts (run_of run.now) program found.now) }
+{
+    let most = most_of_program(run.log);
+    let count = count_failing(counts).saturating_sub(MOST_CELLS);
+    put_cuts(alloc, out, run, program, most, found)?;
+    put_unlisted(out, Kind::Cases, program, count)
+}
+
+/// Appends a program.
+#[tactic(auto, using(crate::proofs::CaseTexts::counts_within), unfolding(crate::specs::CasePage::program_text))]
+fn put_program(
+    alloc: Global,
+    out: &mut String,
+    run: &CaseRun<'_>,
+    found: &[CutFound],
+    program: usize,
+    head: ProgramHead,
+) -> Result<(), AllocError>
+    requires cuts { All (λ (c : FoundValue). c.cut ≤ length run.now.log.now.entries) found.now }
+    ensures { OnOk result (string_bytes out.new ≡ string_bytes out.old ++ program_text (run_of run.now) found.now program head) }
+{
+    let counts = case_counts(alloc, program, found)?;
+    put_summary(alloc, out, run, program, head, counts.as_slice())?;
+    put_shown_cuts(alloc, out, run, program, found, counts.as_slice())?;
+    put(out, Piece::SectionClose)
+}
+
+/// Appends programs, by their numbers from 0 on.
+#[tactic(auto, using(crate::proofs::CaseTexts::programs_more, crate::proofs::CaseTexts::programs_end))]
+fn put_programs(
+    alloc: Global,
+    out: &mut String,
+    run: &CaseRun<'_>,
+    found: &[CutFound],
+    heads: &[ProgramHead],
+) -> Result<(), AllocError>
+    requires cuts { All (λ (c : FoundValue). c.cut ≤ length run.now.log.now.entries) found.now }
+    ensures { OnOk result (string_bytes out.new ≡ string_bytes out.old ++ programs_text (run_of run.now) found.now 0 heads.now) }
+{
+    for (program, head) in heads.iter().enumerate() {
+        put_program(alloc, out, run, found, program, *head)?;
+    }
+    Ok(())
+}
+
+/// The options and the programs, as the text of cases has them.
+fn options_of(alloc: Global, head: &Head, asked: Losses) -> Result<String, AllocError>
+    ensures { IfOk result (λ text. string_bytes text ≡ options_text head.now asked) }
+{
+    let mut text = String::new(alloc);
+    put_options(&mut text, head, asked)?;
+    Ok(text)
+}
+
+/// Appends the page, with a text about the run.
+#[tactic(auto, unfolding(crate::specs::CasePage::parts_text))]
+fn put_page(
+    alloc: Global,
+    out: &mut String,
+    run: &CaseRun<'_>,
+    about: &str,
+    heads: &[ProgramHead],
+    found: &[CutFound],
+) -> Result<(), AllocError>
+    requires cuts { All (λ (c : FoundValue). c.cut ≤ length run.now.log.now.entries) found.now }
+    ensures { OnOk result (string_bytes out.new ≡ string_bytes out.old ++ parts_text (run_of run.now) about.now heads.now found.now) }
+{
+    let logged = Logged {
+        plan: run.plan,
+        log: run.log,
+    };
+    put_head(out, Kind::Cases, run.log)?;
+    put_about(out, about)?;
+    put_programs(alloc, out, run, found, heads)?;
+    put_list(alloc, out, &logged)?;
+    put(out, Piece::Closing)
+}
+
+/// The page of the failing cases of a run (docs/OUTPUT.md, The page of `page --bound any`): the options and the programs, what was found
+/// with each program, and the entries of the log. The plan is that of the log; of the head's bound, tears, `first` and number of images
+/// nothing is printed.
+///
+/// It takes time and memory for each entry and each cut of each program, and for the parts at risk at each cut that is shown.
+///
+/// # Errors
+///
+/// Memory was refused.
+pub fn case_page(
+    alloc: Global,
+    head: &Head,
+    log: &Log,
+    plan: &Plan<'_>,
+    asked: Losses,
+    found: &[CutFound],
+) -> Result<Vec<u8>, AllocError>
+    requires plan { plan.now.log ≡ log.now }
+    requires cuts { All (λ (c : FoundValue). c.cut ≤ length log.now.entries) found.now }
+    ensures { IfOk result (λ bytes. bytes.items ≡ case_page_text head.now asked log.now found.now) }
+{
+    let run = CaseRun {
+        plan,
+        log,
+        by: head.by,
+        tears: asked.tears,
+    };
+    let about = options_of(alloc, head, asked)?;
+    let mut out = String::new(alloc);
+    put_page(
+        alloc,
+        &mut out,
+        &run,
+        about.as_str(),
+        head.programs.as_slice(),
+        found,
+    )?;
+    Ok(out.into_bytes())
+}
