@@ -12,8 +12,9 @@ N is 400 where it isn't given, S is 1. A run has a log of two to seven entries o
 reads some bytes, of which sectors hangs on what it found. All choices of each cut are made, one by one. Each has to be in exactly one
 case, or if it has more losses than are asked for in at most one, and the checker ends on its image as its case says. By the text alone
 it is told which choices fail, and in what. Each image of a cut is one of a last cut. A flush in the window of a case takes all its
-images away, and a flush anywhere else leaves one of them, or its like at an earlier cut. No program is run. It takes half a minute,
-and is no part of the gate.
+images away, and a flush anywhere else leaves one of them, or its like at an earlier cut. As many logs of up to 14 entries are laid out
+in parts: each cut where cases are looked for is of exactly one part. No program is run. It takes half a minute, and is no part of the
+gate.
 """
 import argparse
 import itertools
@@ -304,6 +305,46 @@ def status(text):
     return 0 if " failing 0 torn" in text else 1
 
 
+# The cuts of a run, before it is made
+
+
+def weight(run, cut):
+    """How much work a cut is taken for: its parts at risk, and one more."""
+    return len(at_risk(run, cut)) + 1
+
+
+def cut_ranges(run, losses, parts):
+    """The first and the last cut of each of that many parts of a run, or of as many as there are cuts. Each has as many of the cuts that
+    are left as weigh its share of them, but at least one, and leaves one for each part after it."""
+    left = judged_cuts(run, losses)
+    first, last = run.first or 0, len(run.entries) if run.last is None else run.last
+    ranges = []
+    for others in range(max(min(parts, len(left)), 1) - 1, 0, -1):
+        sums = list(itertools.accumulate(weight(run, cut) for cut in left))
+        least = sum(1 for it in sums if it * (others + 1) < sums[-1]) + 1
+        count = max(1, min(least, len(left) - others))
+        ranges.append((first, left[count - 1]))
+        first, left = left[count - 1] + 1, left[count:]
+    return [*ranges, (first, last)]
+
+
+def survey_cuts(run, losses=ANY, parts=None):
+    """What `images --bound any` prints, with --parts how the run is laid out."""
+    text = "crash cuts 1\n"
+    for cut in judged_cuts(run, losses):
+        risky = at_risk(run, cut)
+        flying = sum(is_in_flight(run, cut, part.entry) for part in risky)
+        text += f"cut {cut} epoch {run.epoch(cut)} marks {run.marks(cut)} at risk {len(risky)} in flight {flying}\n"
+    if parts is None:
+        return text + "how many cases there are is not known before the run\n"
+    return text + "".join(f"part --from {first} --to {last}\n" for first, last in cut_ranges(run, losses, parts))
+
+
+def ranged(run, first, last):
+    """A run of some cuts of another alone."""
+    return Run(run.recorded, run.sectors, run.cuts, run.bound, run.tears, run.by, run.flush, first, last, run.base)
+
+
 # One image of any number of losses
 
 
@@ -518,8 +559,40 @@ def run_holds(number, seed):
     return said + [f"cut {cut}: an image is none of a last cut" for cut, own in images.items() if not own <= last]
 
 
+def layout_holds(number, seed):
+    """What isn't as the rules say of the parts of the run with that number: each cut where cases are looked for is one of exactly one part,
+    which has some, and ends at one."""
+    chance = random.Random(f"{seed} layout {number}")
+    entries = [some_entry(chance, 3, [0, 1]) for _ in range(chance.randint(0, 14))]
+    first, last = sorted(chance.randint(0, len(entries)) for _ in range(2))
+    given = (chance.choice([None, first]), chance.choice([None, last]))
+    run = Run(entries, 3, chance.choice(["all", "all", "flush", "mark"]), by=chance.choice(["sector", "write"]), first=given[0], last=given[1])
+    losses = Losses(None, chance.choice([None, None, 1]))
+    cuts, said = judged_cuts(run, losses), []
+    for parts in range(1, len(cuts) + 3):
+        ranges = cut_ranges(run, losses, parts)
+        own = [judged_cuts(ranged(run, *it), losses) for it in ranges]
+        if sum(own, []) != cuts:
+            said.append(f"{parts} parts have the cuts {own}, and not {cuts}")
+        if len(ranges) != max(1, min(parts, len(cuts))) or not all(own) and cuts:
+            said.append(f"{parts} parts are {own}")
+        follow = all(one[1] + 1 == other[0] for one, other in zip(ranges, ranges[1:]))
+        if not follow or ranges[0][0] != (given[0] or 0) or ranges[-1][1] != (len(entries) if given[1] is None else given[1]):
+            said.append(f"{parts} parts have the ranges {ranges}")
+        if any(last not in cuts for _first, last in ranges[:-1]):
+            said.append(f"{parts} parts end where no cases are looked for: {ranges}")
+        rest = [weight(run, cut) for cut in cuts]
+        for it, others in zip(own[:-1], range(len(own) - 1, 0, -1)):
+            beyond = sum(rest[: len(it) - 1]) * (others + 1) >= sum(rest) and len(it) > 1
+            short = sum(rest[: len(it)]) * (others + 1) < sum(rest) and len(rest) - len(it) > others
+            if beyond or short:
+                said.append(f"a part of {parts} has {len(it)} cuts of {rest}")
+            rest = rest[len(it) :]
+    return said
+
+
 def main():
-    parser = argparse.ArgumentParser(description="Tries the rules of cases on all choices of small cuts.")
+    parser = argparse.ArgumentParser(description="Tries the rules of cases on all choices of small cuts, and of parts on small logs.")
     parser.add_argument("--runs", type=int, default=400)
     parser.add_argument("--seed", type=int, default=1)
     given = parser.parse_args()
@@ -530,6 +603,11 @@ def main():
             print(f"run {number}: {line}")
         passed, failed = passed + (what == []), failed + bool(what)
         number += 1
+    for number in range(given.runs):
+        what = layout_holds(number, given.seed)
+        for line in what:
+            print(f"layout {number}: {line}")
+        passed, failed = passed + (what == []), failed + bool(what)
     print(f"{passed} passed, {failed} failed")
     return 1 if failed else 0
 

@@ -10,7 +10,7 @@ LEAST = 4.5
 
 
 def style():
-    return dress("STYLE").split("<style>")[1].split("</style>")[0]
+    return dress("STYLE").split("<style>")[1] + dress("CASE_STYLE")
 
 
 def colours(theme):
@@ -41,8 +41,8 @@ def pairs():
     for rule in re.findall(r"\{([^{}]*)\}", style()):
         grounds = re.findall(r"background:[^;]*", rule)
         grounds = re.findall(r"var\(--([a-z0-9-]+)\)", grounds[0]) if grounds else ["paper", "aim"]
-        for text in re.findall(r"(?<![a-z-])color:var\(--([a-z0-9-]+)\)", rule):
-            yield from ((text, ground) for ground in grounds)
+        for name, fixed in re.findall(r"(?<![a-z-])color:(?:var\(--([a-z0-9-]+)\)|(#[0-9a-f]+))", rule):
+            yield from ((name or fixed, ground) for ground in grounds)
 
 
 def too_low():
@@ -51,7 +51,7 @@ def too_low():
     for theme, name in enumerate(("light", "dark")):
         values = colours(theme)
         for text, ground in sorted(set(pairs())):
-            ratio = contrast(values[text], values[ground])
+            ratio = contrast(values.get(text, text), values[ground])
             if ratio < LEAST:
                 found.append(f"{name}: {text} on {ground} {ratio:.2f}")
     return found
@@ -60,4 +60,4 @@ def too_low():
 if __name__ == "__main__":
     for theme, name in enumerate(("light", "dark")):
         for text, ground in sorted(set(pairs())):
-            print(f"{name:5} {text:12} {ground:8} {contrast(colours(theme)[text], colours(theme)[ground]):5.2f}")
+            print(f"{name:5} {text:12} {ground:8} {contrast(colours(theme).get(text, text), colours(theme)[ground]):5.2f}")

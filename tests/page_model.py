@@ -70,9 +70,9 @@ def share(images, failing):
     return next((it for it in BOUNDED if failing * it[2] <= images), MORE)
 
 
-def legend():
+def legend(kind="images"):
     keys = "".join(f"<span><b class='{it[0]}'></b>{it[1]}</span>" for it in (NONE, *BOUNDED, MORE, ALL))
-    return dress("LEGEND") + keys + "</p>\n"
+    return dress("LEGEND") + f"<span>{kind} of a cut that fail:</span>" + keys.replace("no image", f"no {kind[:-1]}") + "</p>\n"
 
 
 def flush_cell(program, flush):
@@ -171,12 +171,12 @@ def group(run, own, is_open):
     return text + "</details>\n"
 
 
-def folded_strip(run, program, flushes, cuts):
+def folded_strip(run, program, flushes, cuts, kind="images"):
     """The same of a large log, by its blocks."""
     bad = [cut for cut in cuts if cut.failing]
     blocks = folded(run)
     text = f"<p class='about'>A cell stands for up to {blocks[0][2]} entries, and the one before it for as many cuts,"
-    text += " in the colour of the first at which images fail.</p>\n"
+    text += f" in the colour of the first at which {kind} fail.</p>\n"
     text += "<div tabindex='0' role='group' aria-label='The log: arrow keys move' class='log many'>\n"
     for start, end, beyond in blocks:
         own = [cut for cut in bad if start <= cut.number < beyond]
@@ -197,12 +197,18 @@ def folded_strip(run, program, flushes, cuts):
     return text + "</div>\n"
 
 
+def short_line(run, number):
+    """An entry as it stands in a block: its line in `log` without the words before its numbers."""
+    return entry_line(run, number).replace("entry ", "", 1).replace("epoch ", "", 1)
+
+
 def folded_list(run):
     """The entries of a large log, by its blocks."""
     text = "<section aria-labelledby='entries'>\n<h2 id='entries'>Entries</h2>\n"
+    text += "<p class='about'>Each by its number, its epoch and what it asks of the device.</p>\n"
     for start, end, _beyond in folded(run):
         if start < end:
-            lines = "".join(html(entry_line(run, it)) + "\n" for it in range(start, end))
+            lines = "".join(html(short_line(run, it)) + "\n" for it in range(start, end))
             text += f"<details id='e{start}'><summary>entries {start} to {end - 1}</summary>\n<pre>{lines}</pre></details>\n"
     return text + "</section>\n"
 
@@ -246,7 +252,7 @@ def program_text(run, program, said, cuts):
 def page_of(run, about, programs):
     """The page with that text about the run, of programs: what is said of each, and on which images it fails."""
     name = f"entries {len(run.entries)}, sectors {run.sectors}"
-    text = f"{dress('OPENING')}{name}{dress('STYLE')}{name}</h1>\n<pre class='about'>{html(about)}</pre>\n</header>\n<main>\n"
+    text = f"{dress('OPENING')}{name}{dress('STYLE')}{dress('STYLE_END')}{name}</h1>\n<pre class='about'>{html(about)}</pre>\n</header>\n<main>\n"
     for program, (said, own) in enumerate(programs):
         cuts = [Cut(run, number, [it for it in own if it.image.cut == number]) for number in run.wanted_cuts()]
         text += program_text(run, program, said, cuts)

@@ -56,7 +56,10 @@ Where the rows stand
     rows/why.py         why checkers fail, of many logs and of the designs, against the model
     rows/cure.py        where flushes are missing, of many logs and of the designs, against the model
     rows/cases.py       every loss of any number of writes, as cases: options, refusals, many logs and the designs, against the model
+    rows/case_cuts.py   at which cuts cases are looked for, and parts by cuts, against the model
+    rows/case_pages.py  these cases as pages, against the model
     rows/why_cases.py   why these cases fail, of many logs and of the designs, against the model
+    rows/cure_cases.py  where flushes are missing for these cases, of many logs and of the designs, against the model
     rows/based.py       devices that held something before entry 0, in all commands, against the model
     rows/browser.py     runs as a page for a browser, of many logs and of the designs, against the model
     rows/ranges.py      flushes that are added and ranges of cuts, in `log`, in `page`, and of the designs, against the model
@@ -77,6 +80,7 @@ Where the rows stand
     contrast.py         the contrast of the text on a page, by the colours of its style
     model.py            the crash model and the report, written from docs/CRASH-MODEL.md and docs/OUTPUT.md alone
     cases_model.py      cases and their text, written from the same documents; by itself it makes all choices of small cuts
+    cure_cases_model.py the cure by cases, written from the same documents; by itself it tries what is said of it on many logs
     lines_model.py      lines of C and their places in the text of `check`, written from docs/CHECKERS.md and docs/OUTPUT.md alone
     machine_model.py    what a program comes to on an image, written from docs/MACHINE.md alone
     parts_model.py      runs in parts and their join, and runs of any number of images, written from the same documents
@@ -95,6 +99,7 @@ import re
 import subprocess
 import sys
 import tempfile
+import time
 from collections import Counter
 from concurrent.futures import ThreadPoolExecutor
 from pathlib import Path
@@ -107,7 +112,7 @@ sys.path.append(str(TOOLS))
 import completions
 import contrast
 import man_page
-from notation import SECONDS, TOP, Assembly, Folder, Hole, Link, Locked, Long, Pair, Printable, Something
+from notation import SECONDS, TOP, Assembly, Folder, Hole, Link, Locked, Long, Pair, Printable, Something, log
 from rows import (
     answers,
     any_images,
@@ -115,10 +120,13 @@ from rows import (
     based,
     blind,
     browser,
+    case_cuts,
+    case_pages,
     cases,
     checkers,
     commands,
     cure,
+    cure_cases,
     each_option,
     encodings,
     examples,
@@ -183,6 +191,9 @@ TABLES = [
     cure,
     cases,
     why_cases,
+    cure_cases,
+    case_cuts,
+    case_pages,
     browser,
     ranges,
     based,
@@ -301,7 +312,7 @@ def output_differs(what, found, wanted):
 
 
 # What `--progress` says of a run: a line that is written again, and its end.
-PROGRESS = re.compile(rb"(progress: \d+( of \d+ images| cases)\r)*(?P<last>progress: \d+( of \d+ images| cases)\n)")
+PROGRESS = re.compile(rb"(progress: (begun|\d+( of \d+ images| cases))\r)*(?P<last>progress: \d+( of \d+ images| cases)\n)")
 
 
 def split_progress(error):
@@ -409,6 +420,22 @@ def manual_differs(program):
     return output_differs("the man page", (TOP / "docs/crashbpf.1").read_bytes(), made.stdout)
 
 
+def progress_lacks(program):
+    """What is wrong with the progress of a run whose one image takes seconds: each second has a line."""
+    with tempfile.TemporaryDirectory() as folder:
+        put(folder, "empty.log", log([]), None)
+        source = "mov64 r1, 0\nadd64 r1, 1\njlt r1, 60000000, -2\nmov64 r0, 0\nexit\n"
+        Path(folder, "slow.bpf").write_bytes(Assembler(program).assemble(source))
+        words = [program, "explore", "empty.log", "slow.bpf", "--sectors", "1", "--checked", "1000000000", "--progress"]
+        start = time.monotonic()
+        done = subprocess.run(words, cwd=folder, capture_output=True, timeout=SECONDS)
+        seconds = time.monotonic() - start
+    said = len(re.findall(rb"progress: [01] of 1 images\r", done.stderr))
+    found = [] if done.returncode == 0 else [f"status {done.returncode}"]
+    found += [] if said >= int(seconds * 0.8) else [f"{said} lines in {seconds:.1f} s"]
+    return found + output_differs("its last line", split_progress(done.stderr)[0], b"progress: 1 of 1 images\n")
+
+
 def tables_differ():
     """What is wrong with the tables of docs/ that are made of the man page and of the sources."""
     command = [sys.executable, TOP / "tools/document_tables.py", "--check"]
@@ -435,8 +462,9 @@ def main(words):
         results = list(pool.map(lambda row: run_row(program, row, assembler), rows))
     names = [row.name for row in rows]
     names += ["the man page is the program's help", "the tables of docs/ are those of the help and the sources"]
+    names += ["a run that takes long says its progress each second"]
     names += ["text on a page has enough contrast", "each option and each command of the help is tried"]
-    results += [manual_differs(program), tables_differ(), contrast.too_low(), help_lacks(program)]
+    results += [manual_differs(program), tables_differ(), progress_lacks(program), contrast.too_low(), help_lacks(program)]
     failed = 0
     for name, found in zip(names, results):
         if found:

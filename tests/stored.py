@@ -1,6 +1,6 @@
 #!/usr/bin/env python3
 """Writes the texts that are stored of the designs of examples/: their reports, their cases with any number of losses, why they fail and why
-these cases do, their cures, and an image of each wrong version in words. All are the model's; the rows compare them with what the program prints.
+these cases do, their cures, by images and by cases, and an image of each wrong version in words. All are the model's; the rows compare them with what the program prints.
 
     python3 tests/stored.py
 
@@ -11,6 +11,7 @@ import sys
 sys.dont_write_bytecode = True
 
 from cases_model import cases
+from cure_cases_model import cure_cases
 from cure_model import cure
 from designs import DESIGNS, EXAMPLES, EXPLAINED, IN_WORDS, checker_of
 from model import explored, shown
@@ -25,6 +26,7 @@ def texts():
         yield f"{which}.cases", cases(run, checkers)
         yield f"{which}.why_cases", case_causes(run, checkers)
         yield f"{which}.cure", cure(run, checkers)
+        yield f"{which}.cure_cases", cure_cases(run, checkers)
         yield f"{which}.why", causes(EXPLAINED[which], checkers)
         if which in IN_WORDS:
             yield f"{which}.show", shown(run, list(run.images())[IN_WORDS[which]])

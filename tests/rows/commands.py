@@ -267,13 +267,11 @@ OPTIONS = {
     "verify p0 --sectors 0": 1,
     "verify p0 --sectors 16385": 1,
 }
-OPTIONS.update({f"{words} --bound any": 2 for words in ("page log p0 --sectors 4", "images log --sectors 4", "export log --sectors 4")})
+OPTIONS["export log --sectors 4 --bound any"] = 2
 OPTIONS.update({f"{words} --sectors 4 --bound=any": 2 for words in ("image log 0", "show log 0")})
 OPTIONS.update({cure: OPTIONS[f"explore{cure[len('cure'):]}"] for cure in as_cures(OPTIONS)})
 
-OPTIONS["cure log p0 --sectors 4 --bound any"] = 2
-
-# Of any number of losses, which `explore` and `why` take
+# Of any number of losses, which `explore`, `why`, `cure` and `page` take, and `images`, which makes no run
 ANY_LOSSES = {
     "--bound any --torn 1": 20,
     "--bound any --tears --torn 0": 20,
@@ -302,7 +300,9 @@ ANY_LOSSES = {
     "--bound 4 --at-most 1": 2,
 }
 OPTIONS.update({f"explore log p0 --sectors 4 {options}": place for options, place in ANY_LOSSES.items()})
-OPTIONS.update({f"why log p0 --sectors 4 {it}": place for it, place in ANY_LOSSES.items() if "--images" not in it and "--first" not in it})
+OF_ALL = {it: place for it, place in ANY_LOSSES.items() if "--images" not in it and "--first" not in it}
+OPTIONS.update({f"{command} log p0 --sectors 4 {it}": place for command in ("why", "cure", "page") for it, place in OF_ALL.items()})
+OPTIONS.update({f"images log --sectors 4 {it}": place for it, place in OF_ALL.items() if not any(option in it for option in ("--torn", "--cache", "--workers"))})
 
 # The values at the ends of each option's range.
 ENDS = [

@@ -180,6 +180,11 @@ PAIRS["at-most"] = {"explore": dict(two=[ANY, f"{ANY} --at-most 1"], statuses=(1
 WHY_ANY = ANY.replace("explore", "why")
 PAIRS["torn"]["why"] = dict(two=[f"{WHY_ANY} --tears", f"{WHY_ANY} --tears --torn 2"], statuses=(1, 1), differ=("out 2", "out 4"), holds=("tears yes torn 2",))
 PAIRS["at-most"]["why"] = dict(two=[WHY_ANY, f"{WHY_ANY} --at-most 1"], statuses=(1, 1), differ=("out 2", "out 4"), holds=("at-most 1",))
+for command, differ in {"cure": ("out 2", "out 4"), "page": ("out",)}.items():
+    words = ANY.replace("explore", command)
+    PAIRS["torn"][command] = dict(two=[f"{words} --tears", f"{words} --tears --torn 2"], statuses=(1, 1), differ=differ)
+    PAIRS["at-most"][command] = dict(two=[words, f"{words} --at-most 1"], statuses=(1, 1), differ=differ)
+PAIRS["at-most"]["images"] = dict(two=["images log --sectors 4 --bound any", "images log --sectors 4 --bound any --at-most 1"], differ=("out 2",))
 
 # A part of the images, and a log with too many.
 TOO_MANY = "--sectors 3000 --bound 3"

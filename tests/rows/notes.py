@@ -255,7 +255,7 @@ OPTIONS = [
         "refused 13 at 9",
         "the log has no image of that number with these --cuts, --by, --bound and --tears; 'crashbpf images' tells how many it has",
     ),
-    noted("a bound that none of these is", "images log --sectors 4 --bound any", {}, "refused 13 at 2", "--bound is 0 to 3"),
+    noted("a bound that none of these is", "export log --sectors 4 --bound any", {}, "refused 13 at 2", "--bound is 0 to 3"),
     noted("torn", "explore log p0 --sectors 4 --bound any --torn 1", {}, "refused 13 at 20", "--torn is 1 to 3, beside --bound any and --tears"),
     noted("at most", "explore log p0 --sectors 4 --at-most 1", {}, "refused 13 at 21", "--at-most is 1 to 64, beside --bound any"),
     noted("a cache, of any number of losses", "explore log p0 --sectors 4 --bound any --cache 9", {}, "refused 13 at 4", "--cache doesn't stand beside --bound any"),

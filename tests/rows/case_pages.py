@@ -1,0 +1,44 @@
+"""Runs of any number of losses as pages: what `page --bound any` prints of many logs and of the designs of examples/, compared with the
+model (case_page_model.py)."""
+from dataclasses import replace
+
+from case_page_model import page
+from cases_model import ANY, Losses, cases, status
+from designs import DESIGNS, EXAMPLES, checker_of, data, folder_of
+from designs import LOGS as STORED
+from model import Run
+from notation import Long, explore
+
+from rows.browser import LATE, MARKUP
+from rows.cases import INDEXES, TABLE, runs, words_of
+from rows.modelled import CHECKERS, PROGRAMS
+
+# Every few runs one is looked at.
+STEP = 5
+
+
+def paged(name, run, programs, checkers, losses=ANY, more=""):
+    """A row of a run, by the model."""
+    options = f"{words_of(run, losses)}{more}"
+    row = explore(f"page of cases: {name}, {options}", options, run.recorded, programs, Long(lambda: page(run, checkers, losses)), status(cases(run, checkers, losses)))
+    row = replace(row, words=row.words.replace("explore ", "page ", 1))
+    return replace(row, files={**row.files, "base": run.base}) if run.base else row
+
+
+def design(which, more=""):
+    """A design of examples/ by its file."""
+    run, checker = DESIGNS[which], checker_of(which)
+    options = words_of(run, ANY) + more
+    row = explore(f"page of cases: {which}, by its file{more}", options, data(STORED / f"{which}.log"), data(EXAMPLES / f"{folder_of(which)}/checker.bpf"), Long(lambda: page(run, [checker])), status(cases(run, [checker])))
+    return replace(row, words=row.words.replace("explore ", "page ", 1))
+
+
+ROWS = [
+    *map(design, DESIGNS),
+    design("tree/wrong", " --workers 3"),
+    *(paged(name, run, checker[0], [checker[1]]) for name, run, checker, _count, _failing in TABLE[:6]),
+    *(paged(name, run, PROGRAMS[:2], CHECKERS[:2], losses) for name, run, losses in list(runs())[::STEP]),
+    paged("markup in a mark", Run(MARKUP, 64, by="write"), PROGRAMS[:1], CHECKERS[:1]),
+    paged("many entries", Run(LATE, 4, first=995), PROGRAMS[:2], CHECKERS[:2], Losses(None, 1)),
+    paged("no wanted cut", Run(INDEXES.entries, 4, cuts="flush", first=0, last=1), PROGRAMS[:2], CHECKERS[:2]),
+]
