@@ -16,6 +16,8 @@ part of the gate.
               1 and 4 workers. The checker looks at a sector that the log writes
     cache     18,001 images, equal but for their choice, and a checker of some 20,500 steps that looks at all 64 sectors: with no
               cache and one of 65,536
+    cases     `--bound any`, by 1, 2 and 4 workers. Of one cut 78,125 cases, four writes to each of seven sectors, and a checker of 1,000
+              steps that looks at all of them. Of 401 cuts 25,601, nine writes to three sectors at each, and such a checker
 """
 import os
 import subprocess
@@ -71,10 +73,21 @@ mov64 r0, 0
 exit
 """
 
+
+def looking(sectors):
+    """A checker of some 1,000 steps that looks at the first sectors, and answers 0."""
+    look = "".join(f"mov64 r1, {it}\ncall 5\n" for it in range(sectors))
+    return f"{look}mov64 r1, 250\ncall 3\njeq r0, 0, +1\nja -4\nmov64 r0, 0\nexit\n"
+
+
+CHECKERS = {"five": FIVE_STEPS, "many": MANY_STEPS, "uneven": UNEVEN_STEPS, "seven": looking(7), "three": looking(3)}
+
 LOGS = {
     "drops.log": lambda: [W(0, 1, 0x55)] * 2828,
     "equal.log": lambda: [W(sector % 64, 1, 0) for sector in range(1200)],
     "flushes.log": lambda: [W(0, 1, 0x55), *[F] * 65534],
+    "heavy.log": lambda: [W(it % 7, 1, 1 + it) for it in range(28)],
+    "cuts.log": lambda: [entry for turn in range(400) for entry in [*(W(it % 3, 1, 1 + (9 * turn + it) % 250) for it in range(9)), F]],
 }
 
 DROPS = "explore drops.log five --sectors 4096 --cuts flush --bound 2"
@@ -82,6 +95,8 @@ TEARS = "--sectors 1024 --cuts flush --bound 2 --tears"
 TORN_IMAGES = 4_000_000
 UNEVEN = "explore flushes.log uneven --sectors 1 --bound 0"
 EQUAL = "explore equal.log many --sectors 64 --cuts flush --bound 1 --tears"
+HEAVY = "explore heavy.log seven --sectors 8 --bound any"
+CUTS = "explore cuts.log three --sectors 8 --bound any"
 
 RUNS = {
     "1 worker": DROPS,
@@ -91,6 +106,12 @@ RUNS = {
     "uneven, 4 workers": f"{UNEVEN} --workers 4",
     "no cache": EQUAL,
     "cache": f"{EQUAL} --cache 65536",
+    "one cut, 1 worker": HEAVY,
+    "one cut, 2 workers": f"{HEAVY} --workers 2",
+    "one cut, 4 workers": f"{HEAVY} --workers 4",
+    "401 cuts, 1 worker": CUTS,
+    "401 cuts, 2 workers": f"{CUTS} --workers 2",
+    "401 cuts, 4 workers": f"{CUTS} --workers 4",
 }
 
 
@@ -104,7 +125,7 @@ def seconds(program, words, folder):
 def prepare(program, folder):
     for name, entries in LOGS.items():
         Path(folder, name).write_bytes(log(entries()))
-    for name, text in [("five", FIVE_STEPS), ("many", MANY_STEPS), ("uneven", UNEVEN_STEPS)]:
+    for name, text in CHECKERS.items():
         Path(folder, "source").write_text(text)
         done = subprocess.run([program, "asm", "source"], cwd=folder, capture_output=True, check=True)
         Path(folder, name).write_bytes(done.stdout)
@@ -149,6 +170,9 @@ def main(words):
     print(f"4 workers  {best['1 worker'] / best['4 workers']:6.2f} times one")
     print(f"uneven     {best['uneven, 1 worker'] / best['uneven, 4 workers']:6.2f} times one, by 4 workers")
     print(f"cache      {best['no cache'] / best['cache']:6.2f} times none")
+    for of in ["one cut", "401 cuts"]:
+        for many in [2, 4]:
+            print(f"{of:10} {best[f'{of}, 1 worker'] / best[f'{of}, {many} workers']:6.2f} times one, by {many} workers")
     if len(words) > 1:
         print(f"one worker {best['1 worker, before'] / best['1 worker']:6.2f} times before")
         for name in ["4 workers", "uneven, 4 workers"]:
