@@ -82,7 +82,7 @@ fn copy_sets(alloc: Global, sets: &[u16]) -> Result<Vec<u16>, AllocError>
     Ok(copy)
 }
 
-/// The same start.
+/// A copy of a start.
 pub(crate) fn copy_start(alloc: Global, start: &Start) -> Result<Start, AllocError>
     ensures whole { IfOk result (λ copy. copy.whole ≡ start.now.whole) }
     ensures sets { IfOk result (λ copy. copy.sets.items ≡ start.now.sets.items) }

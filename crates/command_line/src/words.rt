@@ -204,11 +204,14 @@ const AFTER_JOIN: &str =
     "The parts have each image of the run once. With --part they may be some in a row: the answer is then the text of
 a part again, which can be joined with others.
 
+With --bound any parts are ranges of cuts, by --from and --to, as 'images --bound any --parts' prints them. They have
+each cut once, and come to the text of the run of all cuts.
+
 Example: crashbpf explore disk.log check.bpf --sectors 64 --tears --images 0..600 > a.part
          crashbpf explore disk.log check.bpf --sectors 64 --tears --images 600..1216 > b.part
          crashbpf join a.part b.part
 
-Exit status: 0 where no image fails, 1 where one does, 2 for a refusal: 61 to 66 at the file.";
+Exit status: 0 where no image fails, 1 where one does, 2 for a refusal: 12 or 61 to 66 at the file.";
 
 /// An option that takes a number.
 fn number_option<'a>(alloc: Global, name: &'a str, help: &'a str) -> Arg<'a> {

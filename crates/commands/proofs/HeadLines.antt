@@ -212,3 +212,15 @@ head_stands h =
       is = head_is h;
       text = subst (λ (bs : List ℕ). IsUtf8 bs) (sym (head_is h)) text;
     }
+
+-- so they are of ASCII
+
+pub plain_device : (h : HeadValue) → list_all is_plain (device_text h) ≡ true
+plain_device h = inner_plain (device_text h) (inner_device h)
+
+pub plain_given : (h : HeadValue) → list_all is_plain (given_text h) ≡ true
+unfolding given_text
+plain_given h = both is_plain (given_inside h) (10 ∷ []) (inner_plain (given_inside h) (inner_given h)) refl
+
+pub plain_programs : (n : ℕ) (ps : List ProgramHead) → list_all is_plain (program_lines n ps) ≡ true
+plain_programs n ps = subst (λ (bs : List ℕ). list_all is_plain bs ≡ true) (sym (programs_are n ps)) (plain_lines (programs_inside n ps) (inner_programs n ps))

@@ -1,5 +1,6 @@
 -- Lemmas of the crate.
 pub mod Acts
+pub mod Joining
 pub mod OneReport
 pub mod OwnRun
 pub mod Once
@@ -12,7 +13,10 @@ pub mod OneCases
 pub mod OneCasePage
 pub mod OneFirst
 pub mod OneCure
+pub mod OneRow
+pub mod OneSize
 pub mod OneJoin
+pub mod OneCasesJoin
 pub mod OneRetold
 pub mod LinesOfRun
 pub mod OneAnswer
@@ -31,3 +35,16 @@ pub mod GivenRun
 pub mod OfReport
 pub mod Lengths
 pub mod Streams
+pub mod CaseFates
+pub mod CasePlaces
+pub mod CaseKnown
+pub mod CaseLines
+pub mod CaseOrder
+pub mod CasePlain
+pub mod CasePrinted
+pub mod CaseGiven
+pub mod CaseSegments
+pub mod CaseJoined
+pub mod CaseLaidOut
+pub mod CaseOwn
+pub mod CaseRefused

@@ -1,5 +1,5 @@
 -- Each command has one answer.
-use Rattle.std.proofs.Common.{ℕ, ◌≡◌, Bool, true, false, List, [], ◌∷◌, ◌++◌, length, map, flat_map, Option, None, Some, refl, sym, ◌∙◌, ap, subst}
+use Rattle.std.proofs.Common.{ℕ, ◌≡◌, ◌↔◌, IsTrue, Bool, true, false, List, [], ◌∷◌, ◌++◌, length, map, flat_map, Option, None, Some, refl, sym, ◌∙◌, ap, subst}
 use Rattle.std.specs.Prelude.{MatchOption}
 use Rattle.logfmt.specs.Bounds.{LogValue}
 use Rattle.logfmt.specs.Laws.{TextOfOneLog}
@@ -24,7 +24,7 @@ use Rattle.request.specs.declared.command.Which.{Which}
 use Rattle.request.specs.declared.command.Request.{Request}
 use Rattle.request.specs.declared.trials.Trial.{Trial}
 use Rattle.request.specs.declared.trials.TrialWords.{TrialWords}
-use Rattle.join.specs.Joining.{IsJoined}
+use Rattle.join.specs.CaseJoining.{HasFailing}
 use Rattle.inspect.specs.TrialImage.{sectors_of as image_sectors}
 use Rattle.inspect.specs.TrialText.{Bound, bound_of, IsBoundBy, trial_text, ending_of_trial, IsTried}
 use Rattle.request.specs.declared.command.Request.TheVariants as request
@@ -53,13 +53,14 @@ use Rattle.inspect.specs.Verifying.{verified_text, IsAcceptedText}
 use Rattle.inspect.specs.Assembly.{listing_text, IsAssembled, IsListed}
 use Rattle.runs.specs.declared.explore_command.Wanted.{Wanted}
 use Rattle.runs.specs.declared.explore_command.Wanted.TheVariants as wanted
-use Rattle.commands.specs.Acting.{Files, initial_of, recording, status_of, AnswersRun, AnswersFiles, AnswersExplore, AnswersCases, wanted_by, AnswersLosses, any_words, AnswersRetold, AnswersFile, AnswersLog, AnswersOf, AnswersWith, AnswersTrial, AnswersJoin, Answers, form_of}
+use Rattle.commands.specs.Acting.{Files, initial_of, recording, status_of, AnswersRun, AnswersFiles, AnswersExplore, AnswersCases, wanted_by, AnswersLosses, any_words, AnswersRetold, AnswersFile, AnswersLog, AnswersOf, AnswersWith, AnswersTrial, AnswersJoin, JoinsEither, join_of_parts, join_of_cases, Answers, form_of}
 use Rattle.commands.proofs.OneReport.{same_log, same_asked, one_run}
 use Rattle.commands.proofs.OneText.{one_explanation}
 use Rattle.commands.proofs.OnePage.{one_page}
 use Rattle.commands.proofs.OneCure.{one_cure, one_cures}
 use Rattle.commands.proofs.OneFirst.{one_by_cases, one_losses}
 use Rattle.commands.proofs.OneJoin.{one_join}
+use Rattle.commands.proofs.OneCasesJoin.{one_cases_join}
 use Rattle.commands.proofs.OneRetold.{one_retold}
 
 -- what the laws of the lower layers say
@@ -298,12 +299,24 @@ trial_once laws w files bytes others status ended a b =
     let same = one_trial laws a.program a.image a.lines a.trial bytes others a.failing b.failing a.tried tried in
     (same.0, a.ends ∙ ap status_of same.1 ∙ sym b.ends)
 
+same_truth : (P : Type 0) (a b : Bool) → IsTrue a ↔ P → IsTrue b ↔ P → a ≡ b
+same_truth P true true one two = refl
+same_truth P false false one two = refl
+same_truth P true false one two = absurd (let bad : false ≡ true = two.1 (one.0 refl) in cc)
+same_truth P false true one two = absurd (let bad : false ≡ true = one.1 (two.0 refl) in cc)
+
+texts_once : (part : Bool) (texts : List (List ℕ)) (bytes others : List ℕ) (status ended : ℕ) → JoinsEither part texts bytes status → JoinsEither part texts others ended → Same bytes others status ended
+texts_once part texts bytes others status ended (join_of_parts first a) (join_of_parts second b) =
+    let same = one_join texts bytes others a.failing b.failing a.joined.joined b.joined.joined in (same.0, a.ends ∙ ap status_of same.1 ∙ sym b.ends)
+texts_once part texts bytes others status ended (join_of_cases first a) (join_of_cases second b) =
+    (one_cases_join part part texts bytes others a.joined b.joined, a.ends ∙ ap status_of (same_truth (HasFailing texts) a.failing b.failing a.fails b.fails) ∙ sym b.ends)
+texts_once part texts bytes others status ended (join_of_parts first a) (join_of_cases second b) = absurd (let bad : false ≡ true = sym first ∙ second in cc)
+texts_once part texts bytes others status ended (join_of_cases first a) (join_of_parts second b) = absurd (let bad : true ≡ false = sym first ∙ second in cc)
+
 join_once : (part : Bool) (files : Files) (bytes others : List ℕ) (status ended : ℕ) → AnswersJoin part files bytes status → AnswersJoin part files others ended → Same bytes others status ended
 join_once part files bytes others status ended a b =
     let texts : b.texts ≡ a.texts = same_files files.named b.texts a.texts b.read a.read in
-    let joined = subst (λ (ts : List (List ℕ)). IsJoined ts others b.joins.failing) texts b.joins.joined.joined in
-    let same = one_join a.texts bytes others a.joins.failing b.joins.failing a.joins.joined.joined joined in
-    (same.0, a.joins.ends ∙ ap status_of same.1 ∙ sym b.joins.ends)
+    texts_once part a.texts bytes others status ended a.joins (subst (λ (ts : List (List ℕ)). JoinsEither part ts others ended) texts b.joins)
 
 retold_once : Laws → (t : Retelling) (w : OptionWords) (files : Files) (bytes others : List ℕ) (status ended : ℕ)
     → AnswersRetold t w files bytes status → AnswersRetold t w files others ended → Same bytes others status ended

@@ -16,8 +16,9 @@ use Rattle.crash_page.specs.Blocks.{most_cells}
 use Rattle.crash_page.specs.Groups.{cut_begin, cut_body, shown_of, one_failing, unlisted_text}
 use Rattle.crash_page.specs.Page.{most_of_program}
 use Rattle.crash_page.specs.CaseRows.{row_at, case_said, row_text, case_row}
-use Rattle.crash_page.specs.CasePage.{RunValue, cut_at, case_rows, rest_text, case_head, cut_shown, listed_text, cuts_text, counts_of, summary_text, shown_cuts, program_text, programs_text, parts_text, case_page_text}
-use Rattle.commands.proofs.OneCases.{EachSame, CutsSame, cut_value}
+use Rattle.crash_page.specs.CasePage.{RunValue, cut_at, case_rows, rest_text, case_head, cut_shown, listed_text, cuts_text, counts_of, summary_text, shown_cuts, program_text, programs_text, is_complete, left_text, run_text, parts_text, case_page_text}
+use Rattle.case_text.specs.Text.{options_text, count_torn_beyond, count_lost_beyond}
+use Rattle.commands.proofs.OneCases.{EachSame, CutsSame, cut_value, torn_same, lost_same}
 
 -- a row says what is known of its case
 row_same : (at : CutValue) (tears : Bool) (f g : FailingCase) → known_case at tears f ≡ known_case at tears g → case_row at tears (failing_value f) ≡ case_row at tears (failing_value g)
@@ -164,9 +165,15 @@ programs_same run ls ms same program (head ∷ heads) =
     let rest = programs_same run ls ms same (program + 1) heads in
     λ i. first i ++ rest i
 
-pub page_same : (h : HeadValue) (asked : Losses) (log : LogValue) (ls ms : List CutFound) → CutsSame log h.by asked.tears ls ms → case_page_text h asked log ls ≡ case_page_text h asked log ms
+found_same : (run : RunValue) (about : List ℕ) (heads : List ProgramHead) (ls ms : List CutFound) → CutsSame run.log run.way run.tears ls ms → parts_text run about heads ls ≡ parts_text run about heads ms
 unfolding parts_text
+found_same run about heads ls ms same = let programs : programs_text run ls 0 heads ≡ programs_text run ms 0 heads = programs_same run ls ms same 0 heads in rw programs refl
+
+pub page_same : (h : HeadValue) (asked : Losses) (log : LogValue) (ls ms : List CutFound) → CutsSame log h.by asked.tears ls ms → case_page_text h asked log ls ≡ case_page_text h asked log ms
 page_same h asked log ls ms same =
-    let run : RunValue = record { log = log; way = h.by; tears = asked.tears } in
-    let programs : programs_text run ls 0 h.programs ≡ programs_text run ms 0 h.programs = programs_same run ls ms same 0 h.programs in
-    rw programs refl
+    let torn = torn_same log h.by asked.tears ls ms same in
+    let lost = lost_same log h.by asked.tears ls ms same in
+    let run : RunValue = record { log = log; way = h.by; tears = asked.tears; complete = is_complete (count_torn_beyond ls) (count_lost_beyond ls) } in
+    let of_run : parts_text run (run_text h asked ls) h.programs ls ≡ parts_text run (run_text h asked ls) h.programs ms = found_same run (run_text h asked ls) h.programs ls ms same in
+    of_run
+    ∙ (λ i. parts_text (record { log = log; way = h.by; tears = asked.tears; complete = is_complete (torn i) (lost i) }) (options_text h asked ++ left_text (torn i) (lost i)) h.programs ms)

@@ -155,14 +155,20 @@ length_same log way tears [] (d ∷ ds) same = absurd same
 length_same log way tears (c ∷ cs) [] same = absurd same
 length_same log way tears (c ∷ cs) (d ∷ ds) same = ap suc (length_same log way tears cs ds same.2)
 
+pub torn_same : (log : LogValue) (way : By) (tears : Bool) (ls ms : List CutFound) → CutsSame log way tears ls ms → count_torn_beyond ls ≡ count_torn_beyond ms
+torn_same log way tears ls ms same = ap in_word (sum_all (λ f. f.torn_beyond) (λ at t f g s. s.torn) log way tears ls ms same)
+
+pub lost_same : (log : LogValue) (way : By) (tears : Bool) (ls ms : List CutFound) → CutsSame log way tears ls ms → count_lost_beyond ls ≡ count_lost_beyond ms
+lost_same log way tears ls ms same = ap in_word (sum_all (λ f. f.lost_beyond) (λ at t f g s. s.lost) log way tears ls ms same)
+
 pub totals_same : (log : LogValue) (way : By) (tears : Bool) (ls ms : List CutFound) → CutsSame log way tears ls ms → totals_text ls ≡ totals_text ms
 unfolding totals_text
 totals_same log way tears ls ms same =
     let long = length_same log way tears ls ms same in
     let cases : count_cases ls ≡ count_cases ms = ap in_word (sum_all (λ f. f.cases) (λ at t f g s. s.cases) log way tears ls ms same) in
     let failing : count_failing ls ≡ count_failing ms = ap in_word (sum_all (λ f. length f.failing.items) (λ at t f g s. length_failing at t f g s) log way tears ls ms same) in
-    let torn : count_torn_beyond ls ≡ count_torn_beyond ms = ap in_word (sum_all (λ f. f.torn_beyond) (λ at t f g s. s.torn) log way tears ls ms same) in
-    let lost : count_lost_beyond ls ≡ count_lost_beyond ms = ap in_word (sum_all (λ f. f.lost_beyond) (λ at t f g s. s.lost) log way tears ls ms same) in
+    let torn = torn_same log way tears ls ms same in
+    let lost = lost_same log way tears ls ms same in
     λ i. counts_text (long i) (cases i) (failing i) ++ beyond_text (torn i) (lost i) ++ complete_word (torn i) (lost i) ++ codes "\n"
 
 any_each : (at : CutValue) (tears : Bool) (fs gs : List Found) → EachSame at tears fs gs → fails_at fs ≡ fails_at gs

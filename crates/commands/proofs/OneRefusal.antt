@@ -71,9 +71,11 @@ use Rattle.inspect.specs.TrialText.{Bound, IsBoundBy, IsTried, RefusesLimit, Ref
 use Rattle.commands.specs.Acting.{AnswersRetold, RefusesReportOf, for_log_of_report, for_report_file, for_base_of_report, for_retold}
 use Rattle.commands.specs.Acting.{AnswersLosses, RefusesLosses, any_words, for_any_losses, for_any_recording, form_of}
 use Rattle.commands.specs.Acting.{AnswersTrial, RefusesCheck, for_trial_words, for_program_file, for_image_file, for_lines_file, for_trial}
-use Rattle.commands.specs.Acting.{AnswersJoin, JoinsTexts, RefusesTexts, for_texts, RefusesParts, for_no_part, for_many_parts, for_unread_part, for_parts, for_part_memory}
+use Rattle.commands.specs.Acting.{AnswersJoin, JoinsEither, join_of_parts, join_of_cases, cases_refusal, RefusesTexts, for_texts, for_case_texts, RefusesParts, for_no_part, for_many_parts, for_unread_part, for_parts, for_part_memory}
 use Rattle.commands.specs.Laws.{IsOfMemory}
+use Rattle.join.specs.declared.case_parts.fault.CasesFault.{CasesFault}
 use Rattle.commands.proofs.OneJoin.{joined_or_refused}
+use Rattle.commands.proofs.OneCasesJoin.{cases_joined_or_refused}
 use Rattle.commands.proofs.OneReport.{Below, same_log, same_asked, same_checkers, of_log, of_source, refused_as, of_refuses, told_apart, told_uncured, cured_apart, cured_by_images, wanted_or_refusal}
 use Rattle.commands.proofs.OneCases.{not_many}
 use Rattle.commands.proofs.OneFirst.{CasesAreOne, not_refused}
@@ -389,8 +391,12 @@ of_retold below t w files bytes status r h why = of_words w h.settings (RefusesR
         let given = subst (λ (bs : List ℕ). RefusesRetold (recording h.log h.initial) bs h.settings f) (same_held _ _ _ second h.second) by_log in
         retold_or_refusal below t (recording h.log h.initial) h.report h.settings bytes h.failing f h.told given
 
-of_texts : (part : Bool) (texts : List (List ℕ)) (bytes : List ℕ) (status : ℕ) (r : Refusal) → JoinsTexts part texts bytes status → RefusesTexts part texts r → IsOfMemory r.code
-of_texts part texts bytes status _ h (for_texts fault why first) = joined_or_refused part texts bytes h.failing fault h.short h.joined why
+of_texts : (part : Bool) (texts : List (List ℕ)) (bytes : List ℕ) (status : ℕ) (r : Refusal) → JoinsEither part texts bytes status → RefusesTexts part texts r → IsOfMemory r.code
+of_texts part texts bytes status _ (join_of_parts begun h) (for_texts also fault why first) = joined_or_refused part texts bytes h.failing fault h.short h.joined why
+of_texts part texts bytes status _ (join_of_cases begun h) (for_case_texts also fault why first) =
+    subst (λ (f : CasesFault). IsOfMemory (cases_refusal f).code) (sym (cases_joined_or_refused part texts bytes fault h.short h.joined why)) refl
+of_texts part texts bytes status _ (join_of_parts begun h) (for_case_texts also fault why first) = absurd (let bad : false ≡ true = sym begun ∙ also in cc)
+of_texts part texts bytes status _ (join_of_cases begun h) (for_texts also fault why first) = absurd (let bad : true ≡ false = sym begun ∙ also in cc)
 
 -- of some texts each can be read
 texts_unread : (texts : List (List ℕ)) (place : ℕ) → 0 < length texts → unread (map Some texts) ≡ Some place → ⊥

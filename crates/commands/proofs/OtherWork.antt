@@ -45,10 +45,10 @@ log_back : (text : Recording) (s : Settings) (v : LogValue) → IsLogOf text (se
 log_back text s v h =
     record { read = h.read; recorded = record { device = h.recorded.device; size = h.recorded.size; of_log = h.recorded.of_log; initial = h.recorded.initial }; has = h.has; added = h.added }
 
-images_back : (text : Recording) (s : Settings) (v : LogValue) → HasImages text (set_alone s) v → HasImages text s v
+pub images_back : (text : Recording) (s : Settings) (v : LogValue) → HasImages text (set_alone s) v → HasImages text s v
 images_back text s v h = record { reads = log_back text s v h.reads; few = h.few; within = h.within }
 
-checkers_back : (s : Settings) (files : List (List ℕ)) (cs : List CheckerValue) → AreCheckersOf (set_alone s) files cs → AreCheckersOf s files cs
+pub checkers_back : (s : Settings) (files : List (List ℕ)) (cs : List CheckerValue) → AreCheckersOf (set_alone s) files cs → AreCheckersOf s files cs
 checkers_back s [] [] h = h
 checkers_back s [] (c ∷ cs) h = h
 checkers_back s (bytes ∷ files) [] h = h

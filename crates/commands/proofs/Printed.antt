@@ -1,5 +1,5 @@
 -- What `join` prints of the parts of a run is what `explore` prints.
-use Rattle.std.proofs.Common.{ℕ, ◌≡◌, ◌<◌, ◌≤◌, ◌&&◌, nat_le, Bool, true, false, List, [], ◌∷◌, length, map, Option, None, Some, refl, sym, ◌∙◌, ap, subst, arith}
+use Rattle.std.proofs.Common.{ℕ, ◌≡◌, ◌<◌, ◌≤◌, ◌&&◌, nat_le, Bool, true, false, List, [], ◌∷◌, bytes_eq, take, length, map, Option, None, Some, refl, sym, ◌∙◌, ap, subst, arith}
 use Rattle.std.specs.Option.{option_map, option_map_or, option_and_then}
 use Rattle.std.proofs.lemmas.Bool.Decides.{nat_tests}
 use Rattle.base.specs.Check.{check, first_failing}
@@ -9,7 +9,9 @@ use Rattle.base.specs.Sizes.{most_sectors, sector_limit}
 use Rattle.epochs.specs.declared.cuts.CutKind.{CutKind}
 use Rattle.epochs.specs.declared.flushes.Flushes.{Flushes}
 use Rattle.epochs.specs.declared.part.By.{By}
-use Rattle.join.specs.Joining.{IsJoined}
+use Rattle.logfmt.specs.Bounds.{LogValue}
+use Rattle.checker.specs.Checker.{CheckerValue}
+use Rattle.report.specs.Part.{span_text}
 use Rattle.join.specs.Laws.{Range}
 use Rattle.request.specs.declared.command.OptionWords.{OptionWords}
 use Rattle.request.specs.declared.extent.Extent.{Extent}
@@ -23,9 +25,11 @@ use Rattle.request.specs.OptionWords.{settings_with, settings_of, AskFor}
 use Rattle.request.specs.Settings.{is_one_kind, is_ordered, option_checks, settings_refusal, option_refusal, IsAsked}
 use Rattle.request.specs.Source.{Recording}
 use Rattle.runs.specs.declared.explore_command.Wanted.TheVariants as wanted
-use Rattle.runs.specs.Explore.{IsReport}
+use Rattle.runs.specs.Inputs.{inputs_number}
+use Rattle.runs.specs.Explore.{IsReport, report_of}
+use Rattle.request.specs.declared.command.Request.TheVariants as request
 use Rattle.runs.specs.Judged.{takes}
-use Rattle.commands.specs.Acting.{Files, status_of, first_file, initial_of, recording, HoldsRecording, AnswersFiles}
+use Rattle.commands.specs.Acting.{Files, status_of, first_file, initial_of, recording, HoldsRecording, AnswersFiles, Answers, JoinsEither, join_of_parts, join_of_cases, are_cases, cases_line}
 use Rattle.commands.specs.Parts.{meant, part_of, HasAnswer, AnswerParts, AreTextsOf, asking, PrintsPart, PrintParts, JoinIsExplore}
 use Rattle.commands.proofs.OneAnswer.{same_files, same_initial}
 use Rattle.commands.proofs.PartsJoined.{AreOne, whole_answer}
@@ -189,12 +193,25 @@ files_answer w files s log programs bytes failing status asked held ends report 
       };
     }
 
+-- what is printed of a part doesn't begin as the text of cases
+part_text_begins : (inputs : ℕ) (s : Settings) (x : Range) (value : LogValue) (checkers : List CheckerValue) → bytes_eq (take 14 (report_of inputs (part_of s x) value checkers)) cases_line ≡ false
+unfolding span_text
+part_text_begins inputs s x value checkers = refl
+
+no_cases : (log : Recording) (programs : List (List ℕ)) (s : Settings) (ranges : List Range) (texts : List (List ℕ)) → AnswerParts log programs s ranges texts → are_cases texts ≡ false
+no_cases log programs s [] [] answers = refl
+no_cases log programs s [] (t ∷ texts) answers = absurd answers
+no_cases log programs s (x ∷ ranges) [] answers = absurd answers
+no_cases log programs s (x ∷ ranges) (t ∷ texts) answers =
+    let report = answers.0.1.report in
+    ap (λ (bs : List ℕ). bytes_eq (take 14 bs) cases_line) report.tells ∙ part_text_begins (inputs_number log.text programs) s x report.value report.checkers
+
 pub join_is_explore : AreOne → JoinIsExplore
 join_is_explore one part w files parts images bytes status h few joined =
     let count = h.count in
     let s : Settings = count.settings in
     let texts : joined.texts ≡ h.texts = same_files parts.named joined.texts h.texts joined.read h.held in
-    let own : IsJoined h.texts bytes joined.joins.failing = subst (λ (ts : List (List ℕ)). IsJoined ts bytes joined.joins.failing) texts joined.joins.joined.joined in
+    let joins : JoinsEither part h.texts bytes status = subst (λ (ts : List (List ℕ)). JoinsEither part ts bytes status) texts joined.joins in
     let some : 0 < length h.texts = subst (λ (ts : List (List ℕ)). 0 < length ts) texts joined.some in
     let run = run_there w files count.log h.ranges h.texts count.held some h.prints in
     let all : images ≤ images = omega arith in
@@ -205,9 +222,15 @@ join_is_explore one part w files parts images bytes status h few joined =
       count = count.count;
       within = all;
     } in
-    let answer = whole_answer one count.log run.programs s h.texts images bytes joined.joins.failing are own few in
-    record {
-      settings = s;
-      asked = count.asked;
-      answers = files_answer w files s count.log run.programs bytes joined.joins.failing status count.asked run.holds joined.joins.ends answer.report;
-    }
+    by_joins s run.programs count.log count.asked run.holds are joins
+  where
+    by_joins : (s : Settings) (programs : List (List ℕ)) (log : Recording) → AskFor (asking extent.Whole w) s → HoldsRun files log programs
+        → AreTextsOf log programs s h.texts (record { from = 0; to = images }) images → JoinsEither part h.texts bytes status → Answers (request.Explore (asking extent.Whole w)) files bytes status
+    by_joins s programs log asked holds are (join_of_cases begun j) = absurd (let bad : true ≡ false = sym begun ∙ no_cases log programs s are.ranges h.texts are.answers in cc)
+    by_joins s programs log asked holds are (join_of_parts begun j) =
+        let answer = whole_answer one log programs s h.texts images bytes j.failing are j.joined.joined few in
+        record {
+          settings = s;
+          asked = asked;
+          answers = files_answer w files s log programs bytes j.failing status asked holds j.ends answer.report;
+        }

@@ -136,11 +136,11 @@ made_long s [] (c ∷ checkers) made = absurd made
 made_long s (bytes ∷ files) [] made = absurd made
 made_long s (bytes ∷ files) (c ∷ checkers) made = let rest = made_long s files checkers made.1 in omega (arith, rest)
 
-record IsMade (s : Settings) (c : CheckerValue) : Type 0 where
-  program : IsProgram c.program
-  within : IsRunWithin s.checked s.guards s.sectors c
+pub record IsMade (s : Settings) (c : CheckerValue) : Type 0 where
+  pub program : IsProgram c.program
+  pub within : IsRunWithin s.checked s.guards s.sectors c
 
-made_there : (s : Settings) (files : List (List ℕ)) (checkers : List CheckerValue) (n : ℕ) (c : CheckerValue) → AreCheckersOf s files checkers → slice_get checkers n ≡ Some c → IsMade s c
+pub made_there : (s : Settings) (files : List (List ℕ)) (checkers : List CheckerValue) (n : ℕ) (c : CheckerValue) → AreCheckersOf s files checkers → slice_get checkers n ≡ Some c → IsMade s c
 made_there s [] [] n c made there = absurd (let bad : None ≡ Some c = there in cc)
 made_there s [] (d ∷ checkers) n c made there = absurd made
 made_there s (bytes ∷ files) [] n c made there = absurd made
@@ -285,7 +285,7 @@ line_printable text files s value checkers image l given is =
       names = rw (way, departures) names;
     }
 
-heads_long : (checkers : List CheckerValue) → length (map program_head checkers) ≡ length checkers
+pub heads_long : (checkers : List CheckerValue) → length (map program_head checkers) ≡ length checkers
 heads_long [] = refl
 heads_long (c ∷ checkers) = let rest = heads_long checkers in omega (arith, rest)
 

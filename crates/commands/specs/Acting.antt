@@ -1,6 +1,6 @@
 -- What a command answers on what its files hold, and when it is refused (docs/COMMANDS.md, Commands; docs/REFUSALS.md, Refusals
 -- in their order).
-use Rattle.std.specs.Prelude.{ℕ, ◌≡◌, ◌⊎◌, ◌<◌, ◌≤◌, ◌^◌, Bool, true, false, if◌then◌else◌, List, [], ◌∷◌, length, map, position, slice_get, is_none, Option, None, Some}
+use Rattle.std.specs.Prelude.{ℕ, ◌≡◌, ◌↔◌, ◌⊎◌, ◌<◌, ◌≤◌, ◌^◌, Bool, true, false, IsTrue, if◌then◌else◌, List, [], ◌∷◌, bytes_eq, codes, take, length, map, position, slice_get, is_none, Option, None, Some}
 use Rattle.std.specs.Option.{option_map}
 use Rattle.base.specs.declared.causes.JoinCause.TheVariants as joining
 use Rattle.base.specs.declared.refusal.Cause.TheVariants.{Join}
@@ -38,6 +38,9 @@ use Rattle.runs.specs.Judged.{takes}
 use Rattle.runs.specs.Cured.{IsAnswered}
 use Rattle.join.specs.declared.fault.JoinFault.{JoinFault}
 use Rattle.join.specs.Joining.{IsJoin, RefusesJoin, size_of}
+use Rattle.join.specs.declared.case_parts.fault.CasesFault.{CasesFault}
+use Rattle.join.specs.declared.case_parts.fault.CasesFault.TheVariants as unjoined
+use Rattle.join.specs.CaseJoining.{AreJoinedCases, HasFailing, IsTooLong, RefusesCases as RefusesJoinedCases}
 use Rattle.base.specs.Sizes.{sector_limit}
 use Rattle.raw_log.specs.Imported.{IsImported}
 use Rattle.inspect.specs.Import.{RefusesImport}
@@ -238,13 +241,34 @@ pub record JoinsTexts (part : Bool) (texts : List (List ℕ)) (bytes : List ℕ)
   pub joined : IsJoin part texts bytes failing
   pub ends : status ≡ status_of failing
 
+-- the same of texts of cases, where `part` says whether they may have some of the cuts of their run
+pub record JoinsCases (part : Bool) (texts : List (List ℕ)) (bytes : List ℕ) (status : ℕ) : Type 0 where
+  pub short : size_of texts ≤ 2 ^ 30
+  pub joined : AreJoinedCases part texts bytes
+  pub failing : Bool
+  pub fails : IsTrue failing ↔ HasFailing texts
+  pub ends : status ≡ status_of failing
+
+-- the line with which the text of cases begins, and whether the first of some texts does
+abbrev pub cases_line : List ℕ
+cases_line = codes "crash cases 1\n"
+
+abbrev pub are_cases : List (List ℕ) → Bool
+are_cases [] = false
+are_cases (text ∷ texts) = bytes_eq (take 14 text) cases_line
+
+-- what texts come to: of cases where the first one begins so, and else of parts
+pub data JoinsEither (part : Bool) (texts : List (List ℕ)) (bytes : List ℕ) (status : ℕ) : Type 0 where
+  join_of_parts : are_cases texts ≡ false → JoinsTexts part texts bytes status → JoinsEither part texts bytes status
+  join_of_cases : are_cases texts ≡ true → JoinsCases part texts bytes status → JoinsEither part texts bytes status
+
 -- the same of what the command's files hold
 pub record AnswersJoin (part : Bool) (files : Files) (bytes : List ℕ) (status : ℕ) : Type 0 where
   pub texts : List (List ℕ)
   pub read : files.named ≡ map Some texts
   pub some : 0 < length texts
   pub few : length texts ≤ most_texts
-  pub joins : JoinsTexts part texts bytes status
+  pub joins : JoinsEither part texts bytes status
 
 -- what is shown of a log
 abbrev pub Shows : Look → Settings → Recording → List ℕ → Type 0
@@ -354,8 +378,13 @@ pub data RefusesCheck (w : TrialWords) (files : Files) : Refusal → Type 0 wher
 abbrev pub join_refusal : JoinFault → Refusal
 join_refusal fault = record { code = Join fault.cause; at = fault.file; program = None }
 
+abbrev pub cases_refusal : CasesFault → Refusal
+cases_refusal (unjoined.Part fault) = join_refusal fault
+cases_refusal (unjoined.TooMany file) = record { code = AskedFor asked.TooManyImages; at = file; program = None }
+
 pub data RefusesTexts (part : Bool) (texts : List (List ℕ)) : Refusal → Type 0 where
-  for_texts : (fault : JoinFault) → RefusesJoin part texts fault → (fault.cause ≡ joining.TooLong) ⊎ (size_of texts ≤ 2 ^ 30) → RefusesTexts part texts (join_refusal fault)
+  for_texts : are_cases texts ≡ false → (fault : JoinFault) → RefusesJoin part texts fault → (fault.cause ≡ joining.TooLong) ⊎ (size_of texts ≤ 2 ^ 30) → RefusesTexts part texts (join_refusal fault)
+  for_case_texts : are_cases texts ≡ true → (fault : CasesFault) → RefusesJoinedCases part texts fault → IsTooLong fault ⊎ (size_of texts ≤ 2 ^ 30) → RefusesTexts part texts (cases_refusal fault)
 
 -- the refusals of the files of parts: that there is none, or too many; the first that can't be read; then those of what they hold; or
 -- want of memory

@@ -10,3 +10,4 @@ pub mod Parts
 pub mod OtherWork
 pub mod OfReport
 pub mod Largest
+pub mod CaseParts

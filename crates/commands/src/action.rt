@@ -1,13 +1,13 @@
 //! Performing a command.
 
-ghost use Rattle.std.specs.Prelude.{◌≡◌, ◌<◌, ◌≤◌, ◌⊎◌, ◌∷◌, [], length, map, option_map, position, is_none, Some, None, MatchResult, IfOk, IfErr, OnOk};
+ghost use Rattle.std.specs.Prelude.{◌≡◌, ◌<◌, ◌≤◌, ◌⊎◌, ◌∷◌, [], true, false, length, map, option_map, position, is_none, Some, None, MatchResult, IfOk, IfErr, OnOk};
 ghost use Rattle.std.specs.List.{filter_map};
 ghost use Rattle.base.specs.Refusals.{memory_refusal};
 ghost use Rattle.request.specs.declared.command.Request.TheVariants as asks;
 ghost use Rattle.runs.specs.Explore.{RefusesWanted};
 ghost use Rattle.request.specs.Refusals.{file_refusal};
 ghost use Rattle.runs.specs.declared.explore_command.Wanted.TheVariants as wants;
-ghost use Rattle.commands.specs.Acting.{first_held, second_held, lines_held, files_of, held_by, initial_of, recording, status_of, HoldsRecording, RefusesRecording, AnswersRun, AnswersFiles, AnswersExplore, AnswersCases, wanted_by, AnswersCuts, RefusesCuts, AnswersRetold, RefusesReportOf, retold_refusal, AnswersAny, RefusesAny, any_words, form_of, Shows, AnswersOf, Answers, JoinsTexts, RefusesTexts, join_refusal, most_texts, RefusesWith, RefusesCases, RefusesLook, RefusesToAct, RefusesFiles};
+ghost use Rattle.commands.specs.Acting.{first_held, second_held, lines_held, files_of, held_by, initial_of, recording, status_of, HoldsRecording, RefusesRecording, AnswersRun, AnswersFiles, AnswersExplore, AnswersCases, wanted_by, AnswersCuts, RefusesCuts, AnswersRetold, RefusesReportOf, retold_refusal, AnswersAny, RefusesAny, any_words, form_of, Shows, AnswersOf, Answers, JoinsCases, JoinsEither, JoinsTexts, RefusesTexts, are_cases, cases_refusal, join_refusal, most_texts, RefusesWith, RefusesCases, RefusesLook, RefusesToAct, RefusesFiles};
 ghost use Rattle.commands.specs.Stored.{stored_log, stored_programs, stored_settings};
 ghost use Rattle.request.specs.declared.settings.Telling.TheVariants as tells;
 
@@ -21,7 +21,7 @@ use inspect::looks::{
     survey_cuts, verify_program,
 };
 use inspect::trial::try_image;
-use join::{JoinFault, join};
+use join::{CasesFault, JoinFault, join, join_cases};
 use request::facts::{Facts, Recording};
 use request::{
     AnyLosses, CaseTelling, LossWords, OptionWords, Options, Request, Retelling, Telling,
@@ -36,6 +36,9 @@ use workers::Gate;
 
 /// How many texts of parts are joined at most.
 const MOST_TEXTS: usize = 4096;
+
+/// The line with which the text of cases begins.
+const CASES_LINE: &[u8] = b"crash cases 1\n";
 
 /// What is shown of a log, for which no program runs.
 #[derive(Clone, Copy)]
@@ -518,16 +521,69 @@ fn not_joined(cause: JoinCause, file: u32) -> Refusal
     join_refusal_of(JoinFault { cause, file })
 }
 
+/// The refusal of texts of cases that aren't joined.
+fn cases_refusal_of(fault: CasesFault) -> Refusal
+    ensures { result ≡ cases_refusal fault }
+{
+    match fault {
+        CasesFault::Part(fault) => join_refusal_of(fault),
+        CasesFault::TooMany(file) => Refusal {
+            code: Cause::Request(RequestCause::TooManyImages),
+            at: u64::from(file),
+            program: None,
+        },
+    }
+}
+
+/// Whether the first of some texts begins as the text of cases does.
+fn are_cases(texts: &[Vec<u8>]) -> bool
+    requires { 0 < length texts.now }
+    ensures { result ≡ are_cases (map (λ f. f.items) texts.now) }
+{
+    let text = texts[0].as_slice();
+    let most = text.len().min(CASES_LINE.len());
+    &text[..most] == CASES_LINE
+}
+
 /// What the texts of parts come to, with the status 1 where there is a failing line.
-fn join_texts(alloc: Global, part: bool, texts: &[Vec<u8>]) -> Result<(Vec<u8>, u8), Refusal>
+fn join_parts(alloc: Global, part: bool, texts: &[Vec<u8>]) -> Result<(Vec<u8>, u8), Refusal>
     requires some { 0 < length texts.now }
     requires few { length texts.now ≤ most_texts }
-    ensures answers { IfOk result (λ answer. JoinsTexts part (map (λ f. f.items) texts.now) answer.0.items answer.1) }
+    requires parts { are_cases (map (λ f. f.items) texts.now) ≡ false }
+    ensures answers { IfOk result (λ answer. JoinsEither part (map (λ f. f.items) texts.now) answer.0.items answer.1) }
     ensures refused { IfErr result (RefusesTexts part (map (λ f. f.items) texts.now)) }
 {
     match join(alloc, part, texts) {
         Ok(joined) => Ok((joined.bytes, status_of(joined.failing))),
         Err(fault) => Err(join_refusal_of(fault)),
+    }
+}
+
+/// What the texts of cases come to, with the status 1 where there is a failing line.
+fn join_runs(alloc: Global, part: bool, texts: &[Vec<u8>]) -> Result<(Vec<u8>, u8), Refusal>
+    requires some { 0 < length texts.now }
+    requires few { length texts.now ≤ most_texts }
+    requires cases { are_cases (map (λ f. f.items) texts.now) ≡ true }
+    ensures answers { IfOk result (λ answer. JoinsEither part (map (λ f. f.items) texts.now) answer.0.items answer.1) }
+    ensures refused { IfErr result (RefusesTexts part (map (λ f. f.items) texts.now)) }
+{
+    match join_cases(alloc, part, texts) {
+        Ok(joined) => Ok((joined.bytes, status_of(joined.failing))),
+        Err(fault) => Err(cases_refusal_of(fault)),
+    }
+}
+
+/// What the texts come to: of cases where the first one begins so, and else of parts.
+fn join_texts(alloc: Global, part: bool, texts: &[Vec<u8>]) -> Result<(Vec<u8>, u8), Refusal>
+    requires some { 0 < length texts.now }
+    requires few { length texts.now ≤ most_texts }
+    ensures answers { IfOk result (λ answer. JoinsEither part (map (λ f. f.items) texts.now) answer.0.items answer.1) }
+    ensures refused { IfErr result (RefusesTexts part (map (λ f. f.items) texts.now)) }
+{
+    if are_cases(texts) {
+        join_runs(alloc, part, texts)
+    } else {
+        join_parts(alloc, part, texts)
     }
 }
 

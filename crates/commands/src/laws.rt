@@ -2,6 +2,7 @@
 //! contract is a theorem.
 
 ghost use Rattle.bpf_asm.specs.Laws as asm;
+ghost use Rattle.commands.specs.CaseParts.{CasesAreText, JoinIsExploreOfCases, JoinIsExploreOfCasesByOwn, LaidOutRangesAreParts, RangesOfRunAreJoined};
 ghost use Rattle.commands.specs.Differences.{ShowNamesDifferences};
 ghost use Rattle.commands.specs.Largest.{ReportsAreBounded};
 ghost use Rattle.commands.specs.Laws.{OneReport, ReportOrRefusal};
@@ -14,6 +15,7 @@ ghost use Rattle.commands.specs.Parts.{JoinIsExplore, JoinedPartsAreRun, PartsOf
 use bpf_isa::laws::{no_fault_in_spelled, one_program};
 use case_runs::{finding_is_one, first_is_one};
 use choices::list_is_set;
+use inspect::looks::cut_parts_are_run;
 use logfmt::{text_has_no_fault, text_of_one_log};
 use losses::why::{all_stand, each_stands_once};
 use verifier::laws::one_verdict;
@@ -135,6 +137,45 @@ pub fn join_is_explore_by_own()
     ensures { JoinIsExploreByOwn }
 {
     join_is_explore();
+}
+
+/// What `explore --bound any` prints of all failing cases is a text of cases, as `join` reads it.
+pub fn cases_are_text()
+    ensures { CasesAreText }
+{}
+
+/// The ranges in which `images --bound any --parts` lays a run out follow one another, and together they have its cuts.
+pub fn laid_out_ranges_are_parts()
+    ensures { LaidOutRangesAreParts }
+{
+    cut_parts_are_run();
+}
+
+/// Of files with what `explore --bound any` prints of ranges of cuts that follow one another, and that together have the cuts of a run,
+/// `join` prints what `explore --bound any` prints of the whole range, with the same status, and so does `join --part`.
+pub fn join_is_explore_of_cases()
+    ensures { JoinIsExploreOfCases }
+{
+    text_of_one_log();
+    one_program();
+    one_verdict();
+}
+
+/// `join` refuses such texts for their length, for want of memory, or since they have more cases than a run may have, alone, where they
+/// have all cuts of the log, or with `--part`.
+pub fn ranges_of_run_are_joined()
+    ensures { RangesOfRunAreJoined }
+{
+    text_of_one_log();
+    one_program();
+    one_verdict();
+}
+
+/// The join of ranges of cuts is the run as well where other numbers of workers made them than the whole run.
+pub fn join_is_explore_of_cases_by_own()
+    ensures { JoinIsExploreOfCasesByOwn }
+{
+    join_is_explore_of_cases();
 }
 
 /// Of the report that `explore` prints of a run `why --report` says what `why` says of its programs, with the same status; and no command

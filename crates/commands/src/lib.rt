@@ -52,11 +52,16 @@
 //! that a run answers for its parts, which have each image of a range once, come to what it answers for that range
 //! (`joined_parts_are_run`), and are refused for their length or want of memory alone (`parts_of_run_are_joined`). So `join`
 //! prints of such files what `explore` prints of the whole run, with the same status (`join_is_explore`), whatever workers and
-//! caches the parts were made by (`join_is_explore_by_own`). Of a report that `explore` printed `why --report` prints what `why` prints of
-//! its programs, and it isn't refused as no report up to 1 GiB (`why_of_report_is_why`); so does `page --report` (`page_of_report_is_page`).
-//! The failing lines of a report have no more bytes than are said before the run (`reports_are_bounded`). `emit` writes all
-//! bytes, or says how many were written before the writer failed. What a run reports, and what the other commands show, stands on
-//! the pages of `runs` and `inspect`.
+//! caches the parts were made by (`join_is_explore_by_own`). What `explore --bound any` prints of all failing cases is a text that `join`
+//! reads (`cases_are_text`). Of files with what it prints of ranges of cuts that follow one another, and that together have the cuts of a
+//! run, `join` prints what it prints of the whole range, with the same status (`join_is_explore_of_cases`), whatever workers made the parts
+//! (`join_is_explore_of_cases_by_own`), and refuses them for their size or want of memory alone (`ranges_of_run_are_joined`). The ranges of
+//! `images --bound any --parts` are such (`laid_out_ranges_are_parts`).
+//!
+//! Of a report that `explore` printed `why --report` prints what `why` prints of its programs, and it isn't refused as no report up to
+//! 1 GiB (`why_of_report_is_why`); so does `page --report` (`page_of_report_is_page`). The failing lines of a report have no more bytes
+//! than are said before the run (`reports_are_bounded`). `emit` writes all bytes, or says how many were written before the writer failed.
+//! What a run reports, and what the other commands show, stands on the pages of `runs` and `inspect`.
 //!
 //! # How it is proved
 //!
@@ -72,6 +77,11 @@
 //!   (`run_meant`, `part_text_is` in `PartsJoined.antt`), so all parts are those of one `RunValue`.
 //! - That a join has a line exactly where the run has one is told image by image (`IsQuiet` in `PartsJoined.antt`), and not along the
 //!   row. So no part's place counts.
+//! - That what is printed of cases is a text of cases is shown from the tree alone. The fates of a part in a leaf are some of all fates, in
+//!   their order and one at least, and the parts that are lost, kept or mixed are some of those at risk. What is some of a list that
+//!   rises does too (`AreSome` in `CaseFates.antt`, `CasePlaces.antt`).
+//! - A run by its cuts, of which the law of `join` speaks, looks a cut up in all that was found in the ranges (`run_over` in
+//!   `CaseSegments.antt`). So nothing has to be said of what two runs find at one cut.
 //! - That `why --report` is `why` is shown of what is read: the report of a run is one of the log (`is_report` in `GivenRun.antt`), a report
 //!   is read in one way alone, and what is told of it is told of the failing lines (`tells_causes`).
 //!
@@ -115,10 +125,11 @@ pub use export::{Fault, Output, emit};
 pub use inspect::looks::{Stopped, choices_are_short, image, report_prints_choices, show, survey};
 pub use largest::lines_of_image;
 pub use laws::{
-    answer_or_refusal, each_image_stands_once, join_is_explore, join_is_explore_by_own,
-    joined_parts_are_run, one_answer, one_report, page_of_report_is_page, parts_of_run_are_joined,
-    report_or_refusal, reports_are_bounded, show_names_differences, why_of_report_is_why,
-    work_changes_nothing,
+    answer_or_refusal, cases_are_text, each_image_stands_once, join_is_explore,
+    join_is_explore_by_own, join_is_explore_of_cases, join_is_explore_of_cases_by_own,
+    joined_parts_are_run, laid_out_ranges_are_parts, one_answer, one_report,
+    page_of_report_is_page, parts_of_run_are_joined, ranges_of_run_are_joined, report_or_refusal,
+    reports_are_bounded, show_names_differences, why_of_report_is_why, work_changes_nothing,
 };
 pub use notes::command_notes::{notes_after, notes_beside};
 pub use progress::Progress;

@@ -1,6 +1,6 @@
 -- The page of a run of any number of losses (docs/OUTPUT.md, The page of `page --bound any`): in place of the groups of images the failing cases
 -- of each cut, each as a row of the parts at risk.
-use Rattle.std.specs.Prelude.{ℕ, ◌+◌, ◌-◌, ◌==◌, Bool, if◌then◌else◌, List, [], ◌∷◌, ◌++◌, length, map, take}
+use Rattle.std.specs.Prelude.{ℕ, ◌+◌, ◌-◌, ◌==◌, ◌&&◌, Bool, if◌then◌else◌, List, [], ◌∷◌, ◌++◌, codes, length, map, take}
 use Rattle.std.specs.List.{flat_map}
 use Rattle.std.specs.Fmt.{decimal}
 use Rattle.logfmt.specs.Bounds.{LogValue}
@@ -12,7 +12,7 @@ use Rattle.case_runs.specs.declared.leaves.FailingCase.{FailingCase}
 use Rattle.case_runs.specs.declared.found.Losses.{Losses}
 use Rattle.case_runs.specs.declared.found.CutFound.{CutFound}
 use Rattle.case_runs.specs.Leaves.{failing_value}
-use Rattle.case_text.specs.Text.{options_text}
+use Rattle.case_text.specs.Text.{options_text, count_torn_beyond, count_lost_beyond}
 use Rattle.crash_page.specs.declared.pieces.Piece.TheVariants as piece
 use Rattle.crash_page.specs.Pieces.{piece_text}
 use Rattle.crash_page.specs.declared.counts.Kind.TheVariants as kind
@@ -27,14 +27,15 @@ use Rattle.crash_page.specs.Groups.{cut_begin, cut_body, shown_of, showing, one_
 use Rattle.crash_page.specs.Page.{title_text, strip_text, most_of_program, about_text, list_text, head_text}
 use Rattle.crash_page.specs.CaseRows.{case_row}
 
--- of which log the cases are, what departs as one, and whether parts may be torn
+-- of which log the cases are, what departs as one, whether parts may be torn, and whether no case was left out
 pub record RunValue : Type 0 where
   pub log : LogValue
   pub way : By
   pub tears : Bool
+  pub complete : Bool
 
 abbrev pub run_of : CaseRun → RunValue
-run_of run = record { log = run.log.now; way = run.by; tears = run.tears }
+run_of run = record { log = run.log.now; way = run.by; tears = run.tears; complete = run.complete }
 
 abbrev pub cut_at : RunValue → ℕ → CutValue
 cut_at run cut = record { log = run.log; way = run.way; cut = cut }
@@ -79,12 +80,19 @@ bad_text cs =
 unfoldable pub good_text : List CutCount → List ℕ
 good_text cs = piece_text piece.GoodCases ++ decimal (all_in cs) ++ piece_text piece.AtCuts
 
-unfoldable pub judged_text : List CutCount → List ℕ
-judged_text cs = (if failing_in cs == 0 then good_text cs else bad_text cs) ++ decimal (length cs) ++ piece_text piece.GoodClose
+-- or that others were left out, and none of these does
+unfoldable pub open_text : List CutCount → List ℕ
+open_text cs = piece_text piece.OpenCases ++ decimal (all_in cs) ++ piece_text piece.AtCuts
+
+abbrev pub passing_text : Bool → List CutCount → List ℕ
+passing_text complete cs = if complete then good_text cs else open_text cs
+
+unfoldable pub judged_text : Bool → List CutCount → List ℕ
+judged_text complete cs = (if failing_in cs == 0 then passing_text complete cs else bad_text cs) ++ decimal (length cs) ++ piece_text piece.GoodClose
 
 -- what a program comes to; without a wanted cut nothing was judged
-abbrev pub verdict_text : List CutCount → List ℕ
-verdict_text cs = if length cs == 0 then piece_text piece.NoCaseCuts else judged_text cs
+abbrev pub verdict_text : Bool → List CutCount → List ℕ
+verdict_text complete cs = if length cs == 0 then piece_text piece.NoCaseCuts else judged_text complete cs
 
 -- what was found with a program at each cut
 abbrev pub counts_of : ℕ → List CutFound → List CutCount
@@ -93,7 +101,7 @@ counts_of program found = map (case_count program) found
 -- what it comes to, and the log with its cuts; nothing is said of missing flushes
 unfoldable pub summary_text : RunValue → ℕ → ProgramHead → List CutCount → List ℕ
 summary_text run program head cs =
-    title_text program (judging.Checker head) ++ verdict_text cs ++ strip_text kind.Cases run.log.entries program [] cs ++ legend_text kind.Cases
+    title_text program (judging.Checker head) ++ verdict_text run.complete cs ++ strip_text kind.Cases run.log.entries program [] cs ++ legend_text kind.Cases
     ++ piece_text piece.CaseKeys
 
 -- the first cuts at which cases fail, and how many more there are
@@ -112,10 +120,26 @@ abbrev pub programs_text : RunValue → List CutFound → ℕ → List ProgramHe
 programs_text run found program [] = []
 programs_text run found program (head ∷ heads) = program_text run found program head ++ programs_text run found (program + 1) heads
 
--- the page: the log, the options and the programs as the text of cases has them, what was found with each program, and the entries
+-- how many cases were left out, where some were
+abbrev pub is_complete : ℕ → ℕ → Bool
+is_complete torn lost = (torn == 0) && (lost == 0)
+
+unfoldable pub left_counts : ℕ → ℕ → List ℕ
+left_counts torn lost = piece_text piece.TornBeyond ++ decimal torn ++ piece_text piece.LostBeyond ++ decimal lost
+
+abbrev pub left_text : ℕ → ℕ → List ℕ
+left_text torn lost = if is_complete torn lost then [] else left_counts torn lost ++ codes "\n"
+
+-- the options and the programs as the text of cases has them, and how many cases were left out
+abbrev pub run_text : HeadValue → Losses → List CutFound → List ℕ
+run_text h asked found = options_text h asked ++ left_text (count_torn_beyond found) (count_lost_beyond found)
+
+-- the page: the log, the text about the run, what was found with each program, and the entries
 unfoldable pub parts_text : RunValue → List ℕ → List ProgramHead → List CutFound → List ℕ
 parts_text run about heads found =
     head_text kind.Cases run.log ++ about_text about ++ programs_text run found 0 heads ++ list_text run.log.entries ++ piece_text piece.Closing
 
 abbrev pub case_page_text : HeadValue → Losses → LogValue → List CutFound → List ℕ
-case_page_text h asked log found = parts_text (record { log = log; way = h.by; tears = asked.tears }) (options_text h asked) h.programs found
+case_page_text h asked log found =
+    parts_text (record { log = log; way = h.by; tears = asked.tears; complete = is_complete (count_torn_beyond found) (count_lost_beyond found) })
+    (run_text h asked found) h.programs found

@@ -10,6 +10,8 @@ piece_text piece.Style = STYLE.now
 piece_text piece.CaseStyle = CASE_STYLE.now
 piece_text piece.StyleEnd = STYLE_END.now
 piece_text piece.Legend = LEGEND.now
+piece_text piece.LackKey = codes "<span><b class='lack'></b>flush missing</span>"
+piece_text piece.LegendRest = codes "<span><b class='mark'></b>mark</span><span><b class='even'></b><b class='odd'></b>epochs in turn</span>"
 piece_text piece.CaseKeys = CASE_KEYS.now
 piece_text piece.Closing = CLOSING.now
 piece_text piece.AboutOpen = codes "<pre class='about'>"
@@ -25,6 +27,9 @@ piece_text piece.NoCuts = codes "<p class='none'>The log has no wanted cut: no i
 piece_text piece.NoCaseCuts = codes "<p class='none'>The log has no wanted cut: no case was judged.</p>\n"
 piece_text piece.GoodOpen = codes "<p class='good'>No image fails, at "
 piece_text piece.GoodCases = codes "<p class='good'>No case fails, of "
+piece_text piece.OpenCases = codes "<p class='none'>Cases were left out, and nothing is said of them. No other fails, of "
+piece_text piece.TornBeyond = codes "torn beyond "
+piece_text piece.LostBeyond = codes " lost beyond "
 piece_text piece.AtCuts = codes " at "
 piece_text piece.GoodClose = codes " cuts.</p>\n"
 piece_text piece.BadOpen = codes "<p class='bad'>"

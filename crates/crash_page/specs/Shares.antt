@@ -1,5 +1,5 @@
 -- Which share of the images of a cut fails: of it the cells of cuts have their colour, and the legend its words.
-use Rattle.std.specs.Prelude.{ℕ, ◌/◌, ◌==◌, nat_le, Bool, if◌then◌else◌, List, ◌++◌, codes}
+use Rattle.std.specs.Prelude.{ℕ, ◌/◌, ◌==◌, nat_le, Bool, if◌then◌else◌, List, [], ◌++◌, codes}
 use Rattle.std.specs.Fmt.{decimal}
 use Rattle.crash_page.specs.declared.share.Share.{Share}
 use Rattle.crash_page.specs.declared.share.Share.TheVariants as share
@@ -49,8 +49,13 @@ share_words of s = codes "up to 1 in " ++ decimal (one_in s)
 unfoldable pub key_text : Kind → Share → List ℕ
 key_text of s = piece_text piece.KeyOpen ++ share_class s ++ piece_text piece.KeyColour ++ share_words of s ++ piece_text piece.KeyClose
 
+-- a missing flush, which rows with images have alone
+abbrev pub lack_key : Kind → List ℕ
+lack_key kind.Images = piece_text piece.LackKey
+lack_key kind.Cases = []
+
 unfoldable pub keys_open : Kind → List ℕ
-keys_open of = piece_text piece.Legend ++ piece_text piece.KeysOpen ++ kind_word of ++ piece_text piece.KeysClose
+keys_open of = piece_text piece.Legend ++ lack_key of ++ piece_text piece.LegendRest ++ piece_text piece.KeysOpen ++ kind_word of ++ piece_text piece.KeysClose
 
 unfoldable pub legend_text : Kind → List ℕ
 legend_text of =

@@ -3,10 +3,10 @@
 ghost use Rattle.std.specs.Prelude.{◌≡◌, ◌≤◌, ◌<◌, ◌==◌, ◌++◌, if◌then◌else◌, All, length, map, IfOk, OnOk, string_bytes};
 ghost use Rattle.report.specs.declared.head.ProgramHead.{ProgramHead as HeadOfProgram};
 ghost use Rattle.case_runs.specs.declared.found.CutFound.{CutFound as FoundValue};
-ghost use Rattle.case_text.specs.Text.{options_text};
+ghost use Rattle.case_text.specs.Text.{options_text, count_torn_beyond, count_lost_beyond};
 ghost use Rattle.crash_page.specs.declared.counts.CutCount.{CutCount as CountValue};
 ghost use Rattle.crash_page.specs.Counts.{count_fails, all_in, failing_in, case_count};
-ghost use Rattle.crash_page.specs.CasePage.{run_of, bad_text, good_text, judged_text, verdict_text, counts_of, summary_text, shown_cuts, program_text, programs_text, parts_text, case_page_text};
+ghost use Rattle.crash_page.specs.CasePage.{run_of, bad_text, good_text, open_text, passing_text, judged_text, verdict_text, counts_of, summary_text, shown_cuts, program_text, programs_text, is_complete, left_counts, left_text, run_text, parts_text, case_page_text};
 
 use crate::block::MOST_CELLS;
 use crate::case_cut::put_cuts;
@@ -19,7 +19,7 @@ use crate::program::{most_of_program, put_row, put_title, put_unlisted};
 use crate::run::{CaseRun, Logged};
 use crate::share::put_legend;
 use case_runs::{CutFound, Losses};
-use case_text::put_options;
+use case_text::{left_out, put_options};
 use epochs::Plan;
 use logfmt::Log;
 use report::{Head, ProgramHead};
@@ -49,12 +49,33 @@ fn put_good(out: &mut String, cuts: &[CutCount]) -> Result<(), AllocError>
     put(out, Piece::AtCuts)
 }
 
+/// Appends that cases were left out, and that no other one fails.
+#[tactic(auto, unfolding(crate::specs::CasePage::open_text))]
+fn put_open(out: &mut String, cuts: &[CutCount]) -> Result<(), AllocError>
+    ensures { OnOk result (string_bytes out.new ≡ string_bytes out.old ++ open_text cuts.now) }
+{
+    put(out, Piece::OpenCases)?;
+    put_number(out, all_in(cuts))?;
+    put(out, Piece::AtCuts)
+}
+
+/// Appends that no case fails, of all or of those that weren't left out.
+fn put_passing(out: &mut String, complete: bool, cuts: &[CutCount]) -> Result<(), AllocError>
+    ensures { OnOk result (string_bytes out.new ≡ string_bytes out.old ++ passing_text complete cuts.now) }
+{
+    if complete {
+        put_good(out, cuts)
+    } else {
+        put_open(out, cuts)
+    }
+}
+
 /// Appends whether cases fail.
-fn put_failing(out: &mut String, cuts: &[CutCount]) -> Result<(), AllocError>
-    ensures { OnOk result (string_bytes out.new ≡ string_bytes out.old ++ (if failing_in cuts.now == 0 then good_text cuts.now else bad_text cuts.now)) }
+fn put_failing(out: &mut String, complete: bool, cuts: &[CutCount]) -> Result<(), AllocError>
+    ensures { OnOk result (string_bytes out.new ≡ string_bytes out.old ++ (if failing_in cuts.now == 0 then passing_text complete cuts.now else bad_text cuts.now)) }
 {
     if failing_in(cuts) == 0 {
-        put_good(out, cuts)
+        put_passing(out, complete, cuts)
     } else {
         put_bad(out, cuts)
     }
@@ -62,22 +83,22 @@ fn put_failing(out: &mut String, cuts: &[CutCount]) -> Result<(), AllocError>
 
 /// Appends what a program comes to, of these cuts.
 #[tactic(auto, unfolding(crate::specs::CasePage::judged_text))]
-fn put_judged(out: &mut String, cuts: &[CutCount]) -> Result<(), AllocError>
-    ensures { OnOk result (string_bytes out.new ≡ string_bytes out.old ++ judged_text cuts.now) }
+fn put_judged(out: &mut String, complete: bool, cuts: &[CutCount]) -> Result<(), AllocError>
+    ensures { OnOk result (string_bytes out.new ≡ string_bytes out.old ++ judged_text complete cuts.now) }
 {
-    put_failing(out, cuts)?;
+    put_failing(out, complete, cuts)?;
     put_number(out, cuts.len() as u64)?;
     put(out, Piece::GoodClose)
 }
 
 /// Appends what a program comes to, or that nothing was judged.
-fn put_verdict(out: &mut String, cuts: &[CutCount]) -> Result<(), AllocError>
-    ensures { OnOk result (string_bytes out.new ≡ string_bytes out.old ++ verdict_text cuts.now) }
+fn put_verdict(out: &mut String, complete: bool, cuts: &[CutCount]) -> Result<(), AllocError>
+    ensures { OnOk result (string_bytes out.new ≡ string_bytes out.old ++ verdict_text complete cuts.now) }
 {
     if cuts.is_empty() {
         put(out, Piece::NoCaseCuts)
     } else {
-        put_judged(out, cuts)
+        put_judged(out, complete, cuts)
     }
 }
 
@@ -103,7 +124,7 @@ fn put_summary(
         flushes: &[],
     };
     put_title(out, program, &Judge::Checker(head))?;
-    put_verdict(out, cuts)?;
+    put_verdict(out, run.complete, cuts)?;
     put_row(alloc, out, Kind::Cases, &logged, &lacking, cuts)?;
     put_legend(out, Kind::Cases)?;
     put(out, Piece::CaseKeys)
@@ -166,12 +187,48 @@ fn put_programs(
     Ok(())
 }
 
-/// The options and the programs, as the text of cases has them.
-fn options_of(alloc: Global, head: &Head, asked: Losses) -> Result<String, AllocError>
-    ensures { IfOk result (λ text. string_bytes text ≡ options_text head.now asked) }
+/// Whether no case was left out.
+fn is_complete(torn: u64, lost: u64) -> bool
+    ensures { result ≡ is_complete torn lost }
 {
+    torn == 0 && lost == 0
+}
+
+/// Appends how many cases were left out.
+#[tactic(auto, unfolding(crate::specs::CasePage::left_counts))]
+fn put_counts(out: &mut String, torn: u64, lost: u64) -> Result<(), AllocError>
+    ensures { OnOk result (string_bytes out.new ≡ string_bytes out.old ++ left_counts torn lost) }
+{
+    put(out, Piece::TornBeyond)?;
+    put_number(out, torn)?;
+    put(out, Piece::LostBeyond)?;
+    put_number(out, lost)
+}
+
+/// Appends the same as a line, where some were.
+fn put_left(out: &mut String, torn: u64, lost: u64) -> Result<(), AllocError>
+    ensures { OnOk result (string_bytes out.new ≡ string_bytes out.old ++ left_text torn lost) }
+{
+    if is_complete(torn, lost) {
+        return Ok(());
+    }
+    put_counts(out, torn, lost)?;
+    out.push_str("\n")
+}
+
+/// The options and the programs, as the text of cases has them, and how many cases were left out.
+fn about_run(
+    alloc: Global,
+    head: &Head,
+    asked: Losses,
+    found: &[CutFound],
+) -> Result<String, AllocError>
+    ensures { IfOk result (λ text. string_bytes text ≡ run_text head.now asked found.now) }
+{
+    let (torn, lost) = left_out(found);
     let mut text = String::new(alloc);
     put_options(&mut text, head, asked)?;
+    put_left(&mut text, torn, lost)?;
     Ok(text)
 }
 
@@ -220,13 +277,15 @@ pub fn case_page(
     requires cuts { All (λ (c : FoundValue). c.cut ≤ length log.now.entries) found.now }
     ensures { IfOk result (λ bytes. bytes.items ≡ case_page_text head.now asked log.now found.now) }
 {
+    let (torn, lost) = left_out(found);
     let run = CaseRun {
         plan,
         log,
         by: head.by,
         tears: asked.tears,
+        complete: is_complete(torn, lost),
     };
-    let about = options_of(alloc, head, asked)?;
+    let about = about_run(alloc, head, asked, found)?;
     let mut out = String::new(alloc);
     put_page(
         alloc,

@@ -94,9 +94,9 @@ pub(crate) const STYLE_END: &str = "</style>
 <header>
 <h1>Crash images of a log: ";
 
-/// What the colours and lines of entries mean, before those of cuts.
+/// What the colours and lines of writes, discards and flushes mean.
 pub(crate) const LEGEND: &str =
-    "<p class='key'><span><b class='write'></b>write</span><span><b class='discard'></b>discard</span><span><u>17</u> FUA</span><span><b class='flush'></b>flush</span><span><b class='lack'></b>flush missing</span><span><b class='mark'></b>mark</span><span><b class='even'></b><b class='odd'></b>epochs in turn</span>";
+    "<p class='key'><span><b class='write'></b>write</span><span><b class='discard'></b>discard</span><span><u>17</u> FUA</span><span><b class='flush'></b>flush</span>";
 
 /// What the colours of the parts of a case mean.
 pub(crate) const CASE_KEYS: &str = "<p class='log'><b class='p lost'>lost or torn</b>

@@ -15,6 +15,8 @@ pub(crate) enum Piece {
     CaseStyle,
     StyleEnd,
     Legend,
+    LackKey,
+    LegendRest,
     CaseKeys,
     Closing,
     AboutOpen,
@@ -30,6 +32,9 @@ pub(crate) enum Piece {
     NoCaseCuts,
     GoodOpen,
     GoodCases,
+    OpenCases,
+    TornBeyond,
+    LostBeyond,
     AtCuts,
     GoodClose,
     BadOpen,
@@ -145,6 +150,10 @@ fn text_of(piece: Piece) -> &'static str
         Piece::CaseStyle => CASE_STYLE,
         Piece::StyleEnd => STYLE_END,
         Piece::Legend => LEGEND,
+        Piece::LackKey => "<span><b class='lack'></b>flush missing</span>",
+        Piece::LegendRest => {
+            "<span><b class='mark'></b>mark</span><span><b class='even'></b><b class='odd'></b>epochs in turn</span>"
+        }
         Piece::CaseKeys => CASE_KEYS,
         Piece::Closing => CLOSING,
         Piece::AboutOpen => "<pre class='about'>",
@@ -160,6 +169,10 @@ fn text_of(piece: Piece) -> &'static str
         Piece::NoCaseCuts => "<p class='none'>The log has no wanted cut: no case was judged.</p>\n",
         Piece::GoodOpen => "<p class='good'>No image fails, at ",
         Piece::GoodCases => "<p class='good'>No case fails, of ",
+        Piece::OpenCases =>
+            "<p class='none'>Cases were left out, and nothing is said of them. No other fails, of ",
+        Piece::TornBeyond => "torn beyond ",
+        Piece::LostBeyond => " lost beyond ",
         Piece::AtCuts => " at ",
         Piece::GoodClose => " cuts.</p>\n",
         Piece::BadOpen => "<p class='bad'>",

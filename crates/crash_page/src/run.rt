@@ -33,13 +33,14 @@ pub(crate) struct Logged<'a> {
     pub(crate) ghost log_is: { plan.now.log ≡ log.now },
 }
 
-/// Of which log cases are, what departs as one, and whether parts may be torn.
+/// Of which log cases are, what departs as one, whether parts may be torn, and whether no case was left out.
 #[derive(Clone, Copy)]
 pub(crate) struct CaseRun<'a> {
     pub(crate) plan: &'a Plan<'a>,
     pub(crate) log: &'a Log,
     pub(crate) by: By,
     pub(crate) tears: bool,
+    pub(crate) complete: bool,
     pub(crate) ghost log_is: { plan.now.log ≡ log.now },
 }
 

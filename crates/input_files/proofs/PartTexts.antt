@@ -1,5 +1,5 @@
--- A file that doesn't begin as the text of a part isn't one, and neither are its first bytes; and how far such a file is read.
-use Rattle.std.proofs.Common.{ℕ, zero, suc, ◌≡◌, ◌↔◌, ◌-◌, ◌++◌, ◌⊎◌, ◌<◌, ◌≤◌, Bool, true, false, min, inl, inr, List, [], ◌∷◌, Option, Some, None, IfSome, IsTrue, length, bytes_eq, take, append-nil, refl, sym, ◌∙◌, ap, subst, arith}
+-- A file that doesn't begin as the text of a part or of cases isn't one, and neither are its first bytes; and how far such a file is read.
+use Rattle.std.proofs.Common.{ℕ, zero, suc, ◌≡◌, ◌↔◌, ◌-◌, ◌++◌, ◌⊎◌, ◌||◌, ◌<◌, ◌≤◌, Bool, true, false, min, inl, inr, List, [], ◌∷◌, Option, Some, None, IfSome, IsTrue, length, bytes_eq, take, append-nil, refl, sym, ◌∙◌, ap, subst, arith}
 use Rattle.std.specs.Io.KnownBytes.{Consumes, IsAtEnd}
 use Rattle.std.proofs.lemmas.Bool.{cases_lt}
 use Rattle.std.proofs.lemmas.Slice.Eq.{bytes_eq-Decides}
@@ -7,12 +7,18 @@ use Rattle.std.proofs.lemmas.List.{take_all}
 use Rattle.report.specs.Part.{span_text}
 use Rattle.join.specs.Text.{PartValue, part_text}
 use Rattle.join.specs.Reading.{NoPartText}
-use Rattle.input_files.specs.PartTexts.{part_line, beginning, part_read, PartIsReadAlike}
+use Rattle.join.specs.CaseTexts.{CasesValue, told_text, NoCasesText}
+use Rattle.input_files.specs.PartTexts.{part_line, cases_word, is_begun, beginning, part_read, NeitherText, PartIsReadAlike}
 
 -- the text of a part begins with the line of parts
 begins : (p : PartValue) → take 13 (part_text p) ≡ part_line
 unfolding part_text span_text
 begins p = refl
+
+-- and that of cases as it begins
+cases_begin : (c : CasesValue) → take 13 (told_text c) ≡ cases_word
+unfolding told_text
+cases_begin c = refl
 
 -- the first bytes of the first bytes
 take_again : (n : ℕ) (xs : List ℕ) → take n (take n xs) ≡ take n xs
@@ -20,36 +26,53 @@ take_again zero xs = refl
 take_again (suc n) [] = refl
 take_again (suc n) (x ∷ xs) = ap (λ (ys : List ℕ). x ∷ ys) (take_again n xs)
 
-no_part : (bytes : List ℕ) → bytes_eq (take 13 bytes) part_line ≡ false → NoPartText bytes
+no_part : (bytes : List ℕ) → is_begun (take 13 bytes) ≡ false → NoPartText bytes
 no_part bytes other = record {
   none = λ p is text. absurd (
       let own : take 13 bytes ≡ part_line = ap (λ (xs : List ℕ). take 13 xs) text ∙ begins p in
-      let same : bytes_eq (take 13 bytes) part_line ≡ true = ap (λ (xs : List ℕ). bytes_eq xs part_line) own in
+      let same : is_begun (take 13 bytes) ≡ true = ap is_begun own in
       let bad : true ≡ false = sym same ∙ other in cc);
 }
 
+no_cases : (bytes : List ℕ) → is_begun (take 13 bytes) ≡ false → NoCasesText bytes
+no_cases bytes other = record {
+  none = λ c h. absurd (
+      let own : take 13 bytes ≡ cases_word = ap (λ (xs : List ℕ). take 13 xs) h.is ∙ cases_begin c in
+      let same : is_begun (take 13 bytes) ≡ true = ap is_begun own in
+      let bad : true ≡ false = sym same ∙ other in cc);
+}
+
+neither : (bytes : List ℕ) → is_begun (take 13 bytes) ≡ false → NeitherText bytes
+neither bytes other = record { part = no_part bytes other; cases = no_cases bytes other }
+
+-- what is begun so has 13 bytes
+begun_long : (bytes : List ℕ) (a b : Bool) → bytes_eq bytes part_line ≡ a → bytes_eq bytes cases_word ≡ b → a || b ≡ true → length bytes ≡ 13
+begun_long bytes true b part cases begun = ap (λ (zs : List ℕ). length zs) ((bytes_eq-Decides bytes part_line).0 part)
+begun_long bytes false true part cases begun = ap (λ (zs : List ℕ). length zs) ((bytes_eq-Decides bytes cases_word).0 cases)
+begun_long bytes false false part cases begun = absurd (let bad : false ≡ true = begun in cc)
+
 -- what is read of a file, by how it begins
-all_read : (most : ℕ) (bytes : List ℕ) → bytes_eq (beginning most bytes) part_line ≡ true → part_read most bytes ≡ take most bytes
+all_read : (most : ℕ) (bytes : List ℕ) → is_begun (beginning most bytes) ≡ true → part_read most bytes ≡ take most bytes
 unfolding part_read
 all_read most bytes begun = rw begun refl
 
-some_read : (most : ℕ) (bytes : List ℕ) → bytes_eq (beginning most bytes) part_line ≡ false → part_read most bytes ≡ beginning most bytes
+some_read : (most : ℕ) (bytes : List ℕ) → is_begun (beginning most bytes) ≡ false → part_read most bytes ≡ beginning most bytes
 unfolding part_read
 some_read most bytes other = rw other refl
 
 pub part_is_read_alike : PartIsReadAlike
-part_is_read_alike bytes most = by_test (bytes_eq (beginning most bytes) part_line) refl
+part_is_read_alike bytes most = by_test (is_begun (beginning most bytes)) refl
   where
-    by_length : bytes_eq (beginning most bytes) part_line ≡ false → (most < 13) ⊎ (13 ≤ most) → (part_read most bytes ≡ take most bytes) ⊎ (NoPartText bytes × NoPartText (part_read most bytes))
+    by_length : is_begun (beginning most bytes) ≡ false → (most < 13) ⊎ (13 ≤ most) → (part_read most bytes ≡ take most bytes) ⊎ (NeitherText bytes × NeitherText (part_read most bytes))
     by_length other (inl few) = let least : min most 13 ≡ most = omega (arith, few) in inl (some_read most bytes other ∙ ap (λ (n : ℕ). take n bytes) least)
     by_length other (inr many) =
         let least : min most 13 ≡ 13 = omega (arith, many) in
         let first : beginning most bytes ≡ take 13 bytes = ap (λ (n : ℕ). take n bytes) least in
-        let own : bytes_eq (take 13 bytes) part_line ≡ false = ap (λ (xs : List ℕ). bytes_eq xs part_line) (sym first) ∙ other in
-        let again : bytes_eq (take 13 (take 13 bytes)) part_line ≡ false = ap (λ (xs : List ℕ). bytes_eq xs part_line) (take_again 13 bytes) ∙ own in
-        inr (no_part bytes own, subst NoPartText (sym (some_read most bytes other ∙ first)) (no_part (take 13 bytes) again))
+        let own : is_begun (take 13 bytes) ≡ false = ap is_begun (sym first) ∙ other in
+        let again : is_begun (take 13 (take 13 bytes)) ≡ false = ap is_begun (take_again 13 bytes) ∙ own in
+        inr (neither bytes own, subst NeitherText (sym (some_read most bytes other ∙ first)) (neither (take 13 bytes) again))
 
-    by_test : (b : Bool) → bytes_eq (beginning most bytes) part_line ≡ b → (part_read most bytes ≡ take most bytes) ⊎ (NoPartText bytes × NoPartText (part_read most bytes))
+    by_test : (b : Bool) → is_begun (beginning most bytes) ≡ b → (part_read most bytes ≡ take most bytes) ⊎ (NeitherText bytes × NeitherText (part_read most bytes))
     by_test true begun = inl (all_read most bytes begun)
     by_test false other = by_length other (cases_lt most 13)
 
@@ -68,7 +91,7 @@ take_past (suc n) (x ∷ xs) ys long =
     let left : suc n - suc (length xs) ≡ n - length xs = omega arith in
     rw left (ap (λ (zs : List ℕ). x ∷ zs) (take_past n xs ys (omega (arith, long))))
 
--- the first bytes were read, as many as tell whether it is the text of a part
+-- the first bytes were read, as many as tell whether it is such a text
 pub first_read : (old new : Option (List ℕ)) (bytes : List ℕ) (most : ℕ) (there : Bool) → Consumes old new bytes → length bytes ≤ min most 13 → (there ≡ true → length bytes ≡ min most 13)
     → (there ≡ false → IsAtEnd new) → IfSome old (λ xs. bytes ≡ beginning most xs)
 first_read None new bytes most there given room whole end = tt
@@ -81,41 +104,40 @@ first_read (Some xs) (Some ys) bytes most false given room whole end =
 
 -- it is none
 pub other_read : (old new : Option (List ℕ)) (bytes : List ℕ) (most : ℕ) (there : Bool) → Consumes old new bytes → length bytes ≤ min most 13 → (there ≡ true → length bytes ≡ min most 13)
-    → (there ≡ false → IsAtEnd new) → (bytes ≡ part_line → ⊥) → IfSome old (λ xs. bytes ≡ part_read most xs)
-other_read old new bytes most there given room whole end none = by_old old (first_read old new bytes most there given room whole end)
+    → (there ≡ false → IsAtEnd new) → is_begun bytes ≡ false → IfSome old (λ xs. bytes ≡ part_read most xs)
+other_read old new bytes most there given room whole end other = by_old old (first_read old new bytes most there given room whole end)
   where
-    by_test : (b : Bool) → bytes_eq bytes part_line ≡ b → bytes_eq bytes part_line ≡ false
-    by_test true same = absurd (none ((bytes_eq-Decides bytes part_line).0 same))
-    by_test false same = same
-
-    other : bytes_eq bytes part_line ≡ false
-    other = by_test (bytes_eq bytes part_line) refl
-
     by_old : (o : Option (List ℕ)) → IfSome o (λ xs. bytes ≡ beginning most xs) → IfSome o (λ xs. bytes ≡ part_read most xs)
     by_old None is = tt
-    by_old (Some xs) is = let test : bytes_eq (beginning most xs) part_line ≡ false = ap (λ (zs : List ℕ). bytes_eq zs part_line) (sym is) ∙ other in is ∙ sym (some_read most xs test)
+    by_old (Some xs) is = let test : is_begun (beginning most xs) ≡ false = ap is_begun (sym is) ∙ other in is ∙ sym (some_read most xs test)
 
 -- it may be one: all that may be read was read
 pub rest_read : (old new : Option (List ℕ)) (bytes all : List ℕ) (most rest : ℕ) (there : Bool) → Consumes old new bytes → length bytes ≤ min most 13 → (there ≡ true → length bytes ≡ min most 13)
-    → (there ≡ false → IsAtEnd new) → bytes ≡ part_line → rest ≡ most - 13 → IfSome new (λ ys. all ≡ bytes ++ take rest ys) → IfSome old (λ xs. all ≡ part_read most xs)
+    → (there ≡ false → IsAtEnd new) → is_begun bytes ≡ true → rest ≡ most - 13 → IfSome new (λ ys. all ≡ bytes ++ take rest ys) → IfSome old (λ xs. all ≡ part_read most xs)
 rest_read old new bytes all most rest there given room whole end is left more = by_old old new given (first_read old new bytes most there given room whole end) more
   where
     long : length bytes ≡ 13
-    long = ap (λ (zs : List ℕ). length zs) is
+    long = begun_long bytes (bytes_eq bytes part_line) (bytes_eq bytes cases_word) refl refl is
 
     by_old : (o n : Option (List ℕ)) → Consumes o n bytes → IfSome o (λ xs. bytes ≡ beginning most xs) → IfSome n (λ ys. all ≡ bytes ++ take rest ys) → IfSome o (λ xs. all ≡ part_read most xs)
     by_old None n eats first beyond = tt
     by_old (Some xs) None eats first beyond = absurd eats
     by_old (Some xs) (Some ys) eats first beyond =
-        let test : bytes_eq (beginning most xs) part_line ≡ true = ap (λ (zs : List ℕ). bytes_eq zs part_line) (sym first ∙ is) in
+        let test : is_begun (beginning most xs) ≡ true = ap is_begun (sym first) ∙ is in
         let within : length bytes ≤ most = omega (arith, room) in
         let parted = take_past most bytes ys within in
         let cut : take (most - length bytes) ys ≡ take rest ys = ap (λ (n : ℕ). take (most - n) ys) long ∙ ap (λ (n : ℕ). take n ys) (sym left) in
         beyond ∙ ap (λ (zs : List ℕ). bytes ++ zs) (sym cut) ∙ sym parted ∙ ap (λ (zs : List ℕ). take most zs) (sym eats) ∙ sym (all_read most xs test)
 
--- what the test of the first bytes tells
-pub not_line : (b : Bool) (slice bytes : List ℕ) → b ≡ false → IsTrue b ↔ (slice ≡ part_line) → slice ≡ bytes → bytes ≡ part_line → ⊥
-not_line b slice bytes lack test same is = let own : b ≡ true = test.1 (same ∙ is) in let bad : true ≡ false = sym own ∙ lack in cc
+-- what a test of the first bytes tells
+decided : (b : Bool) (xs ys : List ℕ) → IsTrue b ↔ (xs ≡ ys) → b ≡ bytes_eq xs ys
+decided b xs ys test = by_test b (bytes_eq xs ys) test (bytes_eq-Decides xs ys)
+  where
+    by_test : (b c : Bool) → IsTrue b ↔ (xs ≡ ys) → IsTrue c ↔ (xs ≡ ys) → b ≡ c
+    by_test true true one two = refl
+    by_test false false one two = refl
+    by_test true false one two = let bad : false ≡ true = two.1 (one.0 refl) in absurd cc
+    by_test false true one two = let bad : false ≡ true = one.1 (two.0 refl) in absurd cc
 
-pub is_line : (b : Bool) (slice bytes : List ℕ) → b ≡ true → IsTrue b ↔ (slice ≡ part_line) → slice ≡ bytes → bytes ≡ part_line
-is_line b slice bytes own test same = sym same ∙ test.0 own
+pub is_either : (a b : Bool) (xs : List ℕ) → IsTrue a ↔ (xs ≡ part_line) → IsTrue b ↔ (xs ≡ cases_word) → a || b ≡ is_begun xs
+is_either a b xs one two = rw (decided a xs part_line one, decided b xs cases_word two) refl

@@ -17,7 +17,7 @@ pub fn long_log_is_refused_alike()
     ensures { LongLogIsRefusedAlike }
 {}
 
-/// Where not all is read of the text of a part that may be, it isn't the text of a part, and neither is what is read.
+/// Where not all is read of the text of a part that may be, it is neither the text of a part nor that of cases, and what is read is neither.
 pub fn part_is_read_alike()
     ensures { PartIsReadAlike }
 {}

@@ -18,7 +18,7 @@
 //! | an assembly text | 16 MiB and a byte | can't be read |
 //! | what a device held before | the device's size and a byte | is refused, 13 at 14 |
 //! | an image | 8 MiB and a byte; with `--large` 512 MiB and a byte | is refused, 14 at 1 |
-//! | parts | 1 GiB and a byte of all together; one that doesn't begin as the text of a part to its first 13 bytes | are refused, 65 at the part with which they pass it; is refused, 61 |
+//! | parts | 1 GiB and a byte of all together; one that doesn't begin as the text of a part, or of cases, to its first 13 bytes | are refused, 65 at the part with which they pass it; is refused, 61 |
 //!
 //! How long a program is tells a regular file's length; of any other file what follows the first 32,776 bytes is read and
 //! counted, but not kept, and one that doesn't end within 64 MiB counts as one of too many whole slots. Of more than 4,096 parts

@@ -1,12 +1,12 @@
 //! Reading a file: no more than can be used.
 
-ghost use Rattle.std.specs.Prelude.{ℕ, List, Option, Some, None, true, false, ◌+◌, ◌≡◌, ◌≢◌, ◌≤◌, ◌<◌, ◌++◌, length, nat_le, take, ◌↔◌, option_map, IfOk, IsTrue, OnOk, IfSome, IsSome, if◌then◌else◌};
+ghost use Rattle.std.specs.Prelude.{ℕ, List, Option, Some, None, true, false, ◌+◌, ◌≡◌, ◌≢◌, ◌≤◌, ◌<◌, ◌++◌, ◌⊎◌, length, nat_le, take, ◌↔◌, option_map, IfOk, IsTrue, OnOk, IfSome, IsSome, if◌then◌else◌};
 ghost use Rattle.std.specs.Fs.{file_type, metadata_len, IsFile};
 ghost use Rattle.std.specs.Io.KnownBytes.{Consumes, IsAtEnd};
 ghost use Rattle.input_files.specs.declared.kind.FileKind.TheVariants as kinds;
 ghost use Rattle.input_files.specs.Contents.{counted_length, long_length, Holds};
 ghost use Rattle.input_files.specs.Kinds.{base_read};
-ghost use Rattle.input_files.specs.PartTexts.{part_line, part_read};
+ghost use Rattle.input_files.specs.PartTexts.{cases_word, is_begun, part_line, part_read};
 ghost use Rattle.input_files.specs.RawLogs.{read_raw};
 ghost use Rattle.input_files.specs.Reads.{IsBase, IsRead};
 
@@ -46,6 +46,9 @@ pub(crate) struct Piece {
 
 /// The line with which the text of a part begins.
 const PART_LINE: &[u8] = b"crash part 1\n";
+
+/// With what the text of cases begins, as many bytes as that line has.
+const CASES_WORD: &[u8] = b"crash cases 1";
 
 /// Reads on, up to `most` bytes; room is made once, where they are no more than `expected`.
 fn read_more<F: Read>(
@@ -146,14 +149,15 @@ fn read_raw<F: Read>(alloc: Global, file: &mut F) -> io::Result<Vec<u8>>
     }
 }
 
-/// Whether the first bytes of a file are the line with which the text of a part begins.
-fn is_part_line(bytes: &[u8]) -> bool
-    ensures { IsTrue result ↔ (bytes.now ≡ part_line) }
+/// Whether the first bytes of a file are those with which the text of a part begins, or that of cases.
+#[tactic(auto, using(crate::proofs::PartTexts::is_either))]
+fn is_begun(bytes: &[u8]) -> bool
+    ensures { result ≡ is_begun bytes.now }
 {
-    bytes == PART_LINE
+    bytes == PART_LINE || bytes == CASES_WORD
 }
 
-/// The first bytes of the text of a part, up to `most`; of a file that doesn't begin as one no more than as many as tell that.
+/// The first bytes of the text of a part or of cases, up to `most`; of a file that doesn't begin as one no more than as many as tell that.
 fn read_part_text<F: Read>(
     alloc: Global,
     file: &mut F,
@@ -164,7 +168,7 @@ fn read_part_text<F: Read>(
 {
     let mut bytes = Vec::new(alloc);
     read_on(alloc, file, &mut bytes, most.min(PART_LINE.len()))?;
-    if !is_part_line(bytes.as_slice()) {
+    if !is_begun(bytes.as_slice()) {
         return Ok(bytes);
     }
     let rest = most.saturating_sub(PART_LINE.len());
@@ -238,7 +242,7 @@ fn program_length<F: Read>(
     }
 }
 
-/// Reads the text of a part.
+/// Reads the text of a part or of cases.
 fn read_part_piece<F: Read>(
     alloc: Global,
     file: &mut F,

@@ -20,12 +20,12 @@ use Rattle.join.proofs.Spans.{line_lacks}
 use Rattle.join.proofs.WordsRead.{spaced, spaced_both, words_spaced, number_word, less}
 use Rattle.join.proofs.FlushesRead.{SaysSmall, entries_word, first_of, rest_of}
 
-kind_word : (kind : CutKind) → IsWord (cuts_word kind)
+pub kind_word : (kind : CutKind) → IsWord (cuts_word kind)
 kind_word kinds.All = (omega arith, refl)
 kind_word kinds.BeforeFlush = (omega arith, refl)
 kind_word kinds.AfterMark = (omega arith, refl)
 
-yes_word : (is : Bool) → IsWord (yes_or_no is)
+pub yes_word : (is : Bool) → IsWord (yes_or_no is)
 yes_word true = (omega arith, refl)
 yes_word false = (omega arith, refl)
 
@@ -65,27 +65,27 @@ choices_read line w1 r1 w2 r2 w3 r3 w4 r4 w5 r5 w6 rest bound tears first c1 c2 
         (says1 v.bound small.bound p2.0, says2 v.tears p4.0, says3 v.first p6.0, p6.1)
 
 -- words of an option with a number
-option_are : (name : List ℕ) (o : Option ℕ) (ws : List (List ℕ)) → IsWord name → IsSmallOption o → AreWords ws → AreWords (option_words name o ++ ws)
+pub option_are : (name : List ℕ) (o : Option ℕ) (ws : List (List ℕ)) → IsWord name → IsSmallOption o → AreWords ws → AreWords (option_words name o ++ ws)
 option_are name None ws own small each = each
 option_are name (Some n) ws own small each = (own, (number_word n small, each))
 
-option_other : (other name : List ℕ) (o : Option ℕ) (ws : List (List ℕ)) → name ≢ other → IsOtherFirst other ws → IsOtherFirst other (option_words name o ++ ws)
+pub option_other : (other name : List ℕ) (o : Option ℕ) (ws : List (List ℕ)) → name ≢ other → IsOtherFirst other ws → IsOtherFirst other (option_words name o ++ ws)
 option_other other name None ws apart first = first
 option_other other name (Some n) ws apart first = apart
 
-flush_are : (es : List ℕ) (ws : List (List ℕ)) → AreEntries es → AreWords ws → AreWords (flush_list es ++ ws)
+pub flush_are : (es : List ℕ) (ws : List (List ℕ)) → AreEntries es → AreWords ws → AreWords (flush_list es ++ ws)
 flush_are [] ws all each = each
 flush_are (e ∷ es) ws all each = ((omega arith, refl), (entries_word e es all, each))
 
-flush_other : (other : List ℕ) (es : List ℕ) (ws : List (List ℕ)) → codes "flush" ≢ other → IsOtherFirst other ws → IsOtherFirst other (flush_list es ++ ws)
+pub flush_other : (other : List ℕ) (es : List ℕ) (ws : List (List ℕ)) → codes "flush" ≢ other → IsOtherFirst other ws → IsOtherFirst other (flush_list es ++ ws)
 flush_other other [] ws apart first = first
 flush_other other (e ∷ es) ws apart first = apart
 
-other_long : (xs ys : List ℕ) → length xs ≢ length ys → xs ≢ ys
+pub other_long : (xs ys : List ℕ) → length xs ≢ length ys → xs ≢ ys
 other_long xs ys apart e = apart (ap length e)
 
 -- flushes are at most 64
-few_places : (f : Flushes) → length (places_of f) ≤ 64
+pub few_places : (f : Flushes) → length (places_of f) ≤ 64
 few_places f = let few = f.few in at_most f.count f.entries 64 few
   where
     at_most : (n : ℕ) (xs : List ℕ) (m : ℕ) → n ≤ m → length (take n xs) ≤ m
@@ -178,7 +178,7 @@ base_spaced : (o : Option ℕ) → spaced (option_words (codes "base") o) ≡ ba
 base_spaced None = refl
 base_spaced (Some n) = ap (λ (bs : List ℕ). codes " base " ++ bs) (append-nil (decimal n))
 
-given_spaced : (v : HeadValue) → spaced (given_words v) ≡ by_words v.by ++ (cuts_words v.cuts ++ base_words v.base)
+pub given_spaced : (v : HeadValue) → spaced (given_words v) ≡ by_words v.by ++ (cuts_words v.cuts ++ base_words v.base)
 unfolding cuts_words
 given_spaced v =
     let b : List (List ℕ) = option_words (codes "base") v.base in
@@ -219,7 +219,7 @@ opened_is v more =
     ∙ device_is v (codes " bound " ++ (decimal v.bound ++ (codes " tears " ++ (yes_or_no v.tears ++ (codes " first " ++ (yes_or_no v.first ++ (more ++ 10 ∷ [])))))))
     ∙ twelve (codes "sectors ") (decimal v.sectors) (codes " entries ") (decimal v.entries) (codes " cuts ") (cuts_word v.cuts.kind) (codes " bound ") (decimal v.bound) (codes " tears ") (yes_or_no v.tears) (codes " first ") (yes_or_no v.first) more (10 ∷ [])
 
-given_is : (v : HeadValue) → given_text v ≡ (by_words v.by ++ (cuts_words v.cuts ++ base_words v.base)) ++ 10 ∷ []
+pub given_is : (v : HeadValue) → given_text v ≡ (by_words v.by ++ (cuts_words v.cuts ++ base_words v.base)) ++ 10 ∷ []
 unfolding given_text
 given_is v = simp append_assoc
 
@@ -241,15 +241,15 @@ line_is v =
     ∙ ap (λ (bs : List ℕ). bs ++ 10 ∷ []) (sym (words_opened v))
 
 -- no newline stands in it
-abbrev all_lack : List (List ℕ) → Type 0
+abbrev pub all_lack : List (List ℕ) → Type 0
 all_lack [] = Unit {0}
 all_lack (w ∷ ws) = (lacks 10 w ≡ true) × all_lack ws
 
-spaced_lack : (ws : List (List ℕ)) → all_lack ws → lacks 10 (spaced ws) ≡ true
+pub spaced_lack : (ws : List (List ℕ)) → all_lack ws → lacks 10 (spaced ws) ≡ true
 spaced_lack [] each = refl
 spaced_lack (w ∷ ws) each = lacks_both 10 w (spaced ws) each.0 (spaced_lack ws each.1)
 
-option_lack : (name : List ℕ) (o : Option ℕ) (ws : List (List ℕ)) → lacks 10 name ≡ true → IsSmallOption o → all_lack ws → all_lack (option_words name o ++ ws)
+pub option_lack : (name : List ℕ) (o : Option ℕ) (ws : List (List ℕ)) → lacks 10 name ≡ true → IsSmallOption o → all_lack ws → all_lack (option_words name o ++ ws)
 option_lack name None ws own small each = each
 option_lack name (Some n) ws own small each = (own, (line_lacks n small, each))
 
@@ -265,16 +265,16 @@ flush_lack : (es : List ℕ) (ws : List (List ℕ)) → AreEntries es → all_la
 flush_lack [] ws all each = each
 flush_lack (e ∷ es) ws all each = (refl, (lacks_both 10 (decimal e) (flat_map next_flush es) (line_lacks e (less e (first_of e es all))) (next_lack es (rest_of e es all)), each))
 
-kind_lack : (kind : CutKind) → lacks 10 (cuts_word kind) ≡ true
+pub kind_lack : (kind : CutKind) → lacks 10 (cuts_word kind) ≡ true
 kind_lack kinds.All = refl
 kind_lack kinds.BeforeFlush = refl
 kind_lack kinds.AfterMark = refl
 
-yes_lack : (is : Bool) → lacks 10 (yes_or_no is) ≡ true
+pub yes_lack : (is : Bool) → lacks 10 (yes_or_no is) ≡ true
 yes_lack true = refl
 yes_lack false = refl
 
-given_lack : (v : HeadValue) → IsSmallHead v → all_lack (given_words v)
+pub given_lack : (v : HeadValue) → IsSmallHead v → all_lack (given_words v)
 given_lack v small =
     let b : List (List ℕ) = option_words (codes "base") v.base in
     let own : all_lack b = subst (λ (ws : List (List ℕ)). all_lack ws) (append-nil b) (option_lack (codes "base") v.base [] refl small.base tt) in
@@ -332,7 +332,7 @@ is_of_run h small count options programs = record { numbers = small; some = coun
 pub has_count : (h : HeadValue) → IsPrintedHead h → (0 < length h.programs) × (length h.programs ≤ 8)
 has_count h printed = (printed.some, printed.few)
 
-moved : (h v : HeadValue) → IsSmallHead h → HaveSameOptions h v → h.programs ≡ v.programs → IsPrintedHead v → IsPrintedHead h
+pub moved : (h v : HeadValue) → IsSmallHead h → HaveSameOptions h v → h.programs ≡ v.programs → IsPrintedHead v → IsPrintedHead h
 moved h v small s programs printed =
     let long : length h.programs ≡ length v.programs = ap length programs in
     let some = printed.some in

@@ -23,3 +23,15 @@ pub mod Outsides
 pub mod ToldLines
 pub mod JudgesRead
 pub mod GivenWhole
+pub mod CaseWords
+pub mod CaseLists
+pub mod CaseJudged
+pub mod CaseWalked
+pub mod CaseLines
+pub mod CaseLasts
+pub mod CaseHeads
+pub mod CaseWholes
+pub mod CaseRowed
+pub mod CaseJoins
+pub mod CaseLawful
+pub mod CasesAllJoin

@@ -11,3 +11,10 @@ pub mod Laws
 -- A report that is given in place of programs.
 pub mod Given
 pub mod GivenReading
+-- The texts of runs of any number of losses.
+pub mod CaseTexts
+pub mod CaseReading
+pub mod CaseWalks
+pub mod CaseJoining
+pub mod CaseRows
+pub mod CaseLaws

@@ -112,7 +112,7 @@ fn are_options_of_run(head: &Head) -> bool
 
 /// Whether a head whose numbers are within their ranges is one as a run may have it.
 #[tactic(auto, using(crate::proofs::HeadsRead::is_of_run, crate::proofs::HeadsRead::has_count))]
-fn is_of_run(head: &Head) -> bool
+pub(crate) fn is_of_run(head: &Head) -> bool
     requires { IsSmallHead head.now }
     ensures { IsTrue result ↔ IsPrintedHead head.now }
 {

@@ -38,7 +38,7 @@ fn memory_fault() -> JoinFault
 
 /// The first file with which the texts have more bytes than can be joined.
 #[tactic(auto, using(crate::proofs::Joins::left_more, crate::proofs::Joins::long_found, crate::proofs::Joins::none_long))]
-fn first_long(files: &[Vec<u8>]) -> Option<usize>
+pub(crate) fn first_long(files: &[Vec<u8>]) -> Option<usize>
     ensures { MatchOption result (size_of (map (λ f. f.items) files.now) ≤ 2 ^ 30) (λ file. IsFirstLong (map (λ f. f.items) files.now) file) }
 {
     let mut left = MOST_BYTES;

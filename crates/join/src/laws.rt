@@ -1,5 +1,6 @@
 //! The laws of joined texts, as functions that do nothing.
 
+ghost use Rattle.join.specs.CaseLaws.{CasesAreJoined, JoinIsCases};
 ghost use Rattle.join.specs.Laws.{JoinIsRun, PartsAreJoined};
 
 /// Parts of one run that have each image from A to below B once come to the text of these images by definition: where these are all
@@ -13,4 +14,17 @@ pub fn join_is_run()
 #[tactic(auto)]
 pub fn parts_are_joined()
     ensures { PartsAreJoined }
+{}
+
+/// Texts of runs of any number of losses over ranges of cuts that follow one another come to the text of the run of the whole range; where
+/// these are all cuts of the log, to that of the run that was asked for no range.
+#[tactic(auto)]
+pub fn join_is_cases()
+    ensures { JoinIsCases }
+{}
+
+/// Such texts are refused for their length, for want of memory, or since the run of the whole range has too many cases.
+#[tactic(auto)]
+pub fn cases_are_joined()
+    ensures { CasesAreJoined }
 {}

@@ -18,14 +18,15 @@
 //! | `join(alloc, part, files)` | the report of the run of which these are the parts, or with `part` the text of their images, as a `JoinedText`; or why they aren't joined |
 //! | `JoinedText` | the bytes of a text, and whether a failing line stands there |
 //! | `JoinFault` | the file that is at fault, and why |
+//! | `join_cases(alloc, part, files)` | the text of the run of all cuts with any number of losses, of the texts of runs of ranges of cuts that follow one another, or with `part` the text of the cuts that they have; or why they aren't joined, as a `CasesFault` |
 //! | `read_report(alloc, run, bytes, line)` | what a report of that run says, as a `Given`; none where the bytes are the report of no such run |
 //! | `ReportRun` | the run of which a report is to be: the line of its options, and its images by number |
 //! | `Given`, `Told` | what is read of a report, and of each of its failing lines: its mark, and what the program ended in |
-//! | `join_is_run`, `parts_are_joined` | laws, as functions that do nothing |
+//! | `join_is_run`, `parts_are_joined`, `join_is_cases`, `cases_are_joined` | laws, as functions that do nothing |
 //!
 //! # Place
 //!
-//! On `report`, whose definitions say what is printed, and which reads a choice. What a log is, or a
+//! On `report`, whose definitions say what is printed, and which reads a choice; and on `case_text` for texts of cases. What a log is, or a
 //! program, isn't known here, and neither is how images are judged: a run is its head, a number of its inputs, and for each image its
 //! failing lines (`RunValue` in `specs/Text.antt`).
 //!
@@ -36,6 +37,16 @@
 //! and the last ends at the number of all images (`IsJoin` in `specs/Joining.antt`). Where it answers `Err`, the fault is the first in the
 //! order of docs/COMMANDS.md (`RefusesJoin`), or there was no memory. More than 1 GiB is never joined, and is refused before a text is read
 //! (the clauses `short` and `first`). Any bytes are taken.
+//!
+//! Where `join_cases` answers `Ok`, each file is a text of cases that a run may print, to the byte (`IsCasesText` in `specs/CaseTexts.antt`),
+//! and can be read in no other way; all say the same of their run but for the range; ordered by their first cuts each begins right after the
+//! one before it ends; they have at most 16,777,216 cases; without `part` they have all cuts of the log; and the bytes are the head over the
+//! whole range, which isn't told where it has all cuts, all lines in that order, and the sums of the totals (`AreJoinedCases` in
+//! `specs/CaseJoining.antt`). Where it answers `Err`, the fault is the first in the order of its page (`RefusesCases`), or there was no
+//! memory. The law `join_is_cases`: texts of ranges of one run that follow one another, and that together have the cuts of the whole range,
+//! come to what the run of the whole range prints, and where these are all cuts, the run that was asked for no range. The law
+//! `cases_are_joined`: such texts are refused for their length, for want of memory, or where the run of the whole range has more cases than
+//! a run may have; without `part` where these are all cuts (`specs/CaseLaws.antt`).
 //!
 //! `read_report` answers something exactly where the bytes are a report of the run (`IsReport` in `specs/Given.antt`): the line of the
 //! options to the byte; checkers, or one program that is given images as files; lines of images of the run, by image and then by program,
@@ -57,7 +68,9 @@
 //! with what `report` prints of what `options` and `programs` read there. `line` and `ending` read a failing line, `tally` counts lines,
 //! `reading` reads all lines of a part, and `part` a whole text. `given` reads a report as a whole, by the same words: since images are
 //! numbered, a line is printed again with the cut and the choice of its image, and compared. `row` puts parts into their order, and
-//! `joining` joins them. Files are borrowed: what is kept of one are slices of its bytes.
+//! `joining` joins them. Files are borrowed: what is kept of one are slices of its bytes. `case_parts` has the same for texts of cases, with
+//! modules of the same names: there a line is read as a whole (`said`), judged (`judging`), printed again (`printing`) and compared, as its
+//! parts at risk may be any number.
 //!
 //! # How it is proved
 //!
@@ -104,6 +117,7 @@
 //!   files after it.
 #![tactic(auto)]
 
+mod case_parts;
 mod ending;
 mod fault;
 mod given;
@@ -120,7 +134,8 @@ mod span;
 mod tally;
 mod words;
 
+pub use case_parts::{CasesFault, join_cases};
 pub use fault::JoinFault;
 pub use given::{Given, ReportRun, Told, read_report};
 pub use joining::{JoinedText, join};
-pub use laws::{join_is_run, parts_are_joined};
+pub use laws::{cases_are_joined, join_is_cases, join_is_run, parts_are_joined};

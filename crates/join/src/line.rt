@@ -84,13 +84,13 @@ pub(crate) fn is_before_last(last: Option<u64>, cut: u64) -> bool
 }
 
 /// Whether a run with that head has that program and may have that cut.
-fn has_program_and_cut(head: &Head, words: Words) -> bool
-    ensures { result ≡ has_program_and_cut head.now words.cut words.program }
+pub(crate) fn has_place(head: &Head, cut: u64, program: u64) -> bool
+    ensures { result ≡ has_program_and_cut head.now cut program }
 {
-    words.program < head.programs.len() as u64
-        && words.cut <= u64::from(head.entries)
-        && is_after_first(head.cuts.from, words.cut)
-        && is_before_last(head.cuts.to, words.cut)
+    program < head.programs.len() as u64
+        && cut <= u64::from(head.entries)
+        && is_after_first(head.cuts.from, cut)
+        && is_before_last(head.cuts.to, cut)
 }
 
 /// The mark of a line without its newline, if it is one of a run with that head, to the byte.
@@ -101,7 +101,7 @@ fn mark_of(alloc: Global, head: &Head, line: &str) -> Result<Option<Mark>, Alloc
     if !is_fit(words) {
         return Ok(None);
     }
-    if !has_program_and_cut(head, words) {
+    if !has_place(head, words.cut, words.program) {
         return Ok(None);
     }
     let printed = words_text(alloc, words)?;

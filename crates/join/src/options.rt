@@ -40,14 +40,14 @@ fn kind_said(word: &str) -> CutKind
 }
 
 /// Whether a word is `yes`.
-fn is_yes(word: &str) -> bool
+pub(crate) fn is_yes(word: &str) -> bool
     ensures { (is : Bool) → word.now ≡ yes_or_no is → result ≡ is }
 {
     word == "yes"
 }
 
 /// What a line says of the device, of the log and of the kind of cuts, and what stands after that.
-fn device_said(line: &str) -> (u32, u32, CutKind, &str)
+pub(crate) fn device_said(line: &str) -> (u32, u32, CutKind, &str)
     ensures { ReadsDevice line.now result.0 result.1 result.2 result.3.now }
 {
     let (_sectors, line) = next_word(line);
@@ -122,7 +122,7 @@ fn flushes_said(line: &str) -> (Flushes, &str)
 
 /// The number after an option, where a line begins with its name, and what stands after that; else the line as it is.
 #[tactic(auto, using(crate::proofs::WordsRead::option_lacking, crate::proofs::WordsRead::option_found))]
-fn option_said<'t>(name: &str, line: &'t str) -> (Option<u64>, &'t str)
+pub(crate) fn option_said<'t>(name: &str, line: &'t str) -> (Option<u64>, &'t str)
     requires { IsWord name.now }
     ensures read { ReadsOption name.now line.now result.0 result.1.now }
     ensures small { IsSmallOption result.0 }
@@ -137,7 +137,7 @@ fn option_said<'t>(name: &str, line: &'t str) -> (Option<u64>, &'t str)
 
 /// The options of a line that stand there only where they are given.
 #[tactic(auto, using(crate::proofs::HeadsRead::given_read))]
-fn given_said(line: &str) -> GivenOptions
+pub(crate) fn given_said(line: &str) -> GivenOptions
     ensures read { ReadsGiven line.now result }
     ensures small { IsSmallGiven result }
 {

@@ -76,7 +76,7 @@ pub enum Request {
     Why(OptionWords),
     /// `cure LOG PROGRAM..`, which takes no `--first`.
     Cure(OptionWords),
-    /// The same with any number of losses.
+    /// `cure LOG PROGRAM..` with any number of losses.
     CureCases(OptionWords, LossWords),
     /// `page LOG PROGRAM..`
     Page(OptionWords),
@@ -84,7 +84,7 @@ pub enum Request {
     Retold(OptionWords, Retelling),
     /// `images LOG`, with the number after `--parts`, where that stands there.
     Images(OptionWords, Option<u64>),
-    /// The same with any number of losses.
+    /// `images LOG` with any number of losses, with the number after `--parts`, where that stands there.
     Cuts(OptionWords, LossWords, Option<u64>),
     /// `export LOG`.
     Export(OptionWords),
@@ -112,7 +112,7 @@ pub enum Request {
     Check(TrialWords),
     /// `asm SOURCE`
     Asm,
-    /// `join PART..`, of all parts of a run, or of some of them.
+    /// `join PART..`, of all parts of a run, or of some of them: texts of images, or of cases.
     Join {
         part: bool,
     },

@@ -76,12 +76,12 @@ pub record IsLastContext (plan : PlanValue) (place last cut : ℕ) : Type 0 wher
   pub within : cut ≤ length plan.log.entries
   pub same : same_context plan.log.entries last cut ≡ true
 
--- of which programs it is found that they are blind: of all, one after the other, where failing images are told
+-- of which programs it is found that they are blind: of all, one after the other, where failing images or cases are told
 abbrev pub blind_found : Wanted → PlanValue → List CheckerValue → List Bool
 blind_found (wanted.Told t) plan checkers = map (is_noticed plan) checkers
 blind_found wanted.Cured plan checkers = []
 blind_found (wanted.CuredCases l) plan checkers = []
-blind_found (wanted.Cases l) plan checkers = []
+blind_found (wanted.Cases l) plan checkers = map (is_noticed plan) checkers
 
 -- that is found of a run
 pub record FindsBlind (w : Wanted) (text : Recording) (files : List (List ℕ)) (s : Settings) (found : List Bool) : Type 0 where

@@ -14,12 +14,13 @@ ghost use Rattle.report.specs.Line.{fails};
 ghost use Rattle.runs.specs.Blind.{covers, is_bare, ending_on, looks_on, whole_at, is_blind_at, is_blind, changes, has_few_contexts, is_noticed, same_context, IsLastContext};
 
 use crate::basis::Basis;
+use crate::task::Task;
 use arrayvec::ArrayVec;
 use base::refusal::Refusal;
 use checker::Checker;
 use choices::{Choice, Starts};
 use epochs::Plan;
-use images::View;
+use images::{History, View};
 use interp::{Noted, Outcome};
 use logfmt::Entry;
 use std::alloc::{AllocError, Global};
@@ -289,4 +290,34 @@ pub(crate) fn find_blind(
         Ok(()) => Ok(()),
         Err(_error) => Err(Refusal::of_memory()),
     }
+}
+
+/// Finds the same of a task whose images aren't judged one by one.
+pub(crate) fn find_blind_of<'x>(
+    alloc: Global,
+    task: &'x Task<'x>,
+    found: &mut ArrayVec<bool, 8>,
+) -> Result<(), Refusal>
+    requires few { length task.now.checkers.now ≤ 8 }
+    requires verified { AreFor task.now.options.now.sectors task.now.checkers.now }
+    requires fresh { found.old.items ≡ [] }
+    ensures found { OnOk result (found.new.items ≡ map (is_noticed task.now.plan.now) task.now.checkers.now) }
+    ensures refused { IfErr result (λ r. r ≡ memory_refusal) }
+{
+    let (plan, options) = (task.plan, task.options);
+    let history = match History::new(alloc, &*plan, &*task.log) {
+        Ok(history) => history,
+        Err(_error) => return Err(Refusal::of_memory()),
+    };
+    let (bound, tears) = (options.bound(), options.tears());
+    let starts = match Starts::new(alloc, &*plan, bound, tears) {
+        Ok(starts) => starts,
+        Err(_error) => return Err(Refusal::of_memory()),
+    };
+    let basis = Basis {
+        task: &*task,
+        starts: &starts,
+        history: &history,
+    };
+    find_blind(alloc, &basis, found)
 }

@@ -1,18 +1,21 @@
 //! From the checkers of a run to the text of its failing cases, whatever is lost.
 
-ghost use Rattle.std.specs.Prelude.{◌≡◌, ◌≤◌, length, min, true, false, All, IfOk, IfErr};
+ghost use Rattle.std.specs.Prelude.{◌≡◌, ◌≤◌, [], length, map, min, true, false, All, IfOk, IfErr};
 ghost use Rattle.base.specs.Refusals.{memory_refusal};
 ghost use Rattle.checker.specs.Checker.{AreFor};
 ghost use Rattle.case_runs.specs.Found.{AreFoundIn, cases_in, most_cases};
 ghost use Rattle.case_runs.specs.First.{AllPass, IsSought, IsFirstFailing};
 ghost use Rattle.case_text.specs.Text.{is_any_failing};
 ghost use Rattle.case_runs.specs.Cuts.{case_cuts};
+ghost use Rattle.runs.specs.Blind.{is_noticed};
 ghost use Rattle.runs.specs.CaseCuts.{losses_of, left_out_of};
 ghost use Rattle.runs.specs.Cases.{IsTextOf, TellsCases, TellsFirst, TellsLosses};
 ghost use Rattle.runs.specs.CaseRefusals.{StopsFor, RefusesFor, RefusesAll};
 
+use crate::blind::find_blind_of;
 use crate::explore_command::{Explored, head_of_run};
 use crate::task::Task;
+use arrayvec::ArrayVec;
 use base::causes::RequestCause;
 use base::refusal::{Cause, Refusal};
 use case_runs::{
@@ -322,20 +325,26 @@ fn first_told<G: Gate>(
 }
 
 /// The failing cases of a task, told as a text; or the first of them alone, where that is asked for. Where none fails, it is found how
-/// many were left out.
-pub(crate) fn told_cases<G: Gate + Sync, R: Threads + Sync>(
+/// many were left out. It is found which programs pass without looking at what the log writes.
+pub(crate) fn told_cases<'x, G: Gate + Sync, R: Threads + Sync>(
     rt: &R,
     alloc: Global,
     gate: &G,
-    task: &Task<'_>,
+    task: &'x Task<'x>,
     losses: AnyLosses,
+    blind: &mut ArrayVec<bool, 8>,
     out: &mut Option<LeftOut>,
 ) -> Result<Explored, Refusal>
     requires verified { AreFor task.now.options.now.sectors task.now.checkers.now }
     requires small { length task.now.checkers.now ≤ 8 }
+    requires fresh { blind.old.items ≡ [] }
+    ensures blind { IfOk result (λ _. blind.new.items ≡ map (is_noticed task.now.plan.now) task.now.checkers.now) }
     ensures told { IfOk result (λ e. TellsLosses task.now.options.now.first losses task.now.options.now task.now.log.now task.now.checkers.now e.bytes.items e.failing) }
     ensures refused { IfErr result (RefusesFor losses task.now) }
 {
+    if find_blind_of(alloc, task, blind).is_err() {
+        return Err(Refusal::of_memory());
+    }
     let cuts = match cuts_of_cases(alloc, task, losses) {
         Ok(cuts) => cuts,
         Err(_error) => return Err(Refusal::of_memory()),

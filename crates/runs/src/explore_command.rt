@@ -534,7 +534,15 @@ fn make_run<G: Gate + Sync, R: Threads + Wait + Sync>(
                 options,
                 span: span_of(question, images),
             };
-            told_cases(rt, alloc, gate, &task, losses, &mut facts.left_out)
+            told_cases(
+                rt,
+                alloc,
+                gate,
+                &task,
+                losses,
+                &mut facts.blind,
+                &mut facts.left_out,
+            )
         }
     }
 }

@@ -60,7 +60,7 @@
 //! known there. Which marks of the log promise what nothing made durable is that of `specs/Promises.antt` of `request`, where there was
 //! memory to find them.
 //!
-//! Where failing images are told, `run_with` also finds which programs are blind (`specs/Blind.antt`): at each wanted cut, run on the
+//! Where failing images or cases are told, `run_with` also finds which programs are blind (`specs/Blind.antt`): at each wanted cut, run on the
 //! image in which nothing is lost or torn, they answer 0 and look at no sector that an entry covers. A flag of each program says it,
 //! exactly. The law `blind_programs_pass` says what it means: such a program comes to the same on each image of a cut, and no
 //! failing line is of it.

@@ -414,10 +414,25 @@ fn put_images_notes(
     }
 }
 
+/// Appends that texts have too many cases together, and the name of the file with which they have.
+fn put_many_joined(out: &mut String, words: &Words, place: usize) -> Result<(), AllocError> {
+    put_note(
+        out,
+        "with this file there are more than 16777216 cases (docs/CRASH-MODEL.md, Limits)",
+    )?;
+    put_name(out, words, place, "is the file that is meant")
+}
+
 /// Appends that there are too many images or cases, and with what there are fewer.
-fn put_many_notes(out: &mut String, words: &Words, facts: &Facts) -> Result<(), AllocError> {
+fn put_many_notes(
+    out: &mut String,
+    words: &Words,
+    place: usize,
+    facts: &Facts,
+) -> Result<(), AllocError> {
     let request = words.request();
     match (request, log_options(request)) {
+        (Request::Join { .. }, _) => put_many_joined(out, words, place),
         (Request::Cases(options, _) | Request::CureCases(options, _), _) => put_cases_notes(
             out, options,
         ),
@@ -578,17 +593,51 @@ fn put_file_notes(
 const LACKS_LAST: &str =
     "the images after those of all parts are missing; with --part the answer is the text of a part";
 
+/// The line with which the text of cases begins.
+const CASES_LINE: &[u8] = b"crash cases 1\n";
+
+/// What is said of a file that isn't the text of cases, where the first one is.
+const BESIDE_CASES: &str =
+    "the first file is the text of cases, so each is to be what 'explore --bound any' prints (docs/OUTPUT.md, The text of cases)";
+
+/// Whether a file begins as the text of cases does.
+fn has_cases(files: &[Option<Vec<u8>>], place: usize) -> bool {
+    match bytes_of(files, place) {
+        Some(bytes) => bytes.starts_with(CASES_LINE),
+        None => false,
+    }
+}
+
+/// Appends which file isn't the text of a part, and of what it would have to be the text.
+fn put_no_part(
+    out: &mut String,
+    words: &Words,
+    files: &[Option<Vec<u8>>],
+    place: usize,
+) -> Result<(), AllocError> {
+    put_name(out, words, place, "is the file that is meant")?;
+    if has_cases(files, 0) {
+        return put_note(out, BESIDE_CASES);
+    }
+    if has_cases(files, place) {
+        return put_name(out, words, place, "has cases, and the first file has none");
+    }
+    Ok(())
+}
+
 /// Appends why texts of parts aren't joined, and the name of the file that is at fault, or that it would be one more.
 fn put_join_notes(
     alloc: Global,
     out: &mut String,
     words: &Words,
+    files: &[Option<Vec<u8>>],
     cause: JoinCause,
     place: usize,
 ) -> Result<(), AllocError> {
     put_cause(alloc, out, &cause, "")?;
     match cause {
         JoinCause::Memory => Ok(()),
+        JoinCause::NotPart => put_no_part(out, words, files, place),
         JoinCause::Gap if place >= words.files().len() => put_note(out, LACKS_LAST),
         _ => put_name(out, words, place, "is the file that is meant"),
     }
@@ -639,12 +688,12 @@ pub fn notes_after(
             refusal.at,
             facts,
         )?,
-        Cause::Request(RequestCause::TooManyImages) => put_many_notes(&mut out, words, facts)?,
+        Cause::Request(RequestCause::TooManyImages) => put_many_notes(&mut out, words, at, facts)?,
         Cause::Request(RequestCause::Option) => { put_note(&mut out, rule_of(words, refusal.at))? },
         Cause::Request(RequestCause::NotInLog) => put_note(&mut out, NOT_IN_LOG)?,
         Cause::Request(RequestCause::NotReport) => put_note(&mut out, NOT_REPORT)?,
         Cause::Request(RequestCause::File) => put_file_notes(alloc, &mut out, words, files, at)?,
-        Cause::Join(cause) => put_join_notes(alloc, &mut out, words, cause, at)?,
+        Cause::Join(cause) => put_join_notes(alloc, &mut out, words, files, cause, at)?,
         Cause::Work(_cause) => put_work_notes(&mut out, words)?,
     }
     Ok(out)

@@ -282,14 +282,14 @@ returns-in-Cases-clause-told g c =
 pub returns-in-Cases-clause-blind : goal.returns-in-Cases-clause-blind
 returns-in-Cases-clause-blind g c =
     rw c.in-Cases.is
-    (both_ok c.told_cases.result _ _ _ c.told_cases.ensures.told c.told_cases.ensures.told
-    (λ e tells again.
+    (both_ok c.told_cases.result _ _ _ c.told_cases.ensures.blind c.told_cases.ensures.blind
+    (λ e blind again.
     found_blind (wanted.Cases c.in-Cases.losses) _ _ c.args.question.now.options.now c.in_ok-log.log c.in_ok-checkers.checkers.items c.as_slice-made.result.now _
     (has_images _ _ _ _ c.in_ok-log.ensures.log c.in_ok-plan.ensures.count c.in_ok-plan.ensures.few c.in_ok-plan.ensures.within)
     (checkers_decoded _ _ _ c.as_slice.result.now _ _ c.as_slice.ensures.value c.in_ok-decoded.ensures.decoded c.in_default.not-Some
     c.in_ok-checkers.ensures.made c.in_ok-checkers.ensures.all)
     c.as_slice-made.ensures.value
-    (c.in_ok-checkers.ensures.others.blind ∙ c.in_ok-plan.ensures.others.blind ∙ c.in_ok-log.ensures.others.blind ∙ c.new.ensures.blind)))
+    (blind ∙ ap (λ (p : PlanValue). map (is_noticed p) c.as_slice-made.result.now) c.in_ok-plan.ensures.plan)))
 
 pub returns-in-Cases-clause-refused : goal.returns-in-Cases-clause-refused
 returns-in-Cases-clause-refused g c =

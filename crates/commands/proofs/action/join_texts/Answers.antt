@@ -1,8 +1,0 @@
-use Rattle.commands.specs.Acting.{for_texts}
-use Rattle.commands.proofs.action.join_texts.Goals as goal
-
-pub returns-in-Ok-clause-answers : goal.returns-in-Ok-clause-answers
-returns-in-Ok-clause-answers c = record { short = c.in-Ok.ensures.short; failing = c.in-Ok.joined.failing; joined = c.in-Ok.ensures.joined; ends = c.status_of.ensures }
-
-pub returns-in-Err-clause-refused : goal.returns-in-Err-clause-refused
-returns-in-Err-clause-refused c = rw c.join_refusal_of.ensures (for_texts c.in-Err.fault c.in-Err.ensures.refused c.in-Err.ensures.first)

@@ -1,0 +1,45 @@
+//! With which words the line of a case begins.
+
+ghost use Rattle.std.specs.Prelude.{◌≡◌};
+ghost use Rattle.report.specs.MarkReading.{ReadsField};
+ghost use Rattle.join.specs.CaseReading.{ReadsFront};
+
+use crate::words::{cut, number};
+
+/// Where the line of a case stands: its cut, with the epoch and how many marks stand before it, its program, and its number.
+#[derive(Clone, Copy, Drop)]
+pub struct CaseFront {
+    pub(crate) cut: u64,
+    pub(crate) epoch: u64,
+    pub(crate) marks: u64,
+    pub(crate) program: u64,
+    pub(crate) number: u64,
+}
+
+/// The word after the first one, and what stands after it.
+fn field(text: &str) -> (&str, &str)
+    ensures { ReadsField text.now result.0.now result.1.now }
+{
+    let (_name, named) = cut(text, ' ');
+    cut(named, ' ')
+}
+
+/// With which words a line begins, and what stands after them; and something where it is no line.
+#[tactic(auto, using(crate::proofs::CaseWords::front_read))]
+pub(crate) fn front_said(line: &str) -> (CaseFront, &str)
+    ensures { ReadsFront line.now result.0 result.1.now }
+{
+    let (at, line) = field(line);
+    let (epoch, line) = field(line);
+    let (marks, line) = field(line);
+    let (program, line) = field(line);
+    let (case, line) = field(line);
+    let front = CaseFront {
+        cut: number(at),
+        epoch: number(epoch),
+        marks: number(marks),
+        program: number(program),
+        number: number(case),
+    };
+    (front, line)
+}

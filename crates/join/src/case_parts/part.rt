@@ -1,0 +1,113 @@
+//! A text of cases, read as a whole.
+
+ghost use Rattle.std.specs.Prelude.{◌≡◌, ◌≤◌, ◌^◌, ◌++◌, codes, IfOk, MatchOption, length};
+ghost use Rattle.std.specs.Str.{IsUtf8};
+ghost use Rattle.join.specs.CaseTexts.{NoCasesText};
+ghost use Rattle.join.specs.CaseReading.{IsCasesPart};
+
+use crate::case_parts::heading::read_head;
+use crate::case_parts::line::read_lines;
+use crate::case_parts::totals::{CaseTotals, are_totals_of_run, is_totals, totals_said};
+use crate::words::{before, beyond};
+use case_runs::Losses;
+use report::Head;
+use std::alloc::{AllocError, Global};
+use std::marker::Model;
+use std::str;
+
+/// What is read of a text of cases.
+#[derive(Drop)]
+pub struct CasePart<'t> {
+    /// Its options and programs.
+    pub(crate) head: Head,
+    /// What is asked of losses.
+    pub(crate) asked: Losses,
+    /// The lines of its cases.
+    pub(crate) lines: &'t [u8],
+    /// What they come to.
+    pub(crate) totals: CaseTotals,
+    /// The number of its file.
+    pub(crate) file: u32,
+}
+
+impl<'t> Model for CasePart<'t> {
+    ghost use Rattle.join.specs.CaseReading.{CasesRead};
+
+    ghost Value = { CasesRead };
+
+    ghost view = { λ p. record { head = p.head; asked = p.asked; lines = p.lines.now; totals = p.totals; file = p.file } };
+}
+
+/// What is read of a text of cases after its title; none where it is the text of none.
+#[tactic(auto, using(crate::proofs::CaseWholes::no_head_no_cases))]
+fn read_rest<'t>(
+    alloc: Global,
+    file: u32,
+    whole: &str,
+    text: &'t str,
+) -> Result<Option<CasePart<'t>>, AllocError>
+    requires short { length text.now ≤ 2 ^ 30 }
+    requires utf8 { IsUtf8 whole.now }
+    requires titled { whole.now ≡ codes "crash cases 1\n" ++ text.now }
+    ensures { IfOk result (λ found. MatchOption found (NoCasesText whole.now) (λ part. IsCasesPart whole.now part × (part.file ≡ file))) }
+{
+    let _whole = whole;
+    let Some((head, asked, found)) = read_head(alloc, text)? else {
+        return Ok(None);
+    };
+    let (tally, last) = read_lines(alloc, &head, found)?;
+    let totals = totals_said(last);
+    if !tally.rising {
+        return Ok(None);
+    }
+    if !are_totals_of_run(&head, tally.lines, tally.cuts, totals) {
+        return Ok(None);
+    }
+    if !is_totals(alloc, totals, last)? {
+        return Ok(None);
+    }
+    Ok(Some(CasePart {
+        head,
+        asked,
+        lines: before(found, last),
+        totals,
+        file,
+    }))
+}
+
+/// What is read of a text of cases; none where it is the text of none.
+#[tactic(auto, using(crate::proofs::CaseWholes::no_title_no_cases, crate::proofs::CaseWholes::rest_short))]
+fn read_text<'t>(
+    alloc: Global,
+    file: u32,
+    text: &'t str,
+) -> Result<Option<CasePart<'t>>, AllocError>
+    requires short { length text.now ≤ 2 ^ 30 }
+    requires utf8 { IsUtf8 text.now }
+    ensures { IfOk result (λ found. MatchOption found (NoCasesText text.now) (λ part. IsCasesPart text.now part × (part.file ≡ file))) }
+{
+    match beyond("crash cases 1\n", text) {
+        Some(rest) => read_rest(alloc, file, text, rest),
+        None => Ok(None),
+    }
+}
+
+/// What is read of the text of cases that these bytes are, to the byte; none where they are that of none.
+///
+/// # Errors
+///
+/// Want of memory.
+#[tactic(auto, using(crate::proofs::CaseWholes::no_text_no_cases))]
+pub(crate) fn read_part<'t>(
+    alloc: Global,
+    file: u32,
+    bytes: &'t [u8],
+) -> Result<Option<CasePart<'t>>, AllocError>
+    requires { length bytes.now ≤ 2 ^ 30 }
+    ensures { IfOk result (λ found. MatchOption found (NoCasesText bytes.now) (λ part. IsCasesPart bytes.now part × (part.file ≡ file))) }
+{
+    match str::from_utf8(bytes) {
+        Ok(text) => read_text(alloc, file, text),
+        Err(_error) => Ok(None),
+    }
+}
