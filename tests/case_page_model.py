@@ -49,6 +49,7 @@ class Found:
     def __init__(self, cut, found):
         self.cut, self.number, self.run = cut, cut.number, cut.run
         self.cases = len(found.leaves)
+        self.beyond = found.torn_beyond, found.lost_beyond
         self.failing = [(number, case, ending) for number, (case, ending, good) in enumerate(found.leaves) if not good]
 
     def count(self):
@@ -80,12 +81,14 @@ class Found:
         return text + "</div></details>\n", len(some)
 
 
-def verdict(cuts):
+def verdict(cuts, complete):
     bad, all_cases = [it for it in cuts if it.failing], sum(it.cases for it in cuts)
     if not cuts:
         return "<p class='none'>The log has no wanted cut: no case was judged.</p>\n"
     if bad:
         return f"<p class='bad'>{sum(len(it.failing) for it in bad)} of {all_cases} cases fail, at {len(bad)} of {len(cuts)} cuts.</p>\n"
+    if not complete:
+        return f"<p class='none'>Cases were left out, and nothing is said of them. No other fails, of {all_cases} at {len(cuts)} cuts.</p>\n"
     return f"<p class='good'>No case fails, of {all_cases} at {len(cuts)} cuts.</p>\n"
 
 
@@ -100,8 +103,8 @@ def strip(run, program, cuts):
     return text + cells.get(len(run.entries), "") + "</div>\n"
 
 
-def program_text(run, program, about, cuts):
-    text = f"<section aria-labelledby='p{program}'>\n<h2 id='p{program}'>Program {program}: {about}</h2>\n" + verdict(cuts)
+def program_text(run, program, about, cuts, complete):
+    text = f"<section aria-labelledby='p{program}'>\n<h2 id='p{program}'>Program {program}: {about}</h2>\n" + verdict(cuts, complete)
     text += strip(run, program, cuts) + legend("cases") + dress("CASE_KEYS")
     left, bad = OF_FOLDED if folded(run) else OF_PROGRAM, [it for it in cuts if it.failing]
     for cut in bad[:LINES]:
@@ -115,9 +118,12 @@ def program_text(run, program, about, cuts):
 def page_of(run, about, programs):
     """The page with that text about the run, of programs: what is said of each, and what was found with it at each cut."""
     name = f"entries {len(run.entries)}, sectors {run.sectors}"
+    torn, lost = (sum(cut.beyond[it] for _said, cuts in programs for cut in cuts) for it in (0, 1))
+    complete = torn == lost == 0
+    about += "" if complete else f"torn beyond {torn} lost beyond {lost}\n"
     style = dress("STYLE") + dress("CASE_STYLE") + dress("STYLE_END")
     text = f"{dress('OPENING')}{name}{style}{name}</h1>\n<pre class='about'>{html(about)}</pre>\n</header>\n<main>\n"
-    text += "".join(program_text(run, program, said, cuts) for program, (said, cuts) in enumerate(programs))
+    text += "".join(program_text(run, program, said, cuts, complete) for program, (said, cuts) in enumerate(programs))
     rows = "".join(f"<li id='e{it}'>{html(entry_line(run, it))}\n</li>\n" for it in range(len(run.entries)))
     listed = f"<section aria-labelledby='entries'>\n<h2 id='entries'>Entries</h2>\n<ol>\n{rows}</ol>\n</section>\n"
     return text + (folded_list(run) if folded(run) else listed) + dress("CLOSING")

@@ -1,7 +1,7 @@
 #!/usr/bin/env python3
 """Cuts random runs into parts and joins them, and gives `join` damaged texts.
 
-    python3 tests/join_soak.py [--runs N] [--seed S] [PROGRAM]
+    python3 tests/join_soak.py [--cases] [--runs N] [--seed S] [PROGRAM]
 
 PROGRAM is as in run.py; N is 300 where it isn't given, S is 1. A run has a log, one to three checkers and options picked at random,
 as those of footprint_soak.py. It is cut at random places. Each part is judged by some number of workers, with or without a cache.
@@ -10,9 +10,11 @@ whole and end with its status.
 
 Then texts are damaged, several times for each run: a byte is changed, a line is dropped, doubled or moved, the end is cut off, a number
 is another one, a part is left out or stands there twice, two texts change their places, or a text is of the same run with other options.
-What `join` says is compared with the model (parts_model.py): the bytes, or the number and the place of the refusal. Other bytes than
+What `join` says is compared with the model (parts_model.py, case_parts_model.py): the bytes, or the number and the place of the refusal. Other bytes than
 those of the whole are an answer only where each text is that of a part to the byte. A text has no checksum: an answer of 3 in place of 2
 is a part of another run. How often that was so is counted and printed.
+
+With --cases the runs are of any number of losses. `images --bound any --parts` lays them out, and parts are ranges of cuts.
 
 Each run is made of its number and the seed alone. One that isn't as expected is printed, and `--only NUMBER` makes it again and leaves
 its files in the folder join_soak. The last line is as in run.py. It takes some minutes, and is no part of the gate.
@@ -25,14 +27,15 @@ from pathlib import Path
 
 sys.dont_write_bytecode = True
 
+from case_parts_model import join_texts
 from footprint_soak import checker, entry
 from notation import log
-from parts_model import joined
 from run import split_notes
 from soaking import Soak, options, run_all
 
 LIMIT = 120
 MOST_IMAGES = 20_000
+MOST_TEXT = 200_000
 DAMAGES = 12
 
 
@@ -189,7 +192,7 @@ class JoinSoak(Soak):
         """What is wrong with the join of texts, by the model."""
         some = chance.random() < 0.4
         status, out, error = self.join(texts, some)
-        wanted, said = joined(texts, some)
+        wanted, said = join_texts(texts, some)
         right = (status, out, error) == (2, b"", "refused {} at {}\n".format(*said)) if wanted == 2 else (status, out, error) == (wanted, said, "")
         if right and status < 2 and out != whole:
             self.taken += 1
@@ -207,6 +210,10 @@ class JoinSoak(Soak):
         texts, wrong = self.parts(chance, words, total)
         if wrong:
             return wrong
+        return self.joined_and_damaged(chance, texts, whole)
+
+    def joined_and_damaged(self, chance, texts, whole):
+        """What is wrong with the joins of the texts of a run, in steps and at once, and of damaged ones."""
         steps, wrong = self.in_steps(chance, texts)
         chance.shuffle(steps)
         found = self.join(steps, chance.random() < 0.3)
@@ -218,9 +225,47 @@ class JoinSoak(Soak):
         return wrong
 
 
+class CasesSoak(JoinSoak):
+    """The same of runs of any number of losses."""
+
+    def make(self, chance):
+        sectors = chance.choice([3, 8, 16])
+        values = chance.sample(range(256), chance.choice([2, 3]))
+        entries = [entry(chance, sectors, values) for _ in range(chance.choice([3, 8, 12]))]
+        Path(self.folder, "log").write_bytes(log(entries))
+        names = [f"p{place}" for place in range(chance.choice([1, 1, 2]))]
+        for name in names:
+            Path(self.folder, name).write_bytes(self.assembler.assemble(checker(chance, sectors, False)))
+        options = f"--sectors {sectors} --bound any --cuts {chance.choice(['all', 'all', 'flush', 'mark'])}"
+        options += " --by write" * (chance.random() < 0.5) + f" --at-most {chance.choice([1, 2, 3])}" * (chance.random() < 0.4)
+        options += f" --flush {chance.randrange(len(entries))}" * (chance.random() < 0.2)
+        tears = f" --tears --torn {chance.choice([1, 2])}" if len(entries) < 4 and chance.random() < 0.7 else ""
+        return ["log", *names, *options.split(), *tears.split()], ["images", "log", *options.split()]
+
+    def parts(self, chance, words, survey):
+        """The texts of a run as it is laid out, or what went wrong."""
+        laid = self.called([*survey, "--parts", str(chance.choice([1, 2, 3, 5]))])
+        ranges = [it.split()[1:] for it in laid[1].decode().split("\n") if it.startswith("part ")]
+        done = [self.called(["explore", *words, *it, *chance.choice(["", "--workers 2"]).split()]) for it in ranges]
+        return [it[1] for it in done], [f"{' '.join(it)}: {one[0]} {one[2]}" for it, one in zip(ranges, done) if one[0] > 1]
+
+    def differs(self, number, seed):
+        chance = random.Random(f"cases {seed} {number}")
+        words, survey = self.make(chance)
+        whole = self.called(["explore", *words])
+        if whole[0] == 2 or len(whole[1]) > MOST_TEXT:
+            return None
+        texts, wrong = self.parts(chance, words, survey)
+        if wrong:
+            return wrong
+        return self.joined_and_damaged(chance, texts, whole)
+
+
 def main():
-    given = options("Cuts random runs into parts and joins them, and gives join damaged texts.", 300).parse_args()
-    return run_all(given, "join_soak", JoinSoak)
+    parser = options("Cuts random runs into parts and joins them, and gives join damaged texts.", 300)
+    parser.add_argument("--cases", action="store_true")
+    given = parser.parse_args()
+    return run_all(given, "join_soak", CasesSoak if given.cases else JoinSoak)
 
 
 if __name__ == "__main__":

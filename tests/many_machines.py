@@ -322,10 +322,27 @@ def known_failures(folder):
     return found + compared(folder, by_answers, "known.answers", by_answers.replace("new.answers", "known.answers"))
 
 
+def cases_in_parts(folder):
+    """What is wrong with the commands of the page that judge cases in parts, beside the run of all cuts."""
+    page = (MACHINES / "README.md").read_text().partition("**With any number of losses**")[2]
+    commands = re.search(r"\n\n((?:    .*\n)+)", page)[1]
+    found = []
+    for design in ("two_slots/wrong", "two_slots/right"):
+        shutil.copy(LOGS / f"{design}.log", Path(folder, "disk.log"))
+        shutil.copy(TOP / "examples/two_slots/checker.bpf", Path(folder, "check.bpf"))
+        shutil.rmtree(Path(folder, "texts"), ignore_errors=True)
+        done = sh(folder, commands)
+        whole = sh(folder, "crashbpf explore disk.log check.bpf --sectors 64 --bound any")
+        found += differs(f"what is joined of {design}", (done.returncode, Path(folder, "cases").read_text()), (whole.returncode, whole.stdout))
+        found += [] if len(list(Path(folder, "texts").iterdir())) > 2 else ["there are no parts"]
+    return found
+
+
 def rows():
     writes = DESIGNS["two_slots/wrong"].recorded
     yield "a run in parts", lambda folder: judges_in_parts(folder, Run(writes, 4, bound=2, tears=True), 16, "--workers 2")
     yield "the first failing image of a run in parts", lambda folder: judges_in_parts(folder, Run(writes, 4, bound=2), 5, "--first")
+    yield "the cases of a run in parts", cases_in_parts
     yield "a part that is killed", lambda folder: kills_a_part(folder, Run(writes, 4, bound=2, tears=True))
     yield "runs that can't be laid out", lays_out_no_other
     yield "odd names of runs", takes_odd_folders

@@ -128,15 +128,17 @@ ROWS = {
     "check: turns": (256, "72 . 72 26 72 26 72 ."),
     "check: accepted without guards": (266, "72 . 72 26 72 26 60 72 ."),
     "every image of sixteen writes fails, 16 workers": (None, MANY),
-    "cases: tree, wrong, root, --sectors 8 --cuts all --bound any": (410, "72 . 72 11 72 26.0 72 11 . 72 26.0 72 60.0 72 ."),
-    "cases: tree, wrong, root, first, --sectors 8 --cuts all --bound any --first": (359, "72 . 72 11 72 26.0 72 11 . 72 26.0 72 60.0 72 ."),
-    "cases: tree, right, root, first, --sectors 8 --cuts all --bound any --first": (414, "72 . 72 11 72 26.0 72 11 . 72 26.0 72 60.0 72 ."),
+    "cases: tree, wrong, root, --sectors 8 --cuts all --bound any": (420, "72 . 72 11 72 26.0 72 11 . 72 26.0 72 60.0 72 ."),
+    "cases: tree, wrong, root, first, --sectors 8 --cuts all --bound any --first": (369, "72 . 72 11 72 26.0 72 11 . 72 26.0 72 60.0 72 ."),
+    "cases: tree, right, root, first, --sectors 8 --cuts all --bound any --first": (424, "72 . 72 11 72 26.0 72 11 . 72 26.0 72 60.0 72 ."),
     "image any: tree/wrong, case 0, cut 4 and choice 1.0:drop, --sectors 8 --cuts all --bound any": (318, "72 . 72 11 72 11 . 72 ."),
     "show any: tree/wrong, case 0, cut 4 and choice 1.0:drop, --sectors 8 --cuts all --bound any": (324, "72 . 72 11 72 11 . 72 ."),
-    "cases: flushed, --sectors 2 --cuts all --bound any --at-most 1 --by write": (617, "72 . 72 11 72 26.0 26.1 26.2 72 11 72 26.0 72 26.1 26.2 60.0 72 60.1 60.2 72 ."),
+    "cases: flushed, --sectors 2 --cuts all --bound any --at-most 1 --by write": (622, "72 . 72 11 72 26.0 26.1 26.2 72 11 72 26.0 72 26.1 26.2 60.0 72 60.1 60.2 72 ."),
     "a part: two_slots: --sectors 4 --cuts all --bound 2 --tears --images 236..354": (417, "72 . 72 11 72 26.0 72 11 . 72 26.0 72 60.0 72 . 72 . 72 . 72 ."),
     "joined in the midst: torn_over_torn --sectors 4 --cuts all --bound 1 --tears": (792, "72 . 72 66 72 66 ."),
     "joined in steps: torn_over_torn --sectors 4 --cuts all --bound 1 --tears": (1196, "72 . 72 66 72 66 ."),
+    "cases joined, run 6 in 3 parts: pages/wrong, --bound any": (328, "72 . 72 66 72 66 ."),
+    "cases not joined: too many cases": (324, "72 . 72 66 72 66 ."),
 }
 
 # A run by sixteen workers, which all have blocks of images to judge: 3,213 images in 51 blocks.

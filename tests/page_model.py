@@ -72,7 +72,9 @@ def share(images, failing):
 
 def legend(kind="images"):
     keys = "".join(f"<span><b class='{it[0]}'></b>{it[1]}</span>" for it in (NONE, *BOUNDED, MORE, ALL))
-    return dress("LEGEND") + f"<span>{kind} of a cut that fail:</span>" + keys.replace("no image", f"no {kind[:-1]}") + "</p>\n"
+    others = "<span><b class='mark'></b>mark</span><span><b class='even'></b><b class='odd'></b>epochs in turn</span>"
+    lack = "<span><b class='lack'></b>flush missing</span>" if kind == "images" else ""
+    return f"{dress('LEGEND')}{lack}{others}<span>{kind} of a cut that fail:</span>" + keys.replace("no image", f"no {kind[:-1]}") + "</p>\n"
 
 
 def flush_cell(program, flush):

@@ -67,6 +67,7 @@ Where the rows stand
     rows/workers.py     runs by many workers, with and without a cache
     rows/reported.py    reports that are given in place of programs, and damaged ones, against report_model.py
     rows/joining.py     runs in parts, how they are laid out and joined, runs of any number of images, against parts_model.py
+    rows/case_joins.py  runs of any number of losses in parts, and how they are joined, against case_parts_model.py
     rows/footprints.py  checkers that read a few sectors of those that a cut may lose, against the model
     rows/recording.py   logs that were made of traces, and an ext4 that was recorded
     rows/limits.py      sizes near each limit
@@ -121,6 +122,7 @@ from rows import (
     blind,
     browser,
     case_cuts,
+    case_joins,
     case_pages,
     cases,
     checkers,
@@ -193,6 +195,7 @@ TABLES = [
     why_cases,
     cure_cases,
     case_cuts,
+    case_joins,
     case_pages,
     browser,
     ranges,

@@ -26,7 +26,7 @@ RULES = TOP / "crates/notes/src/command_notes/after.rt"
 KINDS = {"Log": "log", "Request": "request", "Code": "program", "Asm": "text", "Verifier": "verifier", "Join": "join", "Work": "work"}
 # What the place of a refusal counts, where it isn't 0.
 COUNTED = {
-    **dict.fromkeys(range(5, 10), "entry"), 10: "entry, or 0 of the log as a whole", 12: "cut", 13: "[option](#places)",
+    **dict.fromkeys(range(5, 10), "entry"), 10: "entry, or 0 of the log as a whole", 12: "cut, or of `join` the file", 13: "[option](#places)",
     14: "[file](#places)", 15: "entry or cut", 16: "line of the report", 32: "line, or 0 of a text without instructions", 59: "slot, or 0", 73: "missing seats",
     **dict.fromkeys([20, *range(22, 26), *range(40, 45), *range(50, 59)], "slot"), **dict.fromkeys([30, 31, 33, 34], "line"),
     **dict.fromkeys(range(61, 66), "file"), **dict.fromkeys([70, 71], "block"),

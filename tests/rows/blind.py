@@ -1,5 +1,6 @@
 """Checkers that look at nothing of what the log writes: the note of them, against the model (docs/CRASH-MODEL.md, 'A checker that
 looks at nothing')."""
+from cases_model import ANY, cases, status as status_of
 from model import Checker, Run, blind_notes, cured, explored, forced_notes, promise_notes
 from notation import FUA, D, F, Long, M, Row, Something, W, files, program
 from parts_model import count, found
@@ -118,6 +119,17 @@ def cure_of(run, programs, checkers):
     return Long(lambda: cured(run, checkers))
 
 
+def of_cases(name, run, names, more="", command="explore"):
+    """A row of a run of any number of losses, with its notes."""
+    programs, checkers = made(names, None)
+    text = cases(run, checkers, ANY)
+    options = run.options().replace(f"--bound {run.bound}", "--bound any")
+    words = f"{command} log {' '.join(f'p{number}' for number in range(len(programs)))} {options}{more}"
+    content = {**files(run.recorded, *programs), **({"base": run.base} if run.base else {})}
+    out = Something() if more or command != "explore" else text
+    return Row(f"blind: cases, {command}, {name}: {', '.join(names)}{more}", words, content, out, status_of(text), notes=[*blind_notes(run, checkers), *promise_notes(run)])
+
+
 NOTHING, WRITTEN, FAILS, AT_MARK = "nothing", "a sector that is written", "nothing, and fails", "nothing, and fails after a mark"
 SOME = [NOTHING, WRITTEN, "a sector that no entry covers", FAILS, "the last sector of a write", AT_MARK, "the sector after a write"]
 ROWS = [
@@ -133,4 +145,8 @@ ROWS = [
     *(of_part(start, end, [NOTHING, AT_MARK]) for start, end in ((0, 1), (count(ALL) - 1, count(ALL)))),
     *(noted("all cuts", ALL, SOME, command=command, out=anything) for command in ("why", "page")),
     noted("all cuts", ALL, [NOTHING, WRITTEN], command="cure", out=cure_of, notes=[]),
+    *(of_cases(name, run, SOME) for name, run in RUNS.items() if not run.tears),
+    *(of_cases("all cuts", ALL, [name]) for name in PROGRAMS),
+    *(of_cases("all cuts", ALL, [NOTHING, WRITTEN], more) for more in (" --first", " --workers 4", " --from 2 --to 4")),
+    *(of_cases("all cuts", ALL, SOME, command=command) for command in ("why", "page")),
 ]

@@ -1,8 +1,9 @@
 """Which options find what: the table of docs/CRASH-MODEL.md, each cell once more by a run of the program. A cell says `found` where
-an image fails, and `-` where none does; the last row has the number of images of all runs of a column, by the model."""
+an image or a case fails, and `-` where none does; the last row has the number of images, or cases, of all runs of a column, by the models."""
 import re
 
-from designs import DESIGNS, EXAMPLES, LOGS, data, folder_of
+from cases_model import ANY, cases
+from designs import DESIGNS, EXAMPLES, LOGS, checker_of, data, folder_of
 from model import Run
 from notation import TOP, Something, explore
 
@@ -58,9 +59,18 @@ WHICH = [example(row[1]) for row in BUGS]
 # each wrong example is in the table once
 assert sorted(WHICH) == sorted(which for which in DESIGNS if not which.endswith("right"))
 
+
+
+def total(words, given):
+    """How many images all runs of a column have, or cases."""
+    runs = {which: Run(DESIGNS[which].recorded, DESIGNS[which].sectors, **given) for which in WHICH}
+    if "--bound any" not in words:
+        return sum(map(count, runs.values()))
+    return sum(int(cases(run, [checker_of(which)], ANY).split(" cases ")[-1].split()[0]) for which, run in runs.items())
+
+
 for (words, given), cell in zip(COLUMNS, LAST[2:]):
-    runs = [Run(DESIGNS[which].recorded, DESIGNS[which].sectors, **given) for which in WHICH]
-    assert cell == f"{sum(count(run) for run in runs):,}", f"{words or 'default'}: not {cell} images"
+    assert cell == f"{total(words, given):,}", f"{words or 'default'}: not {cell} images or cases"
 
 ROWS = [
     cell_row(which, words, cell)
