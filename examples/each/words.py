@@ -100,6 +100,8 @@ def parse(words):
         raise Refusal(f"{twice} stands there twice")
     given = Words(logs[0], [it for it in pairs if it[0] in VALUED + FLAGS], program)
     number("--sectors", given.value("--sectors"), MOST_SECTORS)
+    if given.value("--bound") == "any":
+        raise Refusal("--bound is 0 to 3 here: a program of yours is given images, and with any number of losses there are cases in their place")
     for name, value in pairs:
         if name == "-j":
             given.runners = number(name, value, MOST_RUNNERS)
