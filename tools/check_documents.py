@@ -72,7 +72,7 @@ import statement
 # The most lines of README.md, the most characters of each, and its most words.
 LINES, CHARACTERS, WORDS = 130, 100, 1300
 # The most edits that the gate tries, and the most of them in one crate's must-fail/.
-EDITS, OF_CRATE = 106, 8
+EDITS, OF_CRATE = 112, 8
 # How many sentences have more words than the number before it.
 LONG = {40: 0, 60: 0}
 # What stands for a space and a bar of a piece of code, so that it is one word of one cell.

@@ -59,7 +59,7 @@ product_over a b over =
 
 -- the budget is the product of the turns and the longest path of slot 0
 pub has_budget : (program : List (Option Instr)) (v : List (Option ℕ)) (k t : ℕ) (found : Option ℕ) → EdgesFit (control program) (length program)
-    → Holds program cause.Loop → 0 < length program → AreLengths program most_calls v → IsGreatestFrom program v 0 k → t ≡ turns program → IsProduct t k found
+    → Holds true program cause.Loop → 0 < length program → AreLengths program most_calls v → IsGreatestFrom program v 0 k → t ≡ turns program → IsProduct t k found
     → HasBudget program found
 has_budget program v k t found fits loops inside l great is product =
     by_found found (rw is at product)
@@ -79,22 +79,23 @@ one_budget program a b x y =
     x.product ∙ rw same refl ∙ sym y.product
 
 -- a program that keeps each rule has this shape
-within_limit : (program : List (Option Instr)) (n : ℕ) → IsBudget program n → n ≤ most_steps → Holds program cause.Budget
+within_limit : (guards : Bool) (program : List (Option Instr)) (n : ℕ) → IsBudget program n → n ≤ most_steps → Holds guards program cause.Budget
 unfolding Breaks
-within_limit program n is few s (first, over) = let same = one_budget program n over.budget is over.is in omega (arith, same, few, over.over)
+within_limit guards program n is few s (first, over) = let same = one_budget program n over.budget is over.is in omega (arith, same, few, over.over)
 
-pub shaped : (program : List (Option Instr)) (n : ℕ) (hs : List Bool) → KeepsAll program → Holds program cause.Loop → Holds program cause.CallDepth
-    → IsBudget program n × (n ≤ most_steps) → hs ≡ heads program → IsShapeOf program (record { budget = n; heads = hs })
-shaped program n hs kept loops calls is same = record {
+pub shaped : (guards : Bool) (program : List (Option Instr)) (n : ℕ) (hs : List Bool) → KeepsAll guards program → Holds true program cause.Loop → Holds true program cause.CallDepth
+    → IsBudget program n × (n ≤ most_steps) → hs ≡ heads program → IsShapeOf guards program (record { budget = n; heads = hs })
+unfolding Breaks
+shaped guards program n hs kept loops calls is same = record {
   rules = record {
     targets = kept.targets;
     ends = kept.ends;
     frame_pointer = kept.frame_pointer;
     helpers = kept.helpers;
     again = kept.again;
-    loops = loops;
-    calls = calls;
-    budget = within_limit program n is.0 is.1;
+    loops = λ s broken. loops s broken;
+    calls = λ s broken. calls s broken;
+    budget = within_limit guards program n is.0 is.1;
   };
   budget = is.0;
   limit = is.1;

@@ -123,32 +123,32 @@ no_call : (program : List (Option Instr)) (c : ℕ) → callee program c ≡ Non
 no_call program c none (inl r) = let bad : None ≡ Some r.chain.0.entry = sym none ∙ r.chain.0.enters in cc
 no_call program c none (inr f) = some_true (callee program c) none f.chain.1.1.0.calls
 
-pub no_call_breaks : (program : List (Option Instr)) (c : ℕ) → callee program c ≡ None → Breaks program cause.CallDepth c → ⊥
+pub no_call_breaks : (program : List (Option Instr)) (c : ℕ) → callee program c ≡ None → Breaks true program cause.CallDepth c → ⊥
 unfolding Breaks
 no_call_breaks program c none b = no_call program c none b
 
 -- whether a call breaks the rule
-pub deep_breaks : (program : List (Option Instr)) (c : ℕ) → IsFourth program c → Breaks program cause.CallDepth c
+pub deep_breaks : (program : List (Option Instr)) (c : ℕ) → IsFourth program c → Breaks true program cause.CallDepth c
 unfolding Breaks
 deep_breaks program c f = inr f
 
-pub recursion_breaks : (program : List (Option Instr)) (c e : ℕ) → callee program c ≡ Some e → LeadsTo (entering program) (λ t. e ≡ t) c → Breaks program cause.CallDepth c
+pub recursion_breaks : (program : List (Option Instr)) (c e : ℕ) → callee program c ≡ Some e → LeadsTo (entering program) (λ t. e ≡ t) c → Breaks true program cause.CallDepth c
 unfolding Breaks
 recursion_breaks program c e enters way =
     let same : e ≡ way.first = way.leads in
     inl (recursive_of program c e enters (rw (← same) at way.on))
 
-pub breaks_is : (program : List (Option Instr)) (c e : ℕ) → callee program c ≡ Some e → Breaks program cause.CallDepth c
+pub breaks_is : (program : List (Option Instr)) (c e : ℕ) → callee program c ≡ Some e → Breaks true program cause.CallDepth c
     → LeadsTo (entering program) (λ t. e ≡ t) c ⊎ IsFourth program c
 unfolding Breaks
 breaks_is program c e enters (inl r) = inl (record { first = e; leads = refl; on = of_recursive program c e enters r })
 breaks_is program c e enters (inr f) = inr f
 
-pub lowest_calls : (program : List (Option Instr)) (s : ℕ) → Breaks program cause.CallDepth s → ((t : ℕ) → t < s → Breaks program cause.CallDepth t → ⊥)
-    → IsLowest program cause.CallDepth s
+pub lowest_calls : (program : List (Option Instr)) (s : ℕ) → Breaks true program cause.CallDepth s → ((t : ℕ) → t < s → Breaks true program cause.CallDepth t → ⊥)
+    → IsLowest true program cause.CallDepth s
 lowest_calls program s found none = record { breaks = found; lowest = none }
 
-pub holds_calls : (program : List (Option Instr)) → ((s : ℕ) → s < length program → Breaks program cause.CallDepth s → ⊥) → Holds program cause.CallDepth
+pub holds_calls : (program : List (Option Instr)) → ((s : ℕ) → s < length program → Breaks true program cause.CallDepth s → ⊥) → Holds true program cause.CallDepth
 holds_calls program none s broken =
     elim (cases_lt s (length program)) [
       | inl inside ↦ none s inside broken

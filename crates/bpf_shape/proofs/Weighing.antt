@@ -27,13 +27,13 @@ marked_inside marks s is =
       | inr past ↦ absurd (let bad : false ≡ true = sym (get_or_past marks s false past) ∙ is in cc)
     ]
 
-straight : (program : List (Option Instr)) → Holds program cause.Loop → (s : ℕ) → OnCycle (plain program) s → ⊥
+straight : (program : List (Option Instr)) → Holds true program cause.Loop → (s : ℕ) → OnCycle (plain program) s → ⊥
 unfolding Breaks
 straight program holds s cycle = holds s cycle
 
 -- the greatest length of the slots that are reached from an entry is that of its longest path
 module _ (program : List (Option Instr)) (ws : List ℕ) (v : List (Option ℕ)) (fits : EdgesFit (control program) (length program))
-    (settled : AreSettled (plain program) (length program) ws v) (loops : Holds program cause.Loop) (entry k : ℕ) (great : IsGreatestFrom program v entry k)
+    (settled : AreSettled (plain program) (length program) ws v) (loops : Holds true program cause.Loop) (entry k : ℕ) (great : IsGreatestFrom program v entry k)
     (inside : entry < length program) where
   plain_fits_here : EdgesFit (plain program) (length program)
   plain_fits_here s t h = fits s t (plain_is_control program s t h)
@@ -79,7 +79,7 @@ module _ (program : List (Option Instr)) (ws : List ℕ) (v : List (Option ℕ))
 
 -- The weights by lengths are those of one depth more.
 module _ (program : List (Option Instr)) (depth : ℕ) (v : List (Option ℕ)) (new : List ℕ) (fits : EdgesFit (control program) (length program))
-    (entries : EntriesFit program) (loops : Holds program cause.Loop) (small : length program ≤ 4096) (l : AreLengths program depth v)
+    (entries : EntriesFit program) (loops : Holds true program cause.Loop) (small : length program ≤ 4096) (l : AreLengths program depth v)
     (weighed : AreWeighed program v (length program) new) where
   past_one : (s : ℕ) → length program ≤ s → weight_at new s ≡ 1
   past_one s past = get_or_past new s 1 (omega (arith, past, weighed.long))
@@ -248,7 +248,7 @@ within_is : (program : List (Option Instr)) (c d entry inner : ℕ) → callee p
 within_is program c d entry inner enters reached calls = record { entry = entry; enters = enters; reached = reached; calls = rw calls refl }
 
 -- In a program that keeps rule 44 three deep suffices.
-three_shallow : (program : List (Option Instr)) → Holds program cause.CallDepth → IsShallow program 3 0
+three_shallow : (program : List (Option Instr)) → Holds true program cause.CallDepth → IsShallow program 3 0
 unfolding Breaks
 three_shallow program holds c1 f1 r1 e1 c2 f2 r2 e2 c3 f3 r3 e3 c4 r4 = by_callee (callee program c4) refl
   where
@@ -263,7 +263,7 @@ three_shallow program holds c1 f1 r1 e1 c2 f2 r2 e2 c3 f3 r3 e3 c4 r4 = by_calle
           chain = (within_is program c1 c2 f1 f2 e1 r2 e2, (within_is program c2 c3 f2 f3 e2 r3 e3, (within_is program c3 c4 f3 f4 e3 r4 is, tt)));
         })))
 
-pub deeper_same : (program : List (Option Instr)) (depth a b : ℕ) (v w : ℕ → ℕ) → Holds program cause.CallDepth → most_calls ≤ depth
+pub deeper_same : (program : List (Option Instr)) (depth a b : ℕ) (v w : ℕ → ℕ) → Holds true program cause.CallDepth → most_calls ≤ depth
     → AreWeights program most_calls v → AreWeights program depth w → IsLongest program v 0 a → IsLongest program w 0 b → a ≡ b
 deeper_same program depth a b v w holds enough three deep x y =
     same_longest program 0 v w (agree program 3 3 depth 0 v w (omega arith) enough three deep (three_shallow program holds)) a b x y

@@ -20,10 +20,10 @@ use Rattle.bpf_shape.proofs.Weighing.{deeper_same}
 use Rattle.bpf_shape.proofs.Budgets.{one_budget}
 
 pub one_shape : OneShape
-one_shape program a b x y = (one_budget program a.budget b.budget x.budget y.budget, x.heads ∙ sym y.heads)
+one_shape guards program a b x y = (one_budget program a.budget b.budget x.budget y.budget, x.heads ∙ sym y.heads)
 
-same_lowest : (program : List (Option Instr)) (c : VerifierCause) (s t : ℕ) → IsLowest program c s → IsLowest program c t → s ≡ t
-same_lowest program c s t x y =
+same_lowest : (guards : Bool) (program : List (Option Instr)) (c : VerifierCause) (s t : ℕ) → IsLowest guards program c s → IsLowest guards program c t → s ≡ t
+same_lowest guards program c s t x y =
     elim (cases_lt s t) [
       | inl less ↦ absurd (y.lowest s less x.breaks)
       | inr not_less ↦ elim (cases_lt t s) [
@@ -32,29 +32,29 @@ same_lowest program c s t x y =
       ]
     ]
 
-first_of_rules : (program : List (Option Instr)) (rules : List VerifierCause) (c d : VerifierCause) (s t : ℕ) → FirstOf program rules c s → FirstOf program rules d t
+first_of_rules : (guards : Bool) (program : List (Option Instr)) (rules : List VerifierCause) (c d : VerifierCause) (s t : ℕ) → FirstOf guards program rules c s → FirstOf guards program rules d t
     → (c ≡ d) × (s ≡ t)
-first_of_rules program [] c d s t x y = absurd x
-first_of_rules program (r ∷ rest) c d s t (inl x) (inl y) = (x.0 ∙ sym y.0, same_lowest program r s t x.1 y.1)
-first_of_rules program (r ∷ rest) c d s t (inl x) (inr y) = absurd (y.0 s x.1.breaks)
-first_of_rules program (r ∷ rest) c d s t (inr x) (inl y) = absurd (x.0 t y.1.breaks)
-first_of_rules program (r ∷ rest) c d s t (inr x) (inr y) = first_of_rules program rest c d s t x.1 y.1
+first_of_rules guards program [] c d s t x y = absurd x
+first_of_rules guards program (r ∷ rest) c d s t (inl x) (inl y) = (x.0 ∙ sym y.0, same_lowest guards program r s t x.1 y.1)
+first_of_rules guards program (r ∷ rest) c d s t (inl x) (inr y) = absurd (y.0 s x.1.breaks)
+first_of_rules guards program (r ∷ rest) c d s t (inr x) (inl y) = absurd (x.0 t y.1.breaks)
+first_of_rules guards program (r ∷ rest) c d s t (inr x) (inr y) = first_of_rules guards program rest c d s t x.1 y.1
 
 pub one_fault : OneFault
 unfolding FirstBroken
-one_fault program c d s t x y = first_of_rules program order c d s t x y
+one_fault guards program c d s t x y = first_of_rules guards program order c d s t x y
 
 pub no_fault_in_shaped : NoFaultInShaped
 unfolding FirstBroken
-no_fault_in_shaped program h c s (inl x) = h.targets s x.1.breaks
-no_fault_in_shaped program h c s (inr (_, inl x)) = h.ends s x.1.breaks
-no_fault_in_shaped program h c s (inr (_, inr (_, inl x))) = h.frame_pointer s x.1.breaks
-no_fault_in_shaped program h c s (inr (_, inr (_, inr (_, inl x)))) = h.helpers s x.1.breaks
-no_fault_in_shaped program h c s (inr (_, inr (_, inr (_, inr (_, inl x))))) = h.again s x.1.breaks
-no_fault_in_shaped program h c s (inr (_, inr (_, inr (_, inr (_, inr (_, inl x)))))) = h.loops s x.1.breaks
-no_fault_in_shaped program h c s (inr (_, inr (_, inr (_, inr (_, inr (_, inr (_, inl x))))))) = h.calls s x.1.breaks
-no_fault_in_shaped program h c s (inr (_, inr (_, inr (_, inr (_, inr (_, inr (_, inr (_, inl x)))))))) = h.budget s x.1.breaks
-no_fault_in_shaped program h c s (inr (_, inr (_, inr (_, inr (_, inr (_, inr (_, inr (_, inr x)))))))) = x.1
+no_fault_in_shaped guards program h c s (inl x) = h.targets s x.1.breaks
+no_fault_in_shaped guards program h c s (inr (_, inl x)) = h.ends s x.1.breaks
+no_fault_in_shaped guards program h c s (inr (_, inr (_, inl x))) = h.frame_pointer s x.1.breaks
+no_fault_in_shaped guards program h c s (inr (_, inr (_, inr (_, inl x)))) = h.helpers s x.1.breaks
+no_fault_in_shaped guards program h c s (inr (_, inr (_, inr (_, inr (_, inl x))))) = h.again s x.1.breaks
+no_fault_in_shaped guards program h c s (inr (_, inr (_, inr (_, inr (_, inr (_, inl x)))))) = h.loops s x.1.breaks
+no_fault_in_shaped guards program h c s (inr (_, inr (_, inr (_, inr (_, inr (_, inr (_, inl x))))))) = h.calls s x.1.breaks
+no_fault_in_shaped guards program h c s (inr (_, inr (_, inr (_, inr (_, inr (_, inr (_, inr (_, inl x)))))))) = h.budget s x.1.breaks
+no_fault_in_shaped guards program h c s (inr (_, inr (_, inr (_, inr (_, inr (_, inr (_, inr (_, inr x)))))))) = x.1
 
 split : (test : Option Condition) (e : Edges) (t : ℕ) → Leads e t → (again_of test e ≡ Some t) ⊎ Leads (others_of test e) t
 split None e t h = inr h
@@ -121,17 +121,18 @@ unfolding heads
 heads_by_slot program t inside = get_or-map-range_with_len (is_head program) 0 (length program) t t false inside (omega arith)
 
 pub edges_lead_to_instructions : EdgesLeadToInstructions
-edges_lead_to_instructions program s t h leads = edges_begin program h.targets h.ends s t leads
+edges_lead_to_instructions guards program s t h leads = edges_begin guards program h.targets h.ends s t leads
 
 pub entries_are_instructions : EntriesAreInstructions
-entries_are_instructions program s t h enters = entries_begin program h.targets s t enters
+entries_are_instructions guards program s t h enters = entries_begin guards program h.targets s t enters
 
 pub calls_are_nested : CallsAreNested
 unfolding Breaks
-calls_are_nested = record { recursive = λ program s h x. h.calls s (inl x); fourth = λ program s h x. h.calls s (inr x) }
+calls_are_nested = record { recursive = λ guards program s h x. h.calls s (inl x); fourth = λ guards program s h x. h.calls s (inr x) }
 
 pub deeper_is_the_same : DeeperIsTheSame
-deeper_is_the_same program depth a b v w h enough three deep x y = deeper_same program depth a b v w h.calls enough three deep x y
+unfolding Breaks
+deeper_is_the_same guards program depth a b v w h enough three deep x y = deeper_same program depth a b v w h.calls enough three deep x y
 
 both : (a b : Bool) → (a && b) ≡ true → (a ≡ true) × (b ≡ true)
 both true b h = (refl, h)
@@ -166,13 +167,13 @@ around program s h =
       test_free = not_true (is_target program (s + 1)) c.1;
     }
 
-kept_form : (program : List (Option Instr)) (s : ℕ) → Holds program cause.AgainForm → calls_again program s ≡ true → has_form program s ≡ true
+kept_form : (guards : Bool) (program : List (Option Instr)) (s : ℕ) → Holds guards program cause.AgainForm → calls_again program s ≡ true → has_form program s ≡ true
 unfolding Breaks keeps
-kept_form program s holds calls =
+kept_form guards program s holds calls =
     elim (cases_Bool (has_form program s)) [
       | inl is ↦ is
       | inr not_is ↦ absurd (holds s (rw calls not_is))
     ]
 
 pub again_has_form : AgainHasForm
-again_has_form program s h calls = around program s (kept_form program s h.again calls)
+again_has_form guards program s h calls = around program s (kept_form guards program s h.again calls)

@@ -10,9 +10,9 @@ use Rattle.bpf_shape.specs.Search.{IsMarked}
 use Rattle.bpf_shape.specs.Rules.{Holds, IsLowest}
 
 -- a refusal names that rule and its lowest slot
-pub record IsBrokenAt (program : List (Option Instr)) (rule : VerifierCause) (f : Fault) : Type 0 where
+pub record IsBrokenAt (guards : Bool) (program : List (Option Instr)) (rule : VerifierCause) (f : Fault) : Type 0 where
   pub code : f.code ≡ rule
-  pub lowest : IsLowest program rule f.slot
+  pub lowest : IsLowest guards program rule f.slot
 
 -- the rules that look at one slot
 abbrev pub IsOfSlots : VerifierCause → Type 0
@@ -24,16 +24,16 @@ IsOfSlots cause.AgainForm = Unit {0}
 IsOfSlots _ = ⊥
 
 -- the rules that look at one slot hold; they come first
-pub record KeepsAll (program : List (Option Instr)) : Type 0 where
-  pub targets : Holds program cause.Target
-  pub ends : Holds program cause.End
-  pub frame_pointer : Holds program cause.FramePointer
-  pub helpers : Holds program cause.UnknownHelper
-  pub again : Holds program cause.AgainForm
+pub record KeepsAll (guards : Bool) (program : List (Option Instr)) : Type 0 where
+  pub targets : Holds guards program cause.Target
+  pub ends : Holds guards program cause.End
+  pub frame_pointer : Holds guards program cause.FramePointer
+  pub helpers : Holds guards program cause.UnknownHelper
+  pub again : Holds guards program cause.AgainForm
 
--- the first broken one of the two rules about paths
+-- the first broken one of the two rules about paths, which ask the same with guards and without
 abbrev pub IsFirstOfPaths : List (Option Instr) → Fault → Type 0
-IsFirstOfPaths program f = IsBrokenAt program cause.Loop f ⊎ (Holds program cause.Loop × IsBrokenAt program cause.CallDepth f)
+IsFirstOfPaths program f = IsBrokenAt true program cause.Loop f ⊎ (Holds true program cause.Loop × IsBrokenAt true program cause.CallDepth f)
 
 -- the marked local calls are the last of four in a chain from slot 0
 pub record AreDeep (program : List (Option Instr)) (deep : List Bool) : Type 0 where

@@ -47,17 +47,21 @@ has_form program slot =
     && (is_equality (answer_test program (slot + 1))
     && (not (is_target program slot) && not (is_target program (slot + 1))))
 
+-- the greatest number of a helper: 8 to 11 are those of programs with guards
+abbrev pub last_helper : Bool → ℕ
+last_helper guards = if guards then 11 else 7
+
 -- The rules that look at one slot, and whether it keeps them: the target of a jump or of a local call
--- and the next slot are where an instruction begins, r10 isn't written, a helper is one of 1 to 7, a call of `again` has the
--- form.
-unfoldable pub keeps : List (Option Instr) → VerifierCause → ℕ → Bool
-keeps program cause.Target slot =
+-- and the next slot are where an instruction begins, r10 isn't written, a helper is one of those that there are, a call
+-- of `again` has the form.
+unfoldable pub keeps : Bool → List (Option Instr) → VerifierCause → ℕ → Bool
+keeps guards program cause.Target slot =
     option_map_or (begins program) (control program slot).target true && option_map_or (begins program) (callee program slot) true
-keeps program cause.End slot = option_map_or (begins program) (control program slot).next true
-keeps program cause.FramePointer slot = option_map_or (λ r. not (r == 10)) (option_and_then written_register (at program slot)) true
-keeps program cause.UnknownHelper slot = option_map_or (λ n. nat_le 1 n && nat_le n 7) (option_and_then helper_number (at program slot)) true
-keeps program cause.AgainForm slot = if calls_again program slot then has_form program slot else true
-keeps program _ slot = true
+keeps guards program cause.End slot = option_map_or (begins program) (control program slot).next true
+keeps guards program cause.FramePointer slot = option_map_or (λ r. not (r == 10)) (option_and_then written_register (at program slot)) true
+keeps guards program cause.UnknownHelper slot = option_map_or (λ n. nat_le 1 n && nat_le n (last_helper guards)) (option_and_then helper_number (at program slot)) true
+keeps guards program cause.AgainForm slot = if calls_again program slot then has_form program slot else true
+keeps guards program _ slot = true
 
 -- the budget is above what is accepted
 pub record IsOver (program : List (Option Instr)) : Type 0 where
@@ -68,41 +72,41 @@ pub record IsOver (program : List (Option Instr)) : Type 0 where
 -- the slot breaks the rule of that cause: it lies on a cycle without again edges; it is a local call that
 -- is within itself, or the last of four in a chain from slot 0; for the budget it is slot 0; or it doesn't
 -- keep a rule of one slot
-unfoldable pub Breaks : List (Option Instr) → VerifierCause → ℕ → Type 0
-Breaks program cause.Loop slot = OnCycle (plain program) slot
-Breaks program cause.CallDepth slot = IsRecursive program slot ⊎ IsFourth program slot
-Breaks program cause.Budget slot = (slot ≡ 0) × IsOver program
-Breaks program c slot = keeps program c slot ≡ false
+unfoldable pub Breaks : Bool → List (Option Instr) → VerifierCause → ℕ → Type 0
+Breaks guards program cause.Loop slot = OnCycle (plain program) slot
+Breaks guards program cause.CallDepth slot = IsRecursive program slot ⊎ IsFourth program slot
+Breaks guards program cause.Budget slot = (slot ≡ 0) × IsOver program
+Breaks guards program c slot = keeps guards program c slot ≡ false
 
 -- no slot breaks it
-abbrev pub Holds : List (Option Instr) → VerifierCause → Type 0
-Holds program c = (slot : ℕ) → Breaks program c slot → ⊥
+abbrev pub Holds : Bool → List (Option Instr) → VerifierCause → Type 0
+Holds guards program c = (slot : ℕ) → Breaks guards program c slot → ⊥
 
 -- the lowest slot that breaks it
-pub record IsLowest (program : List (Option Instr)) (c : VerifierCause) (slot : ℕ) : Type 0 where
-  pub breaks : Breaks program c slot
-  pub lowest : (t : ℕ) → t < slot → Breaks program c t → ⊥
+pub record IsLowest (guards : Bool) (program : List (Option Instr)) (c : VerifierCause) (slot : ℕ) : Type 0 where
+  pub breaks : Breaks guards program c slot
+  pub lowest : (t : ℕ) → t < slot → Breaks guards program c t → ⊥
 
 -- the rules in the order in which they are tested
 abbrev pub order : List VerifierCause
 order = cause.Target ∷ cause.End ∷ cause.FramePointer ∷ cause.UnknownHelper ∷ cause.AgainForm ∷ cause.Loop ∷ cause.CallDepth ∷ cause.Budget ∷ []
 
 -- of these rules the first that is broken, at its lowest slot
-abbrev pub FirstOf : List (Option Instr) → List VerifierCause → VerifierCause → ℕ → Type 0
-FirstOf program [] c slot = ⊥
-FirstOf program (rule ∷ rest) c slot = ((c ≡ rule) × IsLowest program rule slot) ⊎ (Holds program rule × FirstOf program rest c slot)
+abbrev pub FirstOf : Bool → List (Option Instr) → List VerifierCause → VerifierCause → ℕ → Type 0
+FirstOf guards program [] c slot = ⊥
+FirstOf guards program (rule ∷ rest) c slot = ((c ≡ rule) × IsLowest guards program rule slot) ⊎ (Holds guards program rule × FirstOf guards program rest c slot)
 
--- the first broken rule of a program
-unfoldable pub FirstBroken : List (Option Instr) → VerifierCause → ℕ → Type 0
-FirstBroken program c slot = FirstOf program order c slot
+-- the first broken rule of a program, with guards or without
+unfoldable pub FirstBroken : Bool → List (Option Instr) → VerifierCause → ℕ → Type 0
+FirstBroken guards program c slot = FirstOf guards program order c slot
 
 -- each rule holds
-pub record IsShaped (program : List (Option Instr)) : Type 0 where
-  pub targets : Holds program cause.Target
-  pub ends : Holds program cause.End
-  pub frame_pointer : Holds program cause.FramePointer
-  pub helpers : Holds program cause.UnknownHelper
-  pub again : Holds program cause.AgainForm
-  pub loops : Holds program cause.Loop
-  pub calls : Holds program cause.CallDepth
-  pub budget : Holds program cause.Budget
+pub record IsShaped (guards : Bool) (program : List (Option Instr)) : Type 0 where
+  pub targets : Holds guards program cause.Target
+  pub ends : Holds guards program cause.End
+  pub frame_pointer : Holds guards program cause.FramePointer
+  pub helpers : Holds guards program cause.UnknownHelper
+  pub again : Holds guards program cause.AgainForm
+  pub loops : Holds guards program cause.Loop
+  pub calls : Holds guards program cause.CallDepth
+  pub budget : Holds guards program cause.Budget

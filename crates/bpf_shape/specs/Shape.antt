@@ -10,9 +10,9 @@ pub record ShapeValue : Type 0 where
   pub budget : ℕ
   pub heads : List Bool
 
--- the program has right shape, and this is its shape
-pub record IsShapeOf (program : List (Option Instr)) (shape : ShapeValue) : Type 0 where
-  pub rules : IsShaped program
+-- the program has right shape, with guards or without, and this is its shape
+pub record IsShapeOf (guards : Bool) (program : List (Option Instr)) (shape : ShapeValue) : Type 0 where
+  pub rules : IsShaped guards program
   pub budget : IsBudget program shape.budget
   pub limit : shape.budget ≤ most_steps
   pub heads : shape.heads ≡ heads program

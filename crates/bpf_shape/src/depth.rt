@@ -44,7 +44,7 @@ fn is_refused(
     requires entries { EntriesFit program.now }
     requires deep { AreDeep program.now deep.now.items }
     requires slot { slot < length program.now }
-    ensures { IfOk result (λ refused. IsTrue refused ↔ Breaks program.now cause.CallDepth slot) }
+    ensures { IfOk result (λ refused. IsTrue refused ↔ Breaks true program.now cause.CallDepth slot) }
 {
     match callee(program, slot) {
         Some(entry) => {
@@ -64,8 +64,8 @@ pub(crate) fn keep_calls(alloc: Global, program: &Program) -> Result<(), Fault>
     requires edges { EdgesFit (control program.now) (length program.now) }
     requires entries { EntriesFit program.now }
     requires program { IsProgram program.now }
-    ensures kept { OnOk result (Holds program.now cause.CallDepth) }
-    ensures refused { IfErr result (λ f. (f ≡ memory_fault) ⊎ IsBrokenAt program.now cause.CallDepth f) }
+    ensures kept { OnOk result (Holds true program.now cause.CallDepth) }
+    ensures refused { IfErr result (λ f. (f ≡ memory_fault) ⊎ IsBrokenAt true program.now cause.CallDepth f) }
 {
     let deep = deep_slots(alloc, program)?;
     for slot in 0..program.slots() {

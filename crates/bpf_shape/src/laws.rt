@@ -1,6 +1,6 @@
 //! Laws of shapes. The functions do nothing; each contract is a theorem.
 
-ghost use Rattle.bpf_shape.specs.Laws.{OneShape, OneFault, NoFaultInShaped, EdgesAreSplit, HeadsAreTargets, HeadsBySlot, EdgesLeadToInstructions, EntriesAreInstructions, CallsAreNested, DeeperIsTheSame, AgainHasForm};
+ghost use Rattle.bpf_shape.specs.Laws.{OneShape, OneFault, NoFaultInShaped, ShapedWithGuards, EdgesAreSplit, HeadsAreTargets, HeadsBySlot, EdgesLeadToInstructions, EntriesAreInstructions, CallsAreNested, DeeperIsTheSame, AgainHasForm};
 
 /// A program has one shape at most.
 pub fn one_shape()
@@ -15,6 +15,11 @@ pub fn one_fault()
 /// A program that has a shape breaks no rule.
 pub fn no_fault_in_shaped()
     ensures { NoFaultInShaped }
+{}
+
+/// A program that has right shape without guards has it with guards.
+pub fn shaped_with_guards()
+    ensures { ShapedWithGuards }
 {}
 
 /// A control edge is the again edge of its slot, or an edge of paths; and each of these is a control

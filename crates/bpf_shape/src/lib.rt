@@ -27,7 +27,7 @@
 //!   one more than the longest path of its entry, where calls are followed that many deep.
 //! - `Budget`: `IsBudget` is one more than all K, times the longest path of slot 0 with calls followed three
 //!   deep. In a program of right shape no more are to be followed (law `deeper_is_the_same`).
-//! - `Rules`: which slot `Breaks` which rule, their `order`, and `FirstBroken`.
+//! - `Rules`: which slot `Breaks` which rule, with guards or without, their `order`, and `FirstBroken`.
 //! - `Shape`: `IsShapeOf`: each rule holds, and these are the budget and the heads.
 //!
 //! The contract of `shape`, in words: an answer is the shape of the program, so each rule holds; a
@@ -65,12 +65,12 @@
 //! use bpf_shape::{control, shape};
 //!
 //! // `program` is mov64 r1, 2; call 3; jeq r0, 0, +1; ja -4; exit
-//! let found = shape(alloc, &program)?;
+//! let found = shape(alloc, &program, false)?;
 //! let budget = found.budget();        // 15: one more than K = 2, times the 5 slots of the path 3, 0, 1, 2, 4
 //! let head = found.is_head(3);        // true: the again edge leads from slot 2 to slot 3
 //! let edges = control(&program, 2);   // Edges { next: Some(3), target: Some(4) }
 //! // `other` is mov64 r0, 0; ja -2
-//! let fault = shape(alloc, &other).err();     // a loop without again, slot 0
+//! let fault = shape(alloc, &other, false).err();     // a loop without again, slot 0
 //! ```
 //!
 //! # More that is promised

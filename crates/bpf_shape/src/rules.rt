@@ -6,7 +6,7 @@ ghost use Rattle.bpf_isa.specs.Slots.{at};
 ghost use Rattle.bpf_shape.specs.Edges.{begins};
 ghost use Rattle.bpf_shape.specs.Again.{helper_number};
 ghost use Rattle.bpf_shape.specs.Calls.{callee};
-ghost use Rattle.bpf_shape.specs.Rules.{written_register, is_equality, has_form, keeps, Holds, FirstBroken};
+ghost use Rattle.bpf_shape.specs.Rules.{written_register, is_equality, has_form, last_helper, keeps, Holds, FirstBroken};
 ghost use Rattle.bpf_shape.specs.Keeping.{IsOfSlots, IsBrokenAt, KeepsAll};
 
 use crate::again::{answer_test, calls_again, helper_number, is_target, limit_before};
@@ -64,13 +64,20 @@ fn keeps_frame_pointer(program: &Program, slot: usize) -> bool
     }
 }
 
-/// Whether the instruction at a slot, if it calls a helper, calls one of the helpers 1 to 7.
-fn calls_known_helper(program: &Program, slot: usize) -> bool
-    ensures { result ≡ option_map_or (λ n. nat_le 1 n && nat_le n 7) (option_and_then helper_number (at program.now slot)) true }
+/// The greatest number of a helper, with guards or without.
+fn last_helper(guards: bool) -> u32
+    ensures { result ≡ last_helper guards }
+{
+    if guards { 11 } else { 7 }
+}
+
+/// Whether the instruction at a slot, if it calls a helper, calls one that there is, with guards or without.
+fn calls_known_helper(program: &Program, slot: usize, guards: bool) -> bool
+    ensures { result ≡ option_map_or (λ n. nat_le 1 n && nat_le n (last_helper guards)) (option_and_then helper_number (at program.now slot)) true }
 {
     match program.at(slot) {
         Some(instr) => match helper_number(&instr) {
-            Some(number) => 1 <= number && number <= 7,
+            Some(number) => 1 <= number && number <= last_helper(guards),
             None => true,
         },
         None => true,
@@ -98,9 +105,9 @@ fn has_form(program: &Program, slot: usize) -> bool
 
 /// Whether a slot keeps that rule, one of those that look at one slot.
 #[tactic(auto, unfolding(crate::specs::Rules::keeps))]
-fn keeps(program: &Program, rule: VerifierCause, slot: usize) -> bool
+fn keeps(program: &Program, rule: VerifierCause, slot: usize, guards: bool) -> bool
     requires { slot < 4096 }
-    ensures { result ≡ keeps program.now rule slot }
+    ensures { result ≡ keeps guards program.now rule slot }
 {
     match rule {
         VerifierCause::Target => {
@@ -108,20 +115,20 @@ fn keeps(program: &Program, rule: VerifierCause, slot: usize) -> bool
         }
         VerifierCause::End => begins(program, control(program, slot).next),
         VerifierCause::FramePointer => keeps_frame_pointer(program, slot),
-        VerifierCause::UnknownHelper => calls_known_helper(program, slot),
+        VerifierCause::UnknownHelper => calls_known_helper(program, slot, guards),
         VerifierCause::AgainForm => !calls_again(program, slot) || has_form(program, slot),
         _ => true,
     }
 }
 
 /// Tests that each slot keeps a rule, and names the lowest that doesn't.
-fn keep(program: &Program, rule: VerifierCause) -> Result<(), Fault>
+fn keep(program: &Program, rule: VerifierCause, guards: bool) -> Result<(), Fault>
     requires { IsOfSlots rule }
-    ensures kept { OnOk result (Holds program.now rule) }
-    ensures refused { IfErr result (λ f. IsBrokenAt program.now rule f) }
+    ensures kept { OnOk result (Holds guards program.now rule) }
+    ensures refused { IfErr result (λ f. IsBrokenAt guards program.now rule f) }
 {
     for slot in 0..program.slots() {
-        if !keeps(program, rule, slot) {
+        if !keeps(program, rule, slot, guards) {
             return Err(Fault::at(rule, slot));
         }
     }
@@ -129,14 +136,14 @@ fn keep(program: &Program, rule: VerifierCause) -> Result<(), Fault>
 }
 
 /// Tests the rules that look at one slot, in their order.
-pub(crate) fn keep_all(program: &Program) -> Result<(), Fault>
-    ensures kept { OnOk result (KeepsAll program.now) }
-    ensures refused { IfErr result (λ f. FirstBroken program.now f.code f.slot) }
+pub(crate) fn keep_all(program: &Program, guards: bool) -> Result<(), Fault>
+    ensures kept { OnOk result (KeepsAll guards program.now) }
+    ensures refused { IfErr result (λ f. FirstBroken guards program.now f.code f.slot) }
 {
-    keep(program, VerifierCause::Target)?;
-    keep(program, VerifierCause::End)?;
-    keep(program, VerifierCause::FramePointer)?;
-    keep(program, VerifierCause::UnknownHelper)?;
-    keep(program, VerifierCause::AgainForm)?;
+    keep(program, VerifierCause::Target, guards)?;
+    keep(program, VerifierCause::End, guards)?;
+    keep(program, VerifierCause::FramePointer, guards)?;
+    keep(program, VerifierCause::UnknownHelper, guards)?;
+    keep(program, VerifierCause::AgainForm, guards)?;
     Ok(())
 }

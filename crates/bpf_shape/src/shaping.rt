@@ -1,6 +1,6 @@
 //! The rules of the whole program, and `shape`.
 
-ghost use Rattle.std.specs.Prelude.{◌≡◌, ◌+◌, ◌*◌, ◌<◌, ◌≤◌, ◌⊎◌, IsTrue, IsFalse, ◌↔◌, OnOk, IfOk, IfErr, length};
+ghost use Rattle.std.specs.Prelude.{◌≡◌, ◌+◌, ◌*◌, ◌<◌, ◌≤◌, ◌⊎◌, true, IsTrue, IsFalse, ◌↔◌, OnOk, IfOk, IfErr, length};
 ghost use Rattle.bpf_isa.specs.Program.{IsProgram};
 ghost use Rattle.bpf_shape.specs.Fault.{memory_fault};
 ghost use Rattle.bpf_shape.specs.Edges.{control};
@@ -50,8 +50,8 @@ fn is_on_cycle(
 fn keep_loops(alloc: Global, program: &Program, lengths: &Vec<Option<u64>>) -> Result<(), Fault>
     requires edges { EdgesFit (plain program.now) (length program.now) }
     requires lengths { AreLengths program.now 0 lengths.now.items }
-    ensures kept { OnOk result (Holds program.now cause.Loop) }
-    ensures refused { IfErr result (λ f. (f ≡ memory_fault) ⊎ IsBrokenAt program.now cause.Loop f) }
+    ensures kept { OnOk result (Holds true program.now cause.Loop) }
+    ensures refused { IfErr result (λ f. (f ≡ memory_fault) ⊎ IsBrokenAt true program.now cause.Loop f) }
 {
     for slot in 0..program.slots() {
         if is_on_cycle(alloc, program, lengths, slot)? {
@@ -68,8 +68,8 @@ fn keep_paths(alloc: Global, program: &Program, lengths: &Vec<Option<u64>>) -> R
     requires entries { EntriesFit program.now }
     requires program { IsProgram program.now }
     requires lengths { AreLengths program.now 0 lengths.now.items }
-    ensures loops { OnOk result (Holds program.now cause.Loop) }
-    ensures calls { OnOk result (Holds program.now cause.CallDepth) }
+    ensures loops { OnOk result (Holds true program.now cause.Loop) }
+    ensures calls { OnOk result (Holds true program.now cause.CallDepth) }
     ensures refused { IfErr result (λ f. (f ≡ memory_fault) ⊎ IsFirstOfPaths program.now f) }
 {
     let loops = keep_loops(alloc, program, lengths);
@@ -102,7 +102,7 @@ fn budget(
 ) -> Result<Option<u64>, AllocError>
     requires edges { EdgesFit (control program.now) (length program.now) }
     requires entries { EntriesFit program.now }
-    requires loops { Holds program.now cause.Loop }
+    requires loops { Holds true program.now cause.Loop }
     requires program { IsProgram program.now }
     requires lengths { AreLengths program.now 0 lengths.items }
     ensures { IfOk result (λ found. HasBudget program.now found) }
@@ -112,13 +112,13 @@ fn budget(
     Ok(steps(turns(program), longest))
 }
 
-/// The shape of a program, or the first of the shape rules that it breaks, at the lowest slot that
-/// does (docs/VERIFIER.md, Shape rules and Budget).
-pub fn shape(alloc: Global, program: &Program) -> Result<Shape, Fault>
-    ensures shape { IfOk result (λ shape. IsShapeOf program.now shape) }
-    ensures refused { IfErr result (λ f. (f ≡ memory_fault) ⊎ FirstBroken program.now f.code f.slot) }
+/// The shape of a program, with guards or without, or the first of the shape rules that it breaks, at the lowest slot
+/// that does (docs/VERIFIER.md, Shape rules and Budget).
+pub fn shape(alloc: Global, program: &Program, guards: bool) -> Result<Shape, Fault>
+    ensures shape { IfOk result (λ shape. IsShapeOf guards program.now shape) }
+    ensures refused { IfErr result (λ f. (f ≡ memory_fault) ⊎ FirstBroken guards program.now f.code f.slot) }
 {
-    keep_all(program)?;
+    keep_all(program, guards)?;
     let lengths = plain_lengths(alloc, program)?;
     keep_paths(alloc, program, &lengths)?;
     match budget(alloc, program, lengths)? {

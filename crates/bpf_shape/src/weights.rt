@@ -1,6 +1,6 @@
 //! What slots weigh, and the longest paths of entries.
 
-ghost use Rattle.std.specs.Prelude.{◌≡◌, ◌<◌, ◌≤◌, ℕ, Some, OnOk, IfOk, length};
+ghost use Rattle.std.specs.Prelude.{◌≡◌, ◌<◌, ◌≤◌, ℕ, Some, true, OnOk, IfOk, length};
 ghost use Rattle.bpf_isa.specs.Program.{IsProgram};
 ghost use Rattle.bpf_shape.specs.Edges.{control};
 ghost use Rattle.bpf_shape.specs.Calls.{callee};
@@ -157,7 +157,7 @@ pub(crate) fn followed_lengths(
 ) -> Result<Vec<Option<u64>>, AllocError>
     requires edges { EdgesFit (control program.now) (length program.now) }
     requires entries { EntriesFit program.now }
-    requires loops { Holds program.now cause.Loop }
+    requires loops { Holds true program.now cause.Loop }
     requires program { IsProgram program.now }
     requires lengths { AreLengths program.now 0 lengths.items }
     ensures { IfOk result (λ followed. AreLengths program.now most_calls followed.items) }

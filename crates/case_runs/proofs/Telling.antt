@@ -1,5 +1,5 @@
 -- The leaves of which a judge was told.
-use Rattle.std.proofs.Common.{ℕ, suc, ◌≡◌, ◌+◌, List, [], ◌∷◌, ◌++◌, length, map, refl, sym, ◌∙◌, ap, arith}
+use Rattle.std.proofs.Common.{ℕ, suc, Bool, ◌≡◌, ◌+◌, List, [], ◌∷◌, ◌++◌, length, map, refl, sym, ◌∙◌, ap, arith}
 use Rattle.std.proofs.lemmas.List.{append_assoc}
 use Rattle.helpers.specs.declared.device.Context.{Context}
 use Rattle.checker.specs.Checker.{CheckerValue}
@@ -25,10 +25,11 @@ same_length : (told : List Told) → length (map leaf_of told) ≡ length told
 same_length [] = refl
 same_length (t ∷ told) = ap suc (same_length told)
 
-pub told_one : (checker : CheckerValue) (context : Context) (told : List Told) (old now : List FailingValue) (leaves : List LeafValue) (leaf : LeafValue)
-    → IsJudge checker context (map leaf_of told) old → leaves ≡ map leaf_of told ++ leaf ∷ [] → now ≡ old ++ failing_if (length told) leaf → IsJudge checker context leaves now
-told_one checker context told old now leaves leaf so is added = record {
+pub told_one : (checker : CheckerValue) (memory : Bool) (context : Context) (told : List Told) (old now : List FailingValue) (leaves : List LeafValue) (leaf : LeafValue)
+    → IsJudge checker memory context (map leaf_of told) old → leaves ≡ map leaf_of told ++ leaf ∷ [] → now ≡ old ++ failing_if (length told) leaf → IsJudge checker memory context leaves now
+told_one checker memory context told old now leaves leaf so is added = record {
   fit = so.fit;
+  served = so.served;
   those =
       let many : length told ≡ 0 + length (map leaf_of told) = let e = same_length told in omega (arith, e) in
       added ∙ ap (λ m. old ++ failing_if m leaf) many ∙ ap (λ fs. fs ++ failing_if (0 + length (map leaf_of told)) leaf) so.those

@@ -1,10 +1,11 @@
 -- The leaves of which a judge was told, and those that fail.
-use Rattle.std.specs.Prelude.{ℕ, ◌≡◌, ◌+◌, ◌≤◌, if◌then◌else◌, List, [], ◌∷◌, ◌++◌}
+use Rattle.std.specs.Prelude.{ℕ, Bool, ◌≡◌, ◌+◌, ◌≤◌, if◌then◌else◌, List, [], ◌∷◌, ◌++◌}
 use Rattle.helpers.specs.declared.device.Context.{Context}
 use Rattle.machine.specs.Outcome.{Ending}
 use Rattle.interp.specs.Ending.{ending_of}
 use Rattle.report.specs.Line.{fails}
 use Rattle.checker.specs.Checker.{CheckerValue, IsFor}
+use Rattle.checker.specs.Memory.{IsServed}
 use Rattle.cases.specs.Search.{LeafValue}
 use Rattle.case_runs.specs.declared.leaves.Told.{Told}
 use Rattle.case_runs.specs.declared.leaves.FailingCase.{FailingCase}
@@ -46,6 +47,8 @@ pub record IsFit (checker : CheckerValue) (context : Context) : Type 0 where
   pub epoch : context.epoch ≤ 65536
   pub marks : context.marks ≤ 65536
 
-pub record IsJudge (checker : CheckerValue) (context : Context) (leaves : List LeafValue) (failing : List FailingValue) : Type 0 where
+-- whether there is memory for its program, and what is kept
+pub record IsJudge (checker : CheckerValue) (memory : Bool) (context : Context) (leaves : List LeafValue) (failing : List FailingValue) : Type 0 where
   pub fit : IsFit checker context
+  pub served : IsServed memory checker.guards
   pub those : failing ≡ failing_from 0 leaves

@@ -100,7 +100,7 @@ fn seek_one<G: CaseGate>(
     ensures met { IfOk result (MeetsOne asked cut.now checker.now left) }
     ensures many { IfErr result (EndsAtOne asked cut.now checker.now left) }
 {
-    let mut judge = Watched::new(CaseJudge::new(alloc, checker, context), gate);
+    let mut judge = Watched::new(CaseJudge::new(alloc, checker, context)?, gate);
     let mut search = Search::new(alloc, cut, asked.tears, asked.torn, asked.lost)?;
     for number in 0..left {
         if !search.next(&mut judge)? {

@@ -94,7 +94,7 @@ fn find_at<G: CaseGate>(
     requires fit { IsFit checker.now context }
     ensures { IfOk result (λ found. MatchOption found (IsBegunAt asked cut.now checker.now most) (IsFoundAt asked cut.now checker.now)) }
 {
-    let mut judge = Watched::new(CaseJudge::new(alloc, checker, context), gate);
+    let mut judge = Watched::new(CaseJudge::new(alloc, checker, context)?, gate);
     let beyond = find_cases(
         alloc,
         cut,

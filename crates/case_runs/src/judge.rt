@@ -8,7 +8,7 @@ use crate::image::Formed;
 use crate::leaves::{FailingCase, Told, put_leaf};
 use crate::runs::{Looked, run_on, split_looked};
 use cases::{Cut, Judge, KnownRows, Parted};
-use checker::Checker;
+use checker::{Checker, RunMemory};
 use helpers::Context;
 use interp::Outcome;
 use std::alloc::{AllocError, Global};
@@ -19,6 +19,8 @@ use std::marker::Model;
 #[derive(Drop)]
 pub struct CaseJudge<'c, 'p> {
     checker: &'c Checker<'p>,
+    /// That of its program, if it has guards.
+    memory: RunMemory,
     context: Context,
     /// What its last run ended in.
     outcome: Outcome,
@@ -49,19 +51,25 @@ impl<'c, 'p> Model for CaseJudge<'c, 'p> {
       failing = map failing_value j.failing.items;
     } };
 
-    ghost invariant = { λ j. IsJudge j.checker.now j.context (map leaf_of j.told.items) (map failing_value j.failing.items) };
+    ghost invariant = { λ j. IsJudge j.checker.now j.memory j.context (map leaf_of j.told.items) (map failing_value j.failing.items) };
 }
 
 impl<'c, 'p> CaseJudge<'c, 'p> {
-    /// A judge that was told of no leaf.
-    pub fn new(alloc: Global, checker: &'c Checker<'p>, context: Context) -> CaseJudge<'c, 'p>
+    /// A judge that was told of no leaf. It takes memory where the checker has guards.
+    pub fn new(
+        alloc: Global,
+        checker: &'c Checker<'p>,
+        context: Context,
+    ) -> Result<CaseJudge<'c, 'p>, AllocError>
         requires { IsFit checker.now context }
-        ensures checker { result.checker ≡ checker.now }
-        ensures context { result.context ≡ context }
-        ensures leaves { result.leaves ≡ [] }
+        ensures checker { IfOk result (λ judge. judge.checker ≡ checker.now) }
+        ensures context { IfOk result (λ judge. judge.context ≡ context) }
+        ensures leaves { IfOk result (λ judge. judge.leaves ≡ []) }
     {
-        CaseJudge {
+        let memory = RunMemory::of(alloc, checker)?;
+        Ok(CaseJudge {
             checker,
+            memory,
             context,
             outcome: Outcome::OutOfSteps,
             looked: Looked {
@@ -72,7 +80,7 @@ impl<'c, 'p> CaseJudge<'c, 'p> {
             place: Vec::new(alloc),
             told: Vec::new(alloc),
             failing: Vec::new(alloc),
-        }
+        })
     }
 
     /// How many leaves it was told of.
@@ -110,6 +118,7 @@ impl<'c, 'p> Judge for CaseJudge<'c, 'p> {
 
     fn look(&mut self, rows: &KnownRows<'_>, tears: bool, sets: &[u16]) -> Result<(), AllocError> {
         self.outcome = run_on(
+            &mut self.memory,
             self.checker,
             &self.context,
             &mut self.formed,

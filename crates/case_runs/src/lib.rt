@@ -25,7 +25,7 @@
 //!
 //! A sector of the image is lent from the log, or from what the device held before entry 0, unless a torn part covers it. The sectors of
 //! torn parts are formed once for each case, in a list that the next case uses again. So a case takes no memory once the lists have
-//! grown, but for those that fail, which are kept. To look up a sector takes the few steps of its row, if that is known from the cases
+//! grown, but for those that fail, which are kept. A judge has memory for the program of a checker with guards. To look up a sector takes the few steps of its row, if that is known from the cases
 //! before (`KnownRows` of `cases`). Else it takes a walk over the entries from the cut down. A torn part by write has all its sectors formed.
 //!
 //! A run keeps its footprint in a room of 64 sectors, and the judge keeps it for the splits of the case. Where it looks at more, the checker is run again with a room of 1,024, and then of

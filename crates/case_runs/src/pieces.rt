@@ -149,7 +149,7 @@ fn run_from<G: CaseGate>(
     ensures search { IsSearchOf asked cut.now search.new }
     ensures ran { IfOk result (RanFrom asked cut.now checker.now most (pending search.old)) }
 {
-    let mut judge = Watched::new(CaseJudge::new(alloc, checker, context), gate);
+    let mut judge = Watched::new(CaseJudge::new(alloc, checker, context)?, gate);
     let _ended = search.run(&mut judge, most)?;
     let found = Found {
         cases: judge.judge().cases(),

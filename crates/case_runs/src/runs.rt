@@ -4,6 +4,7 @@ ghost use Rattle.std.specs.Prelude.{◌≡◌, ◌≤◌, Bool, length, None, If
 ghost use Rattle.std.specs.List.{range_with_len};
 ghost use Rattle.checker.specs.Checker.{Suits};
 ghost use Rattle.checker.specs.Footprints.{kept_footprint};
+ghost use Rattle.checker.specs.Memory.{IsServed};
 ghost use Rattle.cases.specs.AtCut.{parts_of};
 ghost use Rattle.case_runs.specs.Images.{sectors_in};
 ghost use Rattle.case_runs.specs.Judges.{program_of, IsSplitAt, RunsSo, JudgesSo, looked_in};
@@ -11,7 +12,7 @@ ghost use Rattle.case_runs.specs.Leaves.{IsFit};
 
 use crate::image::{CaseImage, Formed};
 use cases::{Cut, KnownRows, Parted};
-use checker::Checker;
+use checker::{Checker, RunMemory};
 use helpers::Context;
 use interp::{Noted, Outcome};
 use std::alloc::AllocError;
@@ -27,6 +28,7 @@ pub(crate) struct Looked {
 
 /// A run whose footprint is kept in so much room, if there is room for it.
 fn run_within<const ROOM: usize>(
+    memory: &mut RunMemory,
     checker: &Checker<'_>,
     context: &Context,
     image: &CaseImage<'_, '_>,
@@ -34,10 +36,12 @@ fn run_within<const ROOM: usize>(
 ) -> Result<Option<Outcome>, AllocError>
     requires suits { Suits checker.now.verified (sectors_in image.now) context.now }
     requires room { ROOM ≤ 16384 }
-    ensures { IfOk result (λ found. MatchOption found ((kept_footprint ROOM checker.now (sectors_in image.now) context.now).sectors ≡ None)
+    requires served { IsServed memory.old checker.now.guards }
+    ensures memory { memory.new ≡ memory.old }
+    ensures found { IfOk result (λ found. MatchOption found ((kept_footprint ROOM checker.now (sectors_in image.now) context.now).sectors ≡ None)
         (λ outcome. RunsSo checker.now context.now image.now outcome looked.new)) }
 {
-    let Noted { outcome, footprint } = checker.judge_noted::<_, ROOM>(context, image);
+    let Noted { outcome, footprint } = checker.judge_noted::<_, ROOM>(memory, context, image);
     match footprint.sectors() {
         Some(sectors) => {
             looked.all = false;
@@ -51,29 +55,33 @@ fn run_within<const ROOM: usize>(
 
 /// A run on an image. Most checkers look at few sectors; where there was no room for their footprint it is run again.
 fn run(
+    memory: &mut RunMemory,
     checker: &Checker<'_>,
     context: &Context,
     image: &CaseImage<'_, '_>,
     looked: &mut Looked,
 ) -> Result<Outcome, AllocError>
-    requires { Suits checker.now.verified (sectors_in image.now) context.now }
-    ensures { IfOk result (λ outcome. RunsSo checker.now context.now image.now outcome looked.new) }
+    requires suits { Suits checker.now.verified (sectors_in image.now) context.now }
+    requires served { IsServed memory.old checker.now.guards }
+    ensures memory { memory.new ≡ memory.old }
+    ensures runs { IfOk result (λ outcome. RunsSo checker.now context.now image.now outcome looked.new) }
 {
-    if let Some(outcome) = run_within::<64>(checker, context, image, looked)? {
+    if let Some(outcome) = run_within::<64>(memory, checker, context, image, looked)? {
         return Ok(outcome);
     }
-    if let Some(outcome) = run_within::<1024>(checker, context, image, looked)? {
+    if let Some(outcome) = run_within::<1024>(memory, checker, context, image, looked)? {
         return Ok(outcome);
     }
-    if let Some(outcome) = run_within::<16384>(checker, context, image, looked)? {
+    if let Some(outcome) = run_within::<16384>(memory, checker, context, image, looked)? {
         return Ok(outcome);
     }
     looked.all = true;
-    Ok(checker.judge(context, image))
+    Ok(checker.judge(memory, context, image))
 }
 
 /// A run on the image of a case's representative, if the device has the size of which the context tells.
 pub(crate) fn run_on(
+    memory: &mut RunMemory,
     checker: &Checker<'_>,
     context: &Context,
     formed: &mut Vec<Formed>,
@@ -84,7 +92,9 @@ pub(crate) fn run_on(
 ) -> Result<Outcome, AllocError>
     requires each { length sets.now ≡ length (parts_of rows.now) }
     requires fit { IsFit checker.now context.now }
-    ensures { IfOk result (λ outcome. JudgesSo (program_of checker.now context.now) rows.now tears sets.now outcome (looked_in context.now.sectors looked.new)) }
+    requires served { IsServed memory.old checker.now.guards }
+    ensures memory { memory.new ≡ memory.old }
+    ensures judges { IfOk result (λ outcome. JudgesSo (program_of checker.now context.now) rows.now tears sets.now outcome (looked_in context.now.sectors looked.new)) }
 {
     if rows.sectors() != context.sectors {
         looked.all = false;
@@ -92,7 +102,7 @@ pub(crate) fn run_on(
         return Ok(Outcome::OutOfSteps);
     }
     let image = CaseImage::new(formed, rows, tears, sets)?;
-    run(checker, context, &image, looked)
+    run(memory, checker, context, &image, looked)
 }
 
 /// The part that splits a case, by all sectors of a device of `count`. It makes no row known.

@@ -2,3 +2,4 @@
 pub mod Checker
 pub mod Footprints
 pub mod Guards
+pub mod Memory

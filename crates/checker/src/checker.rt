@@ -1,14 +1,18 @@
 //! A program that judges crash images, with the way in which it is run.
 
-ghost use Rattle.std.specs.Prelude.{◌≡◌, length, None, is_some, IfOk};
+ghost use Rattle.std.specs.Prelude.{◌≡◌, length, None, is_some, true, IfOk};
 ghost use Rattle.interp.specs.Ending.{ending_of};
 ghost use Rattle.helpers.specs.Footprint.{footprint_after, unread};
 ghost use Rattle.machine.specs.Footprint.{footprint};
+ghost use Rattle.machine.specs.Guards.{guarded_footprint, guarded_outcome};
 ghost use Rattle.machine.specs.Outcome.{outcome};
+ghost use Rattle.plain.specs.Guards.{IsGuardedEnd};
 ghost use Rattle.plain.specs.Runs.{IsVerdict};
 ghost use Rattle.checker.specs.Checker.{Suits, checker_of, guarded_count, guarded_of, guards_of, judgement};
 ghost use Rattle.checker.specs.Footprints.{kept_footprint};
+ghost use Rattle.checker.specs.Memory.{IsServed};
 
+use crate::memory::RunMemory;
 use bpf_isa::program::Program;
 use helpers::{Context, Device};
 use interp::{Noted, Outcome, Verdict, run_noted, run_with_guards};
@@ -38,6 +42,27 @@ fn run_plain<D: Device, const ROOM: usize>(
     Noted {
         outcome: Outcome::Verdict(Verdict { answer, codes }),
         footprint,
+    }
+}
+
+/// Runs a program with guards, with the memory that is there for it.
+#[inline(always)]
+fn run_guarded_in<D: Device, const ROOM: usize>(
+    memory: &mut RunMemory,
+    guarded: &Guarded,
+    context: &Context,
+    device: &D,
+    budget: u64,
+) -> Noted<ROOM>
+    requires there { memory.old ≡ true }
+    requires ends { IsGuardedEnd guarded.now.guarded (guarded_outcome guarded.now.program (D.content device.now) context.now budget) }
+    ensures ends { ending_of result.outcome ≡ guarded_outcome guarded.now.program (D.content device.now) context.now budget }
+    ensures reads { result.footprint ≡ footprint_after (unread ROOM) (guarded_footprint guarded.now.program (D.content device.now) context.now budget) }
+    ensures memory { memory.new ≡ memory.old }
+{
+    match &mut memory.own {
+        Some(own) => run_with_guards(guarded, own, context, device, budget),
+        None => unreachable!(),
     }
 }
 
@@ -174,12 +199,14 @@ impl<'p> Checker<'p> {
 
     /// Runs the program on an image, and answers what it ends in (docs/MACHINE.md, Outcome). A verified one is
     /// run without checks, on an image of a device of the size for which it was verified. With guards the places of
-    /// guarded slots are tested (docs/MACHINE.md, Guards).
-    pub fn judge<D: Device>(&self, context: &Context, device: &D) -> Outcome
+    /// guarded slots are tested (docs/MACHINE.md, Guards), and its program has memory of its own. What a run before wrote there is cleared.
+    pub fn judge<D: Device>(&self, memory: &mut RunMemory, context: &Context, device: &D) -> Outcome
         requires image { Suits self.now.verified (D.content device.now) context.now }
-        ensures { ending_of result ≡ judgement self.now (D.content device.now) context.now }
+        requires served { IsServed memory.old self.now.guards }
+        ensures ends { ending_of result ≡ judgement self.now (D.content device.now) context.now }
+        ensures memory { memory.new ≡ memory.old }
     {
-        self.judge_noted::<D, 0>(context, device).outcome
+        self.judge_noted::<D, 0>(memory, context, device).outcome
     }
 
     /// Runs the program on an image as `judge` does, and answers the footprint of the run too (docs/MACHINE.md, Footprint), in
@@ -188,18 +215,21 @@ impl<'p> Checker<'p> {
     #[tactic(auto, unfolding(crate::specs::Checker::judgement, crate::specs::Footprints::footprint_of))]
     pub fn judge_noted<D: Device, const ROOM: usize>(
         &self,
+        memory: &mut RunMemory,
         context: &Context,
         device: &D,
     ) -> Noted<ROOM>
         requires image { Suits self.now.verified (D.content device.now) context.now }
+        requires served { IsServed memory.old self.now.guards }
         ensures ends { ending_of result.outcome ≡ judgement self.now (D.content device.now) context.now }
         ensures reads { result.footprint ≡ kept_footprint ROOM self.now (D.content device.now) context.now }
+        ensures memory { memory.new ≡ memory.old }
     {
         match &self.guarded {
             Some(guarded) => {
                 // A law of the machine, which does nothing: it ends in a verdict, or strays at a guarded slot.
                 guarded_runs_safely();
-                run_with_guards(guarded, context, device, self.limit)
+                run_guarded_in(memory, guarded, context, device, self.limit)
             }
             None => self.judge_unguarded(context, device),
         }

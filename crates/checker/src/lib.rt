@@ -28,21 +28,26 @@
 //! A program that is accepted without guards is judged alike with them, on each image of its size, and has the same footprint
 //! (`guards_change_no_judgement`; `specs/Guards.antt`).
 //!
-//! `Checker::verified` takes memory where a program was accepted with guards, to keep its guarded slots. No other call does, and
-//! each returns.
+//! A program with guards has memory of its own (docs/MACHINE.md, Memory). A `RunMemory` is made once, for the checkers of a run, and is
+//! there where one of them has guards (`AreServed`); then `judge` asks for nothing more (`IsServed`; `specs/Memory.antt`).
+//!
+//! `Checker::verified` takes memory where a program was accepted with guards, to keep its guarded slots, and `RunMemory::new` where
+//! a checker has guards. No other call does, and each returns.
 //!
 //! # Example
 //!
 //! ```
 //! use bpf_isa::codec::decode;
-//! use checker::Checker;
+//! use checker::{Checker, RunMemory};
 //! use helpers::{Context, Filled};
 //! use verifier::verify;
 //!
 //! let program = decode(alloc, bytes)?;   // mov64 r0, 0; exit
 //! let verified = verify(alloc, &program, 4)?;
 //! let context = Context { sectors: 4, epoch: 0, marks: 0 };
-//! let outcome = Checker::verified(alloc, &verified)?.judge(&context, &Filled::new(4, 0));
+//! let checker = Checker::verified(alloc, &verified)?;
+//! let mut memory = RunMemory::of(alloc, &checker)?;
+//! let outcome = checker.judge(&mut memory, &context, &Filled::new(4, 0));
 //! // a verdict with the answer 0 and no codes
 //! ```
 //!
@@ -57,8 +62,10 @@
 
 mod checker;
 mod laws;
+mod memory;
 
 pub use checker::Checker;
 pub use laws::{
     agreeing_devices_are_judged_alike, guards_change_no_judgement, kept_is_the_footprint,
 };
+pub use memory::RunMemory;

@@ -7,7 +7,7 @@ use bpf_isa::instr::Instr;
 use bpf_shape::laws::{
     again_has_form, calls_are_nested, deeper_is_the_same, edges_are_split,
     edges_lead_to_instructions, entries_are_instructions, heads_are_targets, heads_by_slot,
-    no_fault_in_shaped, one_fault, one_shape,
+    no_fault_in_shaped, one_fault, one_shape, shaped_with_guards,
 };
 use bpf_shape::{Edges, callee, callee_of, control, edges_of, shape};
 use std::alloc::Global;
@@ -71,7 +71,7 @@ const LOCAL_CALL: [Slot; 6] = [
 /// Whether a program has this budget, and its heads are exactly these slots.
 fn has_heads(alloc: Global, slots: &[Slot], budget: u64, heads: &[usize]) -> Result<bool, Fail> {
     let program = program_of(alloc, slots)?;
-    let shape = shape(alloc, &program)?;
+    let shape = shape(alloc, &program, false)?;
     let mut same = shape.budget() == budget;
     for slot in 0..program.slots() {
         same &= shape.is_head(slot) == heads.contains(&slot);
@@ -138,6 +138,7 @@ fn laws() {
     one_shape();
     one_fault();
     no_fault_in_shaped();
+    shaped_with_guards();
     edges_are_split();
     heads_are_targets();
     heads_by_slot();

@@ -1,6 +1,7 @@
 //! Tables of states, the good ones and those with a breach. Which programs are accepted, with which budget, and
 //! for what others are refused is shown by the program (tests/rows/refusals.py).
 
+ghost use Rattle.std.specs.Prelude.{false};
 ghost use Rattle.bpf_shape.specs.Shape.{IsShapeOf};
 
 use crate::slots::{EXIT, NESTED_LOOPS, program_of};
@@ -30,7 +31,7 @@ fn without(alloc: Global, table: &Table, missing: usize) -> Result<Table, Fail> 
 
 /// The number and the slot of the first breach of a table; 0 and 0 where there is none.
 fn breach(program: &Program, shape: &Shape, table: &Table) -> (u8, u64)
-    requires { IsShapeOf program.now shape.now }
+    requires { IsShapeOf false program.now shape.now }
 {
     match check_table(program, shape, 4, table) {
         Ok(()) => (0, 0),
@@ -41,7 +42,7 @@ fn breach(program: &Program, shape: &Shape, table: &Table) -> (u8, u64)
 #[test]
 fn states_taken_away(rt: HostRuntime) -> Result<(), Fail> {
     let program = program_of(rt.alloc(), &NESTED_LOOPS)?;
-    let shape = shape(rt.alloc(), &program)?;
+    let shape = shape(rt.alloc(), &program, false)?;
     let verified = verify(rt.alloc(), &program, 4)?;
     assert_eq!(rt; breach(&program, &shape, verified.table()), (0, 0));
     // the lowest slot that leads to each slot
@@ -69,7 +70,7 @@ fn table_of_starts(alloc: Global, slots: usize) -> Result<Table, Fail> {
 #[test]
 fn other_tables(rt: HostRuntime) -> Result<(), Fail> {
     let program = answer_0(rt.alloc())?;
-    let shape = shape(rt.alloc(), &program)?;
+    let shape = shape(rt.alloc(), &program, false)?;
     let short = table_of_starts(rt.alloc(), 1)?;
     assert_eq!(rt; breach(&program, &shape, &short), (59, 0));
     let unset = table_of_starts(rt.alloc(), 2)?;
@@ -108,7 +109,7 @@ fn unsigned_start(first: UnsignedValue) -> UnsignedState {
 fn raised_table(rt: HostRuntime) -> Result<(), Fail> {
     // mov64 r0, 0; exit
     let program = program_of(rt.alloc(), &[(0xb7, 0, 0, 0), EXIT])?;
-    let shape = shape(rt.alloc(), &program)?;
+    let shape = shape(rt.alloc(), &program, false)?;
     let start = unsigned_start(UnsignedValue::Unset);
     let zero = unsigned_start(UnsignedValue::Num(Range { low: 0, high: 0 }));
     let table = UnsignedTable {

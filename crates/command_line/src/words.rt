@@ -164,8 +164,8 @@ Exit status: 0, or 2 for a refusal.";
 /// What stands after the help of `verify`.
 const AFTER_VERIFY: &str =
     "Prints 'accepted budget N': on each image of a device of that size a run takes at most N steps. With --guards
-it prints 'accepted budget N guards G': at G slots a run tests the place of a load, a store or a copy. Where
-that is outside of what the program may touch, the run ends as 'stray at slot S'.
+it prints 'accepted budget N guards G': at G slots a run tests the place of a load, a store, a copy or a
+checksum. Where that is outside of what the program may touch, the run ends as 'stray at slot S'.
 
 Examples: crashbpf verify check.bpf --sectors 64
           crashbpf verify check.bpf --sectors 64 --guards --list

@@ -175,7 +175,7 @@ mapped_small f [] small i = omega arith
 mapped_small f (x ∷ xs) small zero = small x
 mapped_small f (x ∷ xs) small (suc i) = mapped_small f xs small i
 
-below_size : (s : Size) (x : ℕ) → x < 256 ^ byte_count s → x < 2 ^ 64
+pub below_size : (s : Size) (x : ℕ) → x < 256 ^ byte_count s → x < 2 ^ 64
 below_size size.Byte x lt = omega (arith, lt)
 below_size size.Half x lt = omega (arith, lt)
 below_size size.Word x lt = omega (arith, lt)

@@ -1,21 +1,31 @@
--- The bytes that `copy` gives, one after the other.
-use Rattle.std.proofs.Common.{ℕ, ◌≡◌, ◌+◌, ◌<◌, List, [], ◌∷◌, ◌++◌, length, take, map, slice_set, refl, sym, ◌∙◌, ap}
-use Rattle.std.specs.List.{range_with_len}
-use Rattle.std.proofs.lemmas.List.{take_more_set, map-append}
-use Rattle.base.proofs.Lists.{range_with_len-more}
-use Rattle.helpers.specs.Answers.{device_byte, device_bytes}
+-- The bytes that `copy` gives, piece after piece.
+use Rattle.std.proofs.Common.{ℕ, ◌≡◌, ◌+◌, ◌≤◌, List, [], ◌++◌, length, take, drop, refl, sym, ◌∙◌, ap, arith}
+use Rattle.std.proofs.lemmas.List.{length-append, length-drop, length-take-le}
+use Rattle.std.proofs.lemmas.Slice.{take-put_mid}
+use borrow.Rule.Slice.PartMut.{put_mid}
+use Rattle.helpers.specs.Answers.{device_bytes}
+use Rattle.helpers.proofs.Summed.{bytes_append}
 
 pub none_copied : (device : List (List ℕ)) (position : ℕ) → [] ≡ device_bytes device position 0
 unfolding device_bytes
 none_copied device position = refl
 
--- one byte more
-pub more_copied : (device : List (List ℕ)) (position i : ℕ) (window : List ℕ) (b : ℕ) → i < length window
-    → take i window ≡ device_bytes device position i → b ≡ device_byte device (position + i)
-    → take (i + 1) (slice_set window i b) ≡ device_bytes device position (i + 1)
-unfolding device_bytes
-more_copied device position i window b lt so_far is =
-    let f : ℕ → ℕ = device_byte device in
-    let e : map f (range_with_len position (i + 1)) ≡ map f (range_with_len position i) ++ f (position + i) ∷ [] =
-    ap (map f) (range_with_len-more position i) ∙ map-append f (range_with_len position i) ((position + i) ∷ []) in
-    take_more_set window i b lt ∙ (rw (so_far, is) (sym e))
+-- one piece more
+pub more_copied : (device : List (List ℕ)) (position done k : ℕ) (window bytes piece : List ℕ) → done ≤ length window → piece ≡ bytes
+    → take done window ≡ device_bytes device position done → bytes ≡ device_bytes device (position + done) (length bytes)
+    → take (done + length bytes) (put_mid done k window piece) ≡ device_bytes device position (done + length bytes)
+more_copied device position done k window bytes piece within same so_far is =
+    let many : done + length bytes ≡ done + length piece = ap (λ (b : List ℕ). done + length b) (sym same) in
+    take-put_mid done k window piece (done + length bytes) many within
+    ∙ ap (λ (b : List ℕ). take done window ++ b) same ∙ ap (λ (b : List ℕ). b ++ bytes) so_far
+    ∙ ap (λ (b : List ℕ). device_bytes device position done ++ b) is ∙ sym (bytes_append device position done (length bytes))
+
+-- the window stays as long
+pub as_long : (done k : ℕ) (window piece : List ℕ) → done + k ≤ length window → length piece ≡ k → length (put_mid done k window piece) ≡ length window
+as_long done k window piece fits many =
+    let left = length-take-le done window (omega (arith, fits)) in
+    let rest = length-drop done window in
+    let after = length-drop k (drop done window) in
+    let first = length-append (take done window) (piece ++ drop k (drop done window)) in
+    let second = length-append piece (drop k (drop done window)) in
+    omega (arith, left, rest, after, first, second, many, fits)

@@ -1,4 +1,5 @@
-pub mod Queries
 pub mod CopiedBytes
 pub mod CallerLemmas
 pub mod KeptSectors
+pub mod Summed
+pub mod Queries

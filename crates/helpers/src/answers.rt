@@ -6,21 +6,13 @@ ghost use Rattle.std.specs.Option.{option_map};
 ghost use Rattle.helpers.specs.Answers.{sector_answer, device_byte, device_bytes, copy_answer, zero_answer, mix_answer, same_answer};
 ghost use Rattle.helpers.specs.Queries.{query_answer};
 
-use crate::device::Device;
+use crate::device::{Device, sector_of};
 use crate::helper::Query;
+use crate::sums;
+use checksums::Polynomial;
 
 /// The address at which sector 0 begins in the memory of a checker. Sectors begin 1,024 apart.
 pub const SECTOR_START: u64 = 0x3_0000_0000;
-
-/// The sector of this number, or none past the device.
-fn sector_of<D: Device>(device: &D, number: u64) -> Option<&[u8; 512]>
-    ensures { option_map (λ s. s.now) result ≡ slice_get (D.content device.now) number }
-{
-    if number >= u64::from(device.sectors()) {
-        return None;
-    }
-    device.sector(number as u32)
-}
 
 /// The address of sector `number`, or 0 past the device.
 #[tactic(auto, unfolding(crate::specs::Answers::sector_answer))]
@@ -73,16 +65,18 @@ pub fn same<D: Device>(device: &D, left: u64, right: u64) -> u64
     }
 }
 
-/// What a query answers of the numbers in registers 1 and 2.
+/// What a query answers of the numbers in registers 1 to 3.
 #[inline(always)]
 #[tactic(auto, unfolding(crate::specs::Queries::query_answer))]
-pub fn answer<D: Device>(device: &D, query: Query, first: u64, second: u64) -> u64
-    ensures { result ≡ query_answer (D.content device.now) query first second }
+pub fn answer<D: Device>(device: &D, query: Query, first: u64, second: u64, third: u64) -> u64
+    ensures { result ≡ query_answer (D.content device.now) query first second third }
 {
     match query {
         Query::Sector => sector(device, first),
         Query::Zero => zero(device, first),
         Query::Mix => mix(device, first),
         Query::Same => same(device, first, second),
+        Query::Crc32c => sums::of_device(device, Polynomial::Castagnoli, first, second, third),
+        Query::Crc32 => sums::of_device(device, Polynomial::Iso3309, first, second, third),
     }
 }

@@ -20,6 +20,16 @@ pub trait Device {
     ghost whole: { (d : Self) (n : ℕ) (s : List ℕ) → slice_get (content d) n ≡ Some s → length s ≡ 512 };
 }
 
+/// The sector of this number, or none past the device.
+pub(crate) fn sector_of<D: Device>(device: &D, number: u64) -> Option<&[u8; 512]>
+    ensures { option_map (λ s. s.now) result ≡ slice_get (D.content device.now) number }
+{
+    if number >= u64::from(device.sectors()) {
+        return None;
+    }
+    device.sector(number as u32)
+}
+
 /// What a checker is told of the crash image that it judges (docs/MACHINE.md, Address space).
 #[derive(Clone, Copy, Debug, PartialEq, Eq)]
 pub struct Context {

@@ -1,12 +1,14 @@
 //! The footprint of a run.
 
-ghost use Rattle.std.specs.Prelude.{◌≡◌, ◌<◌, ◌∷◌, [], IsFalse, MatchOption, None};
+ghost use Rattle.std.specs.Prelude.{◌≡◌, ◌<◌, ◌≤◌, ◌∷◌, [], IsFalse, MatchOption, None};
 ghost use Rattle.helpers.specs.Footprint.{lists, footprint_with, footprint_after, on_device, sector_at, sectors_at, sectors_of, unread};
 ghost use Rattle.helpers.specs.Queries.{query_sectors};
+ghost use Rattle.helpers.specs.Sums.{summed_sectors};
 
 use crate::answers::SECTOR_START;
 use crate::device::Device;
 use crate::helper::Query;
+use crate::sums::taken;
 use arrayvec::ArrayVec;
 use std::marker::Model;
 
@@ -109,11 +111,18 @@ impl<const ROOM: usize> Footprint<ROOM> {
         }
     }
 
-    /// It looks for a query of the numbers in registers 1 and 2.
+    /// It looks for a query of the numbers in registers 1 to 3.
     #[inline(always)]
     #[tactic(auto, unfolding(crate::specs::Queries::query_sectors), using(crate::proofs::CallerLemmas::looked_both))]
-    pub fn look_for<D: Device>(&mut self, device: &D, query: Query, first: u64, second: u64)
-        ensures { self.new ≡ footprint_after self.old (on_device (D.content device.now) (query_sectors query first second)) }
+    pub fn look_for<D: Device>(
+        &mut self,
+        device: &D,
+        query: Query,
+        first: u64,
+        second: u64,
+        third: u64,
+    )
+        ensures { self.new ≡ footprint_after self.old (on_device (D.content device.now) (query_sectors query first second third)) }
     {
         match query {
             Query::Sector => {}
@@ -121,6 +130,8 @@ impl<const ROOM: usize> Footprint<ROOM> {
                 self.look(device, first);
                 self.look(device, second);
             }
+            Query::Crc32c => note_summed(self, device, second, taken(third)),
+            Query::Crc32 => note_summed(self, device, second, taken(third)),
             _ => self.look(device, first),
         }
     }
@@ -142,5 +153,25 @@ impl<const ROOM: usize> Footprint<ROOM> {
         } else {
             Some(self.sectors.as_slice())
         }
+    }
+}
+
+/// Notes each sector that has one of that many bytes of the device, from a position on.
+fn note_summed<D: Device, const ROOM: usize>(
+    footprint: &mut Footprint<ROOM>,
+    device: &D,
+    position: u64,
+    count: u64,
+)
+    requires few { count ≤ 4096 }
+    ensures { footprint.new ≡ footprint_after footprint.old (on_device (D.content device.now) (summed_sectors position count)) }
+{
+    if count == 0 {
+        return;
+    }
+    let first = position / 512;
+    let many = (position % 512 + count + 511) / 512;
+    'sectors: for sector in 0..many {
+        footprint.look(device, first + sector);
     }
 }

@@ -1,8 +1,11 @@
 //! The helpers by their numbers, and what they answer.
 
 ghost use Rattle.std.specs.Prelude.{◌≡◌};
-ghost use Rattle.helpers.specs.Helper.{answer_of, helper_of};
-ghost use Rattle.helpers.specs.Queries.{has_two, query_kind, query_of};
+ghost use Rattle.helpers.specs.Helper.{answer_of, asked_of, helper_of};
+ghost use Rattle.helpers.specs.Queries.{arity_of, query_for, query_kind, query_of};
+
+use crate::sums::Checksum;
+use checksums::Polynomial;
 
 /// A helper that a program may call (docs/MACHINE.md, Helpers).
 #[derive(Clone, Copy, Debug, PartialEq, Eq)]
@@ -17,7 +20,7 @@ pub enum Helper {
     Query(Query),
 }
 
-/// A helper that computes its answer of the device and of one number or two, and changes nothing.
+/// A helper that computes its answer of the device and of up to three numbers, and changes nothing.
 #[derive(Clone, Copy, Debug, PartialEq, Eq)]
 pub enum Query {
     /// Number 1: the address of a sector.
@@ -28,6 +31,21 @@ pub enum Query {
     Mix,
     /// Number 7: whether two sectors have the same content.
     Same,
+    /// Number 8, of programs with guards: the CRC32C of bytes of the device.
+    Crc32c,
+    /// Number 9, of programs with guards: their CRC-32.
+    Crc32,
+}
+
+/// How many numbers a helper takes, in the registers from 1 on.
+#[derive(Clone, Copy, Debug, PartialEq, Eq)]
+pub enum Arity {
+    /// That in register 1.
+    One,
+    /// Those in the registers 1 and 2.
+    Two,
+    /// Those in the registers 1, 2 and 3.
+    Three,
 }
 
 /// What a helper may answer.
@@ -40,7 +58,7 @@ pub enum Answer {
 }
 
 impl Query {
-    /// The query of this number, if there is one.
+    /// The query of this number, if every program may ask it.
     pub fn of(number: u32) -> Option<Query>
         ensures { result ≡ query_of number }
     {
@@ -53,12 +71,27 @@ impl Query {
         }
     }
 
-    /// Whether it takes two numbers.
-    #[inline(always)]
-    pub fn has_two(self) -> bool
-        ensures { result ≡ has_two self }
+    /// The checksum of bytes of the device by a polynomial.
+    pub fn summing(polynomial: Polynomial) -> Query
+        ensures { result ≡ query_for polynomial }
     {
-        matches!(self, Query::Same)
+        match polynomial {
+            Polynomial::Castagnoli => Query::Crc32c,
+            Polynomial::Iso3309 => Query::Crc32,
+        }
+    }
+
+    /// How many numbers it takes.
+    #[inline(always)]
+    pub fn arity(self) -> Arity
+        ensures { result ≡ arity_of self }
+    {
+        match self {
+            Query::Same => Arity::Two,
+            Query::Crc32c => Arity::Three,
+            Query::Crc32 => Arity::Three,
+            _ => Arity::One,
+        }
     }
 
     /// What it may answer.
@@ -68,6 +101,8 @@ impl Query {
         match self {
             Query::Sector => Answer::Address,
             Query::Mix => Answer::UpTo(u64::MAX),
+            Query::Crc32c => Answer::UpTo(0xFFFF_FFFF),
+            Query::Crc32 => Answer::UpTo(0xFFFF_FFFF),
             _ => Answer::UpTo(2),
         }
     }
@@ -84,6 +119,20 @@ impl Helper {
             4 => Some(Helper::Report),
             _ => match Query::of(number) {
                 Some(query) => Some(Helper::Query(query)),
+                None => None,
+            },
+        }
+    }
+
+    /// What a program with guards asks for by this number, if it may: a checksum of its own bytes is that of the device, by its
+    /// arguments and what it may answer.
+    pub fn asked(number: u32) -> Option<Helper>
+        ensures { result ≡ asked_of number }
+    {
+        match Helper::of(number) {
+            Some(helper) => Some(helper),
+            None => match Checksum::of(number) {
+                Some(checksum) => Some(Helper::Query(Query::summing(checksum.polynomial()))),
                 None => None,
             },
         }

@@ -15,13 +15,16 @@
 //! | `mix` | a number of a sector |
 //! | `same` | whether two sectors hold the same bytes |
 //!
-//! `sector`, `zero`, `mix` and `same` are a `Query`: they answer a number of the device and of one number or two, look at no
-//! sectors but those of these numbers, and change nothing. What stands of each is in `specs/Queries.antt`. Definitions and proofs
-//! of other crates speak of any query, so that a new one touches this crate alone.
+//! `sector`, `zero`, `mix`, `same` and the checksums of bytes of the device are a `Query`: they answer a number of the device and
+//! of up to three numbers, look at no sectors but those that these numbers name, and change nothing. What stands of each is in
+//! `specs/Queries.antt`. Definitions and proofs of other crates speak of any query, so that a new one touches this crate alone.
+//!
+//! A program with guards may ask for checksums too (docs/MACHINE.md, Checksums), by the numbers 8 to 11, which are no `Helper`:
+//! `Checksum::of` knows them. 8 and 9 are queries, and 10 and 11 are of bytes that the program has.
 //!
 //! # Place
 //!
-//! The crate stands low, on the words of `base` and the kernels of `lanes`. The machine runs a checker
+//! The crate stands low, on the words of `base`, the kernels of `lanes` and `checksums`. The machine runs a checker
 //! over any `Device`, the verifier reasons about any, and a view of a crash image is one. What each
 //! helper answers is defined once, in `specs/Answers.antt`, over a device as its list of sectors; the
 //! machine's definition cites it. `again` and `report` depend on the run alone, so that only their
@@ -36,7 +39,10 @@
 //!   It hangs on the query's arguments alone, and on the sectors at which the query looks (`proofs/Queries.antt`).
 //! - `copy` leaves in its window exactly the defined bytes, zeros past the device, and gives the
 //!   defined answer. Positions do not wrap. A window has at most 512 bytes.
-//! - `Helper::of` knows the numbers 1 to 7 and no other. An answer is what `Helper::answer` says that it may be.
+//! - `Helper::of` knows the numbers 1 to 7 and no other, `Checksum::of` 8 to 11, and `Helper::asked` all of these. An answer is
+//!   what `Helper::answer` says that it may be.
+//! - `sums::of_device` gives exactly the checksum of that many bytes of the device, zeros past it, and `sums::of_bytes` that of
+//!   bytes.
 //! - `Filled` is a device in which each byte is the same, as one that nothing has written.
 //! - A `Footprint` keeps the sectors at which a run looked, each once, in the order in which it first did, up to its room;
 //!   where they are more it keeps none (`noted` in `specs/Footprint.antt`).
@@ -70,8 +76,10 @@ mod device;
 mod filled;
 mod footprint;
 mod helper;
+pub mod sums;
 
 pub use device::{Context, Device};
 pub use filled::Filled;
 pub use footprint::Footprint;
-pub use helper::{Answer, Helper, Query};
+pub use helper::{Answer, Arity, Helper, Query};
+pub use sums::Checksum;

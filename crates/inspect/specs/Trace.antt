@@ -17,6 +17,7 @@ use Rattle.helpers.specs.Answers.{sector_start}
 use Rattle.machine.specs.State.{State, register, word, context_start, stack_start}
 use Rattle.machine.specs.Memory.{byte_count, plain_size}
 use Rattle.machine.specs.Step.{Stepped, Next, Done, Fault, address}
+use Rattle.machine.specs.Guards.{Made}
 use Rattle.machine.specs.Outcome.{Ending, Verdict, Stopped, Stray}
 use Rattle.notes.specs.SourceLines.{LineOfC, source_text}
 use Rattle.interp.specs.Walks.{step_as}
@@ -24,12 +25,15 @@ use Rattle.interp.specs.declared.walk.Halt.{Halt}
 use Rattle.interp.specs.declared.walk.Halt.TheVariants as halt
 use Rattle.inspect.specs.declared.trial.trace.Touch.{Touch}
 
--- what follows a step that led to a next state, or else this, as where it strayed
-abbrev pub beyond : {X : Type 0} → X → (State → X) → Option Stepped → X
+-- what follows a step that led to a next state with a memory, or else this, as where it strayed
+abbrev pub after_step : {X : Type 0} → X → (State → X) → Stepped → X
+after_step end rest (Next s) = rest s
+after_step end rest (Done _ _) = end
+after_step end rest (Fault _ _) = end
+
+abbrev pub beyond : {X : Type 0} → X → (List ℕ → State → X) → Option Made → X
 beyond end rest None = end
-beyond end rest (Some (Next s)) = rest s
-beyond end rest (Some (Done _ _)) = end
-beyond end rest (Some (Fault _ _)) = end
+beyond end rest (Some made) = after_step end (rest made.memory) made.stepped
 
 -- what a run came to that a step ended so, where these codes were reported
 abbrev pub ending_of_halt : List ℕ → Halt → Ending
@@ -38,9 +42,9 @@ ending_of_halt numbers (halt.Fault cause slot) = Stopped cause slot
 ending_of_halt numbers (halt.Stray slot) = Stray slot
 
 -- how many of at most n steps from a state on are made, with guards or without; one that ends the run is made too
-unfoldable pub steps_made : Bool → List (Option Instr) → List ℕ → List (List ℕ) → ℕ → State → ℕ
-steps_made guards program context device zero s = 0
-steps_made guards program context device (suc n) s = beyond 0 (steps_made guards program context device n) (step_as guards program context device s) + 1
+unfoldable pub steps_made : Bool → List (Option Instr) → List ℕ → List (List ℕ) → ℕ → List ℕ → State → ℕ
+steps_made guards program context device zero m s = 0
+steps_made guards program context device (suc n) m s = beyond 0 (steps_made guards program context device n) (step_as guards program context device m s) + 1
 
 -- memory stands in blocks that begin 1,024 addresses apart: the block of an address, and the place in it
 abbrev pub place_text : ℕ → List ℕ
@@ -118,11 +122,14 @@ stray_text limits (Some t) = touch_text limits t
 
 -- what is said of a step, before which these were in the registers and this was the place: the registers that it changed, or that it
 -- strayed there
-abbrev pub came_text : Limits → List (Option ℕ) → Option Touch → Option Stepped → List ℕ
+abbrev pub changed_text : Limits → List (Option ℕ) → Stepped → List ℕ
+changed_text limits before (Next t) = changes_text limits before (registers_of t)
+changed_text limits before (Done _ _) = []
+changed_text limits before (Fault _ _) = []
+
+abbrev pub came_text : Limits → List (Option ℕ) → Option Touch → Option Made → List ℕ
 came_text limits before touch None = stray_text limits touch
-came_text limits before touch (Some (Next t)) = changes_text limits before (registers_of t)
-came_text limits before touch (Some (Done _ _)) = []
-came_text limits before touch (Some (Fault _ _)) = []
+came_text limits before touch (Some made) = changed_text limits before made.stepped
 
 -- with what the line of a step begins: its number, its slot and the instruction there
 unfoldable pub begin_text : List (Option Instr) → ℕ → State → List ℕ
@@ -133,12 +140,12 @@ unfoldable pub line_end : List LineOfC → ℕ → List ℕ
 line_end table slot = source_text table slot ++ codes "\n"
 
 -- the line of a step, with what is said of it between
-unfoldable pub step_text : Limits → List LineOfC → List (Option Instr) → ℕ → State → Option Stepped → List ℕ
+unfoldable pub step_text : Limits → List LineOfC → List (Option Instr) → ℕ → State → Option Made → List ℕ
 step_text limits table program number s x = begin_text program number s ++ came_text limits (registers_of s) (touch_here program s) x ++ line_end table s.slot
 
 -- of at most n steps from a state on, the first of this number, the lines of those whose numbers are above another
-unfoldable pub trace_text : Limits → List LineOfC → Bool → List (Option Instr) → List ℕ → List (List ℕ) → ℕ → ℕ → ℕ → State → List ℕ
-trace_text limits table guards program context device zero number above s = []
-trace_text limits table guards program context device (suc n) number above s =
-    (if nat_lt above number then step_text limits table program number s (step_as guards program context device s) else [])
-    ++ beyond [] (trace_text limits table guards program context device n (number + 1) above) (step_as guards program context device s)
+unfoldable pub trace_text : Limits → List LineOfC → Bool → List (Option Instr) → List ℕ → List (List ℕ) → ℕ → ℕ → ℕ → List ℕ → State → List ℕ
+trace_text limits table guards program context device zero number above m s = []
+trace_text limits table guards program context device (suc n) number above m s =
+    (if nat_lt above number then step_text limits table program number s (step_as guards program context device m s) else [])
+    ++ beyond [] (trace_text limits table guards program context device n (number + 1) above) (step_as guards program context device m s)

@@ -14,7 +14,7 @@ use Rattle.helpers.specs.declared.device.Context.{Context}
 use Rattle.machine.specs.Memory.{context_bytes}
 use Rattle.machine.specs.Outcome.{Ending, Verdict, Stopped, OutOfSteps, Stray}
 use Rattle.notes.specs.SourceLines.{LineOfC, AreLines, NoLines, source_text}
-use Rattle.interp.specs.Walks.{start_as, outcome_as}
+use Rattle.interp.specs.Walks.{memory_as, outcome_as, start_as}
 use Rattle.verifier.specs.Guards.{guarded_slots}
 use Rattle.verifier.specs.Verdicts.{VerifiedValue, IsVerified, RefusedWith}
 use Rattle.report.specs.Line.{fails}
@@ -58,7 +58,7 @@ abbrev pub ending_of_trial : List (Option Instr) → List ℕ → Trial → ℕ 
 ending_of_trial slots image t limit = outcome_as t.guards slots (disk_of image) (context_of image t) limit
 
 abbrev pub steps_of_trial : List (Option Instr) → List ℕ → Trial → ℕ → ℕ
-steps_of_trial slots image t limit = steps_made t.guards slots (context_bytes (context_of image t)) (disk_of image) limit (start_as t.guards)
+steps_of_trial slots image t limit = steps_made t.guards slots (context_bytes (context_of image t)) (disk_of image) limit (memory_as t.guards) (start_as t.guards)
 
 -- the line of what the program is told
 unfoldable pub context_text : Context → List ℕ
@@ -83,7 +83,7 @@ head_text context checked slots b = codes "crash check 1\n" ++ context_text cont
 
 -- the lines of the last steps of a run that makes that many
 abbrev pub last_steps : List (Option Instr) → List ℕ → List LineOfC → Trial → ℕ → List ℕ
-last_steps slots image table t steps = trace_text t.limits table t.guards slots (context_bytes (context_of image t)) (disk_of image) steps 1 (steps - t.trace) (start_as t.guards)
+last_steps slots image table t steps = trace_text t.limits table t.guards slots (context_bytes (context_of image t)) (disk_of image) steps 1 (steps - t.trace) (memory_as t.guards) (start_as t.guards)
 
 -- the place in C of the slot at which a program ended, where what it ended in names one
 abbrev pub ending_source : List LineOfC → Ending → List ℕ

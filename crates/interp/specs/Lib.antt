@@ -8,3 +8,4 @@ pub mod Stopping
 pub mod Looks
 pub mod Accesses
 pub mod Walks
+pub mod Reaching

@@ -1,7 +1,7 @@
 //! The stack of a frame that is entered again and again: its bytes, and apart from them when they were
 //! written.
 
-ghost use Rattle.std.specs.Prelude.{◌≡◌, ◌≤◌, ◌<◌, ◌+◌, length, replicate};
+ghost use Rattle.std.specs.Prelude.{◌≡◌, ◌≤◌, ◌<◌, ◌+◌, length, map, replicate, unwrap_or};
 ghost use Rattle.machine.specs.Memory.{byte_count};
 ghost use Rattle.machine.specs.State.{unset_stack};
 ghost use Rattle.interp.specs.Cells.{filled_stack, stack_with};
@@ -97,6 +97,14 @@ impl CalledStack {
         let known = known_bytes(&self.bytes, &self.marks, mark);
         self.bytes = known;
         self.marks = [mark; 512];
+    }
+
+    /// Its bytes, where an unset byte is 0.
+    pub(crate) fn known(&self) -> [u8; 512]
+        ensures known { result ≡ map (λ c. unwrap_or c 0) self.now }
+        ensures long { length result ≡ 512 }
+    {
+        known_bytes(&self.bytes, &self.marks, self.mark)
     }
 }
 

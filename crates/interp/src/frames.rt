@@ -1,6 +1,6 @@
 //! The frames above the first (docs/MACHINE.md, Local calls, exit, helper calls).
 
-ghost use Rattle.std.specs.Prelude.{◌≡◌, ◌≤◌, ◌<◌, ◌+◌, ◌-◌, ◌∷◌, ◌++◌, [], ℕ, List, Option, Some, None, length, map, take, nat_lt, if◌then◌else◌, IfNone, slice_get};
+ghost use Rattle.std.specs.Prelude.{◌≡◌, ◌≤◌, ◌<◌, ◌+◌, ◌-◌, ◌∷◌, ◌++◌, [], ℕ, List, Option, Some, None, length, map, take, nat_lt, if◌then◌else◌, IfNone, slice_get, unwrap_or};
 ghost use Rattle.std.specs.Option.{option_map};
 ghost use Rattle.machine.specs.State.{unset_stack};
 ghost use Rattle.machine.specs.Step.{caller_of};
@@ -102,6 +102,16 @@ impl Frames {
         ensures { option_map (λ f. f.stack) (slice_get self.now number) ≡ Some result.now }
     {
         &self.stacks[number]
+    }
+
+    /// Its bytes, where an unset byte is 0.
+    pub(crate) fn known(&self, number: usize) -> [u8; 512]
+        requires number { number < length self.now }
+        requires few { number < 3 }
+        ensures known { option_map (λ f. map (λ c. unwrap_or c 0) f.stack) (slice_get self.now number) ≡ Some result }
+        ensures long { length result ≡ 512 }
+    {
+        self.stack(number).known()
     }
 
     /// Writes bytes from a place of the stack of an open frame on.

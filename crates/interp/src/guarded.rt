@@ -8,13 +8,15 @@ ghost use Rattle.interp.specs.Ending.{ending_of};
 
 use crate::outcome::{Noted, Outcome, Verdict};
 use helpers::{Context, Device};
-use plain::{Guarded, GuardedEnd, run_guarded};
+use plain::{Guarded, GuardedEnd, OwnMemory, run_guarded};
 
 /// Runs a checker with guards (docs/MACHINE.md, Guards), which is known to end within that many steps in a verdict, or to
-/// stray at a guarded slot. It is run by `plain`, so of all checks the places of guarded slots alone are tested.
+/// stray at a guarded slot. It is run by `plain`, so of all checks the places of guarded slots alone are tested. The program's own
+/// memory is that of the run before, cleared.
 #[inline(always)]
 pub fn run_with_guards<D: Device, const ROOM: usize>(
     guarded: &Guarded,
+    memory: &mut OwnMemory,
     context: &Context,
     device: &D,
     budget: u64,
@@ -28,7 +30,7 @@ pub fn run_with_guards<D: Device, const ROOM: usize>(
         answer,
         codes,
         footprint,
-    } = run_guarded(guarded, context, device, budget);
+    } = run_guarded(guarded, memory, context, device, budget);
     match stray {
         Some(slot) => Noted {
             outcome: Outcome::Stray(slot),

@@ -40,7 +40,9 @@ impl<const COUNTS: usize, const FRAMES: usize> Machine<COUNTS, FRAMES> {
     {
         match helper {
             Helper::Copy => looked.look_over(device, self.word(1), self.word(3)),
-            Helper::Query(query) => looked.look_for(device, query, self.word(1), self.word(2)),
+            Helper::Query(query) => {
+                looked.look_for(device, query, self.word(1), self.word(2), self.word(3));
+            }
             Helper::Again => {}
             Helper::Report => {}
         }

@@ -3,13 +3,14 @@
 ghost use Rattle.std.specs.Prelude.{◌≡◌, ◌≤◌, false, is_some, IfOk};
 ghost use Rattle.images.specs.Views.{context_at, sectors_of};
 ghost use Rattle.checker.specs.Checker.{judgement};
+ghost use Rattle.checker.specs.Memory.{IsServed};
 ghost use Rattle.interp.specs.Ending.{ending_of};
 ghost use Rattle.verdict_cache.specs.Endings.{IsEndingOf};
 
 use crate::log_text::text_of;
 use base::limits::Limits;
 use bpf_isa::codec::decode;
-use checker::Checker;
+use checker::{Checker, RunMemory};
 use choices::{count, nth};
 use epochs::{By, Cuts, Plan};
 use images::{History, Key, View};
@@ -48,11 +49,12 @@ fn one_write(alloc: Global) -> Result<Log, Fail> {
 }
 
 /// What a checker with a limit ends in on an image.
-fn ended_on(view: &View<'_>, checker: &Checker<'_>) -> Outcome
+fn ended_on(memory: &mut RunMemory, view: &View<'_>, checker: &Checker<'_>) -> Outcome
     requires limited { is_some checker.now.verified ≡ false }
+    requires served { IsServed memory.old checker.now.guards }
     ensures { ending_of result ≡ judgement checker.now (sectors_of view.now) (context_at view.now.log view.now.cut) }
 {
-    checker.judge(&view.context(), view)
+    checker.judge(memory, &view.context(), view)
 }
 
 /// A run: its plan, the history of the plan, and its checkers.
@@ -83,7 +85,8 @@ fn judged<'a>(alloc: Global, run: &Small<'a>, work: Work) -> Result<(Key<'a>, Ou
     let Some(key) = view.key(alloc, program)? else {
         return Err("a key".into());
     };
-    Ok((key, ended_on(&view, checker)))
+    let mut memory = RunMemory::of(alloc, checker)?;
+    Ok((key, ended_on(&mut memory, &view, checker)))
 }
 
 /// The answer of a verdict; 100 where the steps were too few.

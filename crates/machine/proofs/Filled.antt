@@ -1,7 +1,7 @@
 -- Runs with guards have no unset byte: they stop at no fault of their memory, and keep a verdict.
-use Rattle.std.proofs.Common.{ℕ, zero, suc, ◌≡◌, ◌+◌, ◌-◌, ◌*◌, ◌/◌, ◌%◌, ◌^◌, nat_lt, nat_le, not, ◌&&◌, ◌||◌, Bool, true, false, if◌then◌else◌, ℤ, List, [], ◌∷◌, ◌++◌, length, map, take, Option, None, Some, unwrap_or, slice_get, slice_set, refl, sym, ap, ◌∙◌, arith}
-use Rattle.std.specs.Option.{option_map_or, option_and_then}
-use Rattle.std.specs.Int.{cast_unsigned, w32}
+use Rattle.std.proofs.Common.{ℕ, zero, suc, ◌≡◌, ◌+◌, ◌-◌, ◌*◌, ◌/◌, ◌%◌, ◌^◌, nat_lt, nat_le, not, ◌&&◌, ◌||◌, Bool, true, false, if◌then◌else◌, ℤ, List, [], ◌∷◌, ◌++◌, length, map, take, Option, None, Some, unwrap_or, slice_get, slice_set, refl, sym, ap, ◌∙◌, arith, is_some, subst}
+use Rattle.std.specs.Option.{option_map, option_map_or, option_and_then, option_or}
+use Rattle.std.specs.Int.{cast_unsigned, w32, w64}
 use Rattle.std.specs.List.{list_all, list_any}
 use Rattle.base.specs.Check.{Check, check, first_failing}
 use Rattle.base.specs.declared.causes.MachineFault.{MachineFault}
@@ -13,13 +13,20 @@ use Rattle.helpers.specs.declared.helper.Helper.{Helper}
 use Rattle.helpers.specs.declared.helper.Helper.TheVariants as helper
 use Rattle.helpers.specs.Helper.{helper_of}
 use Rattle.helpers.specs.Answers.{sector_start}
+use Rattle.helpers.specs.declared.sums.Checksum.{Checksum}
+use Rattle.helpers.specs.declared.sums.Checksum.TheVariants as sums
+use Rattle.helpers.specs.Sums.{taken, sum_answer}
+use Rattle.helpers.specs.Queries.{query_for, query_arguments, query_answer}
 use Rattle.machine.specs.declared.ByteAt.{ByteAt}
 use Rattle.machine.specs.declared.ByteAt.TheVariants.{Unmapped, Unset, Holds}
-use Rattle.machine.specs.State.{State, Frame, Caller, context_start, stack_start, start}
-use Rattle.machine.specs.Memory.{addresses, all_at, all_set, is_set, cell, stacks, byte_at_place, in_blocks, byte_at, byte_count, plain_size, context_bytes}
-use Rattle.machine.specs.Step.{Stepped, Next, Done, Fault, address, memory, checks, call_checks, effect, call_effect, caller_of, exit_frame, after_checks, step, step_of, returns_to, reads}
+use Rattle.machine.specs.State.{State, Frame, Caller, context_start, stack_start, start, word, register}
+use Rattle.machine.specs.Memory.{addresses, all_at, all_set, is_set, cell, stacks, byte_at_place, in_blocks, byte_at, byte_count, plain_size, extension_of, context_bytes}
+use Rattle.machine.specs.Step.{Stepped, Next, Done, Fault, address, memory, checks, call_checks, effect, call_effect, caller_of, exit_frame, after_checks, step, step_of, returns_to, reads, is_length, answer_step}
 use Rattle.machine.specs.Outcome.{Ending, Verdict, Stopped, OutOfSteps, Stray, after}
-use Rattle.machine.specs.Guards.{filled_frame, filled, writes_own_here, is_place, guarded, guarded_step, guarded_after, guarded_end, guarded_outcome, IsOfMemory, NoMemoryFault}
+use Rattle.base.specs.Numbers.{number_at, number_bytes}
+use Rattle.machine.specs.Arithmetic.{sign_extension}
+use Rattle.machine.specs.OwnMemory.{memory_start, zero_memory, is_in_memory, overwritten}
+use Rattle.machine.specs.Guards.{filled_frame, filled, writes_own_here, is_place, guarded, stack_step, Made, goes_next, memory_call, memory_step, own_bytes, answers_step, sum_step, checksum_asked, with_memory, made_of, guarded_step, guarded_after, guarded_end, guarded_outcome, IsOfMemory, NoMemoryFault}
 
 abbrev pub fill : Option ℕ → Option ℕ
 fill c = Some (unwrap_or c 0)
@@ -207,15 +214,12 @@ guards_no_fault own (Fault fault.HelperArgument slot) e = refl
 guards_no_fault own (Fault fault.FrameLimit slot) e = refl
 guards_no_fault own (Fault fault.FramePointer slot) e = refl
 
-guarded_no_fault : (program : List (Option Instr)) (context : List ℕ) (device : List (List ℕ)) (s : State) → is_memory_step (guarded_step program context device (filled s)) ≡ false
-unfolding guarded_step
+guarded_no_fault : (program : List (Option Instr)) (context : List ℕ) (device : List (List ℕ)) (s : State) → is_memory_step (stack_step program context device (filled s)) ≡ false
+unfolding stack_step
 guarded_no_fault program context device s =
     guards_no_fault (writes_own_here program (filled s)) (step program context device (filled s)) (filled_steps program context device s (at program (filled s).slot))
 
 -- so no run ends in one: each state that it comes to is filled
-
-abbrev StopsAt : MachineFault → ℕ → Ending → Type 0
-StopsAt cause slot ending = ending ≡ Stopped cause slot
 
 memory_fault_is_one : (cause : MachineFault) (slot : ℕ) → IsOfMemory cause → is_memory_step (Some (Fault cause slot)) ≡ true
 memory_fault_is_one fault.Unmapped slot h = refl
@@ -228,34 +232,160 @@ memory_fault_is_one fault.HelperArgument slot h = absurd h
 memory_fault_is_one fault.FrameLimit slot h = absurd h
 memory_fault_is_one fault.FramePointer slot h = absurd h
 
+abbrev FineStep : Stepped → Type 0
+FineStep (Next t) = (u : State) × (t ≡ filled u)
+FineStep (Done answer codes) = Unit {0}
+FineStep (Fault cause slot) = IsOfMemory cause → ⊥
+
+abbrev FineGuarded : Option Stepped → Type 0
+FineGuarded None = Unit {0}
+FineGuarded (Some x) = FineStep x
+
+abbrev FineMade : Option Made → Type 0
+FineMade None = Unit {0}
+FineMade (Some made) = FineStep made.stepped
+
+guarded_fine : (own : Bool) (x : Stepped) → is_memory_step (guarded own x) ≡ false → FineGuarded (guarded own x)
+guarded_fine true (Next t) e = (t, refl)
+guarded_fine false (Next t) e = tt
+guarded_fine own (Done answer codes) e = tt
+guarded_fine own (Fault cause slot) e = by (is_place cause) e
+  where
+    by : (outside : Bool) → is_memory_step (if outside then None else Some (Fault cause slot)) ≡ false → FineGuarded (if outside then None else Some (Fault cause slot))
+    by true e = tt
+    by false e = λ is_one. absurd (let bad : true ≡ false = sym (memory_fault_is_one cause slot is_one) ∙ e in cc)
+
+fine_registers : (s : State) (slot : ℕ) (registers : List (Option ℕ)) → FineStep (Next (record (filled s) { slot = slot; registers = registers }))
+unfolding filled
+fine_registers s slot registers = (record s { slot = slot; registers = registers }, refl)
+
+next_fine : (follows : Bool) (slot : ℕ) (x : Stepped) → FineStep x → FineStep (option_map_or (λ cause. Fault cause slot) (if follows then None else Some fault.NoInstruction) x)
+next_fine true slot x fine = fine
+next_fine false slot x fine = λ is_one. is_one
+
+answered_fine : (set follows : Bool) (slot : ℕ) (x : Stepped) → FineStep x
+    → FineStep (option_map_or (λ cause. Fault cause slot) (if set then (if follows then None else Some fault.NoInstruction) else Some fault.UnsetRegister) x)
+answered_fine true true slot x fine = fine
+answered_fine true false slot x fine = λ is_one. is_one
+answered_fine false follows slot x fine = λ is_one. is_one
+
+if_made : (inside : Bool) (x : Made) → FineStep x.stepped → FineMade (if inside then Some x else None)
+if_made true x fine = fine
+if_made false x fine = tt
+
+if_copied : (fits inside : Bool) (x : Made) → FineStep x.stepped → FineMade (if fits then (if inside then Some x else None) else None)
+if_copied true inside x fine = if_made inside x fine
+if_copied false inside x fine = tt
+
+call_fine : (program : List (Option Instr)) (device : List (List ℕ)) (m : List ℕ) (s : State) (h : Helper) → FineMade (memory_call program device m (filled s) h)
+call_fine program device m s helper.Copy =
+    if_copied (is_length (word (filled s) 3)) (is_in_memory device (word (filled s) 2) (word (filled s) 3)) _ (next_fine (is_some (at program ((filled s).slot + 1))) (filled s).slot _ (fine_registers s _ _))
+call_fine program device m s helper.Again = tt
+call_fine program device m s helper.Report = tt
+call_fine program device m s (helper.Query q) = tt
+
+any_call_fine : (program : List (Option Instr)) (device : List (List ℕ)) (m : List ℕ) (s : State) (found : Option Helper) → FineMade (option_map_or (memory_call program device m (filled s)) found None)
+any_call_fine program device m s None = tt
+any_call_fine program device m s (Some h) = call_fine program device m s h
+
+access_fine : (program : List (Option Instr)) (device : List (List ℕ)) (s : State) (a n slot : ℕ) (registers : List (Option ℕ)) (m : List ℕ)
+    → FineMade (if is_in_memory device a n then Some (record { stepped = goes_next program (filled s) (Next (record (filled s) { slot = slot; registers = registers })); memory = m }) else None)
+access_fine program device s a n slot registers m =
+    if_made (is_in_memory device a n) _ (next_fine (is_some (at program ((filled s).slot + 1))) (filled s).slot _ (fine_registers s slot registers))
+
+memory_fine : (program : List (Option Instr)) (device : List (List ℕ)) (m : List ℕ) (s : State) (i : Instr) → FineMade (memory_step program device m (filled s) i)
+unfolding memory_step
+memory_fine program device m s (instr.Load size dst base distance) =
+    access_fine program device s (address (filled s) base distance) (byte_count size) ((filled s).slot + 1)
+    (slice_set (filled s).registers dst (Some (number_at (byte_count size) (address (filled s) base distance - memory_start) m))) m
+memory_fine program device m s (instr.LoadSigned size dst base distance) =
+    access_fine program device s (address (filled s) base distance) (byte_count (plain_size size)) ((filled s).slot + 1)
+    (slice_set (filled s).registers dst (Some (sign_extension (extension_of size) (number_at (byte_count (plain_size size)) (address (filled s) base distance - memory_start) m)))) m
+memory_fine program device m s (instr.StoreImmediate size base distance n) =
+    access_fine program device s (address (filled s) base distance) (byte_count size) ((filled s).slot + 1) (filled s).registers
+    (overwritten (address (filled s) base distance - memory_start) (number_bytes (byte_count size) (cast_unsigned w64 n)) m)
+memory_fine program device m s (instr.Store size base distance src) =
+    access_fine program device s (address (filled s) base distance) (byte_count size) ((filled s).slot + 1) (filled s).registers
+    (overwritten (address (filled s) base distance - memory_start) (number_bytes (byte_count size) (word (filled s) src)) m)
+memory_fine program device m s (instr.CallHelper number) = any_call_fine program device m s (helper_of (cast_unsigned w32 number))
+memory_fine program device m s (instr.Arithmetic w o dst from) = tt
+memory_fine program device m s (instr.Negate w dst) = tt
+memory_fine program device m s (instr.SignExtend e dst src) = tt
+memory_fine program device m s (instr.ByteOrder o size dst) = tt
+memory_fine program device m s (instr.Jump distance) = tt
+memory_fine program device m s (instr.LongJump distance) = tt
+memory_fine program device m s (instr.Branch w c dst from distance) = tt
+memory_fine program device m s (instr.CallLocal distance) = tt
+memory_fine program device m s instr.Exit = tt
+memory_fine program device m s (instr.LoadImmediate dst x) = tt
+
+abbrev are_set : State → List ℕ → Bool
+are_set s registers = list_all (λ r. is_some (register s r)) registers
+
+answers_fine : (program : List (Option Instr)) (s : State) (registers : List ℕ) (answer : ℕ) → FineStep (answers_step program (filled s) registers answer)
+answers_fine program s registers answer =
+    answered_fine (are_set (filled s) registers) (is_some (at program ((filled s).slot + 1))) (filled s).slot _ (fine_registers s _ _)
+
+own_fine : (set : Bool) (slot : ℕ) (f : List ℕ → Stepped) (found : Option (List ℕ)) → ((bytes : List ℕ) → FineStep (f bytes))
+    → FineGuarded (option_map_or (λ cause. Some (Fault cause slot)) (if set then None else Some fault.UnsetRegister) (option_map f found))
+own_fine true slot f None fine = tt
+own_fine true slot f (Some bytes) fine = fine bytes
+own_fine false slot f found fine = λ is_one. is_one
+
+sum_fine : (program : List (Option Instr)) (device : List (List ℕ)) (m : List ℕ) (s : State) (c : Checksum) → FineGuarded (sum_step program device m (filled s) c)
+unfolding sum_step
+sum_fine program device m s (sums.OfDevice p) = answers_fine program s (query_arguments (query_for p)) _
+sum_fine program device m s (sums.OfMemory p) =
+    own_fine (are_set (filled s) (1 ∷ 2 ∷ 3 ∷ [])) (filled s).slot (λ bytes. answers_step program (filled s) (1 ∷ 2 ∷ 3 ∷ []) (sum_answer p (word (filled s) 1) bytes))
+    (own_bytes device m (filled s) (word (filled s) 2) (taken (word (filled s) 3))) (λ bytes. answers_fine program s (1 ∷ 2 ∷ 3 ∷ []) _)
+
+kept_fine : (m : List ℕ) (x : Option Stepped) → FineGuarded x → FineMade (with_memory m x)
+kept_fine m None fine = tt
+kept_fine m (Some x) fine = fine
+
+either_fine : (x y : Option Made) → FineMade x → FineMade y → FineMade (option_or x y)
+either_fine None y first second = second
+either_fine (Some x) y first second = first
+
+asked_fine : (program : List (Option Instr)) (context : List ℕ) (device : List (List ℕ)) (m : List ℕ) (s : State) (i : Instr) (asked : Option Checksum)
+    → FineMade (option_map_or (λ c. with_memory m (sum_step program device m (filled s) c)) asked (option_or (with_memory m (stack_step program context device (filled s))) (memory_step program device m (filled s) i)))
+unfolding stack_step
+asked_fine program context device m s i None =
+    either_fine (with_memory m (guarded (writes_own_here program (filled s)) (step program context device (filled s)))) (memory_step program device m (filled s) i)
+    (kept_fine m _ (guarded_fine (writes_own_here program (filled s)) (step program context device (filled s)) (guarded_no_fault program context device s)))
+    (memory_fine program device m s i)
+asked_fine program context device m s i (Some c) = kept_fine m _ (sum_fine program device m s c)
+
+found_fine : (program : List (Option Instr)) (context : List ℕ) (device : List (List ℕ)) (m : List ℕ) (s : State) (found : Option Instr)
+    → FineMade (option_map_or (made_of program context device m (filled s)) found (with_memory m (Some (Fault fault.NoInstruction (filled s).slot))))
+unfolding made_of
+found_fine program context device m s None = λ is_one. is_one
+found_fine program context device m s (Some i) = asked_fine program context device m s i (checksum_asked i)
+
 abbrev stopped_cause : Ending → MachineFault
 stopped_cause (Stopped cause slot) = cause
 stopped_cause _ = fault.NoInstruction
 
 -- from a filled state on, where the steps after it end in none
-goes_on : (rest : State → Ending) (slot place : ℕ) (cause : MachineFault) (own : Bool) (x : Stepped) → IsOfMemory cause → is_memory_step (guarded own x) ≡ false
-    → ((t : State) → rest (filled t) ≡ Stopped cause place → ⊥) → guarded_after rest slot (guarded own x) ≡ Stopped cause place → ⊥
-goes_on rest slot place cause true (Next t) of fine never is = never t is
-goes_on rest slot place cause false (Next t) of fine never is = absurd (let bad : Stray slot ≡ Stopped cause place = is in cc)
-goes_on rest slot place cause own (Done answer codes) of fine never is = absurd (let bad : Verdict answer codes ≡ Stopped cause place = is in cc)
-goes_on rest slot place cause own (Fault other here) of fine never is = by (is_place other) refl fine is
-  where
-    by : (outside : Bool) → is_place other ≡ outside → is_memory_step (if outside then None else Some (Fault other here)) ≡ false
-        → guarded_after rest slot (if outside then None else Some (Fault other here)) ≡ Stopped cause place → ⊥
-    by true e fine is = absurd (let bad : Stray slot ≡ Stopped cause place = is in cc)
-    by false e fine is =
-        let same : other ≡ cause = ap stopped_cause is in
-        let one : is_memory_step (Some (Fault cause here)) ≡ true = memory_fault_is_one cause here of in
-        absurd (let bad : true ≡ false = sym one ∙ (rw same at fine) in cc)
+stepped_on : (rest : State → Ending) (place : ℕ) (cause : MachineFault) → IsOfMemory cause → (x : Stepped) → FineStep x → ((u : State) → rest (filled u) ≡ Stopped cause place → ⊥)
+    → after rest x ≡ Stopped cause place → ⊥
+stepped_on rest place cause of (Next t) fine never is = never fine.0 (ap rest (sym fine.1) ∙ is)
+stepped_on rest place cause of (Done answer codes) fine never is = absurd (let bad : Verdict answer codes ≡ Stopped cause place = is in cc)
+stepped_on rest place cause of (Fault other here) fine never is = fine (subst IsOfMemory (sym (ap stopped_cause is)) of)
+
+made_on : (rest : List ℕ → State → Ending) (slot place : ℕ) (cause : MachineFault) → IsOfMemory cause → (x : Option Made) → FineMade x
+    → ((m : List ℕ) (u : State) → rest m (filled u) ≡ Stopped cause place → ⊥) → guarded_after rest slot x ≡ Stopped cause place → ⊥
+made_on rest slot place cause of None fine never is = absurd (let bad : Stray slot ≡ Stopped cause place = is in cc)
+made_on rest slot place cause of (Some made) fine never is = stepped_on (rest made.memory) place cause of made.stepped fine (never made.memory) is
 
 no_fault_from : (program : List (Option Instr)) (context : List ℕ) (device : List (List ℕ)) (cause : MachineFault) (place : ℕ) → IsOfMemory cause
-    → (n : ℕ) (s : State) → guarded_end program context device n (filled s) ≡ Stopped cause place → ⊥
-unfolding guarded_end guarded_step
-no_fault_from program context device cause place of zero s is = absurd (let bad : OutOfSteps ≡ Stopped cause place = is in cc)
-no_fault_from program context device cause place of (suc n) s is =
-    goes_on (guarded_end program context device n) (filled s).slot place cause (writes_own_here program (filled s)) (step program context device (filled s)) of
-    (guarded_no_fault program context device s) (no_fault_from program context device cause place of n) is
+    → (n : ℕ) (m : List ℕ) (s : State) → guarded_end program context device n m (filled s) ≡ Stopped cause place → ⊥
+unfolding guarded_end
+no_fault_from program context device cause place of zero m s is = absurd (let bad : OutOfSteps ≡ Stopped cause place = is in cc)
+no_fault_from program context device cause place of (suc n) m s is =
+    made_on (guarded_end program context device n) (filled s).slot place cause of (guarded_step program context device m (filled s))
+    (found_fine program context device m s (at program (filled s).slot)) (no_fault_from program context device cause place of n) is
 
 pub no_fault : NoMemoryFault
 unfolding guarded_outcome
-no_fault program device context limit slot cause of is = no_fault_from program (context_bytes context) device cause slot of limit start is
+no_fault program device context limit slot cause of is = no_fault_from program (context_bytes context) device cause slot of limit zero_memory start is

@@ -126,7 +126,7 @@ call_checks_alike program context a b s alike helper.Again = refl
 call_checks_alike program context a b s alike helper.Report = refl
 call_checks_alike program context a b s alike (helper.Query q) = refl
 
-found_alike : {X Y : Type 0} (f g : X → Y) (d : Y) (found : Option X) → ((x : X) → f x ≡ g x) → option_map_or f found d ≡ option_map_or g found d
+pub found_alike : {X Y : Type 0} (f g : X → Y) (d : Y) (found : Option X) → ((x : X) → f x ≡ g x) → option_map_or f found d ≡ option_map_or g found d
 found_alike f g d None h = refl
 found_alike f g d (Some x) h = h x
 
@@ -260,7 +260,7 @@ on_both a b x rest false e is same =
     let past : length a ≤ x = grind (arith, nat_tests) in
     (slice_get_past a x past ∙ sym (slice_get_past b x (omega (arith, past, e))), same)
 
-all_same : (a b : List (List ℕ)) (xs : List ℕ) → length a ≡ length b → HaveSame a b (on_device a xs) → HaveSame a b xs
+pub all_same : (a b : List (List ℕ)) (xs : List ℕ) → length a ≡ length b → HaveSame a b (on_device a xs) → HaveSame a b xs
 all_same a b [] e same = tt
 all_same a b (x ∷ xs) e same =
     let parts = on_both a b x (on_device a xs) (nat_lt x (length a)) e refl same in
@@ -284,13 +284,13 @@ bytes_same a b (suc n) p low high first last few le within =
 length_parts : (n : ℕ) → is_length n ≡ true → (0 < n) × (n ≤ 512)
 length_parts n e = (grind (arith, nat_tests), grind (arith, nat_tests))
 
-copied_same : (a b : List (List ℕ)) (p n : ℕ) → is_length n ≡ true → HaveSame a b (sectors_of p n) → device_bytes a p n ≡ device_bytes b p n
+pub copied_same : (a b : List (List ℕ)) (p n : ℕ) → is_length n ≡ true → HaveSame a b (sectors_of p n) → device_bytes a p n ≡ device_bytes b p n
 unfolding device_bytes
 copied_same a b p n fits same =
     let few = length_parts n fits in
     bytes_same a b n p p (p + n - 1) same.0 same.1.0 (omega (arith, few)) (omega arith) (omega (arith, few))
 
-copy_answer_same : (a b : List (List ℕ)) (p n : ℕ) → length a ≡ length b → copy_answer a p n ≡ copy_answer b p n
+pub copy_answer_same : (a b : List (List ℕ)) (p n : ℕ) → length a ≡ length b → copy_answer a p n ≡ copy_answer b p n
 unfolding copy_answer
 copy_answer_same a b p n e = ap (λ (count : ℕ). if nat_le (p + n) (512 * count) then 0 else 1) e
 
@@ -308,7 +308,7 @@ call_effect_same a b s helper.Copy e may same =
 call_effect_same a b s helper.Again e may same = refl
 call_effect_same a b s helper.Report e may same = refl
 call_effect_same a b s (helper.Query q) e may same =
-    ap (answer_step s) (query_same a b q (word s 1) (word s 2) e (all_same a b (query_sectors q (word s 1) (word s 2)) e same))
+    ap (answer_step s) (query_same a b q (word s 1) (word s 2) (word s 3) e (all_same a b (query_sectors q (word s 1) (word s 2) (word s 3)) e same))
 
 abbrev AnyMayCopy : State → Option Helper → Type 0
 AnyMayCopy s None = Unit {0}
@@ -414,11 +414,11 @@ found_same program context a b s (Some i) alike same = instr_same program contex
 call_reads_alike : (a b : List (List ℕ)) (s : State) → length a ≡ length b → (h : Helper) → call_reads b s h ≡ call_reads a s h
 unfolding call_reads
 call_reads_alike a b s e helper.Copy = ap (λ (count : ℕ). filter (λ n. nat_lt n count) (sectors_of (word s 1) (word s 3))) (sym e)
-call_reads_alike a b s e (helper.Query q) = ap (λ (count : ℕ). filter (λ n. nat_lt n count) (query_sectors q (word s 1) (word s 2))) (sym e)
+call_reads_alike a b s e (helper.Query q) = ap (λ (count : ℕ). filter (λ n. nat_lt n count) (query_sectors q (word s 1) (word s 2) (word s 3))) (sym e)
 call_reads_alike a b s e helper.Again = refl
 call_reads_alike a b s e helper.Report = refl
 
-reads_of_alike : (a b : List (List ℕ)) (s : State) → length a ≡ length b → (i : Instr) → reads_of b s i ≡ reads_of a s i
+pub reads_of_alike : (a b : List (List ℕ)) (s : State) → length a ≡ length b → (i : Instr) → reads_of b s i ≡ reads_of a s i
 unfolding reads_of
 reads_of_alike a b s e (instr.Arithmetic w o dst from) = refl
 reads_of_alike a b s e (instr.Negate w dst) = refl

@@ -5,3 +5,4 @@ pub mod Footprints
 pub mod Guarded
 pub mod Filled
 pub mod Verdicts
+pub mod Sums

@@ -1,7 +1,7 @@
 -- Guards keep the verdict of a run whose steps write nothing but the frame at hand: at each step the machine with guards
 -- stands at the same state, each unset byte of which is 0.
 use Rattle.std.proofs.Common.{ℕ, zero, suc, ◌≡◌, ◌+◌, ◌-◌, ◌*◌, ◌/◌, ◌%◌, ◌^◌, nat_lt, nat_le, ◌&&◌, Bool, true, false, if◌then◌else◌, ℤ, List, [], ◌∷◌, ◌++◌, length, map, take, Option, None, Some, unwrap_or, slice_get, slice_set, refl, sym, ap, ◌∙◌, subst, arith}
-use Rattle.std.specs.Option.{option_map_or, option_and_then}
+use Rattle.std.specs.Option.{option_map_or, option_and_then, option_or}
 use Rattle.std.specs.Int.{cast_unsigned, w32, w64}
 use Rattle.std.proofs.Math.Path.{fun_ext}
 use Rattle.std.proofs.lemmas.List.{length-map}
@@ -25,8 +25,12 @@ use Rattle.machine.specs.State.{State, Frame, Caller, context_start, stack_start
 use Rattle.machine.specs.Memory.{addresses, all_at, all_mapped, all_set, all_in_stacks, is_mapped, value, cell, stacks, byte_at_place, in_blocks, byte_at, byte_count, plain_size, extension_of, number_from, change_at, with_byte, frames_with, context_bytes}
 use Rattle.machine.specs.Step.{Stepped, Next, Done, Fault, second, address, memory, may_write, reads, goes_on, load_tests, store_tests, is_length, checks, call_checks, effect, call_effect, set_and_go, with_answer, count_turn, turns_here, saved_caller, branch_slot, caller_of, exit_frame, after_checks, step, step_of, returns_to}
 use Rattle.machine.specs.Outcome.{Ending, Verdict, Stopped, OutOfSteps, Stray, after, steps_end, outcome}
-use Rattle.machine.specs.Guards.{filled_frame, filled, is_own, call_writes_own, writes_own, writes_own_here, guarded, guarded_step, guarded_after, guarded_end, guarded_outcome, WritesOwnAfter, StepsWriteOwn, GuardsKeepVerdicts}
+use Rattle.machine.specs.Guards.{filled_frame, filled, is_own, call_writes_own, writes_own, writes_own_here, guarded, stack_step, Made, memory_step, sum_step, checksum_asked, with_memory, made_of, guarded_step, guarded_after, guarded_end, guarded_outcome, WritesOwnAfter, StepsWriteOwn, GuardsKeepVerdicts}
+use Rattle.machine.specs.OwnMemory.{zero_memory}
+use Rattle.helpers.specs.declared.sums.Checksum.{Checksum}
+use Rattle.helpers.specs.Sums.{checksum_of}
 use Rattle.machine.proofs.Filled.{fill, filled_set}
+use Rattle.machine.proofs.Sums.{no_helper}
 
 -- what is filled twice is filled once
 
@@ -289,7 +293,7 @@ calls_same device s helper.Again =
     kept s (record s { slot = s.slot + 1; registers = with_answer s.registers (again_answer (turns_here s) (word s 1)); turns = count_turn s (word s 1) })
 calls_same device s helper.Report =
     kept s (record s { slot = s.slot + 1; registers = with_answer s.registers (report_answer s.codes); codes = codes_after s.codes (word s 1) })
-calls_same device s (helper.Query q) = kept s (record s { slot = s.slot + 1; registers = with_answer s.registers (query_answer device q (word s 1) (word s 2)) })
+calls_same device s (helper.Query q) = kept s (record s { slot = s.slot + 1; registers = with_answer s.registers (query_answer device q (word s 1) (word s 2) (word s 3)) })
 
 any_call_same : (device : List (List ℕ)) (s : State) (found : Option Helper)
     → next_filled (option_map_or (call_effect device (filled s)) found (Next (filled s))) ≡ next_filled (option_map_or (call_effect device s) found (Next s))
@@ -387,37 +391,78 @@ filled_no_fault (Next t) fine = fine
 filled_no_fault (Done answer codes) fine = fine
 filled_no_fault (Fault cause slot) fine = fine
 
-guarded_step_same : (program : List (Option Instr)) (context : List ℕ) (device : List (List ℕ)) (s : State) → writes_own_here program s ≡ true → NoFault (step program context device s)
-    → guarded_step program context device (filled s) ≡ Some (next_filled (step program context device s))
-unfolding guarded_step filled
-guarded_step_same program context device s own fine =
+stack_step_same : (program : List (Option Instr)) (context : List ℕ) (device : List (List ℕ)) (s : State) → writes_own_here program s ≡ true → NoFault (step program context device s)
+    → stack_step program context device (filled s) ≡ Some (next_filled (step program context device s))
+unfolding stack_step filled
+stack_step_same program context device s own fine =
     let same : next_filled (step program context device (filled s)) ≡ next_filled (step program context device s) = found_same program context device s (at program s.slot) fine in
     let own_too : writes_own_here program (filled s) ≡ true = own_here_same program s ∙ own in
     let none : NoFault (next_filled (step program context device (filled s))) = rw same (filled_no_fault (step program context device s) fine) in
     rw own_too (own_guarded (step program context device (filled s)) none ∙ ap (λ (x : Stepped). Some x) same)
+
+-- an instruction that asks for a checksum is a fault without guards
+unasked : (program : List (Option Instr)) (context : List ℕ) (device : List (List ℕ)) (s : State) (i : Instr) → NoFault (step_of program context device s i) → checksum_asked i ≡ None
+unfolding step_of checks
+unasked program context device s (instr.CallHelper number) fine = by (checksum_of (cast_unsigned w32 number)) refl
+  where
+    no_call : (found : Option Helper) (x : Stepped) → found ≡ None
+        → NoFault (option_map_or (λ cause. Fault cause s.slot) (first_failing (option_map_or (call_checks program (memory context device s) s) found (check fault.UnknownHelper false ∷ []))) x) → ⊥
+    no_call None x e fault = fault
+    no_call (Some h) x e fault = absurd (let bad : Some h ≡ None = e in cc)
+
+    by : (asked : Option Checksum) → checksum_of (cast_unsigned w32 number) ≡ asked → asked ≡ None
+    by None e = refl
+    by (Some c) e = absurd (no_call (helper_of (cast_unsigned w32 number)) _ (no_helper (cast_unsigned w32 number) c e) fine)
+unasked program context device s (instr.Arithmetic w o dst from) fine = refl
+unasked program context device s (instr.Negate w dst) fine = refl
+unasked program context device s (instr.SignExtend e dst src) fine = refl
+unasked program context device s (instr.ByteOrder o size dst) fine = refl
+unasked program context device s (instr.Jump distance) fine = refl
+unasked program context device s (instr.LongJump distance) fine = refl
+unasked program context device s (instr.Branch w c dst from distance) fine = refl
+unasked program context device s (instr.CallLocal distance) fine = refl
+unasked program context device s instr.Exit fine = refl
+unasked program context device s (instr.Load size dst base distance) fine = refl
+unasked program context device s (instr.LoadSigned size dst base distance) fine = refl
+unasked program context device s (instr.StoreImmediate size base distance n) fine = refl
+unasked program context device s (instr.Store size base distance src) fine = refl
+unasked program context device s (instr.LoadImmediate dst x) fine = refl
+
+guarded_step_same : (program : List (Option Instr)) (context : List ℕ) (device : List (List ℕ)) (m : List ℕ) (s : State) → writes_own_here program s ≡ true → NoFault (step program context device s)
+    → guarded_step program context device m (filled s) ≡ Some (record { stepped = next_filled (step program context device s); memory = m })
+unfolding made_of filled
+guarded_step_same program context device m s own fine = by (at program s.slot) refl fine
+  where
+    by : (found : Option Instr) → at program s.slot ≡ found → NoFault (option_map_or (step_of program context device s) found (Fault fault.NoInstruction s.slot))
+        → option_map_or (made_of program context device m (filled s)) found (with_memory m (Some (Fault fault.NoInstruction s.slot))) ≡ Some (record { stepped = next_filled (step program context device s); memory = m })
+    by None e none = absurd none
+    by (Some i) e some =
+        ap (λ (asked : Option Checksum). option_map_or (λ c. with_memory m (sum_step program device m (filled s) c)) asked (option_or (with_memory m (stack_step program context device (filled s))) (memory_step program device m (filled s) i)))
+        (unasked program context device s i some)
+        ∙ ap (λ (x : Option Stepped). option_or (with_memory m x) (memory_step program device m (filled s) i)) (stack_step_same program context device s own fine)
 
 verdict_no_fault : (rest : State → Ending) (x : Stepped) (answer : ℕ) (codes : List ℕ) → after rest x ≡ Verdict answer codes → NoFault x
 verdict_no_fault rest (Next t) answer codes e = tt
 verdict_no_fault rest (Done a c) answer codes e = tt
 verdict_no_fault rest (Fault cause slot) answer codes e = absurd (let bad : Stopped cause slot ≡ Verdict answer codes = e in cc)
 
-goes_on_same : (before later : State → Ending) (own : State → Type 0) (slot : ℕ) (x : Stepped) (answer : ℕ) (codes : List ℕ)
-    → ((t : State) → own t → before t ≡ Verdict answer codes → later (filled t) ≡ Verdict answer codes) → WritesOwnAfter own x → after before x ≡ Verdict answer codes
-    → guarded_after later slot (Some (next_filled x)) ≡ Verdict answer codes
-goes_on_same before later own slot (Next t) answer codes rest writes e = rest t writes e
-goes_on_same before later own slot (Done a c) answer codes rest writes e = e
-goes_on_same before later own slot (Fault cause place) answer codes rest writes e = absurd (let bad : Stopped cause place ≡ Verdict answer codes = e in cc)
+goes_on_same : (before : State → Ending) (later : List ℕ → State → Ending) (own : State → Type 0) (slot : ℕ) (m : List ℕ) (x : Stepped) (answer : ℕ) (codes : List ℕ)
+    → ((t : State) → own t → before t ≡ Verdict answer codes → later m (filled t) ≡ Verdict answer codes) → WritesOwnAfter own x → after before x ≡ Verdict answer codes
+    → guarded_after later slot (Some (record { stepped = next_filled x; memory = m })) ≡ Verdict answer codes
+goes_on_same before later own slot m (Next t) answer codes rest writes e = rest t writes e
+goes_on_same before later own slot m (Done a c) answer codes rest writes e = e
+goes_on_same before later own slot m (Fault cause place) answer codes rest writes e = absurd (let bad : Stopped cause place ≡ Verdict answer codes = e in cc)
 
-verdict_from : (program : List (Option Instr)) (context : List ℕ) (device : List (List ℕ)) (answer : ℕ) (codes : List ℕ) (n : ℕ) (s : State)
-    → StepsWriteOwn program context device n s → steps_end program context device n s ≡ Verdict answer codes → guarded_end program context device n (filled s) ≡ Verdict answer codes
+verdict_from : (program : List (Option Instr)) (context : List ℕ) (device : List (List ℕ)) (answer : ℕ) (codes : List ℕ) (n : ℕ) (m : List ℕ) (s : State)
+    → StepsWriteOwn program context device n s → steps_end program context device n s ≡ Verdict answer codes → guarded_end program context device n m (filled s) ≡ Verdict answer codes
 unfolding steps_end guarded_end StepsWriteOwn
-verdict_from program context device answer codes zero s writes e = absurd (let bad : OutOfSteps ≡ Verdict answer codes = e in cc)
-verdict_from program context device answer codes (suc n) s writes e =
+verdict_from program context device answer codes zero m s writes e = absurd (let bad : OutOfSteps ≡ Verdict answer codes = e in cc)
+verdict_from program context device answer codes (suc n) m s writes e =
     let fine : NoFault (step program context device s) = verdict_no_fault (steps_end program context device n) (step program context device s) answer codes e in
-    rw (guarded_step_same program context device s writes.0 fine)
-    (goes_on_same (steps_end program context device n) (guarded_end program context device n) (StepsWriteOwn program context device n) (filled s).slot (step program context device s) answer codes
-    (verdict_from program context device answer codes n) writes.1 e)
+    ap (guarded_after (guarded_end program context device n) (filled s).slot) (guarded_step_same program context device m s writes.0 fine)
+    ∙ goes_on_same (steps_end program context device n) (guarded_end program context device n) (StepsWriteOwn program context device n) (filled s).slot m (step program context device s) answer codes
+    (verdict_from program context device answer codes n m) writes.1 e
 
 pub keep_verdicts : GuardsKeepVerdicts
 unfolding guarded_outcome outcome
-keep_verdicts program device context limit answer codes writes e = verdict_from program (context_bytes context) device answer codes limit start writes e
+keep_verdicts program device context limit answer codes writes e = verdict_from program (context_bytes context) device answer codes limit zero_memory start writes e

@@ -6,4 +6,5 @@ pub mod Step
 pub mod Outcome
 pub mod Laws
 pub mod Footprint
+pub mod OwnMemory
 pub mod Guards

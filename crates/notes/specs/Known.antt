@@ -14,8 +14,10 @@ use Rattle.bpf_isa.specs.declared.instr.Operator.TheVariants as op
 use Rattle.bpf_asm.specs.Listing.{with_sign}
 use Rattle.helpers.specs.declared.helper.Helper.{Helper}
 use Rattle.helpers.specs.declared.helper.Helper.TheVariants as helper
-use Rattle.helpers.specs.Helper.{helper_of}
-use Rattle.helpers.specs.Queries.{has_two}
+use Rattle.helpers.specs.Helper.{asked_of}
+use Rattle.helpers.specs.declared.helper.Arity.{Arity}
+use Rattle.helpers.specs.declared.helper.Arity.TheVariants as numbers
+use Rattle.helpers.specs.Queries.{arity_of}
 use Rattle.machine.specs.Memory.{byte_count, plain_size}
 use Rattle.intervals.specs.Spans.{Span}
 use Rattle.intervals.specs.SignedSpans.{SignedSpan, least, greatest}
@@ -89,10 +91,16 @@ abbrev pub operand_notes : Abstract → Operator → ℕ → Source → List ℕ
 operand_notes s op.Mov dst from = source_note s from
 operand_notes s _ dst from = register_note s dst ++ source_note s from
 
+-- of the numbers that a helper takes
+abbrev pub number_notes : Abstract → Arity → List ℕ
+number_notes s numbers.One = register_note s 1
+number_notes s numbers.Two = register_note s 1 ++ register_note s 2
+number_notes s numbers.Three = register_note s 1 ++ register_note s 2 ++ register_note s 3
+
 abbrev pub argument_notes : Abstract → Helper → List ℕ
-argument_notes s helper.Copy = register_note s 1 ++ register_note s 2 ++ register_note s 3
-argument_notes s (helper.Query q) = if has_two q then register_note s 1 ++ register_note s 2 else register_note s 1
-argument_notes s _ = register_note s 1
+argument_notes s helper.Copy = number_notes s numbers.Three
+argument_notes s (helper.Query q) = number_notes s (arity_of q)
+argument_notes s _ = number_notes s numbers.One
 
 unfoldable pub known_notes : Abstract → Instr → List ℕ
 known_notes s (instr.Arithmetic w o dst from) = operand_notes s o dst from
@@ -102,7 +110,7 @@ known_notes s (instr.ByteOrder o size dst) = register_note s dst
 known_notes s (instr.Jump distance) = []
 known_notes s (instr.LongJump distance) = []
 known_notes s (instr.Branch w c dst from distance) = register_note s dst ++ source_note s from
-known_notes s (instr.CallHelper number) = option_map_or (argument_notes s) (helper_of (cast_unsigned w32 number)) []
+known_notes s (instr.CallHelper number) = option_map_or (argument_notes s) (asked_of (cast_unsigned w32 number)) []
 known_notes s (instr.CallLocal distance) = []
 known_notes s instr.Exit = register_note s 0
 known_notes s (instr.Load size dst base distance) = base_note s base distance (byte_count size)

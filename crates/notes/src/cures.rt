@@ -65,14 +65,16 @@ pub fn verifier_cure(cause: VerifierCause) -> &'static str {
         }
         VerifierCause::ReadOnly => "write to a local copy",
         VerifierCause::PointerArithmetic => {
-            "in C make the index a u64 and test it right before its use, or read by position, as u64_at(p)"
+            "in C make the index a u64 and test it right before its use, or read by position, as u64_at(p); an array of locals with a variable index needs --guards"
         }
         VerifierCause::PointerAsNumber => "compare indices in place of pointers",
         VerifierCause::HelperArgument => {
             "copy takes a local and a constant length from 1 to 512; the others take numbers, a sector by its number"
         }
         VerifierCause::FramePointer => "leave r10 to the compiler",
-        VerifierCause::UnknownHelper => "take those of examples/checker.h, not Linux's",
+        VerifierCause::UnknownHelper => {
+            "take those of examples/checker.h, not Linux's; its checksums take --guards"
+        }
         _ => "",
     }
 }
@@ -84,6 +86,7 @@ pub fn guarded_cure(cause: VerifierCause) -> &'static str {
             "give each variable a value, in C on each path; a checker has one parameter, the context"
         }
         VerifierCause::HelperArgument => "copy takes a constant length from 1 to 512",
+        VerifierCause::UnknownHelper => "take those of examples/checker.h, not Linux's",
         _ => verifier_cure(cause),
     }
 }

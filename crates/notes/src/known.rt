@@ -10,12 +10,12 @@ ghost use Rattle.intervals.specs.SeenBounds.{limits_of};
 ghost use Rattle.ranges.specs.Reading.{value};
 ghost use Rattle.ranges.specs.Seen.{kind_of};
 ghost use Rattle.ranges.specs.SeenStates.{state_of};
-ghost use Rattle.notes.specs.Known.{word_text, says_no_more, reading_text, number_text, kind_text, size_text, room_text, within_text, wanted_text, head_text, register_note, base_note, source_note, operand_notes, argument_notes, known_notes};
+ghost use Rattle.notes.specs.Known.{word_text, says_no_more, reading_text, number_text, kind_text, size_text, room_text, within_text, wanted_text, head_text, register_note, base_note, source_note, operand_notes, number_notes, argument_notes, known_notes};
 
 use arithmetic::{byte_count, plain_size};
 use bpf_isa::instr::{Instr, Operator, Source};
 use bpf_isa::register::Register;
-use helpers::Helper;
+use helpers::{Arity, Helper};
 use intervals::{Bounds, Range, SignedRange};
 use ranges::{State, Value};
 use std::alloc::AllocError;
@@ -222,25 +222,32 @@ fn put_operands(
     }
 }
 
+/// Appends notes with the numbers that a helper takes.
+fn put_numbers(out: &mut String, state: &State, arity: Arity) -> Result<(), AllocError>
+    ensures { OnOk result (string_bytes out.new ≡ string_bytes out.old ++ number_notes (state_of state.now) arity) }
+{
+    match arity {
+        Arity::One => put_numbered(out, state, 1),
+        Arity::Two => {
+            put_numbered(out, state, 1)?;
+            put_numbered(out, state, 2)
+        }
+        Arity::Three => {
+            put_numbered(out, state, 1)?;
+            put_numbered(out, state, 2)?;
+            put_numbered(out, state, 3)
+        }
+    }
+}
+
 /// Appends notes with the arguments of a helper.
 fn put_arguments(out: &mut String, state: &State, helper: Helper) -> Result<(), AllocError>
     ensures { OnOk result (string_bytes out.new ≡ string_bytes out.old ++ argument_notes (state_of state.now) helper) }
 {
     match helper {
-        Helper::Copy => {
-            put_numbered(out, state, 1)?;
-            put_numbered(out, state, 2)?;
-            put_numbered(out, state, 3)
-        }
-        Helper::Query(query) => {
-            if query.has_two() {
-                put_numbered(out, state, 1)?;
-                put_numbered(out, state, 2)
-            } else {
-                put_numbered(out, state, 1)
-            }
-        }
-        _ => put_numbered(out, state, 1),
+        Helper::Copy => put_numbers(out, state, Arity::Three),
+        Helper::Query(query) => put_numbers(out, state, query.arity()),
+        _ => put_numbers(out, state, Arity::One),
     }
 }
 
@@ -263,7 +270,7 @@ pub fn put_known(out: &mut String, instr: &Instr, state: &State) -> Result<(), A
         | Instr::CallLocal { .. }
         | Instr::LoadImmediate { .. } => Ok(()),
         Instr::Branch { dst, source, .. } => put_both(out, state, *dst, source),
-        Instr::CallHelper { number } => match Helper::of(number.cast_unsigned()) {
+        Instr::CallHelper { number } => match Helper::asked(number.cast_unsigned()) {
             Some(helper) => put_arguments(out, state, helper),
             None => Ok(()),
         },

@@ -3,6 +3,8 @@ pub mod Counts
 pub mod Records
 pub mod Reaching
 pub mod Storing
+pub mod Kept
+pub mod Far
 pub mod Framing
 pub mod Leaving
 pub mod Loading
@@ -14,4 +16,6 @@ pub mod Footprints
 pub mod Runs
 pub mod Steps
 pub mod Noted
+pub mod OwnSteps
+pub mod SumSteps
 pub mod GuardedRuns

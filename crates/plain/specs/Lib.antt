@@ -4,6 +4,7 @@ pub mod Machine
 pub mod Clean
 pub mod Callers
 pub mod Blocks
+pub mod Kept
 pub mod Steps
 pub mod Reads
 pub mod Guarded

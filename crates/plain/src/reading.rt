@@ -4,16 +4,16 @@
 ghost use Rattle.std.specs.Prelude.{◌≡◌, ◌<◌, ◌≤◌, []};
 ghost use Rattle.std.specs.Option.{option_map_or};
 ghost use Rattle.helpers.specs.Footprint.{footprint_after, footprint_with, on_device, sectors_at};
-ghost use Rattle.helpers.specs.Helper.{helper_of};
 ghost use Rattle.machine.specs.Memory.{byte_count};
-ghost use Rattle.plain.specs.Reads.{plain_call_reads, record_reads};
+ghost use Rattle.helpers.specs.Sums.{checksum_of};
+ghost use Rattle.plain.specs.Reads.{plain_call_reads, plain_number_reads, plain_sum_reads, record_reads};
 ghost use Rattle.plain.specs.Steps.{plain_address};
 
 use crate::state::Machine;
 use bpf_isa::instr::Size;
 use bpf_isa::ready::Code::*;
 use bpf_isa::ready::Ready;
-use helpers::{Device, Footprint, Helper};
+use helpers::{Checksum, Device, Footprint, Helper, Query};
 
 /// The number of bytes of an access.
 #[inline(always)]
@@ -101,7 +101,11 @@ pub(crate) fn note_from<D: Device, const ROOM: usize>(
     }
 }
 
-impl<const COUNTS: usize, const CALLED: usize> Machine<COUNTS, CALLED> {
+impl<const COUNTS: usize, const CALLED: usize, const PIECES: usize> Machine<
+    COUNTS,
+    CALLED,
+    PIECES,
+> {
     /// Notes at which sectors a helper looks.
     #[tactic(auto, unfolding(crate::specs::Reads::plain_call_reads))]
     fn note_call<D: Device, const ROOM: usize>(
@@ -115,13 +119,46 @@ impl<const COUNTS: usize, const CALLED: usize> Machine<COUNTS, CALLED> {
         let [_, first, second, third, ..] = self.registers;
         match helper {
             Helper::Copy => footprint.look_over(device, first, third),
-            Helper::Query(query) => footprint.look_for(device, query, first, second),
+            Helper::Query(query) => footprint.look_for(device, query, first, second, third),
             Helper::Again => {}
             Helper::Report => {}
         }
     }
 
-    /// Notes at which sectors the helper of a number looks, as a function of its own.
+    /// Notes at which sectors a checksum looks.
+    #[tactic(auto, unfolding(crate::specs::Reads::plain_sum_reads))]
+    fn note_sum<D: Device, const ROOM: usize>(
+        &self,
+        footprint: &mut Footprint<ROOM>,
+        device: &D,
+        checksum: Checksum,
+    )
+        ensures { footprint.new ≡ footprint_after footprint.old (plain_sum_reads (D.content device.now) self.now checksum) }
+    {
+        let [_, first, second, third, ..] = self.registers;
+        match checksum {
+            Checksum::OfDevice(polynomial) => {
+                footprint.look_for(device, Query::summing(polynomial), first, second, third);
+            }
+            Checksum::OfMemory(_polynomial) => {}
+        }
+    }
+
+    /// Notes at which sectors the checksum of a number looks.
+    fn note_checksum<D: Device, const ROOM: usize>(
+        &self,
+        footprint: &mut Footprint<ROOM>,
+        device: &D,
+        number: u32,
+    )
+        ensures { footprint.new ≡ footprint_after footprint.old (option_map_or (plain_sum_reads (D.content device.now) self.now) (checksum_of number) []) }
+    {
+        if let Some(checksum) = Checksum::of(number) {
+            self.note_sum(footprint, device, checksum);
+        }
+    }
+
+    /// Notes at which sectors the helper, or the checksum, of a number looks, as a function of its own.
     #[inline(never)]
     fn note_helper<D: Device, const ROOM: usize>(
         &self,
@@ -129,10 +166,11 @@ impl<const COUNTS: usize, const CALLED: usize> Machine<COUNTS, CALLED> {
         device: &D,
         number: u32,
     )
-        ensures { footprint.new ≡ footprint_after footprint.old (option_map_or (plain_call_reads (D.content device.now) self.now) (helper_of number) []) }
+        ensures { footprint.new ≡ footprint_after footprint.old (plain_number_reads (D.content device.now) self.now number) }
     {
-        if let Some(helper) = Helper::of(number) {
-            self.note_call(footprint, device, helper);
+        match Helper::of(number) {
+            Some(helper) => self.note_call(footprint, device, helper),
+            None => self.note_checksum(footprint, device, number),
         }
     }
 
@@ -145,7 +183,7 @@ impl<const COUNTS: usize, const CALLED: usize> Machine<COUNTS, CALLED> {
         device: &D,
         number: u32,
     )
-        ensures { footprint.new ≡ footprint_after footprint.old (option_map_or (plain_call_reads (D.content device.now) self.now) (helper_of number) []) }
+        ensures { footprint.new ≡ footprint_after footprint.old (plain_number_reads (D.content device.now) self.now number) }
     {
         if footprint.keeps() {
             self.note_helper(footprint, device, number);

@@ -1,10 +1,10 @@
 -- What is passed on with guards: states, and smaller ones where a larger state breaks no rule with guards.
 use Rattle.std.proofs.Common.{◌≡◌, ℕ, zero, suc, ◌+◌, ◌/◌, ◌<◌, ◌==◌, not, ◌&&◌, ◌||◌, Bool, true, false, if◌then◌else◌, List, [], ◌∷◌, length, get_or, replicate, is_some, Option, None, Some, ℤ, pos, refl, sym, ◌∙◌, inl, inr, arith, ◌^◌}
 use Rattle.std.specs.Prelude.{set}
-use Rattle.std.specs.Option.{option_map, option_map_or}
+use Rattle.std.specs.Option.{option_map, option_map_or, option_or}
 use Rattle.std.specs.Int.{cast_unsigned, w32}
 use Rattle.std.proofs.lemmas.Bool.Decides.{nat_tests}
-use Rattle.base.specs.Check.{check, first_failing}
+use Rattle.base.specs.Check.{Check, check, first_failing}
 use Rattle.base.specs.declared.causes.VerifierCause.{VerifierCause}
 use Rattle.base.specs.declared.causes.VerifierCause.TheVariants as cause
 use Rattle.bpf_isa.specs.declared.instr.Instr.{Instr}
@@ -22,7 +22,7 @@ use Rattle.bpf_isa.specs.Slots.{target_slot}
 use Rattle.bpf_isa.specs.Spelling.{IsInRange, IsSourceInRange}
 use Rattle.helpers.specs.declared.helper.Helper.{Helper}
 use Rattle.helpers.specs.declared.helper.Helper.TheVariants as helper
-use Rattle.helpers.specs.Helper.{helper_of}
+use Rattle.helpers.specs.Helper.{helper_of, asked_of, summing_of}
 use Rattle.machine.specs.Memory.{byte_count}
 use Rattle.machine.specs.Step.{source_registers, operands}
 use Rattle.intervals.specs.Spans.{span, only}
@@ -37,10 +37,10 @@ use Rattle.ranges.specs.Groups.{GroupKind, Marked, Spilled, unset_marks, map_pla
 use Rattle.ranges.specs.States.{Abstract, unset_groups, start}
 use Rattle.ranges.specs.Pointers.{moved_place, moved_offsets, moved_pointer}
 use Rattle.ranges.specs.Reading.{value, second, with_value, with_groups, words, any_word, are_set, has_length, are_words}
-use Rattle.ranges.specs.Places.{place_of, is_inside, is_group}
+use Rattle.ranges.specs.Places.{place_of, is_inside, is_own_memory, is_group}
 use Rattle.ranges.specs.Rules.{compares, is_null_test, is_wide, is_equality, is_zero, may_be_null, call_rules, rules, length_of, guarded_rules, rules_with}
 use Rattle.ranges.specs.Passing.{edge_of, with_both, tested_kind, is_equal_edge, passed_state, passes, edge_with, passed_with}
-use Rattle.ranges.specs.After.{number_result, result_kind, context_word, any_of, group_value, loaded_kind, is_touched, marks_after, group_after, groups_after_write, written_at, stored_groups, answer_kind, after_answer, copied_state, call_after, load_after, store_after, after_with, call_with, loosely_loaded, group_forgotten, groups_forgotten, loosely_stored}
+use Rattle.ranges.specs.After.{number_result, result_kind, context_word, any_of, group_value, loaded_kind, is_touched, marks_after, group_after, groups_after_write, written_at, stored_groups, answer_kind, after_answer, copied_state, call_after, load_after, store_after, after_with, call_with, loosely_loaded, loosely_loaded_at, group_forgotten, groups_forgotten, loosely_stored}
 use Rattle.ranges.specs.Order.{Under, IsWord, GroupUnder, EachUnder, StateUnder, IsGroup, Each, IsState, Holds, EdgeUnder, SentUnder}
 use Rattle.ranges.specs.Guards.{GuardedPassesAreMonotone, GuardedPassesFit, breaks_rule}
 use Rattle.ranges.proofs.Chains.{under_self, under_chain}
@@ -48,7 +48,7 @@ use Rattle.ranges.proofs.Covering.{marks_unset, marks_refl}
 use Rattle.ranges.proofs.Fitting.{start_fits}
 use Rattle.ranges.proofs.Keeping.{holds_or, value_fits, second_fits, words_fit, with_value_fits, any_of_fits, any_word_fits, answer_fits, answered_fits, with_groups_fits, written_fits, stored_fits, edge_fits, after_fits}
 use Rattle.ranges.proofs.Smaller.{and_left, and_right, value_under, with_value_under, second_under}
-use Rattle.ranges.proofs.SmallerRules.{length_under, place_under, rules_mono}
+use Rattle.ranges.proofs.SmallerRules.{length_under, place_under, own_under, own_outside, rules_mono}
 use Rattle.ranges.proofs.SmallerStates.{first_check, two_tell, some_bytes, answered_under, with_groups_under, sent_under, both_under, after_mono, passes_mono, passed_fit}
 use Rattle.ranges.proofs.GuardedRules.{set_under}
 
@@ -247,8 +247,39 @@ loaded_below sectors gs (place.Stack at) size.Word a = under_self (any_of 4)
 loaded_below sectors gs place.Outside size.Word a = under_self (any_of 4)
 loaded_below sectors gs place.Sector size.Word a = under_self (any_of 4)
 
-loose_load : (n : Size) → Under (loosely_loaded n) (loosely_loaded n)
-loose_load n = under_self (loosely_loaded n)
+-- a load of the program's own memory gives any number, and so does one of no place
+loaded_outside : (sectors : ℕ) (gs : List GroupKind) (p : Place) (n : ℕ) → p ≡ place.Outside → loaded_kind sectors gs p n ≡ any_of n
+unfolding loaded_kind
+loaded_outside sectors gs p n e = rw e refl
+
+any_below : (n : Size) → Under (any_of (byte_count n)) (loosely_loaded n)
+any_below size.Byte = under_self (any_of 1)
+any_below size.Half = under_self (any_of 2)
+any_below size.Word = under_self (any_of 4)
+any_below size.Double = tt
+
+kept_load : (sectors : ℕ) (s t : Abstract) (n : Size) (base : ℕ) (d : ℤ) → IsState s → StateUnder s t
+    → Under (loaded_kind sectors s.groups (place_of (value s base) d (byte_count n)) (byte_count n)) (loosely_loaded_at t n base d)
+kept_load sectors s t n base d a u = by (is_own_memory (value t base) d (byte_count n)) refl
+  where
+    by : (b : Bool) → is_own_memory (value t base) d (byte_count n) ≡ b
+        → Under (loaded_kind sectors s.groups (place_of (value s base) d (byte_count n)) (byte_count n)) (if b then any_of (byte_count n) else loosely_loaded n)
+    by true e =
+        let own : is_own_memory (value s base) d (byte_count n) ≡ true = own_under (value s base) (value t base) d (byte_count n) (value_fits s base a) (value_under s t base u) e in
+        rw (loaded_outside sectors s.groups (place_of (value s base) d (byte_count n)) (byte_count n) (own_outside (value s base) d (byte_count n) own)) (under_self (any_of (byte_count n)))
+    by false e = loaded_below sectors s.groups (place_of (value s base) d (byte_count n)) n a.groups
+
+loose_load : (s t : Abstract) (n : Size) (base : ℕ) (d : ℤ) → IsState s → StateUnder s t → Under (loosely_loaded_at s n base d) (loosely_loaded_at t n base d)
+loose_load s t n base d a u = by (is_own_memory (value s base) d (byte_count n)) (is_own_memory (value t base) d (byte_count n)) refl refl
+  where
+    by : (x y : Bool) → is_own_memory (value s base) d (byte_count n) ≡ x → is_own_memory (value t base) d (byte_count n) ≡ y
+        → Under (if x then any_of (byte_count n) else loosely_loaded n) (if y then any_of (byte_count n) else loosely_loaded n)
+    by true true e f = under_self (any_of (byte_count n))
+    by true false e f = any_below n
+    by false false e f = under_self (loosely_loaded n)
+    by false true e f =
+        let own : is_own_memory (value s base) d (byte_count n) ≡ true = own_under (value s base) (value t base) d (byte_count n) (value_fits s base a) (value_under s t base u) f in
+        absurd (let bad : true ≡ false = sym own ∙ e in cc)
 
 -- stores and copies
 
@@ -256,15 +287,29 @@ same_place : (s t : Abstract) (base : ℕ) (d : ℤ) (n : ℕ) → IsState s →
     → place_of (value s base) d n ≡ place_of (value t base) d n
 same_place s t base d n a u inside = place_under (value s base) (value t base) d n (value_fits s base a) (value_under s t base u) inside
 
+kept_groups : (k : Kind) (gs : List GroupKind) (p : Place) (n : ℕ) → p ≡ place.Outside → stored_groups k gs p n ≡ gs
+unfolding stored_groups
+kept_groups k gs p n e = rw e refl
+
+own_there : (s t : Abstract) (base : ℕ) (d : ℤ) (n : ℕ) → IsState s → StateUnder s t → is_own_memory (value t base) d n ≡ true → place_of (value s base) d n ≡ place.Outside
+own_there s t base d n a u e = own_outside (value s base) d n (own_under (value s base) (value t base) d n (value_fits s base a) (value_under s t base u) e)
+
 kept_store : (s t : Abstract) (k : Kind) (n base : ℕ) (d : ℤ) → IsState s → StateUnder s t → IsState (with_groups s (stored_groups k s.groups (place_of (value s base) d n) n))
     → StateUnder (with_groups s (stored_groups k s.groups (place_of (value s base) d n) n)) (loosely_stored t base d n)
-kept_store s t k n base d a u fits =
-    let p = place_of (value s base) d n in
-    let q = place_of (value t base) d n in
-    let stored : (at : ℕ) → p ≡ place.Stack at → EachUnder GroupUnder (stored_groups k s.groups p n) (map_places (group_forgotten at n) 0 t.groups) =
-    λ at e. rw e (stored_below k s.groups t.groups at n a.groups u.groups) in
-    with_groups_under s t (stored_groups k s.groups p n) (groups_forgotten t.groups q n)
-    (forgotten_place (stored_groups k s.groups p n) s.groups t.groups p q n fits.groups fits.stack (same_place s t base d n a u) stored) u
+kept_store s t k n base d a u fits = by (is_own_memory (value t base) d n) refl
+  where
+    by : (b : Bool) → is_own_memory (value t base) d n ≡ b
+        → StateUnder (with_groups s (stored_groups k s.groups (place_of (value s base) d n) n)) (with_groups t (if b then t.groups else groups_forgotten t.groups (place_of (value t base) d n) n))
+    by true e =
+        let same : stored_groups k s.groups (place_of (value s base) d n) n ≡ s.groups = kept_groups k s.groups (place_of (value s base) d n) n (own_there s t base d n a u e) in
+        rw same (with_groups_under s t s.groups t.groups u.groups u)
+    by false e =
+        let p = place_of (value s base) d n in
+        let q = place_of (value t base) d n in
+        let stored : (at : ℕ) → p ≡ place.Stack at → EachUnder GroupUnder (stored_groups k s.groups p n) (map_places (group_forgotten at n) 0 t.groups) =
+        λ at e. rw e (stored_below k s.groups t.groups at n a.groups u.groups) in
+        with_groups_under s t (stored_groups k s.groups p n) (groups_forgotten t.groups q n)
+        (forgotten_place (stored_groups k s.groups p n) s.groups t.groups p q n fits.groups fits.stack (same_place s t base d n a u) stored) u
 
 copied_below : (s t : Abstract) (p q : Place) (n : ℕ) → IsState (with_groups s (written_at s.groups p n)) → StateUnder s t → (is_inside q ≡ true → p ≡ q)
     → EachUnder GroupUnder (written_at s.groups p n) (groups_forgotten t.groups q n)
@@ -277,14 +322,26 @@ forgotten_same : (at n : ℕ) (gs hs : List GroupKind) → EachUnder GroupUnder 
 unfolding groups_forgotten
 forgotten_same at n gs hs u = forgotten_both at n 0 gs hs u
 
-loose_store : (s t : Abstract) (base : ℕ) (d : ℤ) (n : ℕ) → IsState s → StateUnder s t → IsState (loosely_stored s base d n) → StateUnder (loosely_stored s base d n) (loosely_stored t base d n)
-loose_store s t base d n a u fits =
-    let p = place_of (value s base) d n in
-    let q = place_of (value t base) d n in
-    let stored : (at : ℕ) → p ≡ place.Stack at → EachUnder GroupUnder (groups_forgotten s.groups p n) (map_places (group_forgotten at n) 0 t.groups) =
-    λ at e. rw e (forgotten_same at n s.groups t.groups u.groups) in
-    with_groups_under s t (groups_forgotten s.groups p n) (groups_forgotten t.groups q n)
-    (forgotten_place (groups_forgotten s.groups p n) s.groups t.groups p q n fits.groups fits.stack (same_place s t base d n a u) stored) u
+loose_store : (s t : Abstract) (base : ℕ) (d : ℤ) (n : ℕ) → IsState s → StateUnder s t → IsState (with_groups s (groups_forgotten s.groups (place_of (value s base) d n) n)) → StateUnder (loosely_stored s base d n) (loosely_stored t base d n)
+loose_store s t base d n a u fits = by (is_own_memory (value s base) d n) (is_own_memory (value t base) d n) refl refl
+  where
+    by : (x y : Bool) → is_own_memory (value s base) d n ≡ x → is_own_memory (value t base) d n ≡ y
+        → StateUnder (with_groups s (if x then s.groups else groups_forgotten s.groups (place_of (value s base) d n) n)) (with_groups t (if y then t.groups else groups_forgotten t.groups (place_of (value t base) d n) n))
+    by true true e f = with_groups_under s t s.groups t.groups u.groups u
+    by true false e f =
+        with_groups_under s t s.groups (groups_forgotten t.groups (place_of (value t base) d n) n)
+        (forgotten_place s.groups s.groups t.groups (place_of (value s base) d n) (place_of (value t base) d n) n a.groups a.stack (same_place s t base d n a u)
+        (λ at h. forgotten_above at n 0 s.groups t.groups a.groups u.groups)) u
+    by false true e f =
+        let own : is_own_memory (value s base) d n ≡ true = own_under (value s base) (value t base) d n (value_fits s base a) (value_under s t base u) f in
+        absurd (let bad : true ≡ false = sym own ∙ e in cc)
+    by false false e f =
+        let p = place_of (value s base) d n in
+        let q = place_of (value t base) d n in
+        let stored : (at : ℕ) → p ≡ place.Stack at → EachUnder GroupUnder (groups_forgotten s.groups p n) (map_places (group_forgotten at n) 0 t.groups) =
+        λ at e. rw e (forgotten_same at n s.groups t.groups u.groups) in
+        with_groups_under s t (groups_forgotten s.groups p n) (groups_forgotten t.groups q n)
+        (forgotten_place (groups_forgotten s.groups p n) s.groups t.groups p q n fits.groups fits.stack (same_place s t base d n a u) stored) u
 
 -- what is left fits
 
@@ -316,17 +373,31 @@ loose_fits s place.Outside n a = with_groups_fits s unset_groups a unset_fits.0 
 loose_fits s (place.Context at) n a = with_groups_fits s unset_groups a unset_fits.0 (unset_fits.1 ∙ sym a.stack)
 loose_fits s place.Sector n a = with_groups_fits s unset_groups a unset_fits.0 (unset_fits.1 ∙ sym a.stack)
 
+left_fits : (s : Abstract) (base : ℕ) (d : ℤ) (n : ℕ) → IsState s → IsState (loosely_stored s base d n)
+left_fits s base d n a = by (is_own_memory (value s base) d n)
+  where
+    by : (b : Bool) → IsState (with_groups s (if b then s.groups else groups_forgotten s.groups (place_of (value s base) d n) n))
+    by true = with_groups_fits s s.groups a a.groups refl
+    by false = loose_fits s (place_of (value s base) d n) n a
+
 loose_load_fits : (s : Abstract) (dst : ℕ) (n : Size) → IsState s → IsState (with_value s dst (loosely_loaded n))
 loose_load_fits s dst size.Double a = with_value_fits s dst Word tt a
 loose_load_fits s dst size.Byte a = with_value_fits s dst (any_of 1) (any_of_fits size.Byte) a
 loose_load_fits s dst size.Half a = with_value_fits s dst (any_of 2) (any_of_fits size.Half) a
 loose_load_fits s dst size.Word a = with_value_fits s dst (any_of 4) (any_of_fits size.Word) a
 
+load_at_fits : (s : Abstract) (dst : ℕ) (n : Size) (base : ℕ) (d : ℤ) → IsState s → IsState (with_value s dst (loosely_loaded_at s n base d))
+load_at_fits s dst n base d a = by (is_own_memory (value s base) d (byte_count n))
+  where
+    by : (b : Bool) → IsState (with_value s dst (if b then any_of (byte_count n) else loosely_loaded n))
+    by true = with_value_fits s dst (any_of (byte_count n)) (any_of_fits n) a
+    by false = loose_load_fits s dst n a
+
 loose_call_fits : (s : Abstract) (h : Helper) → IsState s → IsState (call_with true s h)
 unfolding call_with
 loose_call_fits s helper.Copy a =
     answered_fits (loosely_stored s 2 (pos 0) (length_of (value s 3))) (answer_kind helper.Copy) (answer_fits helper.Copy)
-    (loose_fits s (place_of (value s 2) (pos 0) (length_of (value s 3))) (length_of (value s 3)) a)
+    (left_fits s 2 (pos 0) (length_of (value s 3)) a)
 loose_call_fits s helper.Again a = answered_fits s (answer_kind helper.Again) (answer_fits helper.Again) a
 loose_call_fits s helper.Report a = answered_fits s (answer_kind helper.Report) (answer_fits helper.Report) a
 loose_call_fits s (helper.Query q) a = answered_fits s (answer_kind (helper.Query q)) (answer_fits (helper.Query q)) a
@@ -338,10 +409,10 @@ after_with_fits true sectors s (instr.Arithmetic w o dst from) h r a = with_valu
 after_with_fits true sectors s (instr.Negate w dst) h r a = with_value_fits s dst Word tt a
 after_with_fits true sectors s (instr.SignExtend x dst src) h r a = with_value_fits s dst Word tt a
 after_with_fits true sectors s (instr.ByteOrder o n dst) h r a = with_value_fits s dst Word tt a
-after_with_fits true sectors s (instr.Load n dst base distance) h r a = loose_load_fits s dst n a
-after_with_fits true sectors s (instr.StoreImmediate n base distance x) h r a = loose_fits s (place_of (value s base) distance (byte_count n)) (byte_count n) a
-after_with_fits true sectors s (instr.Store n base distance src) h r a = loose_fits s (place_of (value s base) distance (byte_count n)) (byte_count n) a
-after_with_fits true sectors s (instr.CallHelper number) h r a = by_helper (helper_of (cast_unsigned w32 number))
+after_with_fits true sectors s (instr.Load n dst base distance) h r a = load_at_fits s dst n base distance a
+after_with_fits true sectors s (instr.StoreImmediate n base distance x) h r a = left_fits s base distance (byte_count n) a
+after_with_fits true sectors s (instr.Store n base distance src) h r a = left_fits s base distance (byte_count n) a
+after_with_fits true sectors s (instr.CallHelper number) h r a = by_helper (asked_of (cast_unsigned w32 number))
   where
     by_helper : (m : Option Helper) → IsState (option_map_or (call_with true s) m (after_answer s (Num any_word)))
     by_helper None = answered_fits s (Num any_word) any_word_fits a
@@ -463,9 +534,17 @@ copied_state_below s t a u long fits =
     by_length : (n : ℕ) → n ≡ length_of (value t 3) → IsState (with_groups s (written_at s.groups (place_of (value s 2) (pos 0) n) n))
         → StateUnder (with_groups s (written_at s.groups (place_of (value s 2) (pos 0) n) n)) (loosely_stored t 2 (pos 0) (length_of (value t 3)))
     by_length n e fits =
-        rw (sym e)
-        (with_groups_under s t (written_at s.groups (place_of (value s 2) (pos 0) n) n) (groups_forgotten t.groups (place_of (value t 2) (pos 0) n) n)
-        (copied_below s t (place_of (value s 2) (pos 0) n) (place_of (value t 2) (pos 0) n) n fits u (same_place s t 2 (pos 0) n a u)) u)
+        rw (sym e) (by_own (is_own_memory (value t 2) (pos 0) n) refl)
+      where
+        unwritten : (p : Place) → p ≡ place.Outside → written_at s.groups p n ≡ s.groups
+        unwritten p outside = rw outside refl
+
+        by_own : (b : Bool) → is_own_memory (value t 2) (pos 0) n ≡ b
+            → StateUnder (with_groups s (written_at s.groups (place_of (value s 2) (pos 0) n) n)) (with_groups t (if b then t.groups else groups_forgotten t.groups (place_of (value t 2) (pos 0) n) n))
+        by_own true own = rw (unwritten (place_of (value s 2) (pos 0) n) (own_there s t 2 (pos 0) n a u own)) (with_groups_under s t s.groups t.groups u.groups u)
+        by_own false own =
+            with_groups_under s t (written_at s.groups (place_of (value s 2) (pos 0) n) n) (groups_forgotten t.groups (place_of (value t 2) (pos 0) n) n)
+            (copied_below s t (place_of (value s 2) (pos 0) n) (place_of (value t 2) (pos 0) n) n fits u (same_place s t 2 (pos 0) n a u)) u
 
 kept_call : (s t : Abstract) (h : Helper) → IsState s → StateUnder s t → first_failing (call_rules true t h) ≡ None → IsState (copied_state s)
     → StateUnder (call_after s h) (call_with true t h)
@@ -541,20 +620,21 @@ kept_below sectors slot s t (instr.Branch w c dst from distance) why r a u g e f
     (passed_state (target_slot slot distance) (edge_of s (instr.Branch w c dst from distance) true)) ((target_slot slot distance, t) ∷ [])
     (sent_one (slot + 1) (edge_of s (instr.Branch w c dst from distance) false) t (edge_below s t w c dst from distance false r.1 a u ok broken))
     (sent_one (target_slot slot distance) (edge_of s (instr.Branch w c dst from distance) true) t (edge_below s t w c dst from distance true r.1 a u ok broken))
-kept_below sectors slot s t (instr.CallHelper number) why r a u g e f = by_helper (helper_of (cast_unsigned w32 number)) g f
+kept_below sectors slot s t (instr.CallHelper number) why r a u g e f = by_helper (helper_of (cast_unsigned w32 number)) (summing_of (cast_unsigned w32 number)) g e
   where
-    by_helper : (m : Option Helper) → first_failing (option_map_or (call_rules true t) m []) ≡ None → first_failing (option_map_or (call_rules false t) m []) ≡ Some why
-        → SentUnder (passed_state (slot + 1) (Some (option_map_or (call_after s) m (after_answer s (Num any_word))))) ((slot + 1, option_map_or (call_with true t) m (after_answer t (Num any_word))) ∷ [])
-    by_helper None g f = absurd (no_rule why f)
-    by_helper (Some h) g f =
+    by_helper : (m n : Option Helper) → first_failing (option_map_or (call_rules true t) (option_or m n) (check cause.UnknownHelper false ∷ [])) ≡ None
+        → first_failing (option_map_or (call_rules false s) m (check cause.UnknownHelper false ∷ [])) ≡ None
+        → SentUnder (passed_state (slot + 1) (Some (option_map_or (call_after s) (option_or m n) (after_answer s (Num any_word)))))
+        ((slot + 1, option_map_or (call_with true t) (option_or m n) (after_answer t (Num any_word))) ∷ [])
+    by_helper None n g e = absurd (let bad : Some cause.UnknownHelper ≡ None = e in cc)
+    by_helper (Some h) n g e =
         sent_one (slot + 1) (Some (call_after s h)) (call_with true t h)
         (kept_call s t h a u g (written_fits s (place_of (value s 2) (pos 0) (length_of (value s 3))) (length_of (value s 3)) a))
 kept_below sectors slot s t (instr.CallLocal distance) why r a u g e f = absurd (no_rule why f)
 kept_below sectors slot s t instr.Exit why r a u g e f = tt
 kept_below sectors slot s t (instr.Load n dst base distance) why r a u g e f =
-    sent_one (slot + 1) (Some (load_after sectors s dst n base distance)) (with_value t dst (loosely_loaded n))
-    (with_value_under s t dst (loaded_kind sectors s.groups (place_of (value s base) distance (byte_count n)) (byte_count n)) (loosely_loaded n)
-    (loaded_below sectors s.groups (place_of (value s base) distance (byte_count n)) n a.groups) u)
+    sent_one (slot + 1) (Some (load_after sectors s dst n base distance)) (with_value t dst (loosely_loaded_at t n base distance))
+    (with_value_under s t dst (loaded_kind sectors s.groups (place_of (value s base) distance (byte_count n)) (byte_count n)) (loosely_loaded_at t n base distance) (kept_load sectors s t n base distance a u) u)
 kept_below sectors slot s t (instr.LoadSigned n dst base distance) why r a u g e f =
     sent_one (slot + 1) (Some (with_value s dst (Num any_word))) (with_value t dst (Num any_word)) (with_value_under s t dst (Num any_word) (Num any_word) (under_self (Num any_word)) u)
 kept_below sectors slot s t (instr.StoreImmediate n base distance x) why r a u g e f =
@@ -589,15 +669,16 @@ loose_after_under sectors s t (instr.Arithmetic w o dst from) r a b u g = with_v
 loose_after_under sectors s t (instr.Negate w dst) r a b u g = with_value_under s t dst Word Word tt u
 loose_after_under sectors s t (instr.SignExtend x dst src) r a b u g = with_value_under s t dst Word Word tt u
 loose_after_under sectors s t (instr.ByteOrder o n dst) r a b u g = with_value_under s t dst Word Word tt u
-loose_after_under sectors s t (instr.Load n dst base distance) r a b u g = with_value_under s t dst (loosely_loaded n) (loosely_loaded n) (loose_load n) u
+loose_after_under sectors s t (instr.Load n dst base distance) r a b u g =
+    with_value_under s t dst (loosely_loaded_at s n base distance) (loosely_loaded_at t n base distance) (loose_load s t n base distance a u) u
 loose_after_under sectors s t (instr.LoadSigned n dst base distance) r a b u g = with_value_under s t dst (Num any_word) (Num any_word) (under_self (Num any_word)) u
 loose_after_under sectors s t (instr.StoreImmediate n base distance x) r a b u g =
     loose_store s t base distance (byte_count n) a u (loose_fits s (place_of (value s base) distance (byte_count n)) (byte_count n) a)
 loose_after_under sectors s t (instr.Store n base distance src) r a b u g =
     loose_store s t base distance (byte_count n) a u (loose_fits s (place_of (value s base) distance (byte_count n)) (byte_count n) a)
-loose_after_under sectors s t (instr.CallHelper number) r a b u g = by_helper (helper_of (cast_unsigned w32 number)) g
+loose_after_under sectors s t (instr.CallHelper number) r a b u g = by_helper (asked_of (cast_unsigned w32 number)) g
   where
-    by_helper : (m : Option Helper) → first_failing (option_map_or (call_rules true t) m []) ≡ None
+    by_helper : (m : Option Helper) → first_failing (option_map_or (call_rules true t) m (check cause.UnknownHelper false ∷ [])) ≡ None
         → StateUnder (option_map_or (call_with true s) m (after_answer s (Num any_word))) (option_map_or (call_with true t) m (after_answer t (Num any_word)))
     by_helper None g = answered_under s t (Num any_word) u
     by_helper (Some h) g = loose_call s t h a u g

@@ -1,6 +1,6 @@
 -- The rules with guards are weaker than those without, and a smaller state breaks none that a larger one keeps.
-use Rattle.std.proofs.Common.{◌≡◌, ℕ, not, ◌&&◌, ◌||◌, Bool, true, false, if◌then◌else◌, List, [], ◌∷◌, Option, None, Some, ℤ, pos, refl}
-use Rattle.std.specs.Option.{option_map_or}
+use Rattle.std.proofs.Common.{◌≡◌, ℕ, not, ◌&&◌, ◌||◌, Bool, true, false, if◌then◌else◌, List, [], ◌∷◌, Option, None, Some, ℤ, pos, refl, ap, ◌∙◌, ◌⊎◌, inl, inr}
+use Rattle.std.specs.Option.{option_map_or, option_or}
 use Rattle.std.specs.Int.{cast_unsigned, w32}
 use Rattle.base.specs.Check.{Check, check, first_failing}
 use Rattle.base.specs.declared.causes.VerifierCause.{VerifierCause}
@@ -10,21 +10,22 @@ use Rattle.bpf_isa.specs.declared.instr.Instr.TheVariants as instr
 use Rattle.bpf_isa.specs.declared.instr.Source.TheVariants as source
 use Rattle.helpers.specs.declared.helper.Helper.{Helper}
 use Rattle.helpers.specs.declared.helper.Helper.TheVariants as helper
-use Rattle.helpers.specs.Helper.{helper_of}
+use Rattle.helpers.specs.Helper.{helper_of, asked_of, summing_of}
 use Rattle.helpers.specs.Queries.{query_arguments}
+use Rattle.helpers.specs.Sums.{checksum_of}
 use Rattle.machine.specs.Memory.{byte_count, plain_size}
 use Rattle.machine.specs.Step.{source_registers, operands}
 use Rattle.ranges.specs.declared.place.Mark.TheVariants as mark
 use Rattle.ranges.specs.Kinds.{Kind, Unset, Word, is_number, is_unknown, is_unset}
 use Rattle.ranges.specs.States.{Abstract}
-use Rattle.ranges.specs.Places.{place_of, is_inside}
+use Rattle.ranges.specs.Places.{place_of, is_inside, is_own_memory}
 use Rattle.ranges.specs.Reading.{value, second, are_set, is_stack, is_base, has_length, are_words}
 use Rattle.ranges.specs.Rules.{has_no, is_whole, load_rules, store_rules, call_rules, rules, length_of, guarded_rules, reads, rules_with}
 use Rattle.ranges.specs.Order.{Under, StateUnder, IsState}
-use Rattle.ranges.specs.Guards.{is_own_place, is_guarded_call, is_guarded, GuardedRulesAreWeaker, GuardedRulesAreMonotone}
+use Rattle.ranges.specs.Guards.{is_read_place, is_own_place, is_guarded_sum, is_guarded_call, is_guarded, GuardedRulesAreWeaker, GuardedRulesAreMonotone}
 use Rattle.ranges.proofs.Keeping.{value_fits}
 use Rattle.ranges.proofs.Smaller.{and_left, and_right, value_under}
-use Rattle.ranges.proofs.SmallerRules.{and_mono, two_pass, stack_under, length_under, place_under}
+use Rattle.ranges.proofs.SmallerRules.{and_mono, two_pass, stack_under, length_under, own_under, place_under}
 use Rattle.ranges.proofs.SmallerStates.{first_check, two_tell, three_tell}
 
 -- words
@@ -92,11 +93,12 @@ guarded_weaker s (instr.ByteOrder o size dst) e = weaker_reads s (dst ∷ []) _ 
 guarded_weaker s (instr.Jump distance) e = refl
 guarded_weaker s (instr.LongJump distance) e = refl
 guarded_weaker s (instr.Branch w c dst from distance) e = weaker_reads s (dst ∷ source_registers from) _ e
-guarded_weaker s (instr.CallHelper number) e = by_helper (helper_of (cast_unsigned w32 number)) e
+guarded_weaker s (instr.CallHelper number) e = by_helper (helper_of (cast_unsigned w32 number)) (summing_of (cast_unsigned w32 number)) e
   where
-    by_helper : (m : Option Helper) → first_failing (option_map_or (call_rules false s) m []) ≡ None → first_failing (option_map_or (call_rules true s) m []) ≡ None
-    by_helper None e = refl
-    by_helper (Some h) e = weaker_call s h e
+    by_helper : (m n : Option Helper) → first_failing (option_map_or (call_rules false s) m (check cause.UnknownHelper false ∷ [])) ≡ None
+        → first_failing (option_map_or (call_rules true s) (option_or m n) (check cause.UnknownHelper false ∷ [])) ≡ None
+    by_helper None n e = absurd (let bad : Some cause.UnknownHelper ≡ None = e in cc)
+    by_helper (Some h) n e = weaker_call s h e
 guarded_weaker s (instr.CallLocal distance) e = refl
 guarded_weaker s instr.Exit e = weaker_reads s (0 ∷ []) _ e
 guarded_weaker s (instr.Load size dst base distance) e = weaker_reads s (base ∷ []) _ e
@@ -128,10 +130,10 @@ guarded_mono s t (instr.ByteOrder o size dst) r a b u e = reads_under s t (dst �
 guarded_mono s t (instr.Jump distance) r a b u e = refl
 guarded_mono s t (instr.LongJump distance) r a b u e = refl
 guarded_mono s t (instr.Branch w c dst from distance) r a b u e = reads_under s t (dst ∷ source_registers from) u e
-guarded_mono s t (instr.CallHelper number) r a b u e = by_helper (helper_of (cast_unsigned w32 number)) e
+guarded_mono s t (instr.CallHelper number) r a b u e = by_helper (asked_of (cast_unsigned w32 number)) e
   where
-    by_helper : (m : Option Helper) → first_failing (option_map_or (call_rules true t) m []) ≡ None → first_failing (option_map_or (call_rules true s) m []) ≡ None
-    by_helper None e = refl
+    by_helper : (m : Option Helper) → first_failing (option_map_or (call_rules true t) m (check cause.UnknownHelper false ∷ [])) ≡ None → first_failing (option_map_or (call_rules true s) m (check cause.UnknownHelper false ∷ [])) ≡ None
+    by_helper None e = e
     by_helper (Some h) e = guarded_call_mono s t h a u e
 guarded_mono s t (instr.CallLocal distance) r a b u e = refl
 guarded_mono s t instr.Exit r a b u e = reads_under s t (0 ∷ []) u e
@@ -143,7 +145,7 @@ guarded_mono s t (instr.LoadImmediate dst x) r a b u e = refl
 
 -- what isn't guarded
 
-load_proved : (s : Abstract) (base : ℕ) (d : ℤ) (n : ℕ) → first_failing (load_rules false s base d n) ≡ None → not (is_inside (place_of (value s base) d n)) ≡ false
+load_proved : (s : Abstract) (base : ℕ) (d : ℤ) (n : ℕ) → first_failing (load_rules false s base d n) ≡ None → not (is_read_place (value s base) d n) ≡ false
 unfolding load_rules
 load_proved s base d n e =
     let p = place_of (value s base) d n in
@@ -177,11 +179,11 @@ kept_proved s (instr.Load size dst base distance) e = load_proved s base distanc
 kept_proved s (instr.LoadSigned size dst base distance) e = load_proved s base distance (byte_count (plain_size size)) e
 kept_proved s (instr.StoreImmediate size base distance n) e = store_proved s (are_set s (base ∷ [])) (second s (source.Immediate n)) base distance (byte_count size) e
 kept_proved s (instr.Store size base distance src) e = store_proved s (are_set s (base ∷ src ∷ [])) (value s src) base distance (byte_count size) e
-kept_proved s (instr.CallHelper number) e = by_helper (helper_of (cast_unsigned w32 number)) e
+kept_proved s (instr.CallHelper number) e = by_helper (helper_of (cast_unsigned w32 number)) (option_map_or is_guarded_sum (checksum_of (cast_unsigned w32 number)) false) e
   where
-    by_helper : (m : Option Helper) → first_failing (option_map_or (call_rules false s) m []) ≡ None → option_map_or (is_guarded_call s) m false ≡ false
-    by_helper None e = refl
-    by_helper (Some h) e = call_proved s h e
+    by_helper : (m : Option Helper) (other : Bool) → first_failing (option_map_or (call_rules false s) m (check cause.UnknownHelper false ∷ [])) ≡ None → option_map_or (is_guarded_call s) m other ≡ false
+    by_helper None other e = absurd (let bad : Some cause.UnknownHelper ≡ None = e in cc)
+    by_helper (Some h) other e = call_proved s h e
 kept_proved s (instr.Arithmetic w o dst from) e = refl
 kept_proved s (instr.Negate w dst) e = refl
 kept_proved s (instr.SignExtend x dst src) e = refl
@@ -197,24 +199,51 @@ not_false : (b : Bool) → not b ≡ false → b ≡ true
 not_false true e = refl
 not_false false e = absurd (let bad : true ≡ false = e in cc)
 
-load_smaller : (s t : Abstract) (base : ℕ) (d : ℤ) (n : ℕ) → IsState s → StateUnder s t → not (is_inside (place_of (value t base) d n)) ≡ false
-    → not (is_inside (place_of (value s base) d n)) ≡ false
-load_smaller s t base d n a u e =
-    let inside : is_inside (place_of (value t base) d n) ≡ true = not_false (is_inside (place_of (value t base) d n)) e in
-    rw (place_under (value s base) (value t base) d n (value_fits s base a) (value_under s t base u) inside) e
+or_left : (a b : Bool) → a ≡ true → (a || b) ≡ true
+or_left a b e = rw e refl
 
-own_smaller : (k l : Kind) (d : ℤ) (n : ℕ) (bounded : Under k l) → is_own_place l d n ≡ true → (is_inside (place_of l d n) ≡ true → place_of k d n ≡ place_of l d n) → is_own_place k d n ≡ true
-own_smaller k l d n u e same =
+either : (a b : Bool) → (a || b) ≡ true → (a ≡ true) ⊎ (b ≡ true)
+either true b e = inl refl
+either false b e = inr e
+
+or_right : (a b : Bool) → b ≡ true → (a || b) ≡ true
+or_right true b e = refl
+or_right false b e = e
+
+load_smaller : (s t : Abstract) (base : ℕ) (d : ℤ) (n : ℕ) → IsState s → StateUnder s t → not (is_read_place (value t base) d n) ≡ false
+    → not (is_read_place (value s base) d n) ≡ false
+load_smaller s t base d n a u e = by (either (is_inside (place_of (value t base) d n)) (is_own_memory (value t base) d n) (not_false (is_read_place (value t base) d n) e))
+  where
+    lifted : is_read_place (value s base) d n ≡ true → not (is_read_place (value s base) d n) ≡ false
+    lifted h = rw h refl
+
+    by : (is_inside (place_of (value t base) d n) ≡ true) ⊎ (is_own_memory (value t base) d n ≡ true) → not (is_read_place (value s base) d n) ≡ false
+    by (inl inside) =
+        let here : is_inside (place_of (value s base) d n) ≡ true = ap is_inside (place_under (value s base) (value t base) d n (value_fits s base a) (value_under s t base u) inside) ∙ inside in
+        lifted (or_left (is_inside (place_of (value s base) d n)) (is_own_memory (value s base) d n) here)
+    by (inr own) =
+        lifted (or_right (is_inside (place_of (value s base) d n)) (is_own_memory (value s base) d n) (own_under (value s base) (value t base) d n (value_fits s base a) (value_under s t base u) own))
+
+stack_smaller : (k l : Kind) (d : ℤ) (n : ℕ) (bounded : Under k l) → (is_stack l && is_inside (place_of l d n)) ≡ true → (is_inside (place_of l d n) ≡ true → place_of k d n ≡ place_of l d n)
+    → (is_stack k && is_inside (place_of k d n)) ≡ true
+stack_smaller k l d n u e same =
     let stack : is_stack k ≡ true = stack_under k l u (and_left (is_stack l) (is_inside (place_of l d n)) e) in
     let inside : is_inside (place_of l d n) ≡ true = and_right (is_stack l) (is_inside (place_of l d n)) e in
     rw (stack, same inside) inside
 
 store_smaller : (s t : Abstract) (base : ℕ) (d : ℤ) (n : ℕ) → IsState s → StateUnder s t → not (is_own_place (value t base) d n) ≡ false → not (is_own_place (value s base) d n) ≡ false
-store_smaller s t base d n a u e =
-    let own : is_own_place (value s base) d n ≡ true =
-    own_smaller (value s base) (value t base) d n (value_under s t base u) (not_false (is_own_place (value t base) d n) e)
-    (λ inside. place_under (value s base) (value t base) d n (value_fits s base a) (value_under s t base u) inside) in
-    rw own refl
+store_smaller s t base d n a u e = by (either (is_stack (value t base) && is_inside (place_of (value t base) d n)) (is_own_memory (value t base) d n) (not_false (is_own_place (value t base) d n) e))
+  where
+    lifted : is_own_place (value s base) d n ≡ true → not (is_own_place (value s base) d n) ≡ false
+    lifted h = rw h refl
+
+    by : ((is_stack (value t base) && is_inside (place_of (value t base) d n)) ≡ true) ⊎ (is_own_memory (value t base) d n ≡ true) → not (is_own_place (value s base) d n) ≡ false
+    by (inl stack) =
+        let here : (is_stack (value s base) && is_inside (place_of (value s base) d n)) ≡ true =
+        stack_smaller (value s base) (value t base) d n (value_under s t base u) stack (λ inside. place_under (value s base) (value t base) d n (value_fits s base a) (value_under s t base u) inside) in
+        lifted (or_left (is_stack (value s base) && is_inside (place_of (value s base) d n)) (is_own_memory (value s base) d n) here)
+    by (inr own) =
+        lifted (or_right (is_stack (value s base) && is_inside (place_of (value s base) d n)) (is_own_memory (value s base) d n) (own_under (value s base) (value t base) d n (value_fits s base a) (value_under s t base u) own))
 
 call_smaller : (s t : Abstract) (h : Helper) → IsState s → StateUnder s t → first_failing (call_rules true t h) ≡ None → is_guarded_call t h ≡ false → is_guarded_call s h ≡ false
 unfolding call_rules
@@ -232,11 +261,13 @@ smaller_proved s t (instr.Load size dst base distance) a b u g e = load_smaller 
 smaller_proved s t (instr.LoadSigned size dst base distance) a b u g e = load_smaller s t base distance (byte_count (plain_size size)) a u e
 smaller_proved s t (instr.StoreImmediate size base distance n) a b u g e = store_smaller s t base distance (byte_count size) a u e
 smaller_proved s t (instr.Store size base distance src) a b u g e = store_smaller s t base distance (byte_count size) a u e
-smaller_proved s t (instr.CallHelper number) a b u g e = by_helper (helper_of (cast_unsigned w32 number)) g e
+smaller_proved s t (instr.CallHelper number) a b u g e =
+    by_helper (helper_of (cast_unsigned w32 number)) (summing_of (cast_unsigned w32 number)) (option_map_or is_guarded_sum (checksum_of (cast_unsigned w32 number)) false) g e
   where
-    by_helper : (m : Option Helper) → first_failing (option_map_or (call_rules true t) m []) ≡ None → option_map_or (is_guarded_call t) m false ≡ false → option_map_or (is_guarded_call s) m false ≡ false
-    by_helper None g e = refl
-    by_helper (Some h) g e = call_smaller s t h a u g e
+    by_helper : (m n : Option Helper) (other : Bool) → first_failing (option_map_or (call_rules true t) (option_or m n) (check cause.UnknownHelper false ∷ [])) ≡ None → option_map_or (is_guarded_call t) m other ≡ false
+        → option_map_or (is_guarded_call s) m other ≡ false
+    by_helper None n other g e = e
+    by_helper (Some h) n other g e = call_smaller s t h a u g e
 smaller_proved s t (instr.Arithmetic w o dst from) a b u g e = refl
 smaller_proved s t (instr.Negate w dst) a b u g e = refl
 smaller_proved s t (instr.SignExtend x dst src) a b u g e = refl

@@ -20,7 +20,7 @@ use Rattle.helpers.specs.declared.helper.Helper.{Helper}
 use Rattle.helpers.specs.declared.helper.Helper.TheVariants as helper
 use Rattle.helpers.specs.declared.helper.Answer.{Answer}
 use Rattle.helpers.specs.declared.helper.Answer.TheVariants as answer
-use Rattle.helpers.specs.Helper.{helper_of}
+use Rattle.helpers.specs.Helper.{asked_of}
 use Rattle.helpers.specs.Queries.{query_kind, IsKind}
 use Rattle.helpers.proofs.Queries.{kind_fits}
 use Rattle.machine.specs.Memory.{byte_count}
@@ -304,7 +304,7 @@ after_fits sectors s (instr.ByteOrder o size dst) h r a =
 after_fits sectors s (instr.Jump distance) h r a = a
 after_fits sectors s (instr.LongJump distance) h r a = a
 after_fits sectors s (instr.Branch w c dst from distance) h r a = a
-after_fits sectors s (instr.CallHelper number) h r a = by_helper (helper_of (cast_unsigned w32 number))
+after_fits sectors s (instr.CallHelper number) h r a = by_helper (asked_of (cast_unsigned w32 number))
   where
     by_helper : (m : Option Helper) → IsState (option_map_or (call_after s) m (after_answer s (Num any_word)))
     by_helper None = answered_fits s (Num any_word) any_word_fits a

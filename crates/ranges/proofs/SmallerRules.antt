@@ -28,7 +28,8 @@ use Rattle.ranges.specs.Kinds.{Kind, Unset, Word, Num, Ctx, Stack, Sector, is_nu
 use Rattle.ranges.specs.Groups.{GroupKind, Marked, Spilled, unset_marks}
 use Rattle.ranges.specs.States.{Abstract}
 use Rattle.ranges.specs.Pointers.{offset_in, moved_pointer}
-use Rattle.ranges.specs.Places.{landing, place_of, is_inside, mark_in, mark_at, is_mark, none_is}
+use Rattle.machine.specs.OwnMemory.{memory_start, memory_size}
+use Rattle.ranges.specs.Places.{in_own, is_own_memory, landing, place_of, is_inside, mark_in, mark_at, is_mark, none_is}
 use Rattle.ranges.specs.Reading.{value, second, are_set, is_stack, is_base, has_length}
 use Rattle.ranges.specs.Rules.{may_compute, is_null_test, compares, has_no, is_whole, load_rules, store_rules, length_of, are_numbers, call_rules, rules_with}
 use Rattle.ranges.specs.Order.{Under, MarksUnder, GroupUnder, EachUnder, StateUnder, IsBounded, IsState}
@@ -148,15 +149,15 @@ offset_some limit (pos n) a b =
     rw t refl
 
 -- an offset between two that fall in a region falls there
-landed_between : (n a b o : ℕ) (d : ℤ) → a ≤ o → o ≤ b → is_some (landing 512 n a d) ≡ true → is_some (landing 512 n b d) ≡ true → is_some (landing 512 n o d) ≡ true
-landed_between n a b o d p q e f = by_size (nat_le n 512) e f
+landed_between : (size n a b o : ℕ) (d : ℤ) → a ≤ o → o ≤ b → is_some (landing size n a d) ≡ true → is_some (landing size n b d) ≡ true → is_some (landing size n o d) ≡ true
+landed_between size n a b o d p q e f = by_size (nat_le n size) e f
   where
-    by_size : (c : Bool) → is_some (if c then offset_in (512 - n) (pos a +ℤ d) else None) ≡ true → is_some (if c then offset_in (512 - n) (pos b +ℤ d) else None) ≡ true
-        → is_some (if c then offset_in (512 - n) (pos o +ℤ d) else None) ≡ true
+    by_size : (c : Bool) → is_some (if c then offset_in (size - n) (pos a +ℤ d) else None) ≡ true → is_some (if c then offset_in (size - n) (pos b +ℤ d) else None) ≡ true
+        → is_some (if c then offset_in (size - n) (pos o +ℤ d) else None) ≡ true
     by_size true e f =
-        let first = some_offset (512 - n) (pos a +ℤ d) e in
-        let other = some_offset (512 - n) (pos b +ℤ d) f in
-        offset_some (512 - n) (pos o +ℤ d) (omega (arith, ints, p, q, first.0)) (omega (arith, ints, p, q, other.1))
+        let first = some_offset (size - n) (pos a +ℤ d) e in
+        let other = some_offset (size - n) (pos b +ℤ d) f in
+        offset_some (size - n) (pos o +ℤ d) (omega (arith, ints, p, q, first.0)) (omega (arith, ints, p, q, other.1))
     by_size false e f = absurd (let bad : false ≡ true = e in cc)
 
 -- a smaller base leads to the same place, where that of the larger is one
@@ -169,8 +170,8 @@ place_under (Sector x) (Sector y) d n h u e = by_both (is_some (landing 512 n y.
     by_both : (a b : Bool) → is_some (landing 512 n y.low d) ≡ a → is_some (landing 512 n y.high d) ≡ b → is_inside (if a && b then place.Sector else place.Outside) ≡ true
         → (if is_some (landing 512 n x.low d) && is_some (landing 512 n x.high d) then place.Sector else place.Outside) ≡ (if a && b then place.Sector else place.Outside)
     by_both true true p q e =
-        let low : is_some (landing 512 n x.low d) ≡ true = landed_between n y.low y.high x.low d (u.from) (omega (arith, h.ordered, u.upto)) p q in
-        let high : is_some (landing 512 n x.high d) ≡ true = landed_between n y.low y.high x.high d (omega (arith, h.ordered, u.from)) (u.upto) p q in
+        let low : is_some (landing 512 n x.low d) ≡ true = landed_between 512 n y.low y.high x.low d (u.from) (omega (arith, h.ordered, u.upto)) p q in
+        let high : is_some (landing 512 n x.high d) ≡ true = landed_between 512 n y.low y.high x.high d (omega (arith, h.ordered, u.from)) (u.upto) p q in
         rw (low, high) refl
     by_both true false p q e = absurd (let bad : false ≡ true = e in cc)
     by_both false b p q e = absurd (let bad : false ≡ true = e in cc)
@@ -306,6 +307,35 @@ some_numbers s t rs u e =
     two_pass cause.UnsetRegister cause.HelperArgument (are_set s rs) (are_numbers s rs) (are_set t rs) (are_numbers t rs)
     (are_set_under s t rs u) (λ _. are_numbers_under s t rs u) e
 
+-- the memory that a program with guards has of its own
+
+in_own_between : (n a b o : ℕ) (d : ℤ) → a ≤ o → o ≤ b → in_own a d n ≡ true → in_own b d n ≡ true → in_own o d n ≡ true
+in_own_between n a b o d p q e f =
+    let start : nat_le memory_start a ≡ true = and_left (nat_le memory_start a) (is_some (landing memory_size n (a - memory_start) d)) e in
+    let first : is_some (landing memory_size n (a - memory_start) d) ≡ true = and_right (nat_le memory_start a) (is_some (landing memory_size n (a - memory_start) d)) e in
+    let last : is_some (landing memory_size n (b - memory_start) d) ≡ true = and_right (nat_le memory_start b) (is_some (landing memory_size n (b - memory_start) d)) f in
+    let here : nat_le memory_start o ≡ true = grind (arith, nat_tests) in
+    let there : is_some (landing memory_size n (o - memory_start) d) ≡ true =
+    landed_between memory_size n (a - memory_start) (b - memory_start) (o - memory_start) d (omega (arith, p)) (omega (arith, q)) first last in
+    rw (here, there) refl
+
+pub own_under : (k l : Kind) (d : ℤ) (n : ℕ) → IsBounded k → Under k l → is_own_memory l d n ≡ true → is_own_memory k d n ≡ true
+own_under (Num x) (Num y) d n h u e =
+    let first : in_own y.unsigned.low d n ≡ true = and_left (in_own y.unsigned.low d n) (in_own y.unsigned.high d n) e in
+    let last : in_own y.unsigned.high d n ≡ true = and_right (in_own y.unsigned.low d n) (in_own y.unsigned.high d n) e in
+    let low : in_own x.unsigned.low d n ≡ true =
+    in_own_between n y.unsigned.low y.unsigned.high x.unsigned.low d u.unsigned.from (omega (arith, h.words.ordered, u.unsigned.upto)) first last in
+    let high : in_own x.unsigned.high d n ≡ true =
+    in_own_between n y.unsigned.low y.unsigned.high x.unsigned.high d (omega (arith, h.words.ordered, u.unsigned.from)) u.unsigned.upto first last in
+    rw (low, high) refl
+own_under k (Num y) d n h u e = absurd u
+own_under k l d n h u e = absurd (let bad : false ≡ true = e in cc)
+
+pub own_outside : (k : Kind) (d : ℤ) (n : ℕ) → is_own_memory k d n ≡ true → place_of k d n ≡ place.Outside
+unfolding place_of
+own_outside (Num x) d n e = refl
+own_outside k d n e = absurd (let bad : false ≡ true = e in cc)
+
 call_keeps : (s t : Abstract) (h : Helper) → IsState s → StateUnder s t → first_failing (call_rules false t h) ≡ None → first_failing (call_rules false s h) ≡ None
 unfolding call_rules
 call_keeps s t helper.Copy a u e =
@@ -379,8 +409,9 @@ rules_mono s t (instr.Branch w c dst from distance) r a b u e =
     (are_set_under s t (dst ∷ source_registers from) u) (λ _. compares_under s t w c dst from u) e
 rules_mono s t (instr.CallHelper number) r a b u e = by_helper (helper_of (cast_unsigned w32 number)) e
   where
-    by_helper : (m : Option Helper) → first_failing (option_map_or (call_rules false t) m []) ≡ None → first_failing (option_map_or (call_rules false s) m []) ≡ None
-    by_helper None e = refl
+    by_helper : (m : Option Helper) → first_failing (option_map_or (call_rules false t) m (check cause.UnknownHelper false ∷ [])) ≡ None
+        → first_failing (option_map_or (call_rules false s) m (check cause.UnknownHelper false ∷ [])) ≡ None
+    by_helper None e = e
     by_helper (Some h) e = call_keeps s t h a u e
 rules_mono s t (instr.CallLocal distance) r a b u e = refl
 rules_mono s t instr.Exit r a b u e =

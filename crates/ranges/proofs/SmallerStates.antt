@@ -18,7 +18,7 @@ use Rattle.bpf_isa.specs.Spelling.{IsInRange}
 use Rattle.bpf_isa.specs.Slots.{target_slot}
 use Rattle.helpers.specs.declared.helper.Helper.{Helper}
 use Rattle.helpers.specs.declared.helper.Helper.TheVariants as helper
-use Rattle.helpers.specs.Helper.{helper_of}
+use Rattle.helpers.specs.Helper.{helper_of, summing_of}
 use Rattle.machine.specs.Memory.{byte_count}
 use Rattle.machine.specs.Step.{operands, source_registers}
 use Rattle.intervals.specs.Spans.{span, IsSpan}
@@ -316,12 +316,12 @@ after_mono sectors s t (instr.ByteOrder o size dst) r a b u e =
 after_mono sectors s t (instr.Jump distance) r a b u e = u
 after_mono sectors s t (instr.LongJump distance) r a b u e = u
 after_mono sectors s t (instr.Branch w c dst from distance) r a b u e = u
-after_mono sectors s t (instr.CallHelper number) r a b u e = by_helper (helper_of (cast_unsigned w32 number)) e
+after_mono sectors s t (instr.CallHelper number) r a b u e = by_helper (helper_of (cast_unsigned w32 number)) (summing_of (cast_unsigned w32 number)) e
   where
-    by_helper : (m : Option Helper) → first_failing (option_map_or (call_rules false t) m []) ≡ None
-        → StateUnder (option_map_or (call_after s) m (after_answer s (Num any_word))) (option_map_or (call_after t) m (after_answer t (Num any_word)))
-    by_helper None e = answered_under s t (Num any_word) u
-    by_helper (Some h) e = call_under s t h a u e
+    by_helper : (m n : Option Helper) → first_failing (option_map_or (call_rules false t) m (check cause.UnknownHelper false ∷ [])) ≡ None
+        → StateUnder (option_map_or (call_after s) (option_or m n) (after_answer s (Num any_word))) (option_map_or (call_after t) (option_or m n) (after_answer t (Num any_word)))
+    by_helper None n e = absurd (let bad : Some cause.UnknownHelper ≡ None = e in cc)
+    by_helper (Some h) n e = call_under s t h a u e
 after_mono sectors s t (instr.CallLocal distance) r a b u e = answered_under s t (Num any_word) u
 after_mono sectors s t instr.Exit r a b u e = u
 after_mono sectors s t (instr.Load size dst base distance) r a b u e = load_under sectors s t dst size base distance a u e

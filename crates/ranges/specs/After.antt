@@ -14,7 +14,7 @@ use Rattle.helpers.specs.declared.helper.Helper.{Helper}
 use Rattle.helpers.specs.declared.helper.Helper.TheVariants as helper
 use Rattle.helpers.specs.declared.helper.Answer.{Answer}
 use Rattle.helpers.specs.declared.helper.Answer.TheVariants as answer
-use Rattle.helpers.specs.Helper.{helper_of, answer_of}
+use Rattle.helpers.specs.Helper.{asked_of, answer_of}
 use Rattle.machine.specs.Memory.{byte_count}
 use Rattle.intervals.specs.Spans.{span, only}
 use Rattle.intervals.specs.Reducing.{any_sign}
@@ -26,7 +26,7 @@ use Rattle.ranges.specs.Kinds.{Kind, Unset, Word, Num, SectorOrNull, is_unknown}
 use Rattle.ranges.specs.Groups.{GroupKind, Marked, Spilled, unset_marks, map_places}
 use Rattle.ranges.specs.States.{Abstract, unset_groups}
 use Rattle.ranges.specs.Pointers.{moved_pointer}
-use Rattle.ranges.specs.Places.{place_of, mark_in, is_mark, is_group}
+use Rattle.ranges.specs.Places.{place_of, is_own_memory, mark_in, is_mark, is_group}
 use Rattle.ranges.specs.Reading.{value, second, with_value, with_groups, words, any_word}
 use Rattle.ranges.specs.Rules.{length_of}
 
@@ -129,10 +129,13 @@ abbrev pub computed : Bool → Option Kind → Option Kind
 computed true m = Some Word
 computed false m = m
 
--- a load of eight bytes may give an address
+-- a load of eight bytes may give an address; one of the memory that a program has of its own gives any number
 abbrev pub loosely_loaded : Size → Kind
 loosely_loaded size.Double = Word
 loosely_loaded n = any_of (byte_count n)
+
+abbrev pub loosely_loaded_at : Abstract → Size → ℕ → ℤ → Kind
+loosely_loaded_at s size base distance = if is_own_memory (value s base) distance (byte_count size) then any_of (byte_count size) else loosely_loaded size
 
 -- the groups where nothing is known of those that have one of n bytes from a place on, or of any
 abbrev pub group_forgotten : ℕ → ℕ → ℕ → GroupKind → GroupKind
@@ -142,8 +145,12 @@ unfoldable pub groups_forgotten : List GroupKind → Place → ℕ → List Grou
 groups_forgotten groups (place.Stack at) n = map_places (group_forgotten at n) 0 groups
 groups_forgotten groups p n = unset_groups
 
+-- a store to that memory leaves the frame as it is
+abbrev pub groups_left : List GroupKind → Kind → ℤ → ℕ → List GroupKind
+groups_left groups k distance n = if is_own_memory k distance n then groups else groups_forgotten groups (place_of k distance n) n
+
 abbrev pub loosely_stored : Abstract → ℕ → ℤ → ℕ → Abstract
-loosely_stored s base distance n = with_groups s (groups_forgotten s.groups (place_of (value s base) distance n) n)
+loosely_stored s base distance n = with_groups s (groups_left s.groups (value s base) distance n)
 
 -- `loose` says whether such a rule is broken
 unfoldable pub call_with : Bool → Abstract → Helper → Abstract
@@ -159,14 +166,15 @@ after_with loose sectors s (instr.Negate w dst) = option_map (with_value s dst) 
 after_with loose sectors s (instr.SignExtend e dst src) = option_map (with_value s dst) (computed loose (number_result (instr.SignExtend e dst src) Unset (value s src)))
 after_with loose sectors s (instr.ByteOrder o size dst) = option_map (with_value s dst) (computed loose (number_result (instr.ByteOrder o size dst) (value s dst) Unset))
 after_with loose sectors s (instr.Load size dst base distance) =
-    Some (if loose then with_value s dst (loosely_loaded size) else load_after sectors s dst size base distance)
+    Some (if loose then with_value s dst (loosely_loaded_at s size base distance) else load_after sectors s dst size base distance)
 after_with loose sectors s (instr.LoadSigned size dst base distance) = Some (with_value s dst (Num any_word))
 after_with loose sectors s (instr.StoreImmediate size base distance n) =
     Some (if loose then loosely_stored s base distance (byte_count size) else store_after s (second s (source.Immediate n)) size base distance)
 after_with loose sectors s (instr.Store size base distance src) =
     Some (if loose then loosely_stored s base distance (byte_count size) else store_after s (value s src) size base distance)
 after_with loose sectors s (instr.LoadImmediate dst x) = Some (with_value s dst (Num (any_sign (only x))))
-after_with loose sectors s (instr.CallHelper number) = Some (option_map_or (call_with loose s) (helper_of (cast_unsigned w32 number)) (after_answer s (Num any_word)))
+after_with loose sectors s (instr.CallHelper number) =
+    Some (option_map_or (call_with loose s) (asked_of (cast_unsigned w32 number)) (after_answer s (Num any_word)))
 after_with loose sectors s (instr.CallLocal distance) = Some (after_answer s (Num any_word))
 after_with loose sectors s i = Some s
 

@@ -6,7 +6,8 @@ use Rattle.ranges.specs.declared.place.Place.{Place}
 use Rattle.ranges.specs.declared.place.Place.TheVariants as place
 use Rattle.ranges.specs.declared.place.Mark.{Mark}
 use Rattle.ranges.specs.declared.place.Mark.TheVariants as mark
-use Rattle.ranges.specs.Kinds.{Kind, Ctx, Stack, Sector, is_number}
+use Rattle.machine.specs.OwnMemory.{memory_start, memory_size}
+use Rattle.ranges.specs.Kinds.{Kind, Num, Ctx, Stack, Sector, is_number}
 use Rattle.ranges.specs.Groups.{GroupKind, Marked, Spilled}
 use Rattle.ranges.specs.Pointers.{offset_in}
 
@@ -21,6 +22,14 @@ place_of (Stack o) distance n = option_map_or (λ at. place.Stack at) (landing 5
 place_of (Sector x) distance n =
     if is_some (landing 512 n x.low distance) && is_some (landing 512 n x.high distance) then place.Sector else place.Outside
 place_of k distance n = place.Outside
+
+-- whether n bytes at a distance from a number lie in the memory that a program with guards has of its own, whichever it is
+abbrev pub in_own : ℕ → ℤ → ℕ → Bool
+in_own o distance n = nat_le memory_start o && is_some (landing memory_size n (o - memory_start) distance)
+
+abbrev pub is_own_memory : Kind → ℤ → ℕ → Bool
+is_own_memory (Num x) distance n = in_own x.unsigned.low distance n && in_own x.unsigned.high distance n
+is_own_memory k distance n = false
 
 -- n bytes in the stack lie below its end
 abbrev pub Fits : Place → ℕ → Type 0

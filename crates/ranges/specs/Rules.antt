@@ -1,6 +1,6 @@
 -- The rules of an instruction at a state, in their order (docs/VERIFIER.md, Rules at a slot and Guards). Guards lift some of
 -- them, and ask of a register only that it isn't unset.
-use Rattle.std.specs.Prelude.{ℕ, not, ◌&&◌, ◌||◌, Bool, true, false, ℤ, pos, List, [], ◌∷◌, is_some}
+use Rattle.std.specs.Prelude.{ℕ, not, ◌&&◌, ◌||◌, Bool, if◌then◌else◌, true, false, ℤ, pos, List, [], ◌∷◌, is_some}
 use Rattle.std.specs.Option.{option_map_or}
 use Rattle.std.specs.Ordering.{int_eq}
 use Rattle.std.specs.Int.{cast_unsigned, w32}
@@ -17,7 +17,7 @@ use Rattle.bpf_isa.specs.declared.instr.Condition.{Condition}
 use Rattle.bpf_isa.specs.declared.instr.Condition.TheVariants as cond
 use Rattle.helpers.specs.declared.helper.Helper.{Helper}
 use Rattle.helpers.specs.declared.helper.Helper.TheVariants as helper
-use Rattle.helpers.specs.Helper.{helper_of, arguments}
+use Rattle.helpers.specs.Helper.{helper_of, asked_of, arguments}
 use Rattle.machine.specs.Memory.{byte_count, plain_size}
 use Rattle.machine.specs.Step.{source_registers, operands}
 use Rattle.base.specs.declared.causes.VerifierCause.{VerifierCause}
@@ -126,7 +126,11 @@ call_rules guards s helper.Copy =
     ∷ []
 call_rules guards s h = reads guards s (arguments h) ∷ check cause.HelperArgument (guards || are_numbers s (arguments h)) ∷ []
 
--- the rules of an instruction, with guards or without; that helpers are known is a rule of shape
+-- of the helper of a number; that it is known is a rule of shape too
+abbrev pub number_rules : Bool → Abstract → ℕ → List (Check VerifierCause)
+number_rules guards s n = option_map_or (call_rules guards s) (if guards then asked_of n else helper_of n) (check cause.UnknownHelper false ∷ [])
+
+-- the rules of an instruction, with guards or without
 unfoldable pub rules_with : Bool → Abstract → Instr → List (Check VerifierCause)
 rules_with guards s (instr.Arithmetic w o dst from) =
     reads guards s (operands o dst from) ∷ computes (guards || may_compute w o (value s dst) (second s from)) ∷ []
@@ -137,7 +141,7 @@ rules_with guards s (instr.Jump distance) = []
 rules_with guards s (instr.LongJump distance) = []
 rules_with guards s (instr.Branch w c dst from distance) =
     reads guards s (dst ∷ source_registers from) ∷ check cause.PointerAsNumber (guards || compares s w c dst from) ∷ []
-rules_with guards s (instr.CallHelper number) = option_map_or (call_rules guards s) (helper_of (cast_unsigned w32 number)) []
+rules_with guards s (instr.CallHelper number) = number_rules guards s (cast_unsigned w32 number)
 rules_with guards s (instr.CallLocal distance) = []
 rules_with guards s instr.Exit = reads guards s (0 ∷ []) ∷ check cause.PointerAsNumber (guards || is_number (value s 0)) ∷ []
 rules_with guards s (instr.Load size dst base distance) = load_rules guards s base distance (byte_count size)

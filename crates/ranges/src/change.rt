@@ -4,13 +4,13 @@ ghost use Rattle.std.specs.Prelude.{◌≡◌, ◌==◌, ◌<◌, nat_le, if◌t
 ghost use Rattle.std.specs.Option.{option_map, option_map_or};
 ghost use Rattle.machine.specs.Memory.{byte_count};
 ghost use Rattle.helpers.specs.declared.helper.Helper.TheVariants as helper;
-ghost use Rattle.ranges.specs.After.{after_with, computed, after_answer, call_with, load_after, store_after, loosely_loaded, loosely_stored, groups_forgotten};
+ghost use Rattle.ranges.specs.After.{after_with, computed, after_answer, call_with, load_after, store_after, loosely_loaded, loosely_loaded_at, loosely_stored, groups_left, groups_forgotten};
 ghost use Rattle.ranges.specs.Changing.{after_change, groups_after, left_of};
 ghost use Rattle.ranges.specs.Groups.{Marked};
 ghost use Rattle.ranges.specs.Kinds.{Num, Unset};
 ghost use Rattle.ranges.specs.Passing.{edge_with};
 ghost use Rattle.ranges.specs.Places.{place_of};
-ghost use Rattle.ranges.specs.Reading.{any_word, with_value};
+ghost use Rattle.ranges.specs.Reading.{any_word, with_groups, with_value};
 ghost use Rattle.ranges.specs.Seen.{kind_of};
 ghost use Rattle.ranges.specs.SeenStates.{group_of, state_of};
 
@@ -18,7 +18,7 @@ use crate::bytes::is_group;
 use crate::edges::{is_equal_edge, tested_value};
 use crate::effects::{answer_value, any_of, load_result, number_result, result_value};
 use crate::group::Group;
-use crate::place::{Place, place_of};
+use crate::place::{Place, is_own_memory, place_of};
 use crate::rules::is_null_test;
 use crate::spill::Spill;
 use crate::state::State;
@@ -179,6 +179,16 @@ fn bytes_forgotten(state: &State, base: Value, offset: i16, n: u64) -> Stretch
     }
 }
 
+/// A store whose rules are broken. One to the program's own memory leaves the frame as it is.
+fn store_loosely(state: &State, base: Value, offset: i16, n: u64) -> Change
+    ensures { after_change (state_of state.now) result ≡ with_groups (state_of state.now) (groups_left (state_of state.now).groups (kind_of base) offset n) }
+{
+    if is_own_memory(base, offset, n) {
+        return Change::Stays;
+    }
+    Change::Bytes(bytes_forgotten(state, base, offset, n))
+}
+
 /// A store. Outside of the stack nothing changes where no rule is broken.
 #[tactic(auto, unfolding(crate::specs::After::stored_groups, crate::specs::Changing::groups_after, crate::specs::After::groups_after_write))]
 fn store(
@@ -194,7 +204,7 @@ fn store(
     let n = byte_count(size);
     let base = state.value(base);
     if loose {
-        return Change::Bytes(bytes_forgotten(state, base, offset, n));
+        return store_loosely(state, base, offset, n);
     }
     match place_of(base, offset, n) {
         Place::Stack(at) => if value.is_set() && is_group(at, n) {
@@ -221,6 +231,17 @@ fn loosely_loaded(size: Size) -> Value
     }
 }
 
+/// The same, by its place.
+fn loosely_loaded_at(state: &State, size: Size, base: Register, offset: i16) -> Value
+    ensures { kind_of result ≡ loosely_loaded_at (state_of state.now) size base offset }
+{
+    if is_own_memory(state.value(base), offset, byte_count(size)) {
+        any_of(size)
+    } else {
+        loosely_loaded(size)
+    }
+}
+
 /// A load.
 fn load(
     loose: bool,
@@ -231,10 +252,10 @@ fn load(
     base: Register,
     offset: i16,
 ) -> Change
-    ensures { after_change (state_of state.now) result ≡ (if loose then with_value (state_of state.now) dst (loosely_loaded size) else load_after sectors (state_of state.now) dst size base offset) }
+    ensures { after_change (state_of state.now) result ≡ (if loose then with_value (state_of state.now) dst (loosely_loaded_at (state_of state.now) size base offset) else load_after sectors (state_of state.now) dst size base offset) }
 {
     if loose {
-        return Change::Register(dst, loosely_loaded(size));
+        return Change::Register(dst, loosely_loaded_at(state, size, base, offset));
     }
     let place = place_of(state.value(base), offset, byte_count(size));
     Change::Register(dst, load_result(state, sectors, place, size))
@@ -248,6 +269,9 @@ fn copy(loose: bool, state: &State) -> Change
     let n = state.at(3).words().unsigned.low;
     let base = state.at(2);
     let answer = answer_value(Helper::Copy);
+    if loose && is_own_memory(base, 0, n) {
+        return Change::Answer(answer);
+    }
     if loose {
         return Change::Copied(bytes_forgotten(state, base, 0, n), answer);
     }
@@ -328,7 +352,7 @@ pub fn effect_after(loose: bool, instr: &Instr, state: &State, sectors: u32) -> 
             Value::Num(Bounds::constant(*value)),
         )),
         Instr::CallHelper { number } => {
-            let helper = Helper::of(number.cast_unsigned());
+            let helper = Helper::asked(number.cast_unsigned());
             Effect::Changed(call(loose, state, helper))
         }
         Instr::CallLocal { .. } => Effect::Changed(Change::Answer(Value::Num(Bounds::full()))),

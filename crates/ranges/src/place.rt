@@ -1,7 +1,7 @@
 //! Where an access falls.
 
 ghost use Rattle.std.specs.Prelude.{◌≡◌, ◌≤◌, ◌+◌, IfSome};
-ghost use Rattle.ranges.specs.Places.{landing, place_of, Fits};
+ghost use Rattle.ranges.specs.Places.{in_own, is_own_memory, landing, place_of, Fits};
 ghost use Rattle.ranges.specs.Seen.{kind_of};
 
 use crate::pointers::offset_in;
@@ -40,6 +40,32 @@ fn landing(size: u64, n: u64, offset: u64, distance: i16) -> Option<u64>
         offset_in(size - n, i128::from(offset) + i128::from(distance))
     } else {
         None
+    }
+}
+
+/// Where the memory begins that a program with guards has of its own (docs/MACHINE.md, Memory).
+const MEMORY_START: u64 = 0x100_0000_0000;
+
+/// How many bytes it has.
+const MEMORY: u64 = 65536;
+
+/// Whether n bytes at a distance from a number lie in it.
+fn in_own(number: u64, distance: i16, n: u64) -> bool
+    ensures { result ≡ in_own number distance n }
+{
+    number >= MEMORY_START && landing(MEMORY, n, number - MEMORY_START, distance).is_some()
+}
+
+/// The same, whichever number a value may be.
+pub(crate) fn is_own_memory(base: Value, distance: i16, n: u64) -> bool
+    ensures { result ≡ is_own_memory (kind_of base) distance n }
+{
+    match base {
+        Value::Num(number) => {
+            let range = number.unsigned;
+            in_own(range.low, distance, n) && in_own(range.high, distance, n)
+        }
+        _ => false,
     }
 }
 

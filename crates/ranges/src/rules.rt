@@ -8,13 +8,12 @@ ghost use Rattle.machine.specs.Step.{source_registers, operands};
 ghost use Rattle.ranges.specs.Kinds.{is_number};
 ghost use Rattle.ranges.specs.Reading.{value, second};
 ghost use Rattle.ranges.specs.Places.{place_of, is_inside, none_is, is_group, Fits};
-ghost use Rattle.ranges.specs.Rules.{may_compute, compares, is_null_test, is_zero, is_equality, may_be_null, has_no, is_whole, load_rules, store_rules, call_rules, rules, rules_with, are_read, are_numbers, reads, computes};
+ghost use Rattle.ranges.specs.Rules.{number_rules, may_compute, compares, is_null_test, is_zero, is_equality, may_be_null, has_no, is_whole, load_rules, store_rules, call_rules, rules, rules_with, are_read, are_numbers, reads, computes};
 ghost use Rattle.ranges.specs.Seen.{kind_of};
 ghost use Rattle.ranges.specs.SeenStates.{state_of};
 ghost use Rattle.std.specs.Int.{cast_unsigned, w32};
 ghost use Rattle.std.specs.Option.{option_map_or};
-ghost use Rattle.helpers.specs.Helper.{helper_of};
-ghost use Rattle.helpers.specs.Queries.{one_or_two};
+ghost use Rattle.helpers.specs.Queries.{registers_of};
 ghost use Rattle.bpf_isa.specs.declared.instr.Source.TheVariants as operand;
 
 use crate::bytes::{has_no, is_whole};
@@ -27,7 +26,7 @@ use arithmetic::{byte_count, plain_size};
 use base::causes::VerifierCause;
 use bpf_isa::instr::{Condition, Instr, Operator, Size, Source, Width};
 use bpf_isa::register::Register;
-use helpers::Helper;
+use helpers::{Arity, Helper};
 use intervals::Bounds;
 
 /// Whether arithmetic may take these operands.
@@ -242,18 +241,21 @@ fn argument_breach(are_read: bool, may: bool) -> Option<VerifierCause>
     }
 }
 
-/// The first rule that a call of a helper that takes a number, or two, breaks.
-fn number_breach(guards: bool, state: &State, has_two: bool) -> Option<VerifierCause>
-    ensures { result ≡ first_failing (reads guards (state_of state.now) (one_or_two has_two) ∷ check VerifierCause.HelperArgument (guards || are_numbers (state_of state.now) (one_or_two has_two)) ∷ []) }
+/// The first rule that a call of a helper that takes so many numbers breaks.
+fn number_breach(guards: bool, state: &State, arity: Arity) -> Option<VerifierCause>
+    ensures { result ≡ first_failing (reads guards (state_of state.now) (registers_of arity) ∷ check VerifierCause.HelperArgument (guards || are_numbers (state_of state.now) (registers_of arity)) ∷ []) }
 {
-    let (first, other) = (state.at(1), state.at(2));
-    if has_two {
-        argument_breach(
-            is_read(guards, first) && is_read(guards, other),
-            guards || (first.is_number() && other.is_number()),
-        )
-    } else {
-        argument_breach(is_read(guards, first), guards || first.is_number())
+    let (first, second, third) = (state.at(1), state.at(2), state.at(3));
+    match arity {
+        Arity::One => argument_breach(is_read(guards, first), guards || first.is_number()),
+        Arity::Two => argument_breach(
+            is_read(guards, first) && is_read(guards, second),
+            guards || (first.is_number() && second.is_number()),
+        ),
+        Arity::Three => argument_breach(
+            is_read(guards, first) && is_read(guards, second) && is_read(guards, third),
+            guards || (first.is_number() && second.is_number() && third.is_number()),
+        ),
     }
 }
 
@@ -264,18 +266,24 @@ fn call_breach(guards: bool, state: &State, helper: Helper) -> Option<VerifierCa
 {
     match helper {
         Helper::Copy => copy_breach(guards, state),
-        Helper::Query(query) => number_breach(guards, state, query.has_two()),
-        _ => number_breach(guards, state, false),
+        Helper::Query(query) => number_breach(guards, state, query.arity()),
+        _ => number_breach(guards, state, Arity::One),
     }
 }
 
-/// The first rule that a call of the helper of this number breaks; none where there is no such helper.
+/// The first rule that a call of the helper of this number breaks.
 fn numbered_breach(guards: bool, state: &State, number: i32) -> Option<VerifierCause>
-    ensures { result ≡ first_failing (option_map_or (call_rules guards (state_of state.now)) (helper_of (cast_unsigned w32 number)) []) }
+    ensures { result ≡ first_failing (number_rules guards (state_of state.now) (cast_unsigned w32 number)) }
 {
-    match Helper::of(number.cast_unsigned()) {
+    let number = number.cast_unsigned();
+    let helper = if guards {
+        Helper::asked(number)
+    } else {
+        Helper::of(number)
+    };
+    match helper {
         Some(helper) => call_breach(guards, state, helper),
-        None => None,
+        None => Some(VerifierCause::UnknownHelper),
     }
 }
 

@@ -10,6 +10,7 @@ ghost use Rattle.images.specs.Views.{IsMember, view_of};
 ghost use Rattle.helpers.specs.Footprint.{lists};
 ghost use Rattle.interp.specs.Ending.{ending_of};
 ghost use Rattle.checker.specs.Checker.{IsFor, AreFor};
+ghost use Rattle.checker.specs.Memory.{IsServed};
 ghost use Rattle.report.specs.Line.{fails};
 ghost use Rattle.runs.specs.Blind.{covers, is_bare, ending_on, looks_on, whole_at, is_blind_at, is_blind, changes, has_few_contexts, is_noticed, same_context, IsLastContext};
 
@@ -17,7 +18,7 @@ use crate::basis::Basis;
 use crate::task::Task;
 use arrayvec::ArrayVec;
 use base::refusal::Refusal;
-use checker::Checker;
+use checker::{Checker, RunMemory};
 use choices::{Choice, Starts};
 use epochs::Plan;
 use images::{History, View};
@@ -106,13 +107,15 @@ fn passes_with(outcome: &Outcome) -> bool
 
 /// What a checker ends in on an image, with the footprint of that run.
 #[tactic(auto, unfolding(crate::specs::Blind::ending_on, crate::specs::Blind::looks_on))]
-fn noted_on(view: &View<'_>, checker: &Checker<'_>) -> Noted<ROOM>
+fn noted_on(memory: &mut RunMemory, view: &View<'_>, checker: &Checker<'_>) -> Noted<ROOM>
     requires device { IsFor view.now.log.sectors checker.now.verified }
+    requires served { IsServed memory.old checker.now.guards }
     ensures ends { ending_of result.outcome ≡ ending_on checker.now view.now }
     ensures looks { result.footprint.sectors ≡ looks_on checker.now view.now }
+    ensures memory { memory.new ≡ memory.old }
 {
     let context = view.context();
-    checker.judge_noted::<View<'_>, ROOM>(&context, view)
+    checker.judge_noted::<View<'_>, ROOM>(memory, &context, view)
 }
 
 /// Whether a run passed and looked at no sector that an entry writes or discards.
@@ -144,21 +147,24 @@ fn whole_choice(starts: &Starts<'_>, place: usize) -> Choice
 /// writes or discards.
 fn is_blind_at(
     alloc: Global,
+    memory: &mut RunMemory,
     basis: &Basis<'_>,
     checker: &Checker<'_>,
     place: usize,
     known: &mut ArrayVec<u32, KEPT>,
 ) -> Result<bool, AllocError>
     requires device { IsFor basis.now.task.now.log.now.sectors checker.now.verified }
+    requires served { IsServed memory.old checker.now.guards }
     requires place { place < length (cuts_of basis.now.task.now.plan.now.kind basis.now.task.now.log.now.entries) }
     requires known { list_all (is_bare basis.now.task.now.log.now.entries) known.old.items ≡ true }
+    ensures memory { memory.new ≡ memory.old }
     ensures value { IfOk result (λ blind. (cut : ℕ) → slice_get (cuts_of basis.now.task.now.plan.now.kind basis.now.task.now.log.now.entries) place ≡ Some cut
         → blind ≡ is_blind_at checker.now basis.now.task.now.log.now cut) }
     ensures known { OnOk result (list_all (is_bare basis.now.task.now.log.now.entries) known.new.items ≡ true) }
 {
     let choice = whole_choice(basis.starts, place);
     let view = basis.history.view(alloc, &choice)?;
-    let run = noted_on(&view, checker);
+    let run = noted_on(memory, &view, checker);
     Ok(was_blind(basis.task.log.entries(), known, &run))
 }
 
@@ -186,15 +192,18 @@ fn has_last_context(plan: &Plan<'_>, place: usize) -> bool
 /// the checker looked at there, no entry changed.
 fn is_blind_next(
     alloc: Global,
+    memory: &mut RunMemory,
     basis: &Basis<'_>,
     checker: &Checker<'_>,
     place: usize,
     known: &mut ArrayVec<u32, KEPT>,
 ) -> Result<bool, AllocError>
     requires device { IsFor basis.now.task.now.log.now.sectors checker.now.verified }
+    requires served { IsServed memory.old checker.now.guards }
     requires place { place < length (cuts_of basis.now.task.now.plan.now.kind basis.now.task.now.log.now.entries) }
     requires known { list_all (is_bare basis.now.task.now.log.now.entries) known.old.items ≡ true }
     requires before { list_all (is_blind_at checker.now basis.now.task.now.log.now) (take place (cuts_of basis.now.task.now.plan.now.kind basis.now.task.now.log.now.entries)) ≡ true }
+    ensures memory { memory.new ≡ memory.old }
     ensures value { IfOk result (λ blind. (cut : ℕ) → slice_get (cuts_of basis.now.task.now.plan.now.kind basis.now.task.now.log.now.entries) place ≡ Some cut
         → blind ≡ is_blind_at checker.now basis.now.task.now.log.now cut) }
     ensures known { OnOk result (list_all (is_bare basis.now.task.now.log.now.entries) known.new.items ≡ true) }
@@ -203,7 +212,7 @@ fn is_blind_next(
     if place > 0 && has_last_context(basis.task.plan, place) {
         return Ok(true);
     }
-    is_blind_at(alloc, basis, checker, place, known)
+    is_blind_at(alloc, memory, basis, checker, place, known)
 }
 
 /// Whether a checker does so at each wanted cut, and there is one.
@@ -212,9 +221,10 @@ fn is_blind(alloc: Global, basis: &Basis<'_>, checker: &Checker<'_>) -> Result<b
     ensures { IfOk result (λ blind. blind ≡ is_blind basis.now.task.now.plan.now checker.now) }
 {
     let cuts = basis.task.plan.cuts();
+    let mut memory = RunMemory::of(alloc, checker)?;
     let mut known = ArrayVec::new();
     for place in 0..cuts.len() {
-        let blind = is_blind_next(alloc, basis, checker, place, &mut known)?;
+        let blind = is_blind_next(alloc, &mut memory, basis, checker, place, &mut known)?;
         if !blind {
             return Ok(false);
         }

@@ -63,13 +63,13 @@ answers sectors known m list k x turns codes site long passes small means =
     (goes_first sectors (after.after_answer known k) to [] stands long)
 
 -- registers that may be read are set, with guards and without
-read_set : (guards : Bool) (sectors : ℕ) (known : Abstract) (m : Parts) (list : List ℕ) → Site sectors known m → are_read guards known list ≡ true
+pub read_set : (guards : Bool) (sectors : ℕ) (known : Abstract) (m : Parts) (list : List ℕ) → Site sectors known m → are_read guards known list ≡ true
     → list_all (λ r. is_some (get_or m.registers r None)) list ≡ true
 read_set true sectors known m list site e = words_set sectors (number m) known m.registers list site.stands.values e
 read_set false sectors known m list site e = reads_set sectors (number m) known m.registers list site.stands.values e
 
 -- the checks of a call that reads these registers
-reads_pass : (guards : Bool) (program : List (Option Instr)) (sectors : ℕ) (known : Abstract) (m : Parts) (list : List ℕ) → Site sectors known m → are_read guards known list ≡ true
+pub reads_pass : (guards : Bool) (program : List (Option Instr)) (sectors : ℕ) (known : Abstract) (m : Parts) (list : List ℕ) → Site sectors known m → are_read guards known list ≡ true
     → is_some (at program (m.slot + 1)) ≡ true → first_failing (step.reads (machine m) list ∷ step.goes_on program (m.slot + 1) ∷ []) ≡ None
 reads_pass guards program sectors known m list site is next =
     pass_two fault.UnsetRegister fault.NoInstruction (list_all (λ r. is_some (get_or m.registers r None)) list) (is_some (at program (m.slot + 1))) (read_set guards sectors known m list site is) next
@@ -231,9 +231,9 @@ other_goes guards program sectors device context known m helper.Report e set sit
 other_goes guards program sectors device context known m (helper.Query q) e set site next limit keeps =
     let list : List ℕ = query_arguments q in
     let is = (first_check cause.UnsetRegister (are_read guards known list) (check cause.HelperArgument (guards || are_numbers known list) ∷ []) keeps).0 in
-    let x : ℕ = query_answer device q (word (machine m) 1) (word (machine m) 2) in
+    let x : ℕ = query_answer device q (word (machine m) 1) (word (machine m) 2) (word (machine m) 3) in
     let count = site.few.device in
-    let fits : IsAnswer sectors (query_kind q) x = subst (λ (n : ℕ). IsAnswer n (query_kind q) x) set.count (query_fits device q (word (machine m) 1) (word (machine m) 2)) in
+    let fits : IsAnswer sectors (query_kind q) x = subst (λ (n : ℕ). IsAnswer n (query_kind q) x) set.count (query_fits device q (word (machine m) 1) (word (machine m) 2) (word (machine m) 3)) in
     answers sectors known m (step.reads (machine m) list ∷ step.goes_on program (m.slot + 1) ∷ []) (kind_answered (query_kind q)) x m.turns m.codes site site.turns
     (reads_pass guards program sectors known m list site is next) (answer_word sectors (query_kind q) x (omega (arith, count)) (kind_fits q) fits)
     (answer_means sectors (number m) (query_kind q) x (kind_fits q) fits)

@@ -151,11 +151,11 @@ call_there program s e = by_slot (at program s) refl e
     by_slot (Some i) is e = by_number i (helper_number i) is refl e
 
 -- what leads to a test is the call before it
-pub test_comes : (program : List (Option Instr)) (s t : ℕ) (i : Instr) (c : Condition) → AgainHasForm → IsProgram program → IsShaped program → at program s ≡ Some i
+pub test_comes : (program : List (Option Instr)) (s t : ℕ) (i : Instr) (c : Condition) → AgainHasForm → IsProgram program → IsShaped true program → at program s ≡ Some i
     → Leads (edges_of s i) t → answer_test program t ≡ Some c → calls_again program s ≡ true
 test_comes program s t i c form p shaped there leads e =
     let test = test_there program t c e in
-    let around = form program (t - 1) shaped test.calls in
+    let around = form true program (t - 1) shaped test.calls in
     let call = call_there program (t - 1) test.calls in
     let positive : t ≢ 0 = elim (eqb_tells t 0) [ inl zero_there ↦ absurd (let bad : false ≡ true = sym test.positive ∙ zero_there.0 in cc) | inr other ↦ other.1 ] in
     let place : t - 1 + 1 ≡ t = omega (arith, positive) in

@@ -1,5 +1,5 @@
 -- Lists of frames, and which of them wait.
-use Rattle.std.proofs.Common.{◌≡◌, ◌<◌, ◌≤◌, ℕ, ◌+◌, ◌-◌, List, [], ◌∷◌, ◌++◌, length, length-append, take, slice_get, Option, None, Some, is_some, refl, sym, ap, ◌∙◌, inr, subst, arith}
+use Rattle.std.proofs.Common.{◌≡◌, ◌<◌, ◌≤◌, ℕ, ◌+◌, ◌-◌, true, List, [], ◌∷◌, ◌++◌, length, length-append, take, slice_get, Option, None, Some, is_some, refl, sym, ap, ◌∙◌, inr, subst, arith}
 use Rattle.std.specs.Option.{option_and_then}
 use Rattle.bpf_isa.specs.declared.instr.Instr.{Instr}
 use Rattle.bpf_shape.specs.Edges.{control}
@@ -154,7 +154,7 @@ module _ (program : List (Option Instr)) (sectors : ℕ) (table : List (Option A
       absurd (omega (arith, none))
 
   -- in a program of right shape no local call is reached in the fourth frame
-  pub not_deeper : (frames : List Frame) (slot enters : ℕ) → IsShaped program → length frames ≤ 4 → AreWaiting program sectors table 0 0 frames slot
+  pub not_deeper : (frames : List Frame) (slot enters : ℕ) → IsShaped true program → length frames ≤ 4 → AreWaiting program sectors table 0 0 frames slot
       → callee program slot ≡ Some enters → length frames < 4
   unfolding Breaks
   not_deeper [] slot enters shaped most w calls = absurd w

@@ -10,6 +10,7 @@ pub mod Loads
 pub mod Stacks
 pub mod Stores
 pub mod Branches
+pub mod OwnPlaces
 pub mod Loose
 pub mod Calls
 pub mod Programs
@@ -28,6 +29,7 @@ pub mod Progress
 pub mod Within
 pub mod Safe
 pub mod LooseStores
+pub mod MadeSteps
 pub mod LooseSteps
 pub mod Filling
 pub mod LooseTables

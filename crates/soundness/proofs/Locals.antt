@@ -148,7 +148,7 @@ pub record Entered (program : List (Option Instr)) (context : List ℕ) (device 
   pub enters : Enters program sectors (passes sectors known m.slot (instr.CallLocal distance)) (machine m) to
 
 pub local_call : (program : List (Option Instr)) (context : List ℕ) (device : List (List ℕ)) (sectors : ℕ) (table : List (Option Abstract)) (known : Abstract) (m : Parts) (distance : ℤ)
-    → IsShaped program → Site sectors known m → at program m.slot ≡ Some (instr.CallLocal distance) → IsMachine (machine m)
+    → IsShaped true program → Site sectors known m → at program m.slot ≡ Some (instr.CallLocal distance) → IsMachine (machine m)
     → AreWaiting program sectors table 0 0 (all_frames m) m.slot → Entered program context device sectors known m distance
 unfolding passed_with after_with entry_state step_of checks effect
 local_call program context device sectors table known m distance shaped site e whole waiting =
@@ -205,7 +205,7 @@ has_below (f ∷ rest) caller stack c none e = omega arith
 
 -- the machine after the call, where the frames below the one that ends are these
 returned : (program : List (Option Instr)) (sectors : ℕ) (table : List (Option Abstract)) (m : Parts) (below : List Frame) (f : Frame) (c : Caller) (x : ℕ)
-    → IsShaped program → IsMachine (machine m) → AreWaiting program sectors table 0 0 (all_frames m) m.slot → m.below ≡ below ++ f ∷ [] → m.caller ≡ Some c → x < 2 ^ 64
+    → IsShaped true program → IsMachine (machine m) → AreWaiting program sectors table 0 0 (all_frames m) m.slot → m.below ≡ below ++ f ∷ [] → m.caller ≡ Some c → x < 2 ^ 64
     → IsKnown program sectors table (record { slot = c.slot; registers = registers_after c x; frames = below ++ f ∷ []; turns = m.turns; codes = m.codes })
 returned program sectors table m below f c x shaped whole waiting is called lt =
     let g : Frame = record { stack = m.stack; caller = m.caller } in
@@ -236,12 +236,12 @@ returned program sectors table m below f c x shaped whole waiting is called lt =
       limit = λ k again set.
           let before : limit_before program (w.call + 1) ≡ Some k = ap (λ (s : ℕ). limit_before program s) (sym w.back) ∙ set in
           absurd (no_limit_after program w.call p.enters k w.calls before);
-      here = edges_begin program shaped.targets shaped.ends w.call c.slot leads;
+      here = edges_begin true program shaped.targets shaped.ends w.call c.slot leads;
       waiting = p.waiting;
     }
 
 pub exit_set : (program : List (Option Instr)) (context : List ℕ) (device : List (List ℕ)) (sectors : ℕ) (table : List (Option Abstract)) (m : Parts) (arrivals : List (ℕ × Abstract))
-    → IsShaped program → AreRegisters m.registers → IsMachine (machine m) → AreWaiting program sectors table 0 0 (all_frames m) m.slot
+    → IsShaped true program → AreRegisters m.registers → IsMachine (machine m) → AreWaiting program sectors table 0 0 (all_frames m) m.slot
     → list_all (λ r. is_some (get_or m.registers r None)) (0 ∷ []) ≡ true → IsCovered program sectors table arrivals (machine m) (step_of program context device (machine m) instr.Exit)
 unfolding step_of checks effect
 exit_set program context device sectors table m arrivals shaped words whole waiting reads =
@@ -290,7 +290,7 @@ exit_set program context device sectors table m arrivals shaped words whole wait
         (sym (tested_passes (machine m) (step.reads (machine m) (0 ∷ []) ∷ step.goes_on program c.slot ∷ []) (exit_frame (machine m) (Some c)) list_passes ∙ same)) (inr (inr returns))
 
 pub exit_covered : (program : List (Option Instr)) (context : List ℕ) (device : List (List ℕ)) (sectors : ℕ) (table : List (Option Abstract)) (known : Abstract) (m : Parts) (arrivals : List (ℕ × Abstract))
-    → IsShaped program → Site sectors known m → IsMachine (machine m) → AreWaiting program sectors table 0 0 (all_frames m) m.slot
+    → IsShaped true program → Site sectors known m → IsMachine (machine m) → AreWaiting program sectors table 0 0 (all_frames m) m.slot
     → first_failing (rules known instr.Exit) ≡ None → IsCovered program sectors table arrivals (machine m) (step_of program context device (machine m) instr.Exit)
 unfolding rules_with
 exit_covered program context device sectors table known m arrivals shaped site whole waiting keeps =

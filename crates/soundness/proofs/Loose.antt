@@ -36,7 +36,7 @@ use Rattle.machine.specs.Guards.{filled_frame, guarded}
 use Rattle.machine.proofs.Filled.{filled_set}
 use Rattle.intervals.proofs.CallerLemmas.{limits_cover, words_are_limits}
 use Rattle.ranges.specs.Passing.{passed_with, edge_with}
-use Rattle.ranges.specs.After.{after_with, loosely_loaded}
+use Rattle.ranges.specs.After.{after_with, any_of, loosely_loaded, loosely_loaded_at}
 use Rattle.ranges.specs.Rules.{guarded_rules, rules_with, load_rules}
 use Rattle.ranges.specs.declared.place.Place.{Place}
 use Rattle.ranges.specs.declared.place.Place.TheVariants as place
@@ -44,7 +44,7 @@ use Rattle.ranges.specs.Kinds.{Kind, Unset, Word, Num, is_unset}
 use Rattle.ranges.specs.States.{Abstract}
 use Rattle.ranges.specs.Order.{Each}
 use Rattle.ranges.specs.Reading.{value, second, with_value, words, any_word, are_words}
-use Rattle.ranges.specs.Places.{place_of, is_inside}
+use Rattle.ranges.specs.Places.{place_of, is_inside, is_own_memory}
 use Rattle.ranges.proofs.Keeping.{words_fit, value_fits, second_fits}
 use Rattle.soundness.specs.Meaning.{Describes, Means}
 use Rattle.soundness.specs.Machines.{IsSetting, IsStack}
@@ -300,6 +300,20 @@ loads program sectors device context known m dst base n x distance k set site fu
     )
     by false e = inr (rw (free, ready, e) refl, outside (is_inside p) mapped e)
 
+-- what a load gives that may be of the memory of its own
+pub loaded_means : (sectors frame : ℕ) (known : Abstract) (s : Size) (base : ℕ) (distance : ℤ) (x : ℕ) → x < 256 ^ byte_count s → Means sectors frame (loosely_loaded_at known s base distance) (Some x)
+loaded_means sectors frame known s base distance x lt = by (is_own_memory (value known base) distance (byte_count s))
+  where
+    loosely : (s : Size) → x < 256 ^ byte_count s → Means sectors frame (loosely_loaded s) (Some x)
+    loosely size.Double lt = (x, refl, tt)
+    loosely size.Byte lt = (x, refl, any_describes sectors frame size.Byte x lt)
+    loosely size.Half lt = (x, refl, any_describes sectors frame size.Half x lt)
+    loosely size.Word lt = (x, refl, any_describes sectors frame size.Word x lt)
+
+    by : (own : Bool) → Means sectors frame (if own then any_of (byte_count s) else loosely_loaded s) (Some x)
+    by true = (x, refl, any_describes sectors frame s x lt)
+    by false = loosely s lt
+
 pub load_loose : (program : List (Option Instr)) (sectors : ℕ) (device : List (List ℕ)) (context : Context) (known : Abstract) (m : Parts) (s : Size) (dst base : ℕ) (distance : ℤ)
     → IsSetting program sectors device context → Site sectors known m → IsFull m → Each (λ f. IsStack f.stack) (all_frames m) → FitsSigned w16 distance
     → not (dst == 10) ≡ true → is_some (at program (m.slot + 1)) ≡ true → first_failing (guarded_rules known (instr.Load s dst base distance)) ≡ None
@@ -313,13 +327,8 @@ load_loose program sectors device context known m s dst base distance set site f
     let x : ℕ = number_from bytes (step.address (machine m) base distance) n in
     let below : x < 256 ^ n = number_small bytes (step.address (machine m) base distance) n
     (λ q. small_byte_at (context_bytes context) device (all_frames m) q (small_context context) (λ k sector e. (set.whole k sector e).bytes) cells) in
-    loads program sectors device context known m dst base n x distance (loosely_loaded s) set site full fits free next are (any_word_below s x below) (means s x below)
-  where
-    means : (s : Size) (x : ℕ) → x < 256 ^ byte_count s → Means sectors (number m) (loosely_loaded s) (Some x)
-    means size.Double x lt = (x, refl, tt)
-    means size.Byte x lt = (x, refl, any_describes sectors (number m) size.Byte x lt)
-    means size.Half x lt = (x, refl, any_describes sectors (number m) size.Half x lt)
-    means size.Word x lt = (x, refl, any_describes sectors (number m) size.Word x lt)
+    loads program sectors device context known m dst base n x distance (loosely_loaded_at known s base distance) set site full fits free next are (any_word_below s x below)
+    (loaded_means sectors (number m) known s base distance x below)
 
 pub signed_load_loose : (program : List (Option Instr)) (sectors : ℕ) (device : List (List ℕ)) (context : Context) (known : Abstract) (m : Parts) (s : SignedSize) (dst base : ℕ) (distance : ℤ)
     → IsSetting program sectors device context → Site sectors known m → IsFull m → Each (λ f. IsStack f.stack) (all_frames m) → FitsSigned w16 distance

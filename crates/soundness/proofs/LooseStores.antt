@@ -1,5 +1,5 @@
 -- Steps with guards where a rule without them is broken: stores and calls of helpers.
-use Rattle.std.proofs.Common.{◌≡◌, ◌<◌, ◌≤◌, ℕ, ◌+◌, ◌-◌, ◌*◌, ◌%◌, ◌^◌, nat_le, not, Bool, true, false, if◌then◌else◌, ℤ, pos, List, [], ◌∷◌, length, get_or, Option, None, is_some, refl, sym, ap, ◌∙◌, inl, inr, subst, arith}
+use Rattle.std.proofs.Common.{◌≡◌, ◌<◌, ◌≤◌, ℕ, ◌+◌, ◌-◌, ◌*◌, ◌%◌, ◌^◌, nat_le, not, ◌&&◌, Bool, true, false, if◌then◌else◌, ℤ, pos, List, [], ◌∷◌, length, get_or, Option, None, Some, unwrap_or, is_some, refl, sym, ap, ◌∙◌, inl, inr, subst, arith}
 use Rattle.std.specs.Prelude.{FitsSigned}
 use Rattle.std.specs.Int.{cast_unsigned, w16, w64}
 use Rattle.std.specs.List.{list_all}
@@ -33,14 +33,13 @@ use Rattle.ranges.specs.Groups.{GroupKind, Marked, unset_marks, map_places}
 use Rattle.ranges.specs.States.{Abstract}
 use Rattle.ranges.specs.Order.{IsBounded}
 use Rattle.ranges.specs.Reading.{value, is_stack, has_length, are_words}
-use Rattle.ranges.specs.Places.{place_of, is_inside}
+use Rattle.ranges.specs.Places.{place_of, is_inside, is_own_memory}
 use Rattle.ranges.specs.Rules.{length_of, call_rules, guarded_rules, rules_with, store_rules}
 use Rattle.ranges.specs.After as after
-use Rattle.ranges.specs.After.{is_touched, marks_after, group_after, answer_kind, after_with, call_with, group_forgotten, groups_forgotten, loosely_stored}
-use Rattle.ranges.specs.Guards.{is_own_place, is_guarded_call}
+use Rattle.ranges.specs.After.{is_touched, marks_after, group_after, answer_kind, after_with, call_with, group_forgotten, groups_forgotten, groups_left, loosely_stored}
 use Rattle.ranges.proofs.Keeping.{value_fits}
 use Rattle.soundness.specs.Meaning.{Describes, Means, GroupMeans}
-use Rattle.soundness.specs.Machines.{IsSetting}
+use Rattle.soundness.specs.Machines.{IsSetting, AreRegisters}
 use Rattle.soundness.proofs.Checks.{first_check, two_tell, pass_four, pass_five, tested_passes, and_parts}
 use Rattle.soundness.proofs.Standing.{Parts, machine, number, AreFew, number_is, frames_of, all_frames, Stands, Goes, goes_first, answered_stands, described, described_word}
 use Rattle.soundness.proofs.Places.{Lands, place_lands}
@@ -51,6 +50,7 @@ use Rattle.helpers.proofs.Queries.{copy_most}
 use Rattle.soundness.proofs.Calls.{other_goes, number_means, long_copied, small_copied, length_known}
 use Rattle.soundness.proofs.Locals.{no_mark, unset_means}
 use Rattle.soundness.proofs.Computing.{Site}
+use Rattle.soundness.proofs.OwnPlaces.{Lies, own_lands}
 use Rattle.soundness.proofs.Loose.{LooselyGoes, words_set, first_word}
 
 -- bytes of the frame at hand
@@ -80,7 +80,11 @@ own_is m a p n e fits =
 abbrev pub Falls : ℕ → Parts → Kind → ℤ → ℕ → ℕ → Type 0
 Falls sectors m k distance n a = is_inside (place_of k distance n) ≡ true → Lands sectors (number m) (place_of k distance n) n a
 
-own_of : (sectors : ℕ) (m : Parts) (k : Kind) (distance : ℤ) (n a : ℕ) → Falls sectors m k distance n a → is_own_place k distance n ≡ true → is_own (machine m) a n ≡ true
+-- n bytes at a distance from a value lie in the frame at hand
+abbrev pub in_frame : Kind → ℤ → ℕ → Bool
+in_frame k distance n = is_stack k && is_inside (place_of k distance n)
+
+own_of : (sectors : ℕ) (m : Parts) (k : Kind) (distance : ℤ) (n a : ℕ) → Falls sectors m k distance n a → in_frame k distance n ≡ true → is_own (machine m) a n ≡ true
 own_of sectors m k distance n a falls e =
     let h = and_parts (is_stack k) (is_inside (place_of k distance n)) e in
     let found = stack_place k distance n h.0 h.1 in
@@ -127,6 +131,50 @@ groups_mean sectors known m k distance n a p bytes site falls some e fits = by (
     by place.Sector lands = λ g. unset_means sectors (number m) (filled m.stack p bytes) g
     by (place.Context r) lands = λ g. unset_means sectors (number m) (filled m.stack p bytes) g
 
+-- what is known of a frame that isn't written
+
+kept_means : (sectors frame : ℕ) (groups : List GroupKind) (stack : List (Option ℕ)) (at n : ℕ) → length groups ≡ 64 → ((g : ℕ) → GroupMeans sectors frame (get_or groups g (Marked [])) stack g)
+    → (g : ℕ) → GroupMeans sectors frame (get_or (map_places (group_forgotten at n) 0 groups) g (Marked [])) stack g
+kept_means sectors frame groups stack at n count h g =
+    elim (cases_lt g 64) [
+      | inl lt ↦
+          let there : get_or (map_places (group_forgotten at n) 0 groups) g (Marked []) ≡ group_forgotten at n (0 + g) (get_or groups g (Marked [])) =
+          places_at (group_forgotten at n) 0 groups g (Marked []) (Marked []) (omega (arith, lt, count)) in
+          let z : 0 + g ≡ g = omega arith in
+          rw (there, z) (one (get_or groups g (Marked [])) (is_touched at n g) (h g))
+      | inr le ↦ past_means sectors frame (map_places (group_forgotten at n) 0 groups) stack g (places_long (group_forgotten at n) 0 groups ∙ count) le
+    ]
+  where
+    one : (gk : GroupKind) (b : Bool) → GroupMeans sectors frame gk stack g → GroupMeans sectors frame (if b then Marked unset_marks else gk) stack g
+    one gk true m = λ k lt e. absurd (no_mark 8 k e)
+    one gk false m = m
+
+pub left_kept : (sectors : ℕ) (known : Abstract) (m : Parts) (k : Kind) (distance : ℤ) (n : ℕ) → Site sectors known m
+    → (g : ℕ) → GroupMeans sectors (number m) (get_or (groups_left known.groups k distance n) g (Marked [])) m.stack g
+unfolding groups_forgotten
+left_kept sectors known m k distance n site = by (is_own_memory k distance n)
+  where
+    forgotten : (q : Place) → (g : ℕ) → GroupMeans sectors (number m) (get_or (groups_forgotten known.groups q n) g (Marked [])) m.stack g
+    forgotten (place.Stack r) = kept_means sectors (number m) known.groups m.stack r n site.fits.stack site.stands.groups
+    forgotten place.Outside = λ g. unset_means sectors (number m) m.stack g
+    forgotten place.Sector = λ g. unset_means sectors (number m) m.stack g
+    forgotten (place.Context r) = λ g. unset_means sectors (number m) m.stack g
+
+    by : (own : Bool) → (g : ℕ) → GroupMeans sectors (number m) (get_or (if own then known.groups else groups_forgotten known.groups (place_of k distance n) n) g (Marked [])) m.stack g
+    by true = site.stands.groups
+    by false = forgotten (place_of k distance n)
+
+-- and of one that is: it isn't of the memory of its own
+left_mean : (sectors : ℕ) (known : Abstract) (m : Parts) (k : Kind) (distance : ℤ) (n a p : ℕ) (bytes : List ℕ) → Site sectors known m → Falls sectors m k distance n a
+    → (is_own_memory k distance n ≡ true → Lies a n) → length bytes ≡ n → a ≡ stack_start + 1024 * number m + p → p + n ≤ 512
+    → (g : ℕ) → GroupMeans sectors (number m) (get_or (groups_left known.groups k distance n) g (Marked [])) (filled m.stack p bytes) g
+left_mean sectors known m k distance n a p bytes site falls lies some e fits = by (is_own_memory k distance n) refl
+  where
+    by : (own : Bool) → is_own_memory k distance n ≡ own
+        → (g : ℕ) → GroupMeans sectors (number m) (get_or (if own then known.groups else groups_forgotten known.groups (place_of k distance n) n) g (Marked [])) (filled m.stack p bytes) g
+    by true is = absurd (let from = (lies is).from in omega (arith, from, e, fits, site.few.frames))
+    by false is = groups_mean sectors known m k distance n a p bytes site falls some e fits
+
 -- a step that writes elsewhere, or tries to, strays
 
 store_strays : (s t : State) (x y : Bool)
@@ -149,7 +197,7 @@ outside true own h e = absurd (let bad : true ≡ false = sym (h refl) ∙ e in 
 
 stores : (program : List (Option Instr)) (context : List ℕ) (device : List (List ℕ)) (sectors : ℕ) (known : Abstract) (m : Parts) (base : ℕ) (rest : List ℕ) (n x : ℕ) (distance : ℤ)
     → Site sectors known m → FitsSigned w16 distance → is_some (at program (m.slot + 1)) ≡ true → are_words known (base ∷ rest) ≡ true
-    → LooselyGoes sectors m (not (is_own_place (value known base) distance n)) ((m.slot + 1, loosely_stored known base distance n) ∷ []) (is_own (machine m) (step.address (machine m) base distance) n)
+    → LooselyGoes sectors m (not (in_frame (value known base) distance n)) ((m.slot + 1, loosely_stored known base distance n) ∷ []) (is_own (machine m) (step.address (machine m) base distance) n)
     (after_checks (machine m) (step.reads (machine m) (base ∷ rest) ∷ step.store_tests program (byte_at context device (all_frames m)) (machine m) (step.address (machine m) base distance) n)
     (step.store (machine m) (step.address (machine m) base distance) (number_bytes n x)))
 stores program context device sectors known m base rest n x distance site fits next are = by (is_own (machine m) a n) refl
@@ -162,6 +210,9 @@ stores program context device sectors known m base rest n x distance site fits n
 
     falls : Falls sectors m (value known base) distance n a
     falls inside = place_lands sectors (number m) (value known base) distance n (word (machine m) base) site.few fits (value_fits known base site.fits) (first_word sectors known m base rest site are) inside
+
+    lies : is_own_memory (value known base) distance n ≡ true → Lies a n
+    lies own = own_lands sectors (number m) (value known base) distance n (word (machine m) base) fits (first_word sectors known m base rest site are) own
 
     ready : list_all (λ r. is_some (get_or m.registers r None)) (base ∷ rest) ≡ true
     ready = words_set sectors (number m) known m.registers (base ∷ rest) site.stands.values are
@@ -180,7 +231,7 @@ stores program context device sectors known m base rest n x distance site fits n
           words = site.stands.words;
           cells = filled_is_stack bytes m.stack p (small_number n x) site.stands.cells;
           values = site.stands.values;
-          groups = groups_mean sectors known m (value known base) distance n a p bytes site falls long e fit;
+          groups = left_mean sectors known m (value known base) distance n a p bytes site falls lies long e fit;
         } in
         let list_passes = pass_four fault.UnsetRegister fault.Unmapped fault.ReadOnly fault.NoInstruction (list_all (λ r. is_some (get_or m.registers r None)) (base ∷ rest))
         (all_mapped (byte_at context device (all_frames m)) a n) (all_in_stacks a n) (is_some (at program (m.slot + 1)))
@@ -192,16 +243,16 @@ stores program context device sectors known m base rest n x distance site fits n
         ∙ ap (λ f. Next (record { slot = m.slot + 1; registers = m.registers; frames = f; turns = m.turns; codes = m.codes })) frames))
         (goes_first sectors (loosely_stored known base distance n) to [] stands site.turns)
 
-    by : (own : Bool) → is_own (machine m) a n ≡ own → LooselyGoes sectors m (not (is_own_place (value known base) distance n)) arrivals own (after_checks (machine m) tests (step.store (machine m) a bytes))
+    by : (own : Bool) → is_own (machine m) a n ≡ own → LooselyGoes sectors m (not (in_frame (value known base) distance n)) arrivals own (after_checks (machine m) tests (step.store (machine m) a bytes))
     by true e = let h = own_place m a n e in inl (refl, goes h.0 h.1 h.2)
     by false e = inr (
       rw (ready, next) (store_strays (machine m) _ (all_mapped (byte_at context device (all_frames m)) a n) (all_in_stacks a n)),
-      outside (is_own_place (value known base) distance n) (is_own (machine m) a n) (own_of sectors m (value known base) distance n a falls) e,
+      outside (in_frame (value known base) distance n) (is_own (machine m) a n) (own_of sectors m (value known base) distance n a falls) e,
     )
 
 pub store_immediate_loose : (program : List (Option Instr)) (context : List ℕ) (device : List (List ℕ)) (sectors : ℕ) (known : Abstract) (m : Parts) (s : Size) (base : ℕ) (distance : ℤ) (z : ℤ)
     → Site sectors known m → FitsSigned w16 distance → is_some (at program (m.slot + 1)) ≡ true → first_failing (guarded_rules known (instr.StoreImmediate s base distance z)) ≡ None
-    → LooselyGoes sectors m (not (is_own_place (value known base) distance (byte_count s))) (passed_with true sectors known m.slot (instr.StoreImmediate s base distance z))
+    → LooselyGoes sectors m (not (in_frame (value known base) distance (byte_count s))) (passed_with true sectors known m.slot (instr.StoreImmediate s base distance z))
     (writes_own (machine m) (instr.StoreImmediate s base distance z)) (step_of program context device (machine m) (instr.StoreImmediate s base distance z))
 unfolding rules_with store_rules passed_with after_with step_of checks effect
 store_immediate_loose program context device sectors known m s base distance z site fits next keeps =
@@ -209,13 +260,20 @@ store_immediate_loose program context device sectors known m s base distance z s
 
 pub store_loose : (program : List (Option Instr)) (context : List ℕ) (device : List (List ℕ)) (sectors : ℕ) (known : Abstract) (m : Parts) (s : Size) (base : ℕ) (distance : ℤ) (src : ℕ)
     → Site sectors known m → FitsSigned w16 distance → is_some (at program (m.slot + 1)) ≡ true → first_failing (guarded_rules known (instr.Store s base distance src)) ≡ None
-    → LooselyGoes sectors m (not (is_own_place (value known base) distance (byte_count s))) (passed_with true sectors known m.slot (instr.Store s base distance src))
+    → LooselyGoes sectors m (not (in_frame (value known base) distance (byte_count s))) (passed_with true sectors known m.slot (instr.Store s base distance src))
     (writes_own (machine m) (instr.Store s base distance src)) (step_of program context device (machine m) (instr.Store s base distance src))
 unfolding rules_with store_rules passed_with after_with step_of checks effect
 store_loose program context device sectors known m s base distance src site fits next keeps =
     stores program context device sectors known m base (src ∷ []) (byte_count s) (word (machine m) src) distance site fits next (first_check cause.UnsetRegister (are_words known (base ∷ src ∷ [])) [] keeps).0
 
 -- copy
+
+word_small : (registers : List (Option ℕ)) (r : ℕ) → AreRegisters registers → unwrap_or (get_or registers r None) 0 < 2 ^ 64
+word_small registers r are = by (get_or registers r None) refl
+  where
+    by : (c : Option ℕ) → get_or registers r None ≡ c → unwrap_or c 0 < 2 ^ 64
+    by None e = omega arith
+    by (Some w) e = are.words r w e
 
 copy_words : (known : Abstract) → are_words known (1 ∷ 2 ∷ 3 ∷ []) ≡ true → (are_words known (2 ∷ 3 ∷ []) ≡ true) × (are_words known (3 ∷ []) ≡ true)
 copy_words known e =
@@ -238,8 +296,9 @@ pub record CopyArguments (sectors : ℕ) (known : Abstract) (m : Parts) : Type 0
   pub count : word (machine m) 3 ≡ length_of (value known 3)
   pub length : is_length (length_of (value known 3)) ≡ true
   pub falls : Falls sectors m (value known 2) (pos 0) (length_of (value known 3)) (word (machine m) 2)
+  pub lies : is_own_memory (value known 2) (pos 0) (length_of (value known 3)) ≡ true → Lies (word (machine m) 2) (length_of (value known 3))
 
-copy_arguments : (sectors : ℕ) (known : Abstract) (m : Parts) → Site sectors known m → first_failing (call_rules true known helper.Copy) ≡ None → CopyArguments sectors known m
+pub copy_arguments : (sectors : ℕ) (known : Abstract) (m : Parts) → Site sectors known m → first_failing (call_rules true known helper.Copy) ≡ None → CopyArguments sectors known m
 unfolding call_rules
 copy_arguments sectors known m site keeps =
     let tell = two_tell cause.UnsetRegister cause.HelperArgument (are_words known (1 ∷ 2 ∷ 3 ∷ [])) (has_length (value known 3)) keeps in
@@ -247,8 +306,17 @@ copy_arguments sectors known m site keeps =
     let third = first_word sectors known m 3 [] site parts.1 in
     let second = first_word sectors known m 2 (3 ∷ []) site parts.0 in
     let length_is = length_known sectors (number m) (value known 3) (word (machine m) 3) tell.1 third in
-    record { count = length_is.0; length = length_is.1; falls = falls second }
+    record { count = length_is.0; length = length_is.1; falls = falls second; lies = lies second }
   where
+    lies : Describes sectors (number m) (value known 2) (word (machine m) 2) → is_own_memory (value known 2) (pos 0) (length_of (value known 3)) ≡ true
+        → Lies (word (machine m) 2) (length_of (value known 3))
+    lies second own =
+        let n : ℕ = length_of (value known 3) in
+        let there = own_lands sectors (number m) (value known 2) (pos 0) n (word (machine m) 2) (omega arith) second own in
+        let small : word (machine m) 2 < 2 ^ 64 = word_small m.registers 2 site.stands.words in
+        let same : (word (machine m) 2 + cast_unsigned w64 (pos 0)) % 2 ^ 64 ≡ word (machine m) 2 = omega (arith, small) in
+        subst (λ (x : ℕ). Lies x n) same there
+
     falls : Describes sectors (number m) (value known 2) (word (machine m) 2) → Falls sectors m (value known 2) (pos 0) (length_of (value known 3)) (word (machine m) 2)
     falls second inside =
         let n : ℕ = length_of (value known 3) in
@@ -259,7 +327,7 @@ copy_arguments sectors known m site keeps =
 
 copy_loose : (program : List (Option Instr)) (sectors : ℕ) (device : List (List ℕ)) (context : Context) (known : Abstract) (m : Parts)
     → IsSetting program sectors device context → Site sectors known m → is_some (at program (m.slot + 1)) ≡ true → first_failing (call_rules true known helper.Copy) ≡ None
-    → LooselyGoes sectors m (is_guarded_call known helper.Copy) ((m.slot + 1, call_with true known helper.Copy) ∷ []) (call_writes_own (machine m) helper.Copy)
+    → LooselyGoes sectors m (not (in_frame (value known 2) (pos 0) (length_of (value known 3)))) ((m.slot + 1, call_with true known helper.Copy) ∷ []) (call_writes_own (machine m) helper.Copy)
     (after_checks (machine m) (call_checks program (byte_at (context_bytes context) device (all_frames m)) (machine m) helper.Copy) (call_effect device (machine m) helper.Copy))
 unfolding call_rules call_with call_checks call_effect
 copy_loose program sectors device context known m set site next keeps = by (is_own (machine m) a w) refl
@@ -318,7 +386,7 @@ copy_loose program sectors device context known m set site next keeps = by (is_o
           words = site.stands.words;
           cells = filled_is_stack bytes m.stack p small site.stands.cells;
           values = site.stands.values;
-          groups = groups_mean sectors known m (value known 2) (pos 0) n a p bytes site told.falls long e fit_n;
+          groups = left_mean sectors known m (value known 2) (pos 0) n a p bytes site told.falls told.lies long e fit_n;
         } in
         let most = copy_most device (word (machine m) 1) w in
         let to : Parts = record { slot = m.slot + 1; registers = step.with_answer m.registers x; below = m.below; caller = m.caller; stack = stack; turns = m.turns; codes = m.codes } in
@@ -332,20 +400,25 @@ copy_loose program sectors device context known m set site next keeps = by (is_o
         ∙ ap (λ f. Next (record { slot = m.slot + 1; registers = step.with_answer m.registers x; frames = f; turns = m.turns; codes = m.codes })) frames))
         (goes_first sectors (after.after_answer less (answer_kind helper.Copy)) to [] last site.turns)
 
-    own_when : is_own_place (value known 2) (pos 0) n ≡ true → is_own (machine m) a w ≡ true
+    own_when : in_frame (value known 2) (pos 0) n ≡ true → is_own (machine m) a w ≡ true
     own_when e = ap (is_own (machine m) a) told.count ∙ own_of sectors m (value known 2) (pos 0) n a told.falls e
 
-    by : (own : Bool) → is_own (machine m) a w ≡ own → LooselyGoes sectors m (not (is_own_place (value known 2) (pos 0) n)) arrivals own (after_checks (machine m) tests done)
+    by : (own : Bool) → is_own (machine m) a w ≡ own → LooselyGoes sectors m (not (in_frame (value known 2) (pos 0) n)) arrivals own (after_checks (machine m) tests done)
     by true e = let h = own_place m a w e in inl (refl, goes h.0 h.1 h.2)
     by false e = inr (
       rw (ready, measured, next) (copy_strays (machine m) _ (all_mapped mem a w) (all_in_stacks a w)),
-      outside (is_own_place (value known 2) (pos 0) n) (is_own (machine m) a w) own_when e,
+      outside (in_frame (value known 2) (pos 0) n) (is_own (machine m) a w) own_when e,
     )
+
+-- whether a call of a helper may write elsewhere than in the frame at hand
+abbrev pub outside_frame : Abstract → Helper → Bool
+outside_frame known helper.Copy = not (in_frame (value known 2) (pos 0) (length_of (value known 3)))
+outside_frame known h = false
 
 pub helper_loose : (program : List (Option Instr)) (sectors : ℕ) (device : List (List ℕ)) (context : Context) (known : Abstract) (m : Parts) (h : Helper)
     → IsSetting program sectors device context → Site sectors known m → is_some (at program (m.slot + 1)) ≡ true
     → (h ≡ helper.Again → is_limit (word (machine m) 1) ≡ true) → first_failing (call_rules true known h) ≡ None
-    → LooselyGoes sectors m (is_guarded_call known h) ((m.slot + 1, call_with true known h) ∷ []) (call_writes_own (machine m) h)
+    → LooselyGoes sectors m (outside_frame known h) ((m.slot + 1, call_with true known h) ∷ []) (call_writes_own (machine m) h)
     (after_checks (machine m) (call_checks program (byte_at (context_bytes context) device (all_frames m)) (machine m) h) (call_effect device (machine m) h))
 unfolding call_with
 helper_loose program sectors device context known m helper.Copy set site next limit keeps = copy_loose program sectors device context known m set site next keeps
@@ -354,7 +427,7 @@ helper_loose program sectors device context known m h set site next limit keeps 
 
 -- what isn't guarded writes nothing but the frame at hand
 
-pub own_store : (sectors : ℕ) (known : Abstract) (m : Parts) (base n : ℕ) (distance : ℤ) → Site sectors known m → FitsSigned w16 distance → is_own_place (value known base) distance n ≡ true
+pub own_store : (sectors : ℕ) (known : Abstract) (m : Parts) (base n : ℕ) (distance : ℤ) → Site sectors known m → FitsSigned w16 distance → in_frame (value known base) distance n ≡ true
     → is_own (machine m) (step.address (machine m) base distance) n ≡ true
 own_store sectors known m base n distance site fits e =
     let parts = and_parts (is_stack (value known base)) (is_inside (place_of (value known base) distance n)) e in
@@ -367,7 +440,7 @@ own_store sectors known m base n distance site fits e =
     pointer _ f means = absurd (let bad : false ≡ true = f in cc)
 
 pub own_copy : (sectors : ℕ) (known : Abstract) (m : Parts) → Site sectors known m → first_failing (call_rules true known helper.Copy) ≡ None
-    → is_own_place (value known 2) (pos 0) (length_of (value known 3)) ≡ true → is_own (machine m) (word (machine m) 2) (word (machine m) 3) ≡ true
+    → in_frame (value known 2) (pos 0) (length_of (value known 3)) ≡ true → is_own (machine m) (word (machine m) 2) (word (machine m) 3) ≡ true
 own_copy sectors known m site keeps e =
     let told = copy_arguments sectors known m site keeps in
     ap (is_own (machine m) (word (machine m) 2)) told.count ∙ own_of sectors m (value known 2) (pos 0) (length_of (value known 3)) (word (machine m) 2) told.falls e

@@ -83,29 +83,11 @@ holds_true : (b : Bool) → (b ≡ false → ⊥) → b ≡ true
 holds_true true h = refl
 holds_true false h = absurd (h refl)
 
-pub free_at : (program : List (Option Instr)) (s : ℕ) (i : Instr) → IsShaped program → at program s ≡ Some i → option_map_or (λ r. not (r == 10)) (written_register i) true ≡ true
+pub free_at : (program : List (Option Instr)) (s : ℕ) (i : Instr) → IsShaped true program → at program s ≡ Some i → option_map_or (λ r. not (r == 10)) (written_register i) true ≡ true
 unfolding Breaks keeps
 free_at program s i shaped e =
     let kept = holds_true (option_map_or (λ r. not (r == 10)) (option_and_then written_register (at program s)) true) (shaped.frame_pointer s) in
     ap (λ (o : Option Instr). option_map_or (λ r. not (r == 10)) (option_and_then written_register o) true) (sym e) ∙ kept
-
-known_number : (n : ℕ) → (nat_le 1 n && nat_le n 7) ≡ true → is_some (helper_of n) ≡ true
-known_number zero e = absurd (let bad : false ≡ true = e in cc)
-known_number (suc zero) e = refl
-known_number (suc (suc zero)) e = refl
-known_number (suc (suc (suc zero))) e = refl
-known_number (suc (suc (suc (suc zero)))) e = refl
-known_number (suc (suc (suc (suc (suc zero))))) e = refl
-known_number (suc (suc (suc (suc (suc (suc zero)))))) e = refl
-known_number (suc (suc (suc (suc (suc (suc (suc zero))))))) e = refl
-known_number (suc (suc (suc (suc (suc (suc (suc (suc n)))))))) e = absurd (grind (arith, nat_tests))
-
-pub helper_known : (program : List (Option Instr)) (s : ℕ) (number : ℤ) → IsShaped program → at program s ≡ Some (instr.CallHelper number)
-    → is_some (helper_of (cast_unsigned w32 number)) ≡ true
-unfolding Breaks keeps
-helper_known program s number shaped e =
-    let kept = holds_true (option_map_or (λ n. nat_le 1 n && nat_le n 7) (option_and_then helper_number (at program s)) true) (shaped.helpers s) in
-    known_number (cast_unsigned w32 number) (ap (λ (o : Option Instr). option_map_or (λ n. nat_le 1 n && nat_le n 7) (option_and_then helper_number o) true) (sym e) ∙ kept)
 
 -- control edges
 
@@ -116,8 +98,8 @@ control_is program s i e = rw e refl
 pub leads_at : (program : List (Option Instr)) (s t : ℕ) (i : Instr) → at program s ≡ Some i → Leads (edges_of s i) t → Leads (control program s) t
 leads_at program s t i e h = subst (λ (x : Edges). Leads x t) (sym (control_is program s i e)) h
 
-pub begins_at : (program : List (Option Instr)) (s t : ℕ) (i : Instr) → IsShaped program → at program s ≡ Some i → Leads (edges_of s i) t → is_some (at program t) ≡ true
-begins_at program s t i shaped e h = edges_begin program shaped.targets shaped.ends s t (leads_at program s t i e h)
+pub begins_at : (program : List (Option Instr)) (s t : ℕ) (i : Instr) → IsShaped true program → at program s ≡ Some i → Leads (edges_of s i) t → is_some (at program t) ≡ true
+begins_at program s t i shaped e h = edges_begin true program shaped.targets shaped.ends s t (leads_at program s t i e h)
 
 -- calls of `again`
 
@@ -189,7 +171,7 @@ some_number : (o : Option ℕ) → is_some o ≡ true → (k : ℕ) × (o ≡ So
 some_number None e = absurd (let bad : false ≡ true = e in cc)
 some_number (Some k) e = (k, refl)
 
-pub before_again : (program : List (Option Instr)) (s : ℕ) → IsShaped program → calls_again program s ≡ true → Before program s
+pub before_again : (program : List (Option Instr)) (s : ℕ) → IsShaped true program → calls_again program s ≡ true → Before program s
 unfolding Breaks keeps has_form
 before_again program s shaped calls =
     let kept = holds_true (if calls_again program s then has_form program s else true) (shaped.again s) in
@@ -224,7 +206,7 @@ target_marked program s t i e h =
     (or_left (is_slot t (control program s).target) (is_slot t (callee program s))
     (ap (λ (x : Edges). is_slot t x.target) (control_is program s i e) ∙ ap (is_slot t) h ∙ itself t))
 
-pub no_target : (program : List (Option Instr)) (s t : ℕ) (i : Instr) → IsShaped program → at program s ≡ Some i → (edges_of s i).target ≡ Some t → calls_again program t ≡ true → ⊥
+pub no_target : (program : List (Option Instr)) (s t : ℕ) (i : Instr) → IsShaped true program → at program s ≡ Some i → (edges_of s i).target ≡ Some t → calls_again program t ≡ true → ⊥
 no_target program s t i shaped e h calls =
     let bad : true ≡ false = sym (target_marked program s t i e h) ∙ (before_again program t shaped calls).free in
     cc
@@ -264,7 +246,7 @@ after_call program s t e =
     leads_at program s (s + 1) (instr.CallLocal call.distance) call.there (inl refl)
 
 -- its entry is an instruction, and no call of `again`
-pub entry_begins : (program : List (Option Instr)) (s t : ℕ) → IsShaped program → callee program s ≡ Some t → is_some (at program t) ≡ true
+pub entry_begins : (program : List (Option Instr)) (s t : ℕ) → IsShaped true program → callee program s ≡ Some t → is_some (at program t) ≡ true
 unfolding Breaks keeps
 entry_begins program s t shaped e =
     let kept = holds_true (option_map_or (begins program) (control program s).target true && option_map_or (begins program) (callee program s) true) (shaped.targets s) in
@@ -278,7 +260,7 @@ callee_marked program s t e =
     any_at (aims_at program t) (length program) s (inside program s (instr.CallLocal call.distance) call.there)
     (or_right (is_slot t (control program s).target) (is_slot t (callee program s)) (ap (is_slot t) e ∙ itself t))
 
-pub no_entry : (program : List (Option Instr)) (s t : ℕ) → IsShaped program → callee program s ≡ Some t → calls_again program t ≡ true → ⊥
+pub no_entry : (program : List (Option Instr)) (s t : ℕ) → IsShaped true program → callee program s ≡ Some t → calls_again program t ≡ true → ⊥
 no_entry program s t shaped e calls =
     let bad : true ≡ false = sym (callee_marked program s t e) ∙ (before_again program t shaped calls).free in
     cc

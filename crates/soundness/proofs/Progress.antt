@@ -22,33 +22,33 @@ use Rattle.bpf_shape.proofs.Walks.{reaches_more, stays}
 use Rattle.helpers.specs.Answers.{again_answer}
 use Rattle.machine.specs.State.{Caller, State, register, word}
 use Rattle.machine.specs.Step.{Next, caller_of, saved_caller, memory, turns_here, count_turn, step_of, step}
-use Rattle.soundness.proofs.Taken.{Moves, Asks, in_next, taken, effect_moves, answer_there, helper_called, again_asks, other_moves, Kind, Plain, Helps, Enters, Exits, kind_of, no_helper, Entered, local_entered, Exited, has_exited, HasLimit, sets_limit, Passes, passes_test}
+use Rattle.soundness.proofs.Taken.{Moves, Asks, in_next, taken, effect_moves, answer_there, helper_called, again_asks, other_moves, Kind, Plain, Helps, Enters, Exits, kind_of, no_helper, Entered, local_entered, Exited, has_exited, HasLimit, Passes, Does, does}
 use Rattle.soundness.proofs.Coming.{inside, control_there, callee_there, entry_is, call_comes, stands_before, test_there, test_comes}
 use Rattle.soundness.proofs.Counts.{one_less}
 use Rattle.soundness.proofs.Room.{bounded_next, slot_fits, from_entry, slot_weighs, Function, Stands, WaitsBelow, Waiting, callers, Arrived, left, same_total, Framed, Runs, Space, step_taken, path_taken, call_taken, return_taken}
 use Rattle.soundness.proofs.Saved.{last_caller, taken_callers, number_fits}
 
 module _ (program : List (Option Instr)) (context : List ℕ) (device : List (List ℕ)) (whole : ℕ)
-    (p : IsProgram program) (shaped : IsShaped program) (form : AgainHasForm) where
+    (p : IsProgram program) (shaped : IsShaped true program) (form : AgainHasForm) where
   -- the next state has arrived
-  arrive : (s t : State) (i : Instr) → Arrived program s → at program s.slot ≡ Some i → step_of program context device s i ≡ Next t
+  arrive : (s t : State) (i : Instr) → Arrived program s → at program s.slot ≡ Some i → Does s i t
       → Leads (edges_of s.slot i) t.slot → length t.registers ≡ length s.registers → length t.turns ≡ length s.turns → Arrived program t
-  arrive s t i a there came leads width counts = record {
+  arrive s t i a there done leads width counts = record {
     registers = width ∙ a.registers;
     counts = counts ∙ a.counts;
     limit = λ k calls is.
-        let around = form program t.slot shaped calls in
+        let around = form true program t.slot shaped calls in
         let sets = call_comes program s.slot t.slot i k p there leads around.call_free is in
         let wide : 1 < length s.registers = omega (arith, a.registers) in
-        in_next (HasLimit k) program context device s t i (sets_limit (memory context device s) device s i k sets wide) came;
+        done.sets k sets wide;
   }
 
   -- the next slot is reached along an edge of paths, or a whole path is pending
   onward : (s t : State) (i : Instr) (pending : ℕ) → ((c : Condition) → answer_test program s.slot ≡ Some c → (word s 0 ≡ 0) ⊎ (whole ≤ pending))
-      → at program s.slot ≡ Some i → step_of program context device s i ≡ Next t → Leads (edges_of s.slot i) t.slot
+      → at program s.slot ≡ Some i → Does s i t → Leads (edges_of s.slot i) t.slot
       → Leads (plain program s.slot) t.slot ⊎ (whole ≤ pending)
   unfolding plain
-  onward s t i pending waits there came leads = by_test (answer_test program s.slot) refl
+  onward s t i pending waits there done leads = by_test (answer_test program s.slot) refl
     where
       by_test : (o : Option Condition) → answer_test program s.slot ≡ o → Leads (others_of (answer_test program s.slot) (control program s.slot)) t.slot ⊎ (whole ≤ pending)
       by_test None is = inl (rw (is, control_there program s.slot i there) leads)
@@ -59,7 +59,7 @@ module _ (program : List (Option Instr)) (context : List ℕ) (device : List (Li
                 let equal : Some i ≡ Some test.instr = sym there ∙ test.there in
                 let same : test.instr ≡ i = cc in
                 let tests = rw same at test.tests in
-                let passes : Passes s i c t = in_next (Passes s i c) program context device s t i (passes_test (memory context device s) device s i c tests none) came in
+                let passes : Passes s i c t = done.passes c tests none in
                 inl (rw (is, control_there program s.slot i there) passes)
             | inr enough ↦ inr enough
           ]
@@ -73,8 +73,8 @@ module _ (program : List (Option Instr)) (context : List ℕ) (device : List (Li
   }
 
   space : (s t : State) (i : Instr) (steps : ℕ) → Runs program whole s (suc steps) → at program s.slot ≡ Some i
-      → step_of program context device s i ≡ Next t → Leads (edges_of s.slot i) t.slot → callers t.frames ≡ callers s.frames → Space program s t whole steps
-  space s t i steps r there came leads same =
+      → Does s i t → Leads (edges_of s.slot i) t.slot → callers t.frames ≡ callers s.frames → Space program s t whole steps
+  space s t i steps r there done leads same =
       let f = r.framed in
       let h = f.here in
       let g = h.function in
@@ -83,7 +83,7 @@ module _ (program : List (Option Instr)) (context : List ℕ) (device : List (Li
       let l = left program s.turns * whole in
       let onto : Leads (control program s.slot) t.slot = rw (control_there program s.slot i there) leads in
       let reached = reaches_more (control program) g.entry s.slot t.slot h.reached onto in
-      elim (onward s t i r.pending r.waits there came leads) [
+      elim (onward s t i r.pending r.waits there done leads) [
         | inl along ↦
             moved s t f (record {
               function = g;
@@ -105,11 +105,11 @@ module _ (program : List (Option Instr)) (context : List ℕ) (device : List (Li
       ]
 
   -- a step that counts nothing
-  moves_on : (s t : State) (i : Instr) (steps : ℕ) → Runs program whole s (suc steps) → at program s.slot ≡ Some i → step_of program context device s i ≡ Next t
+  pub moves_on : (s t : State) (i : Instr) (steps : ℕ) → Runs program whole s (suc steps) → at program s.slot ≡ Some i → Does s i t
       → calls_again program s.slot ≡ false → Moves s i t → Runs program whole t steps
-  moves_on s t i steps r there came other m =
-      let arrived = arrive s t i r.arrived there came m.leads m.width (ap length m.counts) in
-      let here = space s t i steps r there came m.leads m.frames in
+  moves_on s t i steps r there done other m =
+      let arrived = arrive s t i r.arrived there done m.leads m.width (ap length m.counts) in
+      let here = space s t i steps r there done m.leads m.frames in
       record {
         arrived = arrived;
         framed = here.framed;
@@ -156,20 +156,20 @@ module _ (program : List (Option Instr)) (context : List ℕ) (device : List (Li
   limit_here : (s : State) → Arrived program s → calls_again program s.slot ≡ true → turns_at program s.slot ≡ word s 1
   unfolding turns_at
   limit_here s a calls =
-      let around = form program s.slot shaped calls in
+      let around = form true program s.slot shaped calls in
       let there : register s 1 ≡ Some around.limit = a.limit around.limit calls around.limit_is in
       rw (calls, around.limit_is, there) refl
 
-  asks_on : (s t : State) (i : Instr) (steps : ℕ) → Runs program whole s (suc steps) → at program s.slot ≡ Some i → step_of program context device s i ≡ Next t
+  asks_on : (s t : State) (i : Instr) (steps : ℕ) → Runs program whole s (suc steps) → at program s.slot ≡ Some i → Does s i t
       → calls_again program s.slot ≡ true → Asks s i t → Runs program whole t steps
   unfolding again_answer
-  asks_on s t i steps r there came calls m = by_test (nat_lt (turns_here s) (word s 1)) refl
+  asks_on s t i steps r there done calls m = by_test (nat_lt (turns_here s) (word s 1)) refl
     where
       arrived : Arrived program t
-      arrived = arrive s t i r.arrived there came m.leads m.width (ap length m.counts ∙ length_counted s (word s 1) (nat_lt (turns_here s) (word s 1)))
+      arrived = arrive s t i r.arrived there done m.leads m.width (ap length m.counts ∙ length_counted s (word s 1) (nat_lt (turns_here s) (word s 1)))
 
       here : Space program s t whole steps
-      here = space s t i steps r there came m.leads m.frames
+      here = space s t i steps r there done m.leads m.frames
 
       by_test : (b : Bool) → nat_lt (turns_here s) (word s 1) ≡ b → Runs program whole t steps
       by_test true is =
@@ -184,7 +184,7 @@ module _ (program : List (Option Instr)) (context : List ℕ) (device : List (Li
           let first : register t 0 ≡ Some (again_answer (turns_here s) (word s 1)) = rw m.answer (answer_there s.registers (again_answer (turns_here s) (word s 1)) wide) in
           no_more s t i steps r arrived here (m.counts ∙ same) (ap (λ (o : Option ℕ). unwrap_or o 0) (first ∙ ap Some none))
 
-  calls_of : (s : State) (i : Instr) → at program s.slot ≡ Some i → calls_again program s.slot ≡ option_map_or (λ n. n == 3) (helper_number i) false
+  pub calls_of : (s : State) (i : Instr) → at program s.slot ≡ Some i → calls_again program s.slot ≡ option_map_or (λ n. n == 3) (helper_number i) false
   unfolding calls_again
   calls_of s i there = ap (λ (o : Option Instr). option_map_or (λ n. n == 3) (option_and_then helper_number o) false) there
 
@@ -193,10 +193,11 @@ module _ (program : List (Option Instr)) (context : List ℕ) (device : List (Li
   call_on s t number steps r there came =
       let i = instr.CallHelper number in
       let c = helper_called program context device s t number came in
+      let done = does program context device s t i came in
       let calls : calls_again program s.slot ≡ (cast_unsigned w32 number == 3) = calls_of s i there in
       elim (cases_Bool (cast_unsigned w32 number == 3)) [
-        | inl is ↦ asks_on s t i steps r there came (calls ∙ is) (again_asks s number t c is)
-        | inr not_is ↦ moves_on s t i steps r there came (calls ∙ not_is) (other_moves s number t c not_is)
+        | inl is ↦ asks_on s t i steps r there done (calls ∙ is) (again_asks s number t c is)
+        | inr not_is ↦ moves_on s t i steps r there done (calls ∙ not_is) (other_moves s number t c not_is)
       ]
 
   -- local calls
@@ -267,7 +268,7 @@ module _ (program : List (Option Instr)) (context : List ℕ) (device : List (Li
     registers = e.width;
     counts = ap length e.counts ∙ a.counts;
     limit = λ k calls is.
-        let around = form program t.slot shaped calls in
+        let around = form true program t.slot shaped calls in
         let aimed = entry_is program s.slot t.slot distance there (sym e.slot) in
         absurd (let bad : false ≡ true = sym around.call_free ∙ aimed in cc);
   }
@@ -276,7 +277,7 @@ module _ (program : List (Option Instr)) (context : List ℕ) (device : List (Li
       → answer_test program t.slot ≡ Some c → ⊥
   no_test_at_entry s t c distance there e is =
       let test = test_there program t.slot c is in
-      let around = form program (t.slot - 1) shaped test.calls in
+      let around = form true program (t.slot - 1) shaped test.calls in
       let positive : t.slot ≢ 0 = elim (eqb_tells t.slot 0) [ inl zero_there ↦ absurd (let bad : false ≡ true = sym test.positive ∙ zero_there.0 in cc) | inr other ↦ other.1 ] in
       let place : t.slot - 1 + 1 ≡ t.slot = omega (arith, positive) in
       let free : is_target program t.slot ≡ false = rw place at around.test_free in
@@ -406,7 +407,7 @@ module _ (program : List (Option Instr)) (context : List ℕ) (device : List (Li
       by_kind : (i : Instr) → Kind i → at program s.slot ≡ Some i → step_of program context device s i ≡ Next t → Runs program whole t steps
       by_kind i (Plain plain) there came =
           let calls : calls_again program s.slot ≡ false = calls_of s i there ∙ ap (λ (o : Option ℕ). option_map_or (λ n. n == 3) o false) (no_helper i plain) in
-          moves_on s t i steps r there came calls (in_next (Moves s i) program context device s t i (effect_moves (memory context device s) device s i plain) came)
+          moves_on s t i steps r there (does program context device s t i came) calls (in_next (Moves s i) program context device s t i (effect_moves (memory context device s) device s i plain) came)
       by_kind i (Helps number is) there came = call_on s t number steps r (rw is at there) (rw is at came)
       by_kind i (Enters distance is) there came =
           enter_on s t distance steps r (rw is at there) (local_entered program context device s t distance (rw is at came))

@@ -2,6 +2,7 @@
 use Rattle.std.proofs.Common.{◌≡◌, ℕ, false, List, Option, refl, subst}
 use Rattle.base.specs.declared.causes.MachineFault.{MachineFault}
 use Rattle.bpf_isa.specs.declared.instr.Instr.{Instr}
+use Rattle.bpf_shape.proofs.Kept.{shaped_with_guards}
 use Rattle.helpers.specs.declared.device.Context.{Context}
 use Rattle.machine.specs.Memory.{context_bytes}
 use Rattle.machine.specs.Outcome.{outcome}
@@ -18,7 +19,7 @@ use Rattle.soundness.proofs.Tables.{table_covers}
 pub setting : (v : VerifiedValue) (device : List (List ℕ)) (context : Context) → IsVerified v → IsImage v.sectors device context → IsSetting v.program v.sectors device context
 setting v device context verified image = record {
   made = verified.program;
-  shaped = verified.shape;
+  shaped = shaped_with_guards v.guards v.program verified.shape;
   count = image.count;
   few = verified.device;
   whole = image.whole;
@@ -47,4 +48,4 @@ runs_safely end faults program sectors budget device context accepted image =
     let v : VerifiedValue = record { guards = false; program = program; sectors = sectors; budget = budget; table = accepted.0 } in
     let steps = faultless v device context refl accepted.1 image in
     ends program device context budget steps
-    (end program (context_bytes context) device budget accepted.1.program accepted.1.shape accepted.1.budget ((faults program (context_bytes context) device).1 steps))
+    (end false program (context_bytes context) device budget accepted.1.program accepted.1.shape accepted.1.budget ((faults program (context_bytes context) device).1 steps))

@@ -1,12 +1,13 @@
 -- A step, by the form of its instruction.
 use Rattle.std.proofs.Common.{◌≡◌, ℕ, ◌+◌, ◌==◌, ◌&&◌, nat_le, Bool, true, false, if◌then◌else◌, ℤ, List, [], ◌∷◌, ◌++◌, length, map, get_or, Option, None, Some, is_some, refl, sym, ap, ◌∙◌, inl, inr, ◌⊎◌, arith}
 use Rattle.std.specs.Prelude.{set, unwrap_or}
-use Rattle.std.specs.Option.{option_map_or}
+use Rattle.std.specs.Option.{option_map_or, option_or}
 use Rattle.std.specs.Int.{cast_unsigned, w32, w64}
 use Rattle.std.proofs.lemmas.List.{get_or-set_same}
 use Rattle.std.proofs.lemmas.Bool.Decides.{nat_tests}
 use Rattle.base.specs.Check.{Check, check, first_failing}
 use Rattle.base.specs.declared.causes.MachineFault.{MachineFault}
+use Rattle.base.specs.declared.causes.VerifierCause.TheVariants as cause
 use Rattle.base.specs.declared.causes.MachineFault.TheVariants as fault
 use Rattle.bpf_isa.specs.declared.instr.Instr.{Instr}
 use Rattle.bpf_isa.specs.declared.instr.Instr.TheVariants as instr
@@ -17,7 +18,7 @@ use Rattle.bpf_isa.specs.Spelling.{IsInRange}
 use Rattle.helpers.specs.declared.device.Context.{Context}
 use Rattle.helpers.specs.declared.helper.Helper.{Helper}
 use Rattle.helpers.specs.declared.helper.Helper.TheVariants as helper
-use Rattle.helpers.specs.Helper.{helper_of}
+use Rattle.helpers.specs.Helper.{helper_of, summing_of}
 use Rattle.machine.specs.Arithmetic.{arithmetic, operator_value}
 use Rattle.machine.specs.State.{State, register, word}
 use Rattle.machine.specs.Memory.{context_bytes, byte_at}
@@ -46,10 +47,10 @@ use Rattle.soundness.proofs.Loads.{load_goes, signed_load_goes}
 use Rattle.soundness.proofs.Stores.{store_goes, store_immediate_goes}
 use Rattle.soundness.proofs.Branches.{branch_goes, jump_goes}
 use Rattle.soundness.proofs.Calls.{helper_goes}
-use Rattle.soundness.proofs.Programs.{free_at, helper_known, begins_at, calls_at, limit_taken, before_again}
+use Rattle.soundness.proofs.Programs.{free_at, begins_at, calls_at, limit_taken, before_again}
 
 -- the argument of `again`
-pub limit_here : (program : List (Option Instr)) (m : Parts) (number : ℤ) → IsShaped program → at program m.slot ≡ Some (instr.CallHelper number)
+pub limit_here : (program : List (Option Instr)) (m : Parts) (number : ℤ) → IsShaped true program → at program m.slot ≡ Some (instr.CallHelper number)
     → HasLimit program (machine m) → helper_of (cast_unsigned w32 number) ≡ Some helper.Again → is_limit (word (machine m) 1) ≡ true
 limit_here program m number shaped e limit is =
     let calls = calls_at program m.slot number e is in
@@ -63,17 +64,17 @@ call_goes : (program : List (Option Instr)) (sectors : ℕ) (device : List (List
     → Goes sectors m (passes sectors known m.slot (instr.CallHelper number)) (step_of program (context_bytes context) device (machine m) (instr.CallHelper number))
 unfolding rules_with passed_with after_with step_of checks effect edges_of
 call_goes program sectors device context known m number set site e limit keeps =
-    by (helper_of (cast_unsigned w32 number)) refl keeps
+    by (helper_of (cast_unsigned w32 number)) (summing_of (cast_unsigned w32 number)) refl keeps
   where
     bytes : ℕ → ByteAt
     bytes = byte_at (context_bytes context) device (all_frames m)
 
-    by : (h : Option Helper) → helper_of (cast_unsigned w32 number) ≡ h → first_failing (option_map_or (call_rules false known) h []) ≡ None
-        → Goes sectors m ((m.slot + 1, option_map_or (call_after known) h (after_answer known (Num any_word))) ∷ [])
+    by : (h other : Option Helper) → helper_of (cast_unsigned w32 number) ≡ h → first_failing (option_map_or (call_rules false known) h (check cause.UnknownHelper false ∷ [])) ≡ None
+        → Goes sectors m ((m.slot + 1, option_map_or (call_after known) (option_or h other) (after_answer known (Num any_word))) ∷ [])
         (after_checks (machine m) (option_map_or (call_checks program bytes (machine m)) h (check fault.UnknownHelper false ∷ []))
         (option_map_or (call_effect device (machine m)) h (Next (machine m))))
-    by None f k = absurd (let there = helper_known program m.slot number set.shaped e in let bad : false ≡ true = rw f at there in cc)
-    by (Some h) f k =
+    by None other f k = absurd (let bad : Some cause.UnknownHelper ≡ None = k in cc)
+    by (Some h) other f k =
         helper_goes program sectors device context known m h set site (begins_at program m.slot (m.slot + 1) (instr.CallHelper number) set.shaped e (inl refl))
         (λ again. limit_here program m number set.shaped e limit (f ∙ ap (λ x. Some x) again)) k
 

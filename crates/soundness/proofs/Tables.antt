@@ -14,7 +14,7 @@ use Rattle.machine.specs.Memory.{context_bytes}
 use Rattle.bpf_isa.specs.Slots.{at}
 use Rattle.machine.specs.Step.{step_of, step, Stepped, Next, Done, Fault}
 use Rattle.bpf_shape.specs.Edges.{edges_of, control}
-use Rattle.bpf_shape.specs.Again.{limit_before, heads}
+use Rattle.bpf_shape.specs.Again.{limit_of, limit_before, heads}
 use Rattle.bpf_shape.specs.Paths.{Leads, Reaches}
 use Rattle.bpf_shape.proofs.Kept.{edges_begin}
 use Rattle.ranges.proofs.GuardedPasses.{passed_with_fits}
@@ -52,14 +52,17 @@ next_slot slot t (instr.Jump distance) e = absurd (let bad : None ≡ Some t = e
 next_slot slot t (instr.LongJump distance) e = absurd (let bad : None ≡ Some t = e in cc)
 next_slot slot t _ e = inl (let there : Some (slot + 1) ≡ Some t = e in let same : slot + 1 ≡ t = cc in sym same)
 
-pub limit_next : (program : List (Option Instr)) (sectors : ℕ) (device : List (List ℕ)) (context : Context) (m : Parts) (i : Instr) (t : State)
-    → IsSetting program sectors device context → length m.registers ≡ 11 → at program m.slot ≡ Some i
-    → Leads (edges_of m.slot i) t.slot → step_of program (context_bytes context) device (machine m) i ≡ Next t → HasLimit program t
-limit_next program sectors device context m i t set long e (inr target) stepped = λ k calls is. absurd (no_target program m.slot t.slot i set.shaped e target calls)
-limit_next program sectors device context m i t set long e (inl next) stepped = λ k calls is. elim (next_slot m.slot t.slot i next) [
+-- what an instruction sets, the state after it has
+abbrev pub Sets : Instr → State → Type 0
+Sets i t = (k : ℕ) → limit_of i ≡ Some k → register t 1 ≡ Some k
+
+limit_next : (program : List (Option Instr)) (sectors : ℕ) (device : List (List ℕ)) (context : Context) (m : Parts) (i : Instr) (t : State)
+    → IsSetting program sectors device context → at program m.slot ≡ Some i → Leads (edges_of m.slot i) t.slot → Sets i t → HasLimit program t
+limit_next program sectors device context m i t set e (inr target) sets = λ k calls is. absurd (no_target program m.slot t.slot i set.shaped e target calls)
+limit_next program sectors device context m i t set e (inl next) sets = λ k calls is. elim (next_slot m.slot t.slot i next) [
   | inl one ↦
       let there : limit_before program (m.slot + 1) ≡ Some k = ap (λ (s : ℕ). limit_before program s) (sym one) ∙ is in
-      limit_set program (context_bytes context) device m i k t long (limit_is program m.slot k i e there) stepped
+      sets k (limit_is program m.slot k i e there)
   | inr half ↦
       let there : limit_before program (m.slot + 2) ≡ Some k = ap (λ (s : ℕ). limit_before program s) (sym half.3) ∙ is in
       absurd (no_limit program m.slot k half.0 half.1 set.made (e ∙ ap (λ x. Some x) half.2) there)
@@ -70,13 +73,13 @@ limit_next program sectors device context m i t set long e (inl next) stepped = 
 -- within a frame
 goes_on : (loose : Bool) (program : List (Option Instr)) (sectors : ℕ) (device : List (List ℕ)) (context : Context) (known : Abstract) (m : Parts) (i : Instr) (t : State)
     → IsSetting program sectors device context → Site sectors known m → IsMachine (machine m) → at program m.slot ≡ Some i → stays i ≡ true
-    → step_of program (context_bytes context) device (machine m) i ≡ Next t → Stays sectors m.below m.caller (passed_with loose sectors known m.slot i) t
+    → Sets i t → Stays sectors m.below m.caller (passed_with loose sectors known m.slot i) t
     → GoesOn program sectors (map (arrival (heads program)) (passed_with loose sectors known m.slot i)) (machine m) t
-goes_on loose program sectors device context known m i t set site whole e inside stepped g =
+goes_on loose program sectors device context known m i t set site whole e inside sets g =
     let leads = arrives_edge loose sectors known m.slot i t inside g.arrives in
     record {
       whole = whole_kept m t g.stack whole g.words g.frames g.cells g.turns;
-      limit = limit_next program sectors device context m i t set site.stands.words.long e leads stepped;
+      limit = limit_next program sectors device context m i t set e leads sets;
       edge = leads_at program m.slot t.slot i e leads;
       frames = record {
         below = m.below;
@@ -90,17 +93,23 @@ goes_on loose program sectors device context known m i t set site whole e inside
           (passed_with_fits loose sectors m.slot known i (let few = set.few in omega arith) (range_at program m.slot i set.made e) site.fits) g.arrives;
     }
 
+-- any step that goes where the states are passed, and has what the instruction sets
+pub made_covered : (loose : Bool) (program : List (Option Instr)) (sectors : ℕ) (device : List (List ℕ)) (context : Context) (table : List (Option Abstract)) (known : Abstract) (m : Parts) (i : Instr) (x : Stepped)
+    → IsSetting program sectors device context → Site sectors known m → IsMachine (machine m) → at program m.slot ≡ Some i → stays i ≡ true
+    → ((t : State) → x ≡ Next t → Sets i t) → Goes sectors m (passed_with loose sectors known m.slot i) x
+    → IsCovered program sectors table (map (arrival (heads program)) (passed_with loose sectors known m.slot i)) (machine m) x
+made_covered loose program sectors device context table known m i (Done answer codes) set site whole e inside sets g = absurd g
+made_covered loose program sectors device context table known m i (Fault cause slot) set site whole e inside sets g = g
+made_covered loose program sectors device context table known m i (Next t) set site whole e inside sets g =
+    inl (goes_on loose program sectors device context known m i t set site whole e inside (sets t refl) g)
+
 pub goes_covered : (loose : Bool) (program : List (Option Instr)) (sectors : ℕ) (device : List (List ℕ)) (context : Context) (table : List (Option Abstract)) (known : Abstract) (m : Parts) (i : Instr)
     → IsSetting program sectors device context → Site sectors known m → IsMachine (machine m) → at program m.slot ≡ Some i → stays i ≡ true
     → Goes sectors m (passed_with loose sectors known m.slot i) (step_of program (context_bytes context) device (machine m) i)
     → IsCovered program sectors table (map (arrival (heads program)) (passed_with loose sectors known m.slot i)) (machine m) (step_of program (context_bytes context) device (machine m) i)
-goes_covered loose program sectors device context table known m i set site whole e inside goes = by (step_of program (context_bytes context) device (machine m) i) refl goes
-  where
-    by : (x : Stepped) → step_of program (context_bytes context) device (machine m) i ≡ x → Goes sectors m (passed_with loose sectors known m.slot i) x
-        → IsCovered program sectors table (map (arrival (heads program)) (passed_with loose sectors known m.slot i)) (machine m) x
-    by (Done answer codes) f g = absurd g
-    by (Fault cause slot) f g = g
-    by (Next t) f g = inl (goes_on loose program sectors device context known m i t set site whole e inside f g)
+goes_covered loose program sectors device context table known m i set site whole e inside goes =
+    made_covered loose program sectors device context table known m i (step_of program (context_bytes context) device (machine m) i) set site whole e inside
+    (λ t stepped k sets. limit_set program (context_bytes context) device m i k t site.stands.words.long sets stepped) goes
 
 inside_covered : (program : List (Option Instr)) (sectors : ℕ) (device : List (List ℕ)) (context : Context) (table : List (Option Abstract)) (known : Abstract) (m : Parts) (i : Instr)
     → IsSetting program sectors device context → Site sectors known m → IsMachine (machine m) → at program m.slot ≡ Some i → HasLimit program (machine m) → first_failing (rules known i) ≡ None
@@ -268,7 +277,7 @@ way_safe program sectors device context table s sent set states fits edges known
             covers = found.there;
             whole = g.whole;
             limit = g.limit;
-            here = edges_begin program set.shaped.targets set.shaped.ends s.slot t.slot g.edge;
+            here = edges_begin true program set.shaped.targets set.shaped.ends s.slot t.slot g.edge;
             waiting = subst (λ (fs : List Frame). AreWaiting program sectors table 0 0 fs t.slot) (sym q.has)
                 (waiting_kept program sectors table 0 0 q.below q.old q.new s.slot t.slot waiting g.edge q.caller);
           },

@@ -95,7 +95,7 @@ either : (b : Bool) (slot to : ℕ) → Leads (edges (Some (slot + 1)) (Some to)
 either true slot to = inr refl
 either false slot to = inl refl
 
-set_moves : (s : State) (i : Instr) (n r x : ℕ) → (edges_of s.slot i).next ≡ Some (s.slot + n) → OnNext (Moves s i) (set_and_go n s r x)
+pub set_moves : (s : State) (i : Instr) (n r x : ℕ) → (edges_of s.slot i).next ≡ Some (s.slot + n) → OnNext (Moves s i) (set_and_go n s r x)
 set_moves s i n r x e = record { leads = inl e; width = length-set s.registers r (Some x); counts = refl; frames = refl }
 
 -- a store changes no caller
@@ -234,7 +234,7 @@ answer_there [] a h = absurd (omega (arith, h))
 answer_there (x ∷ xs) a h = refl
 
 -- a state after a helper's answer that counts nothing
-answer_moves : (s : State) (number : ℤ) (t : State) (a : ℕ) → t.slot ≡ s.slot + 1 → t.registers ≡ with_answer s.registers a → t.turns ≡ s.turns
+pub answer_moves : (s : State) (number : ℤ) (t : State) (a : ℕ) → t.slot ≡ s.slot + 1 → t.registers ≡ with_answer s.registers a → t.turns ≡ s.turns
     → callers t.frames ≡ callers s.frames → Moves s (instr.CallHelper number) t
 unfolding edges_of
 answer_moves s number t a slot registers counts frames =
@@ -251,7 +251,7 @@ call_moves device s number helper.Copy = answer_moves s number _ (copy_answer de
 call_moves device s number helper.Again =
     record { leads = inl refl; width = length_answered s.registers (again_answer (turns_here s) (word s 1)); counts = refl; frames = refl; answer = refl }
 call_moves device s number helper.Report = answer_moves s number _ (report_answer s.codes) refl refl refl refl
-call_moves device s number (helper.Query q) = answer_moves s number _ (query_answer device q (word s 1) (word s 2)) refl refl refl refl
+call_moves device s number (helper.Query q) = answer_moves s number _ (query_answer device q (word s 1) (word s 2) (word s 3)) refl refl refl refl
 
 -- the helper that was called
 pub record CallsHelper (s : State) (number : ℤ) (t : State) : Type 0 where
@@ -351,3 +351,21 @@ passes_test bytes device s (instr.Branch width.W64 b dst (source.Immediate n) di
       | inr other ↦ absurd (let bad : false ≡ true = sym other.0 ∙ d.0 in cc)
     ]
 passes_test bytes device s i c is zero_there = absurd (let bad : None ≡ Some c = is in cc)
+
+-- What a run asks of a step: it has the limit that its instruction sets, and takes the edge of its test.
+pub record Does (s : State) (i : Instr) (t : State) : Type 0 where
+  pub sets : (k : ℕ) → limit_of i ≡ Some k → 1 < length s.registers → HasLimit k t
+  pub passes : (c : Condition) → zero_test i ≡ Some c → word s 0 ≡ 0 → Passes s i c t
+
+pub does : (program : List (Option Instr)) (context : List ℕ) (device : List (List ℕ)) (s t : State) (i : Instr) → step_of program context device s i ≡ Next t → Does s i t
+does program context device s t i came = record {
+  sets = λ k is wide. in_next (HasLimit k) program context device s t i (sets_limit (memory context device s) device s i k is wide) came;
+  passes = λ c is zero_there. in_next (Passes s i c) program context device s t i (passes_test (memory context device s) device s i c is zero_there) came;
+}
+
+-- an instruction that sets none and tests nothing
+pub quiet : (s : State) (i : Instr) (t : State) → limit_of i ≡ None → zero_test i ≡ None → Does s i t
+quiet s i t sets tests = record {
+  sets = λ k is wide. absurd (let bad : None ≡ Some k = sym sets ∙ is in cc);
+  passes = λ c is zero_there. absurd (let bad : None ≡ Some c = sym tests ∙ is in cc);
+}

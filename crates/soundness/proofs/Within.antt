@@ -1,5 +1,5 @@
 -- A run without faults ends within the budget.
-use Rattle.std.proofs.Common.{ℕ, zero, suc, ◌≡◌, ◌+◌, ◌*◌, ◌≤◌, List, length, Option, Some, None, refl, ◌∙◌, ap, arith, suc-mul, mul-le-mul_right}
+use Rattle.std.proofs.Common.{ℕ, zero, suc, ◌≡◌, ◌+◌, ◌*◌, ◌≤◌, true, List, length, Option, Some, None, refl, ◌∙◌, ap, arith, suc-mul, mul-le-mul_right}
 use Rattle.std.proofs.lemmas.List.{length-replicate}
 use Rattle.base.specs.declared.causes.MachineFault.{MachineFault}
 use Rattle.bpf_isa.specs.declared.instr.Instr.{Instr}
@@ -10,6 +10,7 @@ use Rattle.bpf_shape.specs.Again.{limit_before, answer_test, turns_at, turns}
 use Rattle.bpf_shape.specs.Budget.{most_calls, IsBudget}
 use Rattle.bpf_shape.specs.Rules.{IsShaped}
 use Rattle.bpf_shape.specs.Laws.{AgainHasForm}
+use Rattle.bpf_shape.proofs.Kept.{shaped_with_guards}
 use Rattle.bpf_shape.proofs.Walks.{stays}
 use Rattle.machine.specs.State.{State, start, no_turns}
 use Rattle.machine.specs.Step.{Stepped, Next, Done, Fault, step}
@@ -20,7 +21,7 @@ use Rattle.soundness.proofs.Room.{slot_fits, slot_weighs, from_entry, Function, 
 use Rattle.soundness.proofs.Progress.{progress}
 
 module _ (program : List (Option Instr)) (context : List ℕ) (device : List (List ℕ)) (whole : ℕ)
-    (p : IsProgram program) (shaped : IsShaped program) (form : AgainHasForm) where
+    (p : IsProgram program) (shaped : IsShaped true program) (form : AgainHasForm) where
   -- within that many steps from a state the program ends in a verdict
   pub record Ends (s : State) (steps : ℕ) : Type 0 where
     pub answer : ℕ
@@ -108,6 +109,6 @@ runs_first program budget b =
     }
 
 pub runs_end : AgainHasForm → RunsEndWithinBudget
-runs_end form program context device budget p shaped b never =
-    let e = ends program context device b.longest p shaped form budget start (runs_first program budget b) never in
+runs_end form guards program context device budget p shaped b never =
+    let e = ends program context device b.longest p (shaped_with_guards guards program shaped) form budget start (runs_first program budget b) never in
     record { answer = e.answer; codes = e.codes; verdict = e.verdict }

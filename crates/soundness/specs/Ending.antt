@@ -1,5 +1,5 @@
 -- The end of a run within the budget (docs/VERIFIER.md, Budget).
-use Rattle.std.specs.Prelude.{◌≡◌, ℕ, List, Option}
+use Rattle.std.specs.Prelude.{◌≡◌, ℕ, Bool, List, Option}
 use Rattle.bpf_isa.specs.declared.instr.Instr.{Instr}
 use Rattle.bpf_isa.specs.Program.{IsProgram}
 use Rattle.bpf_shape.specs.Budget.{IsBudget}
@@ -14,8 +14,8 @@ pub record EndsWithin (program : List (Option Instr)) (context : List ℕ) (devi
   pub codes : List ℕ
   pub verdict : steps_end program context device limit start ≡ Verdict answer codes
 
--- a program of right shape whose run meets no fault ends within its budget
+-- a program of right shape, with guards or without, whose run meets no fault ends within its budget
 abbrev pub RunsEndWithinBudget : Type 0
-RunsEndWithinBudget = (program : List (Option Instr)) (context : List ℕ) (device : List (List ℕ)) (budget : ℕ)
-    → IsProgram program → IsShaped program → IsBudget program budget → NeverFaults program context device
+RunsEndWithinBudget = (guards : Bool) (program : List (Option Instr)) (context : List ℕ) (device : List (List ℕ)) (budget : ℕ)
+    → IsProgram program → IsShaped guards program → IsBudget program budget → NeverFaults program context device
     → EndsWithin program context device budget

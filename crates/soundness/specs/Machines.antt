@@ -14,10 +14,10 @@ pub record IsSector (sector : List ℕ) : Type 0 where
   pub long : length sector ≡ 512
   pub bytes : (i : ℕ) → slice_index sector i < 256
 
--- A program of right shape, on a device of that many sectors that is told of in the context.
+-- A program of right shape with guards, which each has that has it without, on a device of that many sectors that is told of in the context.
 pub record IsSetting (program : List (Option Instr)) (sectors : ℕ) (device : List (List ℕ)) (context : Context) : Type 0 where
   pub made : IsProgram program
-  pub shaped : IsShaped program
+  pub shaped : IsShaped true program
   pub count : length device ≡ sectors
   pub few : sectors ≤ most_sectors
   pub whole : (n : ℕ) (sector : List ℕ) → slice_get device n ≡ Some sector → IsSector sector

@@ -61,6 +61,7 @@
 //! # Example
 //!
 //! ```
+//! use checker::RunMemory;
 //! use images::Changes;
 //! use std::marker::Brand;
 //! use verdict_cache::{copy_of, shards};
@@ -69,6 +70,7 @@
 //! let shards = shards::<Brand>(alloc, &history, checkers, 1_000)?;
 //! // once a worker
 //! let mut changes = Changes::new(alloc, &history);
+//! let mut memory = RunMemory::new(alloc, checkers)?;
 //! // once an image
 //! if let Some(mut key) = changes.key(alloc, &view)? {
 //!     // once a checker
@@ -76,7 +78,7 @@
 //!     let shard = &shards[usize::from(key.shard())];
 //!     let kept = shard.lock(rt).look(&key);
 //!     if kept.is_none() {
-//!         let outcome = checkers[0].judge(&view.context(), &view);
+//!         let outcome = checkers[0].judge(&mut memory, &view.context(), &view);
 //!         shard.lock(rt).put(key, copy_of(&outcome));     // the next look for that key answers the outcome
 //!     }
 //! }

@@ -16,7 +16,7 @@ use Rattle.verifier.proofs.Ascending.{met_has_no_good}
 use Rattle.verifier.proofs.Below.{settled_is_least, broken_has_no_good, rule_is_breach}
 
 pub accepted : (guards : Bool) (program : List (Option Instr)) (sectors budget : ℕ) (table : List (Option Abstract)) (shape : ShapeValue) → 1 ≤ sectors → sectors ≤ most_sectors → sectors < 2 ^ 64
-    → IsProgram program → IsShapeOf program shape → budget ≡ shape.budget → IsSettled guards program sectors table → KeepsRules guards program table
+    → IsProgram program → IsShapeOf guards program shape → budget ≡ shape.budget → IsSettled guards program sectors table → KeepsRules guards program table
     → IsVerified (record { guards = guards; program = program; sectors = sectors; budget = budget; table = table })
 accepted guards program sectors budget table shape some device few p h e settled kept =
     record {
@@ -29,14 +29,14 @@ accepted guards program sectors budget table shape some device few p h e settled
       table = settled_is_least guards program sectors table few p h.rules settled kept;
     }
 
-pub refused : (guards : Bool) (program : List (Option Instr)) (sectors : ℕ) (table : List (Option Abstract)) (c : VerifierCause) (slot : ℕ) → sectors < 2 ^ 64 → IsProgram program → IsShaped program
+pub refused : (guards : Bool) (program : List (Option Instr)) (sectors : ℕ) (table : List (Option Abstract)) (c : VerifierCause) (slot : ℕ) → sectors < 2 ^ 64 → IsProgram program → IsShaped guards program
     → IsSettled guards program sectors table → FirstRule guards program table c slot → RefusedWith guards program sectors c slot
 refused guards program sectors table c slot few p h settled first =
     no_table c slot table h (broken_has_no_good guards program sectors table c slot few p h settled first.breaks) settled
     (rule_is_breach guards program sectors table c slot few p h settled first)
 
 -- the rounds are cut short
-pub cut_short : (guards : Bool) (program : List (Option Instr)) (sectors : ℕ) (table : List (Option Abstract)) (met : Fault) → sectors < 2 ^ 64 → IsProgram program → IsShaped program
+pub cut_short : (guards : Bool) (program : List (Option Instr)) (sectors : ℕ) (table : List (Option Abstract)) (met : Fault) → sectors < 2 ^ 64 → IsProgram program → IsShaped guards program
     → IsFound guards program sectors table (Some met) → RefusedWith guards program sectors met.code met.slot
 cut_short guards program sectors table met few p h found =
     sought met.code met.slot table h (met_has_no_good guards program sectors table met.code met.slot few p found.sought found.broken) found.long found.sought found.broken

@@ -57,7 +57,7 @@ met_has_no_good guards program sectors table c slot few p h breaks = λ g good.
     cc
 
 -- a good one is where the rounds end
-pub good_is_settled : (guards : Bool) (program : List (Option Instr)) (sectors : ℕ) (table : List (Option Abstract)) → sectors < 2 ^ 64 → IsProgram program → IsShaped program
+pub good_is_settled : (guards : Bool) (program : List (Option Instr)) (sectors : ℕ) (table : List (Option Abstract)) → sectors < 2 ^ 64 → IsProgram program → IsShaped guards program
     → IsSought guards program sectors table → IsGoodWith guards program sectors table → IsSettled guards program sectors table
 good_is_settled guards program sectors table few p h sought good =
     least_is_settled guards program sectors table few p h (record {

@@ -155,7 +155,7 @@ slot_below guards program sectors table g slot few p h good below = by_rule (is_
 
 -- rounds
 
-round_below : (guards : Bool) (program : List (Option Instr)) (sectors : ℕ) (table g : List (Option Abstract)) → sectors < 2 ^ 64 → IsProgram program → IsShaped program
+round_below : (guards : Bool) (program : List (Option Instr)) (sectors : ℕ) (table g : List (Option Abstract)) → sectors < 2 ^ 64 → IsProgram program → IsShaped guards program
     → IsRound (length program) table → IsGoodWith guards program sectors g → Below table g → Below (round_of guards program sectors table) g
 unfolding round_of passed_states
 round_below guards program sectors table g few p h r good below =
@@ -175,19 +175,19 @@ first_below zero g k s slot = tt
 first_below (suc n) g k s zero = covered_is_under (state_at g 0) start (k 0) start_fits s
 first_below (suc n) g k s (suc slot) = rw (no_states n slot) tt
 
-pub rounds_below : (guards : Bool) (program : List (Option Instr)) (sectors turns : ℕ) (g : List (Option Abstract)) → sectors < 2 ^ 64 → IsProgram program → IsShaped program
+pub rounds_below : (guards : Bool) (program : List (Option Instr)) (sectors turns : ℕ) (g : List (Option Abstract)) → sectors < 2 ^ 64 → IsProgram program → IsShaped guards program
     → IsGoodWith guards program sectors g → Below (rounds guards program sectors turns) g
 rounds_below guards program sectors zero g few p h good = first_below (length program) g good.states good.start
 rounds_below guards program sectors (suc n) g few p h good =
     round_below guards program sectors (rounds guards program sectors n) g few p h (each_round guards program sectors n few p h) good (rounds_below guards program sectors n g few p h good)
 
-pub settled_below : (guards : Bool) (program : List (Option Instr)) (sectors : ℕ) (table g : List (Option Abstract)) → sectors < 2 ^ 64 → IsProgram program → IsShaped program
+pub settled_below : (guards : Bool) (program : List (Option Instr)) (sectors : ℕ) (table g : List (Option Abstract)) → sectors < 2 ^ 64 → IsProgram program → IsShaped guards program
     → IsSettled guards program sectors table → IsGoodWith guards program sectors g → Below table g
 settled_below guards program sectors table g few p h s good = rw s.is (rounds_below guards program sectors s.turns g few p h good)
 
 -- where the rounds end
 
-pub settled_is_least : (guards : Bool) (program : List (Option Instr)) (sectors : ℕ) (table : List (Option Abstract)) → sectors < 2 ^ 64 → IsProgram program → IsShaped program
+pub settled_is_least : (guards : Bool) (program : List (Option Instr)) (sectors : ℕ) (table : List (Option Abstract)) → sectors < 2 ^ 64 → IsProgram program → IsShaped guards program
     → IsSettled guards program sectors table → KeepsRules guards program table → IsLeast guards program sectors table
 settled_is_least guards program sectors table few p h s kept =
     let good : IsGoodWith guards program sectors table = settled_is_good guards program sectors table few p h s kept in
@@ -197,12 +197,12 @@ settled_is_least guards program sectors table few p h s kept =
           under_is_covered (state_at table slot) (state_at g slot) (good.states slot) (is.states slot) (settled_below guards program sectors table g few p h s is slot);
     }
 
-pub settled_round : (guards : Bool) (program : List (Option Instr)) (sectors : ℕ) (table : List (Option Abstract)) → sectors < 2 ^ 64 → IsProgram program → IsShaped program
+pub settled_round : (guards : Bool) (program : List (Option Instr)) (sectors : ℕ) (table : List (Option Abstract)) → sectors < 2 ^ 64 → IsProgram program → IsShaped guards program
     → IsSettled guards program sectors table → IsRound (length program) table
 settled_round guards program sectors table few p h s = rw s.is (each_round guards program sectors s.turns few p h)
 
 pub broken_has_no_good : (guards : Bool) (program : List (Option Instr)) (sectors : ℕ) (table : List (Option Abstract)) (c : VerifierCause) (slot : ℕ) → sectors < 2 ^ 64 → IsProgram program
-    → IsShaped program → IsSettled guards program sectors table → rule_with guards program table slot ≡ Some c → HasNoGood guards program sectors
+    → IsShaped guards program → IsSettled guards program sectors table → rule_with guards program table slot ≡ Some c → HasNoGood guards program sectors
 broken_has_no_good guards program sectors table c slot few p h s breaks = λ g good.
     let round = settled_round guards program sectors table few p h s in
     let none : rule_with guards program table slot ≡ None = keeps_below guards program sectors table g slot p round.states good (settled_below guards program sectors table g few p h s good) in
@@ -211,7 +211,7 @@ broken_has_no_good guards program sectors table c slot few p h s breaks = λ g g
 
 -- the first broken rule of a settled table is its first breach
 pub rule_is_breach : (guards : Bool) (program : List (Option Instr)) (sectors : ℕ) (table : List (Option Abstract)) (c : VerifierCause) (slot : ℕ) → sectors < 2 ^ 64 → IsProgram program
-    → IsShaped program → IsSettled guards program sectors table → FirstRule guards program table c slot → FirstBreach guards program sectors table c slot
+    → IsShaped guards program → IsSettled guards program sectors table → FirstRule guards program table c slot → FirstBreach guards program sectors table c slot
 rule_is_breach guards program sectors table c slot few p h s first =
     let round : IsRound (length program) table = settled_round guards program sectors table few p h s in
     let covered : CoversAll table (passed_states guards program sectors table) = settled_covers guards program sectors table few p h round s.same in

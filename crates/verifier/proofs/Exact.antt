@@ -1,7 +1,7 @@
 -- Acceptance is exact: the least good table.
 use Rattle.std.proofs.Common.{◌≡◌, ◌<◌, ◌≤◌, ◌+◌, ◌^◌, ℕ, zero, suc, Bool, true, false, List, [], ◌∷◌, length, Option, Some, None, refl, sym, ◌∙◌, if◌then◌else◌, ap, subst, inl, inr, arith}
 use Rattle.std.proofs.lemmas.Bool.{cases_eq}
-use Rattle.base.specs.Check.{Check, first_failing}
+use Rattle.base.specs.Check.{Check, check, first_failing}
 use Rattle.base.specs.declared.causes.VerifierCause.{VerifierCause}
 use Rattle.base.specs.declared.causes.VerifierCause.TheVariants as cause
 use Rattle.bpf_isa.specs.declared.instr.Instr.{Instr}
@@ -9,9 +9,10 @@ use Rattle.bpf_isa.specs.declared.instr.Instr.TheVariants as instr
 use Rattle.bpf_isa.specs.Program.{IsProgram}
 use Rattle.bpf_isa.specs.Slots.{at}
 use Rattle.bpf_shape.specs.Rules.{IsShaped, FirstOf, FirstBroken, order}
+use Rattle.bpf_shape.proofs.Kept.{shaped_with_guards}
 use Rattle.helpers.specs.declared.helper.Helper.{Helper}
 use Rattle.helpers.specs.declared.helper.Helper.TheVariants as helper
-use Rattle.helpers.specs.Helper.{helper_of}
+use Rattle.helpers.specs.Helper.{helper_of, asked_of}
 use Rattle.std.specs.Int.{cast_unsigned, w32}
 use Rattle.std.specs.Option.{option_map_or}
 use Rattle.ranges.specs.States.{Abstract}
@@ -73,7 +74,7 @@ one_least guards program sectors t u a b =
 abbrev Ends : Bool → List (Option Instr) → ℕ → Type 0
 Ends guards program sectors = (turns : ℕ) × IsSame guards program sectors (rounds guards program sectors turns)
 
-ends_within : (guards : Bool) (program : List (Option Instr)) (sectors : ℕ) → sectors < 2 ^ 64 → IsProgram program → IsShaped program → (left turns : ℕ)
+ends_within : (guards : Bool) (program : List (Option Instr)) (sectors : ℕ) → sectors < 2 ^ 64 → IsProgram program → IsShaped guards program → (left turns : ℕ)
     → 2 ^ 96 ≤ weight (rounds guards program sectors turns) + left → Ends guards program sectors
 ends_within guards program sectors few p h zero turns most =
     let below : weight (rounds guards program sectors turns) < 2 ^ 96 = round_is_below program (rounds guards program sectors turns) p (each_round guards program sectors turns few p h) in
@@ -86,13 +87,13 @@ ends_within guards program sectors few p h (suc left) turns most =
       | inr other ↦ ends_within guards program sectors few p h left (suc turns) (omega (arith, most, least, other))
     ]
 
-ends : (guards : Bool) (program : List (Option Instr)) (sectors : ℕ) → sectors < 2 ^ 64 → IsProgram program → IsShaped program → (left : ℕ) → left ≡ 2 ^ 96 → Ends guards program sectors
+ends : (guards : Bool) (program : List (Option Instr)) (sectors : ℕ) → sectors < 2 ^ 64 → IsProgram program → IsShaped guards program → (left : ℕ) → left ≡ 2 ^ 96 → Ends guards program sectors
 ends guards program sectors few p h left e = ends_within guards program sectors few p h left 0 (omega (arith, e))
 
 table_ends : (guards : Bool) (program : List (Option Instr)) (sectors : ℕ) → Ends guards program sectors → (table : List (Option Abstract)) × IsSettled guards program sectors table
 table_ends guards program sectors e = (rounds guards program sectors e.0, record { turns = e.0; is = refl; same = e.1 })
 
-least_exists : (guards : Bool) (program : List (Option Instr)) (sectors : ℕ) (g : List (Option Abstract)) → sectors < 2 ^ 64 → IsProgram program → IsShaped program
+least_exists : (guards : Bool) (program : List (Option Instr)) (sectors : ℕ) (g : List (Option Abstract)) → sectors < 2 ^ 64 → IsProgram program → IsShaped guards program
     → IsGoodWith guards program sectors g → (table : List (Option Abstract)) × IsLeast guards program sectors table
 least_exists guards program sectors g few p h good =
     let found = table_ends guards program sectors (ends guards program sectors few p h (2 ^ 96) refl) in
@@ -103,7 +104,7 @@ least_exists guards program sectors g few p h good =
     )
 
 -- the rounds end at the least good table, where there is one
-pub least_is_settled : (guards : Bool) (program : List (Option Instr)) (sectors : ℕ) (t : List (Option Abstract)) → sectors < 2 ^ 64 → IsProgram program → IsShaped program
+pub least_is_settled : (guards : Bool) (program : List (Option Instr)) (sectors : ℕ) (t : List (Option Abstract)) → sectors < 2 ^ 64 → IsProgram program → IsShaped guards program
     → IsLeast guards program sectors t → IsSettled guards program sectors t
 least_is_settled guards program sectors t few p h least =
     let found = table_ends guards program sectors (ends guards program sectors few p h (2 ^ 96) refl) in
@@ -113,11 +114,11 @@ least_is_settled guards program sectors t few p h least =
     subst (λ u. IsSettled guards program sectors u) (one_least guards program sectors found.0 t there least) found.1
 
 -- The least table without guards is the least one with them: that one is below it, so it keeps the rules too.
-pub least_with_guards : (program : List (Option Instr)) (sectors : ℕ) (t : List (Option Abstract)) → sectors < 2 ^ 64 → IsProgram program → IsShaped program
+pub least_with_guards : (program : List (Option Instr)) (sectors : ℕ) (t : List (Option Abstract)) → sectors < 2 ^ 64 → IsProgram program → IsShaped false program
     → IsLeast false program sectors t → IsLeast true program sectors t
 least_with_guards program sectors t few p h least =
     let good : IsGoodWith true program sectors t = good_with_guards program sectors t least.good in
-    let found = least_exists true program sectors t few p h good in
+    let found = least_exists true program sectors t few p (shaped_with_guards false program h) good in
     let states = found.1.good.states in
     let below : Below found.0 t = λ slot. contained_under (state_at found.0 slot) (state_at t slot) (states slot) (least.good.states slot) (found.1.least t good slot) in
     let without : IsGood program sectors found.0 = good_without program sectors found.0 found.1.good (λ slot. keeps_below false program sectors found.0 t slot p states least.good below) in
@@ -140,10 +141,10 @@ no_other c e other =
     let bad : true ≡ false = sym told ∙ other in
     cc
 
-no_shape : (program : List (Option Instr)) (c : VerifierCause) (slot : ℕ) (list : List VerifierCause) → c ≡ cause.Unsettled → Each Other list → FirstOf program list c slot → ⊥
-no_shape program c slot [] e a f = f
-no_shape program c slot (r ∷ rest) e a (inl f) = no_other r (sym f.0 ∙ e) a.0
-no_shape program c slot (r ∷ rest) e a (inr f) = no_shape program c slot rest e a.1 f.1
+no_shape : (guards : Bool) (program : List (Option Instr)) (c : VerifierCause) (slot : ℕ) (list : List VerifierCause) → c ≡ cause.Unsettled → Each Other list → FirstOf guards program list c slot → ⊥
+no_shape guards program c slot [] e a f = f
+no_shape guards program c slot (r ∷ rest) e a (inl f) = no_other r (sym f.0 ∙ e) a.0
+no_shape guards program c slot (r ∷ rest) e a (inr f) = no_shape guards program c slot rest e a.1 f.1
 
 no_check : (list : List (Check VerifierCause)) (c : VerifierCause) → c ≡ cause.Unsettled → Each (λ k. Other k.cause) list → first_failing list ≡ Some c → ⊥
 no_check [] c u a e = let bad : None ≡ Some c = e in cc
@@ -162,10 +163,10 @@ other_rules : (guards : Bool) (s : Abstract) (i : Instr) → Each (λ k. Other k
 unfolding rules_with load_rules store_rules
 other_rules guards s (instr.Jump distance) = tt
 other_rules guards s (instr.LongJump distance) = tt
-other_rules guards s (instr.CallHelper number) = by_helper (helper_of (cast_unsigned w32 number))
+other_rules guards s (instr.CallHelper number) = by_helper (if guards then asked_of (cast_unsigned w32 number) else helper_of (cast_unsigned w32 number))
   where
-    by_helper : (m : Option Helper) → Each (λ k. Other k.cause) (option_map_or (call_rules guards s) m [])
-    by_helper None = tt
+    by_helper : (m : Option Helper) → Each (λ k. Other k.cause) (option_map_or (call_rules guards s) m (check cause.UnknownHelper false ∷ []))
+    by_helper None = (refl, tt)
     by_helper (Some h) = other_calls guards s h
 other_rules guards s (instr.CallLocal distance) = tt
 other_rules guards s (instr.Load size dst base distance) = (refl, (refl, (refl, (refl, tt))))
@@ -198,7 +199,7 @@ no_breach guards program sectors table _ _ u r covered (at_slot c slot e s b) = 
 
 not_unsettled : (guards : Bool) (program : List (Option Instr)) (sectors : ℕ) (c : VerifierCause) (slot : ℕ) → sectors < 2 ^ 64 → IsProgram program → c ≡ cause.Unsettled → RefusedWith guards program sectors c slot → ⊥
 unfolding FirstBroken
-not_unsettled guards program sectors _ _ few p u (shape c s x) = no_shape program c s order u (refl, (refl, (refl, (refl, (refl, (refl, (refl, (refl, tt)))))))) x
+not_unsettled guards program sectors _ _ few p u (shape c s x) = no_shape guards program c s order u (refl, (refl, (refl, (refl, (refl, (refl, (refl, (refl, tt)))))))) x
 not_unsettled guards program sectors _ _ few p u (no_table c s t h none k x) =
     let round = settled_round guards program sectors t few p h k in
     no_breach guards program sectors t c s u round (settled_covers guards program sectors t few p h round k.same) x

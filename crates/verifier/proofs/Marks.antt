@@ -56,7 +56,7 @@ all_left_out marked f a (suc n) table h r c =
 
 -- a round in which only the marked slots pass on
 
-pub again_fits : (guards : Bool) (program : List (Option Instr)) (sectors : ℕ) (table : List (Option Abstract)) (marks : List Bool) → sectors < 2 ^ 64 → IsProgram program → IsShaped program
+pub again_fits : (guards : Bool) (program : List (Option Instr)) (sectors : ℕ) (table : List (Option Abstract)) (marks : List Bool) → sectors < 2 ^ 64 → IsProgram program → IsShaped guards program
     → AreStates table → Arrive (length program) (passed_again guards program sectors table marks)
 unfolding passed_again
 again_fits guards program sectors table marks few p h states =
@@ -78,7 +78,7 @@ again_covers guards program sectors table marks h =
     pick true ps a = a
     pick false ps a = tt
 
-again_round : (guards : Bool) (program : List (Option Instr)) (sectors : ℕ) (table : List (Option Abstract)) (marks : List Bool) → sectors < 2 ^ 64 → IsProgram program → IsShaped program
+again_round : (guards : Bool) (program : List (Option Instr)) (sectors : ℕ) (table : List (Option Abstract)) (marks : List Bool) → sectors < 2 ^ 64 → IsProgram program → IsShaped guards program
     → IsRound (length program) table → IsMarked guards program sectors table marks → fold receive table (passed_again guards program sectors table marks) ≡ round_of guards program sectors table
 unfolding passed_again round_of passed_states
 again_round guards program sectors table marks few p h r m =
@@ -92,7 +92,7 @@ same_passed : (guards : Bool) (program : List (Option Instr)) (sectors : ℕ) (o
 unfolding rule_with sent_with
 same_passed guards program sectors old new slot e = rw e refl
 
-round_covers : (guards : Bool) (program : List (Option Instr)) (sectors : ℕ) (table : List (Option Abstract)) → sectors < 2 ^ 64 → IsProgram program → IsShaped program → IsRound (length program) table
+round_covers : (guards : Bool) (program : List (Option Instr)) (sectors : ℕ) (table : List (Option Abstract)) → sectors < 2 ^ 64 → IsProgram program → IsShaped guards program → IsRound (length program) table
     → CoversAll (round_of guards program sectors table) (passed_states guards program sectors table)
 unfolding round_of
 round_covers guards program sectors table few p h r =
@@ -100,7 +100,7 @@ round_covers guards program sectors table few p h r =
 
 -- a round by what arrived
 pub made_round : (guards : Bool) (program : List (Option Instr)) (sectors : ℕ) (table new : List (Option Abstract)) (marks before after : List Bool) (arrivals : List (ℕ × Abstract)) (more : Bool)
-    → sectors < 2 ^ 64 → IsProgram program → IsShaped program → IsRound (length program) table → IsMarked guards program sectors table marks
+    → sectors < 2 ^ 64 → IsProgram program → IsShaped guards program → IsRound (length program) table → IsMarked guards program sectors table marks
     → arrivals ≡ passed_again guards program sectors table marks → length before ≡ length program → ((slot : ℕ) → get_or before slot false ≡ false)
     → Arrived table arrivals new more → Kept table before new after
     → MadeRound guards program sectors table new after more

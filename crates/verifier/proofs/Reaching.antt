@@ -76,8 +76,8 @@ state_fits edge.Next loose sectors s i few r a = after_with_fits loose sectors s
 state_fits edge.Target loose sectors s (instr.CallLocal distance) few r a = entry_fits s a
 state_fits edge.Target loose sectors s i few r a = edge_with_fits loose s i true r a
 
-keeps_all : (program : List (Option Instr)) → IsShaped program → KeepsAll program
-keeps_all program h = record { targets = h.targets; ends = h.ends; frame_pointer = h.frame_pointer; helpers = h.helpers; again = h.again }
+keeps_all : (guards : Bool) (program : List (Option Instr)) → IsShaped guards program → KeepsAll guards program
+keeps_all guards program h = record { targets = h.targets; ends = h.ends; frame_pointer = h.frame_pointer; helpers = h.helpers; again = h.again }
 
 passed_fits : (guards : Bool) (n sectors slot : ℕ) (marks : List Bool) (s : Abstract) (i : Instr) → sectors < 2 ^ 64 → IsInRange i → IsState s
     → ((t : ℕ) → Leads (edges_of slot i) t → t < n) → ((t : ℕ) → callee_of slot i ≡ Some t → t < n) → Arrive n (map (arrival marks) (passes_with guards sectors s slot i))
@@ -92,7 +92,7 @@ passed_fits guards n sectors slot marks s i few r a inside called =
     by_callee t None e f = inside t (inr f)
     by_callee t (Some x) e f = called t (e ∙ f)
 
-pub sent_fits : (guards : Bool) (program : List (Option Instr)) (sectors : ℕ) (table : List (Option Abstract)) (slot : ℕ) → sectors < 2 ^ 64 → IsProgram program → IsShaped program → AreStates table
+pub sent_fits : (guards : Bool) (program : List (Option Instr)) (sectors : ℕ) (table : List (Option Abstract)) (slot : ℕ) → sectors < 2 ^ 64 → IsProgram program → IsShaped guards program → AreStates table
     → Arrive (length program) (sent_with guards program sectors table slot)
 unfolding sent_with control callee
 sent_fits guards program sectors table slot few p h states = cases (at program slot) (state_at table slot) refl (states slot)
@@ -102,8 +102,8 @@ sent_fits guards program sectors table slot few p h states = cases (at program s
     cases (Some i) None e a = tt
     cases (Some i) (Some s) e a =
         passed_fits guards (length program) sectors slot (heads program) s i few (in_range program slot i p e) a
-        (λ t leads. let there : Leads (control program slot) t = rw e leads in control_fits program (keeps_all program h) slot t there)
-        (λ t calls. let there : callee program slot ≡ Some t = rw e calls in entries_fit program h.targets slot t there)
+        (λ t leads. let there : Leads (control program slot) t = rw e leads in control_fits guards program (keeps_all guards program h) slot t there)
+        (λ t calls. let there : callee program slot ≡ Some t = rw e calls in entries_fit guards program h.targets slot t there)
 
 -- past the end there is nothing
 pub nothing_past : (guards : Bool) (program : List (Option Instr)) (sectors : ℕ) (table : List (Option Abstract)) (slot : ℕ) → length program ≤ slot

@@ -17,7 +17,7 @@ use Rattle.verifier.proofs.Below.{covered_is_under}
 use Rattle.verifier.proofs.Weights.{table_weighs, table_below}
 
 -- nothing that is known is lost
-stays_below : (guards : Bool) (program : List (Option Instr)) (sectors : ℕ) (table : List (Option Abstract)) (slot : ℕ) → sectors < 2 ^ 64 → IsProgram program → IsShaped program
+stays_below : (guards : Bool) (program : List (Option Instr)) (sectors : ℕ) (table : List (Option Abstract)) (slot : ℕ) → sectors < 2 ^ 64 → IsProgram program → IsShaped guards program
     → IsRound (length program) table → EdgeUnder (state_at table slot) (state_at (round_of guards program sectors table) slot)
 unfolding round_of
 stays_below guards program sectors table slot few p h r =
@@ -33,14 +33,14 @@ stays_below guards program sectors table slot few p h r =
         covered_is_under (state_at (fold receive table (passed_states guards program sectors table)) slot) s next a
         (all_keep table (passed_states guards program sectors table) slot s r.states arrive a known)
 
-pub round_weighs : (guards : Bool) (program : List (Option Instr)) (sectors : ℕ) (table : List (Option Abstract)) → sectors < 2 ^ 64 → IsProgram program → IsShaped program
+pub round_weighs : (guards : Bool) (program : List (Option Instr)) (sectors : ℕ) (table : List (Option Abstract)) → sectors < 2 ^ 64 → IsProgram program → IsShaped guards program
     → IsRound (length program) table
     → (weight table ≤ weight (round_of guards program sectors table)) × (weight table ≡ weight (round_of guards program sectors table) → table ≡ round_of guards program sectors table)
 round_weighs guards program sectors table few p h r =
     let next = next_round guards program sectors table few p h r in
     table_weighs table (round_of guards program sectors table) (r.long ∙ sym next.long) r.states next.states (λ slot. stays_below guards program sectors table slot few p h r)
 
-pub round_rises : (guards : Bool) (program : List (Option Instr)) (sectors : ℕ) (table : List (Option Abstract)) → sectors < 2 ^ 64 → IsProgram program → IsShaped program
+pub round_rises : (guards : Bool) (program : List (Option Instr)) (sectors : ℕ) (table : List (Option Abstract)) → sectors < 2 ^ 64 → IsProgram program → IsShaped guards program
     → IsRound (length program) table → (IsSame guards program sectors table → ⊥) → weight table < weight (round_of guards program sectors table)
 round_rises guards program sectors table few p h r changes =
     let both = round_weighs guards program sectors table few p h r in
@@ -52,7 +52,7 @@ pub round_is_below : (program : List (Option Instr)) (table : List (Option Abstr
 round_is_below program table p r = let few = p.count.limit in let long = r.long in table_below table r.states (omega (arith, few, long))
 
 -- so what is left of 2^96 falls with each round that changes the table
-falls : (guards : Bool) (program : List (Option Instr)) (sectors : ℕ) (old new : List (Option Abstract)) (after : List Bool) (changed : Bool) → sectors < 2 ^ 64 → IsProgram program → IsShaped program
+falls : (guards : Bool) (program : List (Option Instr)) (sectors : ℕ) (old new : List (Option Abstract)) (after : List Bool) (changed : Bool) → sectors < 2 ^ 64 → IsProgram program → IsShaped guards program
     → IsRound (length program) old → MadeRound guards program sectors old new after changed → changed ≡ true → 2 ^ 96 - weight new < 2 ^ 96 - weight old
 falls guards program sectors old new after changed few p h r made t =
     let rises : weight old < weight (round_of guards program sectors old) = round_rises guards program sectors old few p h r (made.changes t) in
@@ -61,7 +61,7 @@ falls guards program sectors old new after changed few p h r made t =
 
 -- the same of the table of some round, and what holds of the next one
 
-pub falls_at : (guards : Bool) (program : List (Option Instr)) (sectors : ℕ) (old new : List (Option Abstract)) (after : List Bool) (changed : Bool) → sectors < 2 ^ 64 → IsProgram program → IsShaped program
+pub falls_at : (guards : Bool) (program : List (Option Instr)) (sectors : ℕ) (old new : List (Option Abstract)) (after : List Bool) (changed : Bool) → sectors < 2 ^ 64 → IsProgram program → IsShaped guards program
     → (turns : ℕ) × (old ≡ rounds guards program sectors turns) → MadeRound guards program sectors old new after changed → changed ≡ true → 2 ^ 96 - weight new < 2 ^ 96 - weight old
 falls_at guards program sectors old new after changed few p h at made e =
     falls guards program sectors old new after changed few p h (rw at.1 (each_round guards program sectors at.0 few p h)) made e

@@ -48,7 +48,7 @@ one_slot_more f n xs e =
     let one : flat_map f (n ∷ []) ≡ f n = flat_map_one f n in
     rw (range_with_len-more 0 n, zero_plus, flat_map-append f (range_with_len 0 n) (n ∷ []), one, e) refl
 
-pub slot_fits : (guards : Bool) (program : List (Option Instr)) (sectors : ℕ) (table : List (Option Abstract)) (slot : ℕ) → sectors < 2 ^ 64 → IsProgram program → IsShaped program → AreStates table
+pub slot_fits : (guards : Bool) (program : List (Option Instr)) (sectors : ℕ) (table : List (Option Abstract)) (slot : ℕ) → sectors < 2 ^ 64 → IsProgram program → IsShaped guards program → AreStates table
     → Arrive (length program) (passed_by guards program sectors table slot)
 slot_fits guards program sectors table slot few p h states = pick (is_some (rule_with guards program table slot))
   where
@@ -56,7 +56,7 @@ slot_fits guards program sectors table slot few p h states = pick (is_some (rule
     pick true = tt
     pick false = sent_fits guards program sectors table slot few p h states
 
-pub passed_fits : (guards : Bool) (program : List (Option Instr)) (sectors : ℕ) (table : List (Option Abstract)) → sectors < 2 ^ 64 → IsProgram program → IsShaped program → AreStates table
+pub passed_fits : (guards : Bool) (program : List (Option Instr)) (sectors : ℕ) (table : List (Option Abstract)) → sectors < 2 ^ 64 → IsProgram program → IsShaped guards program → AreStates table
     → Arrive (length program) (passed_states guards program sectors table)
 unfolding passed_states
 passed_fits guards program sectors table few p h states =
@@ -85,7 +85,7 @@ unfolding first_table
 first_starts zero some = absurd (omega (arith, some))
 first_starts (suc n) some = contains_self start start_fits
 
-pub next_round : (guards : Bool) (program : List (Option Instr)) (sectors : ℕ) (table : List (Option Abstract)) → sectors < 2 ^ 64 → IsProgram program → IsShaped program
+pub next_round : (guards : Bool) (program : List (Option Instr)) (sectors : ℕ) (table : List (Option Abstract)) → sectors < 2 ^ 64 → IsProgram program → IsShaped guards program
     → IsRound (length program) table → IsRound (length program) (round_of guards program sectors table)
 unfolding round_of
 next_round guards program sectors table few p h r =
@@ -96,7 +96,7 @@ next_round guards program sectors table few p h r =
       starts = all_keep table (passed_states guards program sectors table) 0 start r.states arrive start_fits r.starts;
     }
 
-pub each_round : (guards : Bool) (program : List (Option Instr)) (sectors : ℕ) (turns : ℕ) → sectors < 2 ^ 64 → IsProgram program → IsShaped program
+pub each_round : (guards : Bool) (program : List (Option Instr)) (sectors : ℕ) (turns : ℕ) → sectors < 2 ^ 64 → IsProgram program → IsShaped guards program
     → IsRound (length program) (rounds guards program sectors turns)
 each_round guards program sectors zero few p h =
     record { long = first_long (length program); states = first_fits (length program); starts = first_starts (length program) p.count.some }
@@ -104,7 +104,7 @@ each_round guards program sectors (suc n) few p h = next_round guards program se
 
 -- where a round changes nothing, all that is passed on is covered
 
-pub settled_covers : (guards : Bool) (program : List (Option Instr)) (sectors : ℕ) (table : List (Option Abstract)) → sectors < 2 ^ 64 → IsProgram program → IsShaped program
+pub settled_covers : (guards : Bool) (program : List (Option Instr)) (sectors : ℕ) (table : List (Option Abstract)) → sectors < 2 ^ 64 → IsProgram program → IsShaped guards program
     → IsRound (length program) table → IsSame guards program sectors table → CoversAll table (passed_states guards program sectors table)
 unfolding round_of
 settled_covers guards program sectors table few p h r same =

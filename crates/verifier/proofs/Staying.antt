@@ -4,7 +4,7 @@ use Rattle.std.proofs.Common.{◌≡◌, ◌<◌, ◌≤◌, ℕ, zero, suc, ◌
 use Rattle.std.specs.Prelude.{set}
 use Rattle.std.specs.Option.{option_map, option_map_or, option_and_then, option_or}
 use Rattle.std.specs.Int.{cast_unsigned, w32}
-use Rattle.helpers.specs.Helper.{helper_of}
+use Rattle.helpers.specs.Helper.{asked_of}
 use Rattle.std.proofs.lemmas.List.{length-map, length-set}
 use Rattle.std.proofs.lemmas.Bool.Decides.{nat_tests}
 use Rattle.bpf_isa.specs.declared.instr.Instr.{Instr}
@@ -488,7 +488,7 @@ after_below sectors s (instr.Store size base distance src) r a = store_below s (
 after_below sectors s (instr.Load size dst base distance) r a = state_self (load_after sectors s dst size base distance)
 after_below sectors s (instr.LoadSigned size dst base distance) r a = state_self (with_value s dst (Num any_word))
 after_below sectors s (instr.LoadImmediate dst n) r a = state_self (with_value s dst (Num (any_sign (only n))))
-after_below sectors s (instr.CallHelper n) r a = state_self (option_map_or (call_after s) (helper_of (cast_unsigned w32 n)) (after_answer s (Num any_word)))
+after_below sectors s (instr.CallHelper n) r a = state_self (option_map_or (call_after s) (asked_of (cast_unsigned w32 n)) (after_answer s (Num any_word)))
 after_below sectors s (instr.CallLocal distance) r a = state_self (after_answer s (Num any_word))
 after_below sectors s (instr.Jump distance) r a = state_self s
 after_below sectors s (instr.LongJump distance) r a = state_self s

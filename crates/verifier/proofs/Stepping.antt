@@ -26,7 +26,7 @@ parts guards program sectors table slot s i there known = rw (there, known) (by_
 pub record Passes (guards : Bool) (program : List (Option Instr)) (sectors : ℕ) (table : List (Option Abstract)) (slot : ℕ) (s : Abstract) (i : Instr) : Type 0 where
   pub few : sectors < 2 ^ 64
   pub made : IsProgram program
-  pub shape : IsShaped program
+  pub shape : IsShaped guards program
   pub states : AreStates table
   pub long : length table ≡ length program
   pub there : at program slot ≡ Some i

@@ -1,6 +1,7 @@
 -- What is accepted without guards is accepted with them, and no slot is guarded.
 use Rattle.std.proofs.Common.{◌≡◌, ℕ, Bool, false, List, [], ◌∷◌, length, filter, refl}
 use Rattle.std.specs.List.{range_with_len}
+use Rattle.bpf_shape.proofs.Kept.{shaped_with_guards}
 use Rattle.verifier.specs.Good.{IsGood}
 use Rattle.verifier.specs.Guards.{is_guarded_at, guarded_slots, with_guards, AcceptedHasNoGuards}
 use Rattle.verifier.specs.Verdicts.{VerifiedValue, IsVerified}
@@ -22,7 +23,7 @@ same_with_guards v a e = record {
   some = a.some;
   device = a.device;
   program = a.program;
-  shape = a.shape;
+  shape = shaped_with_guards v.guards v.program a.shape;
   budget = a.budget;
   limit = a.limit;
   table = verified_least v a;

@@ -42,18 +42,18 @@ one_settled guards program sectors t u a b =
 
 one_refusal : OneFault → NoFaultInShaped → (guards : Bool) (program : List (Option Instr)) (sectors : ℕ) (c d : VerifierCause) (s t : ℕ)
     → (NeedMore guards program sectors most_visits → ⊥) → RefusedWith guards program sectors c s → RefusedWith guards program sectors d t → (c ≡ d) × (s ≡ t)
-one_refusal one none guards program sectors _ _ _ _ few (shape c s x) (shape d t y) = one program c d s t x y
-one_refusal one none guards program sectors _ _ _ _ few (shape c s x) (no_table d t u h n k y) = absurd (none program h c s x)
+one_refusal one none guards program sectors _ _ _ _ few (shape c s x) (shape d t y) = one guards program c d s t x y
+one_refusal one none guards program sectors _ _ _ _ few (shape c s x) (no_table d t u h n k y) = absurd (none guards program h c s x)
 one_refusal one none guards program sectors _ _ _ _ few (shape c s x) (sought d t u h n more k y) = absurd (few more)
 one_refusal one none guards program sectors _ _ _ _ few (sought c s t h n more k x) y = absurd (few more)
-one_refusal one none guards program sectors _ _ _ _ few (no_table c s t h n k x) (shape d u y) = absurd (none program h d u y)
+one_refusal one none guards program sectors _ _ _ _ few (no_table c s t h n k x) (shape d u y) = absurd (none guards program h d u y)
 one_refusal one none guards program sectors _ _ _ _ few (no_table c s t h n k x) (sought d u v l m more j y) = absurd (few more)
 one_refusal one none guards program sectors _ _ _ _ few (no_table c s t h n k x) (no_table d u v l m j y) =
     let here : FirstBreach guards program sectors v c s = subst (λ z. FirstBreach guards program sectors z c s) (one_settled guards program sectors t v k j) x in
     one_breach guards program sectors v c d s u here y
 
 -- the least table of either kind of acceptance is the least one with guards
-as_with_guards : (guards : Bool) (program : List (Option Instr)) (sectors : ℕ) (t : List (Option Abstract)) → sectors < 2 ^ 64 → IsProgram program → IsShaped program
+as_with_guards : (guards : Bool) (program : List (Option Instr)) (sectors : ℕ) (t : List (Option Abstract)) → sectors < 2 ^ 64 → IsProgram program → IsShaped guards program
     → IsLeast guards program sectors t → IsLeast true program sectors t
 as_with_guards true program sectors t few p h least = least
 as_with_guards false program sectors t few p h least = least_with_guards program sectors t few p h least
@@ -71,7 +71,7 @@ one_acceptance v w a b p s =
 
 not_both : NoFaultInShaped → (v : VerifiedValue) (guards : Bool) (program : List (Option Instr)) (sectors : ℕ) (c : VerifierCause) (s : ℕ) → IsVerified v → guards ≡ v.guards
     → program ≡ v.program → sectors ≡ v.sectors → RefusedWith guards program sectors c s → ⊥
-not_both none v guards program sectors _ _ a g p n (shape c s x) = none program (rw p a.shape) c s x
+not_both none v guards program sectors _ _ a g p n (shape c s x) = none guards program (rw (g, p) a.shape) c s x
 not_both none v guards program sectors _ _ a g p n (no_table c s t h no_good k x) = no_good v.table (rw (g, p, n) a.table.good)
 not_both none v guards program sectors _ _ a g p n (sought c s t h no_good more k x) = no_good v.table (rw (g, p, n) a.table.good)
 

@@ -169,7 +169,7 @@ left_here m s effect f leaves e = rw e at leaves
 pub record Sends (guards : Bool) (program : List (Option Instr)) (sectors : ℕ) (table : List (Option Abstract)) (slot : ℕ) (i : Instr) (marks : List Bool) : Type 0 where
   pub few : sectors < 2 ^ 64
   pub made : IsProgram program
-  pub shape : IsShaped program
+  pub shape : IsShaped guards program
   pub states : AreStates table
   pub long : length table ≡ length program
   pub there : at program slot ≡ Some i

@@ -23,7 +23,7 @@ IsFound guards program sectors table (Some met) = IsCutShort guards program sect
 
 -- the table that is inferred of a program of right shape, good or not
 pub record IsInferred (guards : Bool) (program : List (Option Instr)) (sectors : ℕ) (table : List (Option Abstract)) : Type 0 where
-  pub shape : IsShaped program
+  pub shape : IsShaped guards program
   pub met : Option Fault
   pub found : IsFound guards program sectors table met
 
@@ -31,7 +31,7 @@ pub record IsInferred (guards : Bool) (program : List (Option Instr)) (sectors :
 -- broken; else what the inferred table knows at the slot of the fault.
 pub data IsKnownWith (guards : Bool) (program : List (Option Instr)) (sectors : ℕ) (f : Fault) : Option Abstract → Type 0 where
   without_memory : f ≡ memory_fault → IsKnownWith guards program sectors f None
-  without_shape : FirstBroken program f.code f.slot → IsKnownWith guards program sectors f None
+  without_shape : FirstBroken guards program f.code f.slot → IsKnownWith guards program sectors f None
   on_table : (table : List (Option Abstract)) → IsInferred guards program sectors table → IsKnownWith guards program sectors f (state_at table f.slot)
 
 -- without guards

@@ -27,7 +27,7 @@ OneBreach = (guards : Bool) (program : List (Option Instr)) (sectors : ℕ) (tab
 
 -- a settled table on which each slot keeps its rules is good
 abbrev pub SettledIsGood : Type 0
-SettledIsGood = (guards : Bool) (program : List (Option Instr)) (sectors : ℕ) (table : List (Option Abstract)) → sectors < 2 ^ 64 → IsProgram program → IsShaped program
+SettledIsGood = (guards : Bool) (program : List (Option Instr)) (sectors : ℕ) (table : List (Option Abstract)) → sectors < 2 ^ 64 → IsProgram program → IsShaped guards program
     → IsSettled guards program sectors table → KeepsRules guards program table → IsGoodWith guards program sectors table
 
 -- A table that is good under the rules without signed bounds is good under those with them, each number
@@ -39,18 +39,18 @@ UnsignedStaysGood = (program : List (Option Instr)) (sectors : ℕ) (table : Lis
 -- A good table of a program of right shape is enough for a least one, and there is one least table only; no program is
 -- refused for a table that isn't settled; and the least table without guards is the least one with them.
 pub record AcceptanceIsExact : Type 0 where
-  pub least : (guards : Bool) (program : List (Option Instr)) (sectors : ℕ) (g : List (Option Abstract)) → sectors < 2 ^ 64 → IsProgram program → IsShaped program
+  pub least : (guards : Bool) (program : List (Option Instr)) (sectors : ℕ) (g : List (Option Abstract)) → sectors < 2 ^ 64 → IsProgram program → IsShaped guards program
       → IsGoodWith guards program sectors g → (table : List (Option Abstract)) × IsLeast guards program sectors table
   pub one : (guards : Bool) (program : List (Option Instr)) (sectors : ℕ) (t u : List (Option Abstract)) → IsLeast guards program sectors t → IsLeast guards program sectors u → t ≡ u
   pub settled : (guards : Bool) (program : List (Option Instr)) (sectors slot : ℕ) → sectors < 2 ^ 64 → IsProgram program → RefusedWith guards program sectors cause.Unsettled slot → ⊥
-  pub same : (program : List (Option Instr)) (sectors : ℕ) (table : List (Option Abstract)) → sectors < 2 ^ 64 → IsProgram program → IsShaped program
+  pub same : (program : List (Option Instr)) (sectors : ℕ) (table : List (Option Abstract)) → sectors < 2 ^ 64 → IsProgram program → IsShaped false program
       → IsLeast false program sectors table → IsLeast true program sectors table
 
 -- each round that changes the table raises its sum, which stays below 2^96
 pub record RoundsEnd : Type 0 where
-  pub rises : (guards : Bool) (program : List (Option Instr)) (sectors turns : ℕ) → sectors < 2 ^ 64 → IsProgram program → IsShaped program
+  pub rises : (guards : Bool) (program : List (Option Instr)) (sectors turns : ℕ) → sectors < 2 ^ 64 → IsProgram program → IsShaped guards program
       → (IsSame guards program sectors (rounds guards program sectors turns) → ⊥) → weight (rounds guards program sectors turns) < weight (rounds guards program sectors (suc turns))
-  pub below : (guards : Bool) (program : List (Option Instr)) (sectors turns : ℕ) → sectors < 2 ^ 64 → IsProgram program → IsShaped program
+  pub below : (guards : Bool) (program : List (Option Instr)) (sectors turns : ℕ) → sectors < 2 ^ 64 → IsProgram program → IsShaped guards program
       → weight (rounds guards program sectors turns) < 2 ^ 96
 
 -- A program has one verdict for a number of sectors, want of memory aside: one budget and one table, with guards and

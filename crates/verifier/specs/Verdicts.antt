@@ -27,7 +27,7 @@ pub record IsVerified (v : VerifiedValue) : Type 0 where
   pub some : 1 ≤ v.sectors
   pub device : v.sectors ≤ most_sectors
   pub program : IsProgram v.program
-  pub shape : IsShaped v.program
+  pub shape : IsShaped v.guards v.program
   pub budget : IsBudget v.program v.budget
   pub limit : v.budget ≤ most_steps
   pub table : IsLeast v.guards v.program v.sectors v.table
@@ -36,10 +36,10 @@ pub record IsVerified (v : VerifiedValue) : Type 0 where
 -- it, and this is the first breach of the table at which the rounds end. Where the rounds need more than 500,000 visits
 -- of slots, it may be a breach on a table to which a search comes.
 pub data RefusedWith (guards : Bool) (program : List (Option Instr)) (sectors : ℕ) : VerifierCause → ℕ → Type 0 where
-  shape : (c : VerifierCause) (slot : ℕ) → FirstBroken program c slot → RefusedWith guards program sectors c slot
-  no_table : (c : VerifierCause) (slot : ℕ) (table : List (Option Abstract)) → IsShaped program → HasNoGood guards program sectors
+  shape : (c : VerifierCause) (slot : ℕ) → FirstBroken guards program c slot → RefusedWith guards program sectors c slot
+  no_table : (c : VerifierCause) (slot : ℕ) (table : List (Option Abstract)) → IsShaped guards program → HasNoGood guards program sectors
       → IsSettled guards program sectors table → FirstBreach guards program sectors table c slot → RefusedWith guards program sectors c slot
-  sought : (c : VerifierCause) (slot : ℕ) (table : List (Option Abstract)) → IsShaped program → HasNoGood guards program sectors
+  sought : (c : VerifierCause) (slot : ℕ) (table : List (Option Abstract)) → IsShaped guards program → HasNoGood guards program sectors
       → NeedMore guards program sectors most_visits → IsSought guards program sectors table → rule_with guards program table slot ≡ Some c → RefusedWith guards program sectors c slot
 
 -- a program is accepted for that many sectors, with that budget

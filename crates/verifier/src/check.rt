@@ -122,7 +122,7 @@ pub fn check_table_with(
     table: &Table,
     guards: bool,
 ) -> Result<(), Fault>
-    requires { IsShapeOf program.now shape.now }
+    requires { IsShapeOf guards program.now shape.now }
     ensures good { OnOk result (IsGoodWith guards program.now sectors table.now) }
     ensures breach { IfErr result (λ f. FirstBreach guards program.now sectors table.now f.code f.slot) }
 {
@@ -142,7 +142,7 @@ pub fn check_table(
     sectors: u32,
     table: &Table,
 ) -> Result<(), Fault>
-    requires { IsShapeOf program.now shape.now }
+    requires { IsShapeOf false program.now shape.now }
     ensures good { OnOk result (IsGood program.now sectors table.now) }
     ensures breach { IfErr result (λ f. FirstBreach false program.now sectors table.now f.code f.slot) }
 {

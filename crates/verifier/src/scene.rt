@@ -15,6 +15,6 @@ pub(crate) struct Scene<'x> {
     pub sectors: u32,
     pub guards: bool,
     pub ghost few: { sectors < 4294967296 },
-    pub ghost rules: { IsShaped program.now },
+    pub ghost rules: { IsShaped guards program.now },
     pub ghost heads_are: { shape.now.heads ≡ heads program.now },
 }

@@ -156,7 +156,7 @@ pub fn verify_with<'x>(
     ensures refused { IfErr result (λ u. (u.fault ≡ memory_fault) ⊎ RefusedWith guards program.now sectors u.fault.code u.fault.slot) }
     ensures known { IfErr result (λ u. IsKnownWith guards program.now sectors u.fault (option_map state_of u.known)) }
 {
-    let shape = match shape(alloc, program) {
+    let shape = match shape(alloc, program, guards) {
         Ok(shape) => shape,
         Err(fault) => return Err(by_itself(fault)),
     };

@@ -1,5 +1,5 @@
 -- What a worker keeps from one image to the next, and when it is true of a run (docs/MACHINE.md, Footprint).
-use Rattle.std.specs.Prelude.{ℕ, ◌+◌, ◌≡◌, ◌<◌, ◌≤◌, false, List, length, Option, None, Some, slice_get, IfSome}
+use Rattle.std.specs.Prelude.{ℕ, ◌+◌, ◌≡◌, ◌<◌, ◌≤◌, Bool, false, List, length, Option, None, Some, slice_get, IfSome}
 use Rattle.std.specs.List.{slice_index_or}
 use Rattle.logfmt.specs.Bounds.{LogValue}
 use Rattle.epochs.specs.Parts.{volatile_parts}
@@ -10,6 +10,7 @@ use Rattle.choices.specs.Picked.{PickedValue, choice_of_picked, IsRanked, CanPas
 use Rattle.machine.specs.Outcome.{Ending}
 use Rattle.interp.specs.Ending.{ending_of}
 use Rattle.checker.specs.Checker.{CheckerValue}
+use Rattle.checker.specs.Memory.{AreServed}
 use Rattle.workers.specs.declared.entries.Known.{Known}
 use Rattle.workers.specs.declared.look.Stop.{Stop}
 use Rattle.workers.specs.declared.look.Look.{Look}
@@ -24,10 +25,11 @@ pub record ReuseValue : Type 0 where
   pub entries : List (List EntryValue)
   pub next : Option (ℕ × PickedValue)
 
--- the log whose changes are kept for keys, and what is known by footprints
+-- the log whose changes are kept for keys, what is known by footprints, and whether there is memory for programs with guards
 pub record LocalValue : Type 0 where
   pub log : LogValue
   pub reuse : ReuseValue
+  pub memory : Bool
 
 -- each checker has its entries, and they are true at the wanted cut of that place
 pub record AreTrueAt (s : Subject) (place : ℕ) (entries : List (List EntryValue)) : Type 0 where
@@ -44,6 +46,7 @@ pub record IsTrueOf (s : Subject) (r : ReuseValue) : Type 0 where
 pub record IsLocal (s : Subject) (l : LocalValue) : Type 0 where
   pub log : l.log ≡ s.plan.log
   pub reuse : IsTrueOf s l.reuse
+  pub served : AreServed l.memory s.checkers
 
 -- so a checker ends on the image of a choice
 abbrev pub EndsAt : Subject → ChoiceValue → ℕ → Ending → Type 0

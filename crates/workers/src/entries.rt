@@ -8,12 +8,13 @@ ghost use Rattle.images.specs.Views.{context_at, sectors_of};
 ghost use Rattle.interp.specs.Ending.{ending_of};
 ghost use Rattle.checker.specs.Checker.{IsFor, judgement};
 ghost use Rattle.checker.specs.Footprints.{kept_footprint};
+ghost use Rattle.checker.specs.Memory.{IsServed};
 ghost use Rattle.workers.specs.Entries.{AddsTold};
 ghost use Rattle.workers.specs.Reuse.{AreKnown, EntryValue, IsEntryOf, IsFound, IsNextTold, Rises, tells, told_or};
 
 use crate::input::Input;
 use crate::told::{PLACES, above, are_marked, first_told, place_of};
-use checker::Checker;
+use checker::{Checker, RunMemory};
 use choices::{Choice, Pick, Picked};
 use epochs::Plan;
 use helpers::Footprint;
@@ -75,14 +76,16 @@ pub(crate) struct Known {
 }
 
 /// What a checker ends in on an image, where it is run, with the footprint of that run.
-fn noted_on(view: &View<'_>, checker: &Checker<'_>) -> Noted<ROOM>
+fn noted_on(memory: &mut RunMemory, view: &View<'_>, checker: &Checker<'_>) -> Noted<ROOM>
     requires device { IsFor view.now.log.sectors checker.now.verified }
+    requires served { IsServed memory.old checker.now.guards }
     ensures ends { ending_of result.outcome ≡ judgement checker.now (sectors_of view.now) (context_at view.now.log view.now.cut) }
     ensures looks { result.footprint ≡ kept_footprint 32 checker.now (sectors_of view.now) (context_at view.now.log view.now.cut) }
     ensures bounds { IsLog view.now.log }
+    ensures memory { memory.new ≡ memory.old }
 {
     let context = view.context();
-    checker.judge_noted::<View<'_>, ROOM>(&context, view)
+    checker.judge_noted::<View<'_>, ROOM>(memory, &context, view)
 }
 
 /// Adds the volatile parts of a cut that cover a sector of a footprint, and answers whether that was done: it is where they
@@ -175,6 +178,7 @@ impl Entries {
         &mut self,
         input: &Input<'_>,
         alloc: Global,
+        memory: &mut RunMemory,
         checker: &Checker<'_>,
         picked: &Picked,
         marks: &[bool; 3],
@@ -182,13 +186,15 @@ impl Entries {
         requires room { length self.old < 1024 }
         requires known { AreKnown input.now picked.now.place checker.now self.old }
         requires device { IsFor input.now.plan.log.sectors checker.now.verified }
+        requires served { IsServed memory.old checker.now.guards }
         requires member { (n : ℕ) × IsRanked input.now.plan input.now.bound input.now.tears n picked.now }
+        ensures memory { memory.new ≡ memory.old }
         ensures known { AreKnown input.now picked.now.place checker.now self.new }
         ensures entry { IfOk result (λ entry. IsEntryOf self.new entry (marked_picks marks.now picked.now.picks)) }
     {
         let choice = picked.only(input.plan, marks);
         let view = input.history.view(alloc, &choice)?;
-        let run = noted_on(&view, checker);
+        let run = noted_on(memory, &view, checker);
         let first = self.parts.len();
         let told = put_told(&mut self.parts, input.plan, choice.cut(), &run.footprint)?;
         let entry = self.entries.len();
@@ -208,13 +214,16 @@ impl Entries {
         &mut self,
         input: &Input<'_>,
         alloc: Global,
+        memory: &mut RunMemory,
         checker: &Checker<'_>,
         picked: &Picked,
         marks: &[bool; 3],
     ) -> Option<usize>
         requires known { AreKnown input.now picked.now.place checker.now self.old }
         requires device { IsFor input.now.plan.log.sectors checker.now.verified }
+        requires served { IsServed memory.old checker.now.guards }
         requires member { (n : ℕ) × IsRanked input.now.plan input.now.bound input.now.tears n picked.now }
+        ensures memory { memory.new ≡ memory.old }
         ensures known { AreKnown input.now picked.now.place checker.now self.new }
         ensures entry { IfSome result (λ entry. IsEntryOf self.new entry (marked_picks marks.now picked.now.picks)) }
     {
@@ -224,7 +233,8 @@ impl Entries {
         if self.len() >= MOST_ENTRIES {
             return None;
         }
-        self.learn(input, alloc, checker, picked, marks).ok()
+        self.learn(input, alloc, memory, checker, picked, marks)
+            .ok()
     }
 
     /// The entry that holds for an image, if there is one: of those of its departures that the runs so far could tell.
@@ -232,18 +242,21 @@ impl Entries {
         &mut self,
         input: &Input<'_>,
         alloc: Global,
+        memory: &mut RunMemory,
         checker: &Checker<'_>,
         picked: &Picked,
     ) -> Option<Known>
         requires known { AreKnown input.now picked.now.place checker.now self.old }
         requires device { IsFor input.now.plan.log.sectors checker.now.verified }
+        requires served { IsServed memory.old checker.now.guards }
         requires member { (n : ℕ) × IsRanked input.now.plan input.now.bound input.now.tears n picked.now }
+        ensures memory { memory.new ≡ memory.old }
         ensures known { AreKnown input.now picked.now.place checker.now self.new }
         ensures found { IfSome result (λ found. IsFound self.new picked.now.picks found) }
     {
         let mut marks = [false; 3];
         for _turn in 0..input.asked.bound {
-            let entry = self.entry_known(input, alloc, checker, picked, &marks)?;
+            let entry = self.entry_known(input, alloc, memory, checker, picked, &marks)?;
             let (all, told) = self.told(entry);
             match first_told(all, told, picked.picks(), &marks) {
                 None => return Some(Known { entry, marks }),

@@ -4,6 +4,7 @@ ghost use Rattle.std.specs.Prelude.{◌≡◌, ◌<◌, ◌++◌, ◌∷◌, [],
 ghost use Rattle.std.specs.List.{filter_map};
 ghost use Rattle.choices.specs.Picked.{IsRanked, choice_of_picked};
 ghost use Rattle.checker.specs.Checker.{IsFor, judgement};
+ghost use Rattle.checker.specs.Memory.{IsServed, AreServed};
 ghost use Rattle.interp.specs.Ending.{ending_of};
 ghost use Rattle.images.specs.Views.{context_at, sectors_of, view_of};
 ghost use Rattle.images.specs.Keys.{key_of};
@@ -21,7 +22,7 @@ use crate::input::Input;
 use crate::look::Stop;
 use crate::reuse::Reuse;
 use crate::worker::Worker;
-use checker::Checker;
+use checker::{Checker, RunMemory};
 use choices::{Choice, Picked};
 use epochs::By;
 use images::{Changes, Key, View};
@@ -99,16 +100,19 @@ fn push_failing(
 
 /// What a checker ends in on an image, where it is run. One that was verified is for the device of the log.
 #[inline(always)]
-fn outcome_on(view: &View<'_>, checker: &Checker<'_>) -> Outcome
+fn outcome_on(memory: &mut RunMemory, view: &View<'_>, checker: &Checker<'_>) -> Outcome
     requires device { IsFor view.now.log.sectors checker.now.verified }
-    ensures { ending_of result ≡ judgement checker.now (sectors_of view.now) (context_at view.now.log view.now.cut) }
+    requires served { IsServed memory.old checker.now.guards }
+    ensures ends { ending_of result ≡ judgement checker.now (sectors_of view.now) (context_at view.now.log view.now.cut) }
+    ensures memory { memory.new ≡ memory.old }
 {
-    checker.judge(&view.context(), view)
+    checker.judge(memory, &view.context(), view)
 }
 
 /// Appends the line of an image and a checker, which is run, if it fails there.
 #[tactic(auto, unfolding(crate::specs::Failing::ending_at))]
 fn judge_checker(
+    memory: &mut RunMemory,
     lines: &mut BlockLines,
     by: By,
     seen: &Seen<'_, '_>,
@@ -116,10 +120,13 @@ fn judge_checker(
     checker: &Checker<'_>,
 ) -> Result<(), AllocError>
     requires device { IsFor seen.now.view.now.log.sectors checker.now.verified }
-    ensures { (s : Subject) → seen.now.view.now ≡ view_of s.plan seen.now.choice.now
+    requires served { IsServed memory.old checker.now.guards }
+    ensures lines { (s : Subject) → seen.now.view.now ≡ view_of s.plan seen.now.choice.now
         → OnOk result (lines.new ≡ lines.old ++ line_list (line_if by seen.now.image seen.now.choice.now number (ending_at s seen.now.choice.now checker.now))) }
+    ensures memory { memory.new ≡ memory.old }
 {
-    push_failing(lines, by, seen, number, outcome_on(seen.view, checker))
+    let outcome = outcome_on(memory, seen.view, checker);
+    push_failing(lines, by, seen, number, outcome)
 }
 
 /// What the checker of a key ends in on the key's image: what the cache has for it, or else what it ends
@@ -128,6 +135,7 @@ fn outcome_of<'a, J: Run, R: Wait>(
     rt: &R,
     shards: &Shards<'_, 'a, J>,
     seen: &Seen<'_, 'a>,
+    memory: &mut RunMemory,
     key: &Key<'a>,
     checker: &Checker<'_>,
 ) -> Outcome
@@ -135,13 +143,15 @@ fn outcome_of<'a, J: Run, R: Wait>(
     requires key { key_of seen.now.view.now key.now.program ≡ Some key.now }
     requires checker { slice_get J.checkers key.now.program ≡ Some checker.now }
     requires device { IsFor seen.now.view.now.log.sectors checker.now.verified }
-    ensures { ending_of result ≡ ending_on J.plan seen.now.choice.now checker.now }
+    requires served { IsServed memory.old checker.now.guards }
+    ensures ends { ending_of result ≡ ending_on J.plan seen.now.choice.now checker.now }
+    ensures memory { memory.new ≡ memory.old }
 {
     let shard = shards.of_key(key);
     if let Some(outcome) = shard.look(rt, key) {
         return outcome;
     }
-    let outcome = outcome_on(seen.view, checker);
+    let outcome = outcome_on(memory, seen.view, checker);
     one_image_tells();
     if let Ok(own) = key.copy(shards.alloc()) {
         shard.put(rt, own, copy_of(&outcome));
@@ -159,13 +169,20 @@ impl<'a> Input<'a> {
     }
 
     /// Appends the lines of an image, on which each checker is run.
-    fn judge_by_runs(&self, lines: &mut BlockLines, seen: &Seen<'_, '_>) -> Result<(), AllocError>
+    fn judge_by_runs(
+        &self,
+        memory: &mut RunMemory,
+        lines: &mut BlockLines,
+        seen: &Seen<'_, '_>,
+    ) -> Result<(), AllocError>
         requires choice { slice_get (choices_of self.now) seen.now.image ≡ Some seen.now.choice.now }
         requires view { seen.now.view.now ≡ view_of self.now.plan seen.now.choice.now }
-        ensures { OnOk result (lines.new ≡ lines.old ++ image_lines self.now seen.now.image) }
+        requires served { AreServed memory.old self.now.checkers }
+        ensures lines { OnOk result (lines.new ≡ lines.old ++ image_lines self.now seen.now.image) }
+        ensures memory { memory.new ≡ memory.old }
     {
         for (number, checker) in self.checkers.iter().enumerate() {
-            judge_checker(lines, self.by, seen, number as u8, checker)?;
+            judge_checker(memory, lines, self.by, seen, number as u8, checker)?;
         }
         Ok(())
     }
@@ -173,6 +190,7 @@ impl<'a> Input<'a> {
     /// Appends the line of an image and a checker, if it fails there. The checker is run where nothing is known.
     fn judge_known(
         &self,
+        memory: &mut RunMemory,
         lines: &mut BlockLines,
         seen: &Seen<'_, '_>,
         number: usize,
@@ -183,13 +201,15 @@ impl<'a> Input<'a> {
         requires view { seen.now.view.now ≡ view_of self.now.plan seen.now.choice.now }
         requires checker { slice_get self.now.checkers number ≡ Some checker.now }
         requires device { IsFor self.now.plan.log.sectors checker.now.verified }
+        requires served { IsServed memory.old checker.now.guards }
         requires finding { IsFinding self.now seen.now.image seen.now.choice.now number checker.now finding }
-        ensures { OnOk result (lines.new ≡ lines.old ++ filter_map (line_of self.now seen.now.image) (number ∷ [])) }
+        ensures lines { OnOk result (lines.new ≡ lines.old ++ filter_map (line_of self.now seen.now.image) (number ∷ [])) }
+        ensures memory { memory.new ≡ memory.old }
     {
         match finding {
             Finding::Good => Ok(()),
             Finding::Ends(outcome) => push_failing(lines, self.by, seen, number as u8, outcome),
-            Finding::Open => judge_checker(lines, self.by, seen, number as u8, checker),
+            Finding::Open => judge_checker(memory, lines, self.by, seen, number as u8, checker),
         }
     }
 
@@ -198,6 +218,7 @@ impl<'a> Input<'a> {
     fn finding(
         &self,
         reuse: &mut Reuse,
+        memory: &mut RunMemory,
         stop: &mut Stop,
         picked: &Picked,
         number: usize,
@@ -209,9 +230,11 @@ impl<'a> Input<'a> {
         requires within { number < length self.now.checkers }
         requires checker { slice_get self.now.checkers number ≡ Some checker.now }
         requires device { IsFor self.now.plan.log.sectors checker.now.verified }
+        requires served { IsServed memory.old checker.now.guards }
         requires stop { IsStop self.now picked.now stop.old }
         ensures known { IsTrueOf self.now reuse.new }
         ensures place { reuse.new.place ≡ reuse.old.place }
+        ensures memory { memory.new ≡ memory.old }
         ensures stop { IsStop self.now picked.now stop.new }
         ensures finding { (image : ℕ) → IsRanked self.now.plan self.now.bound self.now.tears image picked.now
             → IsFinding self.now image (choice_of_picked self.now.plan picked.now) number checker.now result }
@@ -222,7 +245,7 @@ impl<'a> Input<'a> {
         if number == stop.checker {
             return Finding::of(stop.outcome.take());
         }
-        Finding::of(reuse.outcome(self, number, checker, picked))
+        Finding::of(reuse.outcome(self, memory, number, checker, picked))
     }
 
     /// Appends the lines of an image of which outcomes may be known by footprints. The checkers before one find it good; what
@@ -230,6 +253,7 @@ impl<'a> Input<'a> {
     pub(crate) fn judge_by_reuse(
         &self,
         reuse: &mut Reuse,
+        memory: &mut RunMemory,
         lines: &mut BlockLines,
         seen: &Seen<'_, '_>,
         picked: &Picked,
@@ -241,12 +265,14 @@ impl<'a> Input<'a> {
         requires picked { seen.now.choice.now ≡ choice_of_picked self.now.plan picked.now }
         requires view { seen.now.view.now ≡ view_of self.now.plan seen.now.choice.now }
         requires stop { IsStop self.now picked.now stop.old }
+        requires served { AreServed memory.old self.now.checkers }
         ensures known { IsTrueOf self.now reuse.new }
         ensures lines { OnOk result (lines.new ≡ lines.old ++ image_lines self.now seen.now.image) }
+        ensures memory { memory.new ≡ memory.old }
     {
         for (number, checker) in self.checkers.iter().enumerate() {
-            let told = self.finding(reuse, stop, picked, number, checker);
-            self.judge_known(lines, seen, number, checker, told)?;
+            let told = self.finding(reuse, memory, stop, picked, number, checker);
+            self.judge_known(memory, lines, seen, number, checker, told)?;
         }
         Ok(())
     }
@@ -256,6 +282,7 @@ impl<'a> Input<'a> {
         &self,
         rt: &R,
         shards: &Shards<'_, 'a, J>,
+        memory: &mut RunMemory,
         lines: &mut BlockLines,
         seen: &Seen<'_, 'a>,
         mut key: Key<'a>,
@@ -264,11 +291,13 @@ impl<'a> Input<'a> {
         requires choice { slice_get (choices_of self.now) seen.now.image ≡ Some seen.now.choice.now }
         requires view { seen.now.view.now ≡ view_of self.now.plan seen.now.choice.now }
         requires key { key_of seen.now.view.now 0 ≡ Some key }
-        ensures { OnOk result (lines.new ≡ lines.old ++ image_lines self.now seen.now.image) }
+        requires served { AreServed memory.old self.now.checkers }
+        ensures lines { OnOk result (lines.new ≡ lines.old ++ image_lines self.now seen.now.image) }
+        ensures memory { memory.new ≡ memory.old }
     {
         for (number, checker) in self.checkers.iter().enumerate() {
             key.set_program(number as u8);
-            let outcome = outcome_of(rt, shards, seen, &key, checker);
+            let outcome = outcome_of(rt, shards, seen, memory, &key, checker);
             push_failing(lines, self.by, seen, number as u8, outcome)?;
         }
         Ok(())
@@ -282,14 +311,17 @@ impl<'b, 'a, J: Run, G: Gate> Worker<'b, 'a, J, G> {
         &self,
         rt: &R,
         changes: &mut Changes<'a>,
+        memory: &mut RunMemory,
         lines: &mut BlockLines,
         image: u64,
         choice: &Choice,
     ) -> Result<(), AllocError>
         requires changes { changes.old ≡ self.now.input.now.plan.log }
         requires choice { slice_get (choices_of self.now.input.now) image ≡ Some choice.now }
+        requires served { AreServed memory.old self.now.input.now.checkers }
         ensures lines { OnOk result (lines.new ≡ lines.old ++ image_lines self.now.input.now image) }
         ensures changes { changes.new ≡ changes.old }
+        ensures memory { memory.new ≡ memory.old }
     {
         let input = self.input;
         let alloc = self.shards.alloc();
@@ -300,11 +332,11 @@ impl<'b, 'a, J: Run, G: Gate> Worker<'b, 'a, J, G> {
             view: &view,
         };
         if input.cache() == 0 {
-            return input.judge_by_runs(lines, &seen);
+            return input.judge_by_runs(memory, lines, &seen);
         }
         match changes.key(alloc, &view)? {
-            Some(key) => input.judge_by_key(rt, self.shards, lines, &seen, key),
-            None => input.judge_by_runs(lines, &seen),
+            Some(key) => input.judge_by_key(rt, self.shards, memory, lines, &seen, key),
+            None => input.judge_by_runs(memory, lines, &seen),
         }
     }
 }

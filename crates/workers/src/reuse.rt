@@ -3,6 +3,7 @@
 ghost use Rattle.std.specs.Prelude.{◌≡◌, ◌<◌, ◌≤◌, ℕ, All, IsTrue, length, slice_get, Some, IfSome, OnOk, []};
 ghost use Rattle.choices.specs.Picked.{IsRanked, choice_of_picked};
 ghost use Rattle.checker.specs.Checker.{IsFor};
+ghost use Rattle.checker.specs.Memory.{IsServed, AreServed};
 ghost use Rattle.interp.specs.Ending.{ending_of};
 ghost use Rattle.workers.specs.Failing.{Subject, image_count, ending_at};
 ghost use Rattle.workers.specs.Reuse.{IsFound};
@@ -12,7 +13,7 @@ use crate::entries::{Entries, Known};
 use crate::input::{Input, stretch};
 use crate::judging::fails_with;
 use crate::look::{Look, Stop};
-use checker::Checker;
+use checker::{Checker, RunMemory};
 use choices::{Picked, fates};
 use interp::Outcome;
 use std::alloc::{AllocError, Global};
@@ -114,6 +115,7 @@ impl Reuse {
     fn look_by(
         &mut self,
         input: &Input<'_>,
+        memory: &mut RunMemory,
         number: usize,
         checker: &Checker<'_>,
         picked: &Picked,
@@ -125,15 +127,17 @@ impl Reuse {
         requires within { number < length input.now.checkers }
         requires checker { slice_get input.now.checkers number ≡ Some checker.now }
         requires device { IsFor input.now.plan.log.sectors checker.now.verified }
+        requires served { IsServed memory.old checker.now.guards }
         requires some { 1 ≤ most }
         requires reach { Reaches input.now picked.now most }
+        ensures memory { memory.new ≡ memory.old }
         ensures known { IsTrueOf input.now self.new }
         ensures place { self.new.place ≡ self.old.place }
         ensures told { Tells input.now picked.now most number result }
     {
         let alloc = self.alloc;
         let own = &mut self.entries[number];
-        let Some(found) = own.find(input, alloc, checker, picked) else {
+        let Some(found) = own.find(input, alloc, memory, checker, picked) else {
             return Look::Stops(Stop {
                 checker: number,
                 outcome: None,
@@ -150,18 +154,26 @@ impl Reuse {
     }
 
     /// How many images in a row from one on all checkers find good, without a run of their own, or which checker doesn't.
-    pub(crate) fn look(&mut self, input: &Input<'_>, picked: &Picked, most: u64) -> Look
+    pub(crate) fn look(
+        &mut self,
+        input: &Input<'_>,
+        memory: &mut RunMemory,
+        picked: &Picked,
+        most: u64,
+    ) -> Look
         requires known { IsTrueOf input.now self.old }
         requires place { self.old.place ≡ Some picked.now.place }
         requires member { (n : ℕ) × IsRanked input.now.plan input.now.bound input.now.tears n picked.now }
         requires some { 1 ≤ most }
+        requires served { AreServed memory.old input.now.checkers }
+        ensures memory { memory.new ≡ memory.old }
         ensures known { IsTrueOf input.now self.new }
         ensures place { self.new.place ≡ self.old.place }
         ensures told { TellsAll input.now picked.now most result }
     {
         let mut good = input.reach(picked, most);
         for (number, checker) in input.checkers.iter().enumerate() {
-            match self.look_by(input, number, checker, picked, good) {
+            match self.look_by(input, memory, number, checker, picked, good) {
                 Look::Good(count) => good = count,
                 Look::Stops(stop) => return Look::Stops(stop),
             }
@@ -173,6 +185,7 @@ impl Reuse {
     pub(crate) fn outcome(
         &mut self,
         input: &Input<'_>,
+        memory: &mut RunMemory,
         number: usize,
         checker: &Checker<'_>,
         picked: &Picked,
@@ -183,13 +196,15 @@ impl Reuse {
         requires within { number < length input.now.checkers }
         requires checker { slice_get input.now.checkers number ≡ Some checker.now }
         requires device { IsFor input.now.plan.log.sectors checker.now.verified }
+        requires served { IsServed memory.old checker.now.guards }
+        ensures memory { memory.new ≡ memory.old }
         ensures known { IsTrueOf input.now self.new }
         ensures place { self.new.place ≡ self.old.place }
         ensures ends { IfSome result (λ outcome. ending_of outcome ≡ ending_at input.now (choice_of_picked input.now.plan picked.now) checker.now) }
     {
         let alloc = self.alloc;
         let own = &mut self.entries[number];
-        let found = own.find(input, alloc, checker, picked)?;
+        let found = own.find(input, alloc, memory, checker, picked)?;
         Some(copy_of(own.outcome(&found)))
     }
 

@@ -1,6 +1,7 @@
 //! The judging of images in a row, and of a block.
 
 ghost use Rattle.std.specs.Prelude.{◌≡◌, ◌<◌, ◌≤◌, ◌-◌, ◌++◌, length, IfOk, OnOk, Some};
+ghost use Rattle.checker.specs.Memory.{AreServed};
 ghost use Rattle.workers.specs.Failing.{image_count, image_lines, lines_from, part};
 ghost use Rattle.workers.specs.Images.{IsRow, IsStop};
 ghost use Rattle.workers.specs.Input.{IsRunOf};
@@ -17,6 +18,7 @@ use crate::look::{Look, Stop};
 use crate::piece::Piece;
 use crate::reuse::Reuse;
 use crate::worker::Worker;
+use checker::RunMemory;
 use choices::Picked;
 use images::Changes;
 use std::alloc::{AllocError, Global};
@@ -37,13 +39,16 @@ impl<'b, 'a, J: Run, G: Gate> Worker<'b, 'a, J, G> {
         &self,
         rt: &R,
         changes: &mut Changes<'a>,
+        memory: &mut RunMemory,
         lines: &mut BlockLines,
         row: &mut Row,
     ) -> Result<(), AllocError>
         requires changes { changes.old ≡ self.now.input.now.plan.log }
         requires row { IsRow self.now.input.now row.old }
         requires some { row.old.image < row.old.end }
+        requires served { AreServed memory.old self.now.input.now.checkers }
         ensures changes { changes.new ≡ changes.old }
+        ensures memory { memory.new ≡ memory.old }
         ensures row { OnOk result (IsRow self.now.input.now row.new) }
         ensures end { OnOk result (row.new.end ≡ row.old.end) }
         ensures fewer { OnOk result (row.old.image < row.new.image) }
@@ -56,7 +61,7 @@ impl<'b, 'a, J: Run, G: Gate> Worker<'b, 'a, J, G> {
         let end = row.end;
         let mut next = image;
         while next < end && choice.place() == place {
-            self.judge_image(rt, changes, lines, next, &choice)?;
+            self.judge_image(rt, changes, memory, lines, next, &choice)?;
             input.go_on(&mut choice);
             next += 1;
         }
@@ -72,6 +77,7 @@ impl<'b, 'a, J: Run, G: Gate> Worker<'b, 'a, J, G> {
     fn judge_first(
         &self,
         reuse: &mut Reuse,
+        memory: &mut RunMemory,
         lines: &mut BlockLines,
         row: &Row,
         stop: &mut Stop,
@@ -81,6 +87,8 @@ impl<'b, 'a, J: Run, G: Gate> Worker<'b, 'a, J, G> {
         requires row { IsRow self.now.input.now row.now }
         requires some { row.now.image < row.now.end }
         requires stop { IsStop self.now.input.now row.now.picked stop.old }
+        requires served { AreServed memory.old self.now.input.now.checkers }
+        ensures memory { memory.new ≡ memory.old }
         ensures known { IsTrueOf self.now.input.now reuse.new }
         ensures lines { OnOk result (lines.new ≡ lines.old ++ image_lines self.now.input.now row.now.image) }
     {
@@ -92,13 +100,14 @@ impl<'b, 'a, J: Run, G: Gate> Worker<'b, 'a, J, G> {
             choice: &choice,
             view: &view,
         };
-        input.judge_by_reuse(reuse, lines, &seen, &row.picked, stop)
+        input.judge_by_reuse(reuse, memory, lines, &seen, &row.picked, stop)
     }
 
     /// Appends the lines of the first images of a row, and answers how many they are: all that are known to be good, or one.
     fn judge_or_pass(
         &self,
         reuse: &mut Reuse,
+        memory: &mut RunMemory,
         lines: &mut BlockLines,
         row: &Row,
     ) -> Result<u64, AllocError>
@@ -106,17 +115,19 @@ impl<'b, 'a, J: Run, G: Gate> Worker<'b, 'a, J, G> {
         requires place { reuse.old.place ≡ Some row.now.picked.place }
         requires row { IsRow self.now.input.now row.now }
         requires some { row.now.image < row.now.end }
+        requires served { AreServed memory.old self.now.input.now.checkers }
+        ensures memory { memory.new ≡ memory.old }
         ensures known { IsTrueOf self.now.input.now reuse.new }
         ensures some { IfOk result (λ count. 1 ≤ count) }
         ensures most { IfOk result (λ count. count ≤ row.now.end - row.now.image) }
         ensures reach { IfOk result (λ count. Reaches self.now.input.now row.now.picked count) }
         ensures lines { IfOk result (λ count. lines.new ≡ lines.old ++ lines_from self.now.input.now row.now.image count) }
     {
-        match reuse.look(self.input, &row.picked, row.end - row.image) {
+        match reuse.look(self.input, memory, &row.picked, row.end - row.image) {
             Look::Good(count) => Ok(count),
             Look::Stops(stop) => {
                 let mut stop = stop;
-                self.judge_first(reuse, lines, row, &mut stop)?;
+                self.judge_first(reuse, memory, lines, row, &mut stop)?;
                 Ok(1)
             }
         }
@@ -126,6 +137,7 @@ impl<'b, 'a, J: Run, G: Gate> Worker<'b, 'a, J, G> {
     fn judge_next(
         &self,
         reuse: &mut Reuse,
+        memory: &mut RunMemory,
         lines: &mut BlockLines,
         row: &mut Row,
     ) -> Result<(), AllocError>
@@ -133,13 +145,15 @@ impl<'b, 'a, J: Run, G: Gate> Worker<'b, 'a, J, G> {
         requires place { reuse.old.place ≡ Some row.old.picked.place }
         requires row { IsRow self.now.input.now row.old }
         requires some { row.old.image < row.old.end }
+        requires served { AreServed memory.old self.now.input.now.checkers }
+        ensures memory { memory.new ≡ memory.old }
         ensures known { IsTrueOf self.now.input.now reuse.new }
         ensures row { OnOk result (IsRow self.now.input.now row.new) }
         ensures end { OnOk result (row.new.end ≡ row.old.end) }
         ensures fewer { OnOk result (row.old.image < row.new.image) }
         ensures lines { OnOk result (lines.new ≡ lines.old ++ lines_from self.now.input.now row.old.image (row.new.image - row.old.image)) }
     {
-        let count = self.judge_or_pass(reuse, lines, row)?;
+        let count = self.judge_or_pass(reuse, memory, lines, row)?;
         reuse.end_if_vain();
         self.input.go_over(&mut row.picked, count);
         row.image += count;
@@ -165,9 +179,9 @@ impl<'b, 'a, J: Run, G: Gate> Worker<'b, 'a, J, G> {
         ensures lines { OnOk result (lines.new ≡ lines.old ++ lines_from self.now.input.now row.old.image (row.new.image - row.old.image)) }
     {
         if local.reuse.is_on(self.input, &row.picked) {
-            self.judge_next(&mut local.reuse, lines, row)
+            self.judge_next(&mut local.reuse, &mut local.memory, lines, row)
         } else {
-            self.judge_cut(rt, &mut local.changes, lines, row)
+            self.judge_cut(rt, &mut local.changes, &mut local.memory, lines, row)
         }
     }
 
@@ -227,7 +241,8 @@ impl<'b, 'a, J: Run, G: Gate> Worker<'b, 'a, J, G> {
 /// sixteen shards are those of the cache of the run. Without a cache it asks none of them.
 ///
 /// Without a cache it takes memory for the lines, and for what is known by footprints: where that is refused, images are
-/// judged by themselves. With one it takes memory for the lines and for keys. An image borrows its sectors from the log.
+/// judged by themselves. With one it takes memory for the lines and for keys. Where a checker has guards, it takes memory for its program.
+/// An image borrows its sectors from the log.
 pub fn judge_block<'a, J: Run, R: Wait>(
     rt: &R,
     alloc: Global,
@@ -246,5 +261,5 @@ pub fn judge_block<'a, J: Run, R: Wait>(
         gate: &OpenGate,
         number: 0,
     };
-    worker.piece(rt, &mut Local::new(alloc, input.history()), block)
+    worker.piece(rt, &mut Local::new(alloc, input)?, block)
 }

@@ -53,7 +53,7 @@ pub(crate) fn with_left<'a, J: Run, G: Gate, R: Wait>(
         gate: &*gate,
         number: 0,
     };
-    let mut local = Local::new(shards.alloc(), input.history());
+    let mut local = Local::new(shards.alloc(), input)?;
     let mut pieces = pieces;
     for block in left {
         pieces.push(piece_left(rt, &worker, &mut local, *block)?)?;

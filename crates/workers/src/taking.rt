@@ -227,7 +227,7 @@ pub(crate) fn pieces_taken<'a, J: Run, H: Deal, G: Gate, R: Wait>(
     ensures ended { IfOk result (λ _. HasEnded seat.new) }
     ensures settled { IfOk result (λ _. IsSettled hand.new) }
 {
-    let mut local = Local::new(worker.shards.alloc(), worker.input.history());
+    let mut local = Local::new(worker.shards.alloc(), worker.input)?;
     let mut pieces = take_blocks(rt, worker, &mut local, board, seat, hand)?;
     draw_blocks(rt, worker, &mut local, board, seat, &mut pieces)?;
     close_hand(rt, worker, &mut local, hand, &mut pieces)?;

@@ -65,7 +65,7 @@ fn known(
 
 /// Whether a program has that shape and is accepted with that budget on 4 sectors.
 fn is_accepted(alloc: Global, program: &Program, budget: u64) -> bool {
-    let own = settled!(shape(alloc, program));
+    let own = settled!(shape(alloc, program, false));
     let verified = settled!(verify(alloc, program, 4));
     own.budget() == budget && verified.budget() == budget
 }

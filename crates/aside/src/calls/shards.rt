@@ -3,6 +3,7 @@
 ghost use Rattle.std.specs.Prelude.{◌≡◌, ◌≤◌, false, is_some, IfOk, IfSome};
 ghost use Rattle.images.specs.Views.{context_at, sectors_of};
 ghost use Rattle.checker.specs.Checker.{judgement};
+ghost use Rattle.checker.specs.Memory.{IsServed};
 ghost use Rattle.interp.specs.Ending.{ending_of};
 ghost use Rattle.verdict_cache.specs.Endings.{IsEndingOf};
 
@@ -11,7 +12,7 @@ use crate::calls::refused::OfMemory;
 use crate::calls::texts::{Item, text_of};
 use base::limits::Limits;
 use bpf_isa::codec::decode;
-use checker::Checker;
+use checker::{Checker, RunMemory};
 use choices::{count, nth};
 use epochs::Plan;
 use images::{History, Key, View};
@@ -28,11 +29,12 @@ const ANSWER_1: [u8; 16] = [0xb7, 0, 0, 0, 1, 0, 0, 0, 0x95, 0, 0, 0, 0, 0, 0, 0
 const ONE_WRITE: [Item; 1] = [(0, 1, 0, 0xaa)];
 
 /// What a checker with a limit ends in on an image.
-fn ended_on(view: &View<'_>, checker: &Checker<'_>) -> Outcome
+fn ended_on(memory: &mut RunMemory, view: &View<'_>, checker: &Checker<'_>) -> Outcome
     requires limited { is_some checker.now.verified ≡ false }
+    requires served { IsServed memory.old checker.now.guards }
     ensures { ending_of result ≡ judgement checker.now (sectors_of view.now) (context_at view.now.log view.now.cut) }
 {
-    checker.judge(&view.context(), view)
+    checker.judge(memory, &view.context(), view)
 }
 
 /// The key of an image, and what its checker, which has a limit, ends in; none where there is no such image or program.
@@ -60,7 +62,8 @@ fn judged<'a>(
     let Some(key) = view.key(alloc, 0)? else {
         return Ok(None);
     };
-    Ok(Some((key, ended_on(&view, checker))))
+    let mut memory = RunMemory::of(alloc, checker)?;
+    Ok(Some((key, ended_on(&mut memory, &view, checker))))
 }
 
 /// Whether a key that is new to a shard with room is put into it, and an entry for which memory was refused

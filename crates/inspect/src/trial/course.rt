@@ -1,15 +1,16 @@
 //! What a run comes to, and how many steps it makes.
 
-ghost use Rattle.std.specs.Prelude.{◌≡◌};
+ghost use Rattle.std.specs.Prelude.{◌≡◌, IfOk};
 ghost use Rattle.machine.specs.Memory.{context_bytes};
 ghost use Rattle.interp.specs.Ending.{ending_of};
-ghost use Rattle.interp.specs.Walks.{outcome_as, start_as, steps_end_as};
+ghost use Rattle.interp.specs.Walks.{memory_as, outcome_as, start_as, steps_end_as};
 ghost use Rattle.inspect.specs.Trace.{ending_of_halt, steps_made};
 
 use arrayvec::ArrayVec;
 use bpf_isa::program::Program;
 use helpers::{Context, Device};
 use interp::{Halt, Outcome, Verdict, Walk};
+use std::alloc::{AllocError, Global};
 
 /// What a run came to, and how many steps it made.
 #[derive(Drop)]
@@ -35,8 +36,8 @@ fn outcome_of<D: Device>(walk: &Walk<'_, D>, halt: Halt) -> Outcome
 
 /// Makes at most that many steps.
 fn follow<D: Device>(walk: &mut Walk<'_, D>, limit: u64) -> Course
-    ensures outcome { ending_of result.outcome ≡ steps_end_as walk.old.guards walk.old.program walk.old.context walk.old.device limit walk.old.state }
-    ensures steps { result.steps ≡ steps_made walk.old.guards walk.old.program walk.old.context walk.old.device limit walk.old.state }
+    ensures outcome { ending_of result.outcome ≡ steps_end_as walk.old.guards walk.old.program walk.old.context walk.old.device limit walk.old.memory walk.old.state }
+    ensures steps { result.steps ≡ steps_made walk.old.guards walk.old.program walk.old.context walk.old.device limit walk.old.memory walk.old.state }
 {
     for made in 0..limit {
         if let Some(halt) = walk.step() {
@@ -55,15 +56,16 @@ fn follow<D: Device>(walk: &mut Walk<'_, D>, limit: u64) -> Course
 /// What a program comes to in a context and on a device within that many steps, with guards or without, and how many it makes.
 #[inline(never)]
 pub(crate) fn course_of<D: Device>(
+    alloc: Global,
     program: &Program,
     context: &Context,
     device: &D,
     guards: bool,
     limit: u64,
-) -> Course
-    ensures outcome { ending_of result.outcome ≡ outcome_as guards program.now (D.content device.now) context.now limit }
-    ensures steps { result.steps ≡ steps_made guards program.now (context_bytes context.now) (D.content device.now) limit (start_as guards) }
+) -> Result<Course, AllocError>
+    ensures outcome { IfOk result (λ course. ending_of course.outcome ≡ outcome_as guards program.now (D.content device.now) context.now limit) }
+    ensures steps { IfOk result (λ course. course.steps ≡ steps_made guards program.now (context_bytes context.now) (D.content device.now) limit (memory_as guards) (start_as guards)) }
 {
-    let mut walk = Walk::new(program, context, device, guards);
-    follow(&mut walk, limit)
+    let mut walk = Walk::new(alloc, program, context, device, guards)?;
+    Ok(follow(&mut walk, limit))
 }

@@ -6,7 +6,7 @@ ghost use Rattle.helpers.specs.Helper.{helper_of};
 ghost use Rattle.machine.specs.Memory.{context_bytes};
 ghost use Rattle.machine.specs.State.{word};
 ghost use Rattle.notes.specs.SourceLines.{source_text, values_of};
-ghost use Rattle.interp.specs.Walks.{start_as, step_as, stepped_to, with_state};
+ghost use Rattle.interp.specs.Walks.{memory_as, start_as, step_as, stepped_to, with_both};
 ghost use Rattle.inspect.specs.Trace.{call_touches, came_text, place_text, sector_end, word_text, held_text, is_same, begin_text, change_text, line_end, registers_of, changes_text, step_text, stray_text, strayed_by, strayed_bytes, touch_text, touch_at, touch_here, touches, trace_text};
 
 use arithmetic::{byte_count, plain_size};
@@ -316,9 +316,9 @@ fn put_step<D: Device>(
     number: u64,
     walk: &mut Walk<'_, D>,
 ) -> Result<Option<Halt>, AllocError>
-    ensures line { OnOk result (string_bytes out.new ≡ string_bytes out.old ++ step_text limits (values_of lines.now) walk.old.program number walk.old.state (step_as walk.old.guards walk.old.program walk.old.context walk.old.device walk.old.state)) }
-    ensures made { IfOk result (λ end. stepped_to walk.new end ≡ step_as walk.old.guards walk.old.program walk.old.context walk.old.device walk.old.state) }
-    ensures same { walk.new ≡ with_state walk.old walk.new.state }
+    ensures line { OnOk result (string_bytes out.new ≡ string_bytes out.old ++ step_text limits (values_of lines.now) walk.old.program number walk.old.state (step_as walk.old.guards walk.old.program walk.old.context walk.old.device walk.old.memory walk.old.state)) }
+    ensures made { IfOk result (λ end. stepped_to walk.new end ≡ step_as walk.old.guards walk.old.program walk.old.context walk.old.device walk.old.memory walk.old.state) }
+    ensures same { walk.new ≡ with_both walk.old walk.new.state walk.new.memory }
 {
     put_begin(out, number, walk)?;
     let slot = walk.slot();
@@ -340,9 +340,9 @@ fn trace_step<D: Device>(
     wanted: bool,
     walk: &mut Walk<'_, D>,
 ) -> Result<Option<Halt>, AllocError>
-    ensures line { OnOk result (string_bytes out.new ≡ string_bytes out.old ++ (if wanted then step_text limits (values_of lines.now) walk.old.program number walk.old.state (step_as walk.old.guards walk.old.program walk.old.context walk.old.device walk.old.state) else [])) }
-    ensures made { IfOk result (λ end. stepped_to walk.new end ≡ step_as walk.old.guards walk.old.program walk.old.context walk.old.device walk.old.state) }
-    ensures same { walk.new ≡ with_state walk.old walk.new.state }
+    ensures line { OnOk result (string_bytes out.new ≡ string_bytes out.old ++ (if wanted then step_text limits (values_of lines.now) walk.old.program number walk.old.state (step_as walk.old.guards walk.old.program walk.old.context walk.old.device walk.old.memory walk.old.state) else [])) }
+    ensures made { IfOk result (λ end. stepped_to walk.new end ≡ step_as walk.old.guards walk.old.program walk.old.context walk.old.device walk.old.memory walk.old.state) }
+    ensures same { walk.new ≡ with_both walk.old walk.new.state walk.new.memory }
 {
     if wanted {
         put_step(alloc, out, limits, lines, number, walk)
@@ -363,7 +363,7 @@ fn put_trace<D: Device>(
     steps: u64,
     above: u64,
 ) -> Result<(), AllocError>
-    ensures { OnOk result (string_bytes out.new ≡ string_bytes out.old ++ trace_text limits (values_of lines.now) walk.old.guards walk.old.program walk.old.context walk.old.device steps 1 above walk.old.state) }
+    ensures { OnOk result (string_bytes out.new ≡ string_bytes out.old ++ trace_text limits (values_of lines.now) walk.old.guards walk.old.program walk.old.context walk.old.device steps 1 above walk.old.memory walk.old.state) }
 {
     for made in 0..steps {
         let number = made + 1;
@@ -387,9 +387,9 @@ pub(crate) fn put_last<D: Device>(
     asked: &Trial,
     steps: u64,
 ) -> Result<(), AllocError>
-    ensures { OnOk result (string_bytes out.new ≡ string_bytes out.old ++ trace_text asked.now.limits (values_of lines.now) asked.now.guards program.now (context_bytes context.now) (D.content device.now) steps 1 (steps - asked.now.trace) (start_as asked.now.guards)) }
+    ensures { OnOk result (string_bytes out.new ≡ string_bytes out.old ++ trace_text asked.now.limits (values_of lines.now) asked.now.guards program.now (context_bytes context.now) (D.content device.now) steps 1 (steps - asked.now.trace) (memory_as asked.now.guards) (start_as asked.now.guards)) }
 {
-    let mut walk = Walk::new(program, context, device, asked.guards);
+    let mut walk = Walk::new(alloc, program, context, device, asked.guards)?;
     let above = steps.saturating_sub(asked.trace);
     put_trace(alloc, out, asked.limits, lines, &mut walk, steps, above)
 }

@@ -241,7 +241,14 @@ fn report_of(
 {
     let device = Image::of(alloc, image, sectors_of(image))?;
     let context = context_of(image, asked);
-    let course = course_of(program, &context, &device, asked.guards, bounds.limit);
+    let course = course_of(
+        alloc,
+        program,
+        &context,
+        &device,
+        asked.guards,
+        bounds.limit,
+    )?;
     let mut out = String::new(alloc);
     put_head(&mut out, &context, asked.checked, program.slots(), bounds)?;
     put_last(

@@ -44,6 +44,10 @@ const GUARDS_MAY: &str =
 const GUARDS_ELSEWHERE: &str =
     "'crashbpf explore --guards' may accept the program as it is (docs/CHECKERS.md, With guards); here --checked N runs it without the verifier";
 
+/// What a program breaks with guards that calls a helper which there isn't.
+const NO_GUARDED_HELPER: &str =
+    "there is no helper of that number, with --guards only 1 to 11 (docs/MACHINE.md, Helpers)";
+
 /// What a file holds, where it could be read.
 pub(crate) fn bytes_of(files: &[Option<Vec<u8>>], place: usize) -> Option<&[u8]> {
     match files.get(place) {
@@ -323,6 +327,20 @@ fn program_cure(request: &Request, cause: VerifierCause) -> &'static str {
     }
 }
 
+/// Appends which rule a program breaks, and what most likely helps. With guards there are more helpers.
+fn put_rule(
+    alloc: Global,
+    out: &mut String,
+    request: &Request,
+    cause: VerifierCause,
+) -> Result<(), AllocError> {
+    let cure = program_cure(request, cause);
+    if matches!(cause, VerifierCause::UnknownHelper) && asks_for_guards(request) {
+        return put_refused(out, NO_GUARDED_HELPER, cure);
+    }
+    put_cause(alloc, out, &cause, cure)
+}
+
 /// Appends which rule a program breaks, the instruction that does, and what is known there.
 fn put_verifier_notes(
     alloc: Global,
@@ -335,8 +353,7 @@ fn put_verifier_notes(
     if names_instruction(cause) {
         put_breach(out, slot, &facts.breach)?;
     }
-    let cure = program_cure(&request, cause);
-    put_cause(alloc, out, &cause, cure)?;
+    put_rule(alloc, out, &request, cause)?;
     put_guards(out, request, &facts.breach)
 }
 

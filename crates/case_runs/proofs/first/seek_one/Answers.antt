@@ -1,4 +1,5 @@
 use Rattle.std.proofs.Common.{◌≡◌, ◌∷◌, [], MatchOption, Option, ◌∙◌, ap, subst, arith}
+use Rattle.std.proofs.lemmas.Result.{err_from_is_err_and}
 use Rattle.interp.specs.Ending.{ending_of}
 use Rattle.case_runs.specs.declared.leaves.FailingCase.{FailingCase}
 use Rattle.case_runs.specs.Judges.{program_of}
@@ -9,8 +10,8 @@ use Rattle.case_runs.proofs.first.seek_one.Goals as goal
 
 pub loop-number-init : goal.loop-number-init
 loop-number-init g c =
-    let checker = ap (λ (v : JudgeValue). v.checker) c.new-judge.ensures ∙ c.new.ensures.checker in
-    let context = ap (λ (v : JudgeValue). v.context) c.new-judge.ensures ∙ c.new.ensures.context in
+    let checker = ap (λ (v : JudgeValue). v.checker) c.new-judge.ensures ∙ c.in_ok-new.ensures.checker in
+    let context = ap (λ (v : JudgeValue). v.context) c.new-judge.ensures ∙ c.in_ok-new.ensures.context in
     ((λ i. program_of (checker i) (context i)), passed_none (program_of c.args.checker.now c.args.context) c.in_ok-search.search)
 
 pub returns-then-not-branch-clause-met : goal.returns-then-not-branch-clause-met
@@ -46,6 +47,10 @@ returns-in-Some-clause-met g c =
           before.1 leaf told,
       fails_within n c.args.left (leaf_at next ending) c.in-Some.failing told c.loop-number-test.true,
     )
+
+pub returns-in_err-failing-clause-many : goal.returns-in_err-failing-clause-many
+returns-in_err-failing-clause-many g c =
+    let p = err_from_is_err_and c.from_residual-in_err-failing.result c.from_residual-in_err-failing.ensures.1 in rw (p.1, p.2) tt
 
 pub loop-number-preserved : goal.loop-number-preserved
 loop-number-preserved g c =

@@ -10,11 +10,11 @@ returns-clause-search g c = search_on _ _ _ _ (search_on _ _ _ _ c.requires.sear
 pub returns-clause-ran : goal.returns-clause-ran
 returns-clause-ran g c =
     let judge = c.new-judge.result in
-    let checker = ap (λ (v : JudgeValue). v.checker) c.new-judge.ensures ∙ c.new.ensures.checker in
-    let context = ap (λ (v : JudgeValue). v.context) c.new-judge.ensures ∙ c.new.ensures.context in
+    let checker = ap (λ (v : JudgeValue). v.checker) c.new-judge.ensures ∙ c.in_ok-new.ensures.checker in
+    let context = ap (λ (v : JudgeValue). v.context) c.new-judge.ensures ∙ c.in_ok-new.ensures.context in
     ran_from c.args.asked c.args.cut.now c.args.checker.now c.args.most c.args.search.now c.run.new.self judge.leaves c.run.new.judge.leaves (program_of judge.checker judge.context) c.in_ok-_ended._ended _ (record {
       program_is = (λ i. program_of (checker i) (context i)) ∙ ap (program_of c.args.checker.now) c.requires.context;
-      before_is = ap (λ (v : JudgeValue). v.leaves) c.new-judge.ensures ∙ c.new.ensures.leaves;
+      before_is = ap (λ (v : JudgeValue). v.leaves) c.new-judge.ensures ∙ c.in_ok-new.ensures.leaves;
       begins = c.requires.search;
       none = c.requires.none;
       same = c.run.ensures.same;

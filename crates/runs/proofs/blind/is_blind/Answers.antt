@@ -1,7 +1,8 @@
-use Rattle.std.proofs.Common.{ℕ, ◌<◌, ap, length, arith}
+use Rattle.std.proofs.Common.{ℕ, ◌<◌, Bool, sym, ap, subst, length, arith}
 use Rattle.logfmt.specs.Bounds.{LogValue}
 use Rattle.epochs.specs.Cuts.{cuts_of}
 use Rattle.epochs.specs.Plan.{PlanValue}
+use Rattle.checker.specs.Memory.{IsServed}
 use Rattle.runs.proofs.Unseeing.{blind_not, blind_next, blind_all}
 use Rattle.runs.proofs.blind.is_blind.Goals as goal
 
@@ -32,6 +33,7 @@ loop-place-preserved c =
       blind_next c.args.checker.now task.log.now (cuts_of task.plan.now.kind task.log.now.entries) c.loop-place.place c.in_ok-blind.blind inside c.in_ok-blind.ensures.value
           c.loop-place.invariant.0 c.if-not-blind.false,
       c.in_ok-blind.ensures.known,
+      subst (λ (b : Bool). IsServed b c.args.checker.now.guards) (sym c.is_blind_next.ensures.memory) c.loop-place.invariant.2,
     )
 
 pub returns : goal.returns

@@ -2,4 +2,4 @@ use Rattle.std.proofs.Common.{sym, append-nil}
 use Rattle.workers.proofs.settling.with_left.Goals as goal
 
 pub loop-block-init : goal.loop-block-init
-loop-block-init g c = (sym (append-nil c.args.pieces.items), c.new-local.ensures c.args.input.now c.history.ensures)
+loop-block-init g c = (sym (append-nil c.args.pieces.items), c.in_ok-local.ensures)

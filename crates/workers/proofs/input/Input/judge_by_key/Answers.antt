@@ -1,12 +1,13 @@
-use Rattle.std.proofs.Common.{◌≡◌, ◌∙◌, ◌++◌, refl, ap, arith, length, Some, slice_get, List}
+use Rattle.std.proofs.Common.{◌≡◌, ◌∙◌, ◌++◌, Bool, refl, sym, ap, subst, arith, length, Some, slice_get, List}
 use Rattle.std.proofs.lemmas.Option.{slice_get_read}
 use Rattle.report.specs.Line.{FailingLine}
+use Rattle.checker.specs.Memory.{IsServed}
 use Rattle.workers.proofs.JudgedLines.{same_ending, checker_found, lines_of_image}
 use Rattle.workers.proofs.Safe.{each_fits}
 use Rattle.workers.proofs.input.Input.judge_by_key.Goals as goal
 
-pub returns : goal.returns
-returns g c =
+pub returns-clause-lines : goal.returns-clause-lines
+returns-clause-lines g c =
     let last : c.loop-number.number ≡ length c.args.self.now.checkers = rw (← c.self.view_is) (omega (arith, c.loop-number-test.false, c.loop-number.auto.number-end)) in
     c.loop-number.invariant.0 ∙ ap (λ (ls : List FailingLine). c.args.lines.now ++ ls) (lines_of_image c.args.self.now c.args.seen.now.image c.loop-number.number last)
 
@@ -17,15 +18,23 @@ outcome_of-outcome-requires-clause-device g c =
     slice_get_read checkers (length checkers) c.loop-number.number c.checker-item.result refl c.loop-number-test.true c.checker-item.is in
     each_fits c.args.self.now c.args.seen.now.view.now c.args.seen.now.choice.now c.loop-number.number c.checker-item.result (rw (← c.self.view_is) c.self.invariant.device) c.requires.view (rw (← c.self.view_is) there)
 
+pub outcome_of-outcome-requires-clause-served : goal.outcome_of-outcome-requires-clause-served
+outcome_of-outcome-requires-clause-served g c =
+    let checkers = c.self.inside.checkers.now in
+    let there : slice_get checkers c.loop-number.number ≡ Some c.checker-item.result =
+    slice_get_read checkers (length checkers) c.loop-number.number c.checker-item.result refl c.loop-number-test.true c.checker-item.is in
+    subst (λ (b : Bool). IsServed b c.checker-item.result.guards) (sym c.loop-number.invariant.1) (c.requires.served.each c.loop-number.number c.checker-item.result (rw (← c.self.view_is) there))
+
 pub loop-number-preserved : goal.loop-number-preserved
 loop-number-preserved g c =
     let checkers = c.self.inside.checkers.now in
     let there : slice_get checkers c.loop-number.number ≡ Some c.checker-item.result =
     slice_get_read checkers (length checkers) c.loop-number.number c.checker-item.result refl c.loop-number-test.true c.checker-item.is in
-    let (lines, program, told) = c.loop-number.invariant in (
+    let (lines, memory, program, told) = c.loop-number.invariant in (
       checker_found c.args.self.now c.self.inside.by c.args.seen.now.image c.loop-number.number c.args.seen.now.choice.now c.checker-item.result _ c.args.lines.now c.loop-number.lines _ (rw (← c.self.view_is) c.self.invariant.by_is) c.requires.choice (rw (← c.self.view_is) there)
-          (c.outcome_of-outcome.ensures ∙ same_ending c.args.self.now _ c.args.seen.now.choice.now c.checker-item.result c.requires.run.plan_is)
+          (c.outcome_of-outcome.ensures.ends ∙ same_ending c.args.self.now _ c.args.seen.now.choice.now c.checker-item.result c.requires.run.plan_is)
           lines c.in_ok-push_failing.ensures,
+      c.outcome_of-outcome.ensures.memory ∙ memory,
       _,
       c.set_program.ensures.told c.args.seen.now.view.now program told,
     )

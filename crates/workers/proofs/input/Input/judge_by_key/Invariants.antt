@@ -7,4 +7,4 @@ use Rattle.workers.proofs.input.Input.judge_by_key.Given as goal
 abbrev pub invariant-loop-number : goal.invariant-loop-number
 invariant-loop-number g l =
     (l.lines ≡ l.initial.lines ++ filter_map (line_of l.self l.seen.image) (range_with_len 0 l.number))
-    × (p : ℕ) × (key_of l.seen.view.now p ≡ Some l.key)
+    × (l.memory ≡ l.initial.memory) × (p : ℕ) × (key_of l.seen.view.now p ≡ Some l.key)

@@ -9,3 +9,4 @@ abbrev pub invariant-loop-number : goal.invariant-loop-number
 invariant-loop-number l =
     (l.lines ≡ l.initial.lines ++ filter_map (line_of l.self l.seen.image) (range_with_len 0 l.number))
     × IsTrueOf l.self l.reuse × (l.reuse.place ≡ l.initial.reuse.place) × IsStop l.self l.picked l.stop
+    × (l.memory ≡ l.initial.memory)

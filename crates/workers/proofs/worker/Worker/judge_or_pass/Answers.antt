@@ -1,4 +1,5 @@
-use Rattle.std.proofs.Common.{◌<◌, arith}
+use Rattle.std.proofs.Common.{◌<◌, Bool, sym, subst, arith}
+use Rattle.checker.specs.Memory.{AreServed}
 use Rattle.workers.specs.Failing.{image_count}
 use Rattle.workers.proofs.Reused.{no_lines, one_more}
 use Rattle.workers.proofs.Skipping.{good_images, reaches_none}
@@ -7,6 +8,9 @@ use Rattle.workers.proofs.worker.Worker.judge_or_pass.Goals as goal
 pub look-requires-clause-member : goal.look-requires-clause-member
 look-requires-clause-member g c =
     (c.args.row.now.image, c.requires.row.member (omega (arith, c.requires.some, c.requires.row.within)))
+
+pub judge_first-requires-clause-served : goal.judge_first-requires-clause-served
+judge_first-requires-clause-served g c = subst (λ (b : Bool). AreServed b c.args.self.now.input.now.checkers) (sym c.look.ensures.memory) c.requires.served
 
 pub returns-in-Good-clause-lines : goal.returns-in-Good-clause-lines
 returns-in-Good-clause-lines g c =

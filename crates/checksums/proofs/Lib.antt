@@ -1,0 +1,3 @@
+pub mod Linear
+pub mod Entries
+pub mod Blocks
