@@ -11,10 +11,11 @@
  *     clang -O2 -target bpfel -mcpu=v2 -c checker.c -o checker.o
  *     llvm-objcopy -O binary --only-section=.text checker.o checker.bpf
  *
- * Nothing but the instructions of that one function reaches the program, and of
- * those that are LOCAL to it. So it has no global variables and no constant
- * tables, and what it calls is inlined or LOCAL. It is for clang 14 or newer, and
- * for gcc 12 or newer as it is built for BPF.
+ * The instructions of that one function reach the program, and of those that are
+ * LOCAL to it; what else it calls is inlined. Variables outside of functions, static
+ * ones, tables and strings lie in the program's memory, 65536 bytes, which it has with
+ * --guards alone. It is for clang 14 or newer, and for gcc 12 or newer as it is built
+ * for BPF.
  *
  * native/checker.h has the same for a program that judges a file, for a debugger.
  */
@@ -37,8 +38,9 @@ typedef unsigned long long u64;
 /*
  * In front of a function that the function `checker` of the file calls and that is
  * to stand in the program once: LOCAL(check) u64 sum_of(u64 n) { .. }. It takes up
- * to five numbers and answers one; no pointer passes, in neither direction. At most
- * three calls deep, and none within itself.
+ * to five numbers and answers one. Without guards no pointer passes, in neither
+ * direction; with them it may read by one, and write to what is static. At most three
+ * calls deep, and none within itself.
  */
 #define LOCAL(checker) static __attribute__((noinline, section(".text." #checker)))
 
@@ -64,7 +66,8 @@ HELPER_(1, const void *, sector, u64 n);
 
 /*
  * Copies `length` bytes (a constant, 1 to 512) of the device from byte position
- * `at` to an array on the stack. Answers 1 if any lay past the device, else 0.
+ * `at` to an array on the stack, or with guards to a static one. Answers 1 if any
+ * lay past the device, else 0.
  */
 HELPER_(2, u64, copy, u64 at, void *to, u64 length);
 
@@ -80,6 +83,17 @@ HELPER_(6, u64, mix, u64 n);
 
 /* 1 if the sectors a and b are equal, else 0; 2 if either is past the device. */
 HELPER_(7, u64, same, u64 a, u64 b);
+
+/*
+ * With --guards alone: the checksum of `length` bytes of the device, at most the first 4096,
+ * from byte position `at` on, or of memory or the stack. `crc` and the answer are the
+ * register, which isn't inverted: begin with CRC32C_START, go on with the answer, invert at
+ * the end. The forms below take any length.
+ */
+HELPER_(8, u64, crc32c_part, u64 crc, u64 at, u64 length);
+HELPER_(9, u64, crc32_part, u64 crc, u64 at, u64 length);
+HELPER_(10, u64, crc32c_memory_part, u64 crc, const void *from, u64 length);
+HELPER_(11, u64, crc32_memory_part, u64 crc, const void *from, u64 length);
 
 #ifndef CHECKER_NATIVE
 
@@ -343,6 +357,213 @@ INLINED u32 crc32c(u64 crc, u8 byte)
 	return crc;
 }
 
+/*
+ * The same of any number of bytes, by the helpers: a sector takes some 0.3 us in place of 35.
+ * crc32c_at and crc32_at are of the device, the others of memory. All have the register, as above:
+ *
+ *     if ((u32)~crc32c_at(CRC32C_START, 0, 508) != u32_at(508)) ...
+ */
+#define CRC_OVER_(part, crc, from, length)			\
+	({							\
+		u64 crc_ = (crc), length_ = (length);		\
+		__typeof__((from) + 0) from_ = (from);		\
+		for (; length_ > 4096; length_ -= 4096) {	\
+			crc_ = part(crc_, from_, 4096);		\
+			from_ += 4096;				\
+		}						\
+		if (length_ > 0)				\
+			crc_ = part(crc_, from_, length_);	\
+		crc_;						\
+	})
+
+INLINED u32 crc32c_at(u32 crc, u64 at, u64 length)
+{
+	return CRC_OVER_(crc32c_part, crc, at, length);
+}
+
+INLINED u32 crc32_at(u32 crc, u64 at, u64 length)
+{
+	return CRC_OVER_(crc32_part, crc, at, length);
+}
+
+INLINED u32 crc32c_memory(u32 crc, const void *from, u64 length)
+{
+	return CRC_OVER_(crc32c_memory_part, crc, (const u8 *)from, length);
+}
+
+INLINED u32 crc32_memory(u32 crc, const void *from, u64 length)
+{
+	return CRC_OVER_(crc32_memory_part, crc, (const u8 *)from, length);
+}
+
+/*
+ * Bytes of the device from byte position `at` on, as many as you like, to a variable outside
+ * of functions. Answers 1 if any lay past the device, which are 0, else 0. Of a length that is
+ * no constant the last bytes go by halves: 256, 128, .. 1.
+ */
+#define READ_PART_(n)					\
+	if (length & (n)) {				\
+		past |= copy(at, place, n);		\
+		at += (n);				\
+		place += (n);				\
+	}
+
+INLINED u64 read_bytes(u64 at, void *to, u64 length)
+{
+	u8 *place = to;
+	u64 past = 0;
+
+	for (; length >= 512; length -= 512) {
+		past |= copy(at, place, 512);
+		at += 512;
+		place += 512;
+	}
+	READ_PART_(256) READ_PART_(128) READ_PART_(64) READ_PART_(32) READ_PART_(16) READ_PART_(8) READ_PART_(4) READ_PART_(2) READ_PART_(1)
+	return past;
+}
+
+/* Numbers in memory, little-endian and, by the forms that end in _be, big-endian, aligned or not. */
+#define NUMBER_IN_(type, from)							\
+	({									\
+		struct { type value_; } __attribute__((packed, may_alias)) const *it_ = (const void *)(from);	\
+		it_->value_;							\
+	})
+
+INLINED u16 u16_in(const void *from)
+{
+	return NUMBER_IN_(u16, from);
+}
+
+INLINED u32 u32_in(const void *from)
+{
+	return NUMBER_IN_(u32, from);
+}
+
+INLINED u64 u64_in(const void *from)
+{
+	return NUMBER_IN_(u64, from);
+}
+
+INLINED u16 u16_in_be(const void *from)
+{
+	return __builtin_bswap16(u16_in(from));
+}
+
+INLINED u32 u32_in_be(const void *from)
+{
+	return __builtin_bswap32(u32_in(from));
+}
+
+INLINED u64 u64_in_be(const void *from)
+{
+	return __builtin_bswap64(u64_in(from));
+}
+
+/* How many of the first `bits` bits of a bitmap are 1; bit 0 is the lowest of its first byte. */
+INLINED u64 bits_set(const void *map, u64 bits)
+{
+	const u8 *byte = map;
+	u64 count = 0;
+
+	for (; bits >= 8; bits -= 8)
+		count += __builtin_popcount(*byte++);
+	if (bits > 0)
+		count += __builtin_popcount(*byte & ((1u << bits) - 1));
+	return count;
+}
+
+/* Whether bit n of a bitmap is 1. */
+INLINED int bit_of(const void *map, u64 n)
+{
+	return ((const u8 *)map)[n / 8] >> n % 8 & 1;
+}
+
+/*
+ * More sums of memory or of locals, in C: Adler-32 (RFC 1950), which begins with 1; Fletcher's sums of
+ * 64 bits over words of 32, as APFS and others keep them, which begin with { 0, 0 }.
+ */
+INLINED u32 adler32_memory(u32 adler, const void *from, u64 length)
+{
+	const u8 *byte = from;
+	u64 low = adler & 0xffff, high = adler >> 16;
+
+	for (u64 i = 0; i < length; i++) {
+		low = (low + byte[i]) % 65521;
+		high = (high + low) % 65521;
+	}
+	return high << 16 | low;
+}
+
+struct fletcher_sums {
+	u64 low, high;
+};
+
+INLINED struct fletcher_sums fletcher64_memory(struct fletcher_sums sums, const void *from, u64 words, u64 modulus)
+{
+	const u32 *word = from;
+
+	for (u64 i = 0; i < words; i++) {
+		sums.low = (sums.low + word[i]) % modulus;
+		sums.high = (sums.high + sums.low) % modulus;
+	}
+	return sums;
+}
+
+/* xxHash of 64 bits. */
+#define XX1_ 0x9e3779b185ebca87ull
+#define XX2_ 0xc2b2ae3d27d4eb4full
+#define XX3_ 0x165667b19e3779f9ull
+#define XX4_ 0x85ebca77c2b2ae63ull
+#define XX5_ 0x27d4eb2f165667c5ull
+
+INLINED u64 rotated_(u64 x, u64 bits)
+{
+	return x << bits | x >> (64 - bits);
+}
+
+INLINED u64 xx_round_(u64 sum, u64 x)
+{
+	return rotated_(sum + x * XX2_, 31) * XX1_;
+}
+
+INLINED u64 xxhash64_memory(u64 seed, const void *from, u64 length)
+{
+	const u8 *byte = from;
+	u64 left = length, hash = seed + XX5_;
+
+	if (left >= 32) {
+		u64 a = seed + XX1_ + XX2_, b = seed + XX2_, c = seed, d = seed - XX1_;
+
+		for (; left >= 32; left -= 32) {
+			a = xx_round_(a, u64_in(byte));
+			b = xx_round_(b, u64_in(byte + 8));
+			c = xx_round_(c, u64_in(byte + 16));
+			d = xx_round_(d, u64_in(byte + 24));
+			byte += 32;
+		}
+		hash = rotated_(a, 1) + rotated_(b, 7) + rotated_(c, 12) + rotated_(d, 18);
+		hash = (hash ^ xx_round_(0, a)) * XX1_ + XX4_;
+		hash = (hash ^ xx_round_(0, b)) * XX1_ + XX4_;
+		hash = (hash ^ xx_round_(0, c)) * XX1_ + XX4_;
+		hash = (hash ^ xx_round_(0, d)) * XX1_ + XX4_;
+	}
+	hash += length;
+	for (; left >= 8; left -= 8) {
+		hash = rotated_(hash ^ xx_round_(0, u64_in(byte)), 27) * XX1_ + XX4_;
+		byte += 8;
+	}
+	if (left >= 4) {
+		hash = rotated_(hash ^ u32_in(byte) * XX1_, 23) * XX2_ + XX3_;
+		byte += 4;
+		left -= 4;
+	}
+	for (; left > 0; left--)
+		hash = rotated_(hash ^ *byte++ * XX5_, 11) * XX1_;
+	hash = (hash ^ hash >> 33) * XX2_;
+	hash = (hash ^ hash >> 29) * XX3_;
+	return hash ^ hash >> 32;
+}
+
 #ifndef CHECKER_NATIVE
 
 /*
@@ -429,6 +650,50 @@ INLINED void *memset_loop_(void *to, int byte, size_t length)
 #define memcmp(a, b, length) EITHER_(memcmp, a, b, length)
 #define memcpy(to, from, length) EITHER_(memcpy, to, from, length)
 #define memset(to, byte, length) EITHER_(memset, to, byte, length)
+
+INLINED void *memmove_(void *to, const void *from, size_t length)
+{
+	u8 *x = to;
+	const u8 *y = from;
+
+	if (x <= y)
+		for (size_t i = 0; i < length; i++)
+			x[i] = y[i];
+	else
+		for (size_t i = length; i > 0; i--)
+			x[i - 1] = y[i - 1];
+	return to;
+}
+
+INLINED size_t strlen_(const char *text)
+{
+	size_t length = 0;
+
+	while (text[length])
+		length++;
+	return length;
+}
+
+INLINED int strncmp_(const char *a, const char *b, size_t most)
+{
+	for (size_t i = 0; i < most; i++) {
+		if (a[i] != b[i])
+			return (u8)a[i] - (u8)b[i];
+		if (!a[i])
+			break;
+	}
+	return 0;
+}
+
+#define memmove(to, from, length) memmove_(to, from, length)
+#define strlen(text) strlen_(text)
+#define strncmp(a, b, most) strncmp_(a, b, most)
+#define __builtin_memcmp(a, b, length) memcmp(a, b, length)
+#define __builtin_memcpy(to, from, length) memcpy(to, from, length)
+#define __builtin_memset(to, byte, length) memset(to, byte, length)
+#define __builtin_memmove(to, from, length) memmove(to, from, length)
+#define __builtin_strlen(text) strlen(text)
+#define __builtin_strncmp(a, b, most) strncmp(a, b, most)
 
 /* For the native build alone: a program prints nothing. */
 #define printf(...) ((void)0)

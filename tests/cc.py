@@ -64,7 +64,7 @@ static u64 down(u64 n) { return n ? n * down(u64_at(n)) : 1; }
 u64 calls(const struct context *c) { return down(c->sectors) + down(c->epoch); }
 u64 tabled(const struct context *c) { return table[c->marks & 3]; }
 u64 counts(const struct context *c) { return counter++; }
-u64 absent(const struct context *c) { return outside(c->marks); }
+u64 absent(const struct context *c) { return outside(c->marks); } u64 summed(const struct context *c) { return crc32_at(0, 0, c->marks); }
 __attribute__((section("mine"))) u64 first(const struct context *c) { return c->marks; }
 __attribute__((section("mine"))) u64 second(const struct context *c) { return c->epoch; }
 LOCAL(looped) u64 sum(u64 n) { u64 sum = 0; while (u64_at(n) > sum) sum += u64_at(sum); return sum; }
@@ -86,30 +86,38 @@ u64 good(const struct context *c)
 """
 
 TABLE = '#include "checker.h"\nstatic const u16 bits[] = { 7, 40000, 3, 900, 5 };\n'
+BY_POINTER = TABLE + "u64 check(const struct context *c) { return *(&bits[c->marks & 3] + 1); }\n"
 CALLED = "u64 check(const struct context *c) { return at(c->marks) + at(c->epoch); }\n"
 
 INCBIN = '#include "checker.h"\nu64 check(const struct context *c) { __asm__ volatile(".byte 1, 2, 3"); return 0; }\n'
 COMMON = '#include "checker.h"\n__attribute__((common)) int counter;\nu64 check(const struct context *c) { return counter; }\n'
 OUTSIDE = "which lies outside of the function"
 
-# What stands in the file, the function that is asked for, and how the first line on standard error begins, where slots are `N`.
+# What a program with memory says that isn't verified.
+WITH_MEMORY = "cc: it has what programs have with guards alone: explore needs --guards"
+
+# What stands in the file, the function that is asked for, and how the first line on standard error begins, where slots are `N`; and more
+# words.
 REFUSALS = [
-    (SOURCE, "counts", f"cc: source.c:8 (slot N) needs counter, {OUTSIDE} counts"),
-    (SOURCE, "tabled", f"cc: source.c:7 (slot N) needs .rodata"),
-    (SOURCE, "text", f"cc: source.c:18 (slot N) needs .rodata"),
+    (SOURCE, "counts", f"cc: source.c:8 (slot N) needs counter, {OUTSIDE} counts", "--no-guards"),
+    (SOURCE, "tabled", "cc: source.c:7 (slot N) needs .rodata", "--no-guards"),
+    (SOURCE, "text", "cc: source.c:18 (slot N) needs .rodata", "--no-guards"),
+    *((SOURCE, it, WITH_MEMORY) for it in ("counts", "tabled", "text")),
+    (SOURCE, "summed", WITH_MEMORY),
     (SOURCE, "absent", f"cc: source.c:9 (slot N) needs outside, {OUTSIDE} absent"),
     (SOURCE, "first", "cc: the section mine of first holds more than this function and what is LOCAL to it"),
     (SOURCE, "looped", "cc: the loop source.c:12 is in a function that is LOCAL, and has no TURN"),
     (SOURCE, "deep", "cc: the loop source.c:14 is in a function that is LOCAL, and has no TURN"),
-    (SOURCE, "nobody", "cc: source.c has no function nobody; it has: calls tabled counts absent first second looped deep text good"),
+    (SOURCE, "nobody", "cc: source.c has no function nobody; it has: calls tabled counts absent summed first second looped deep text good"),
     (SOURCE, "more", "cc: the function more of source.c isn't compiled by itself: it is static or inline"),
     ("", "check", "cc: source.c has no function check, and no other"),
     (INCBIN, "check", ("cc: the object file can't be read: its section .text.check isn't whole", "cc: the section .text.check of check holds more")),
     (COMMON, "check", "cc: source.c:3 (slot N) needs counter, which lies outside"),
     (SOURCE + "u64 good(void) { return 0; }\n", "good", "source.c:28:5: error: "),
-    (TABLE + "u64 check(const struct context *c) { return *(&bits[c->marks & 3] + 1); }\n", "check", "cc: source.c:3 (slot N) needs "),
-    (TABLE + "LOCAL(check) u64 at(u64 n) { return bits[n]; }\n" + CALLED, "check", "cc: the table bits is indexed in a function that is LOCAL"),
-    (TABLE + "LOCAL(check) u64 at(u64 n) { return bits[n & 3]; }\n" + CALLED, "check", ""),
+    (BY_POINTER, "check", "cc: source.c:3 (slot N) needs ", "--no-guards"),
+    (BY_POINTER, "check", WITH_MEMORY),
+    (TABLE + "LOCAL(check) u64 at(u64 n) { return bits[n]; }\n" + CALLED, "check", "cc: the table bits is indexed in a function that is LOCAL", "--no-guards"),
+    (TABLE + "LOCAL(check) u64 at(u64 n) { return bits[n & 3]; }\n" + CALLED, "check", "", "--no-guards"),
     ('#include "chekcer.h"\n', "check", "source.c:1:10: fatal error: "),
     ("u64 check(", "check", "source.c:1:1: error: unknown type name 'u64'"),
     (None, "check", "cc: the file source.c can't be read"),
@@ -248,7 +256,8 @@ RUNS = [
     (NESTED, ["--turns", "6"], {2: "0", 3: "1000000 codes 7"}),
     (NESTED, ["--turns", "7"], {2: "0", 3: "1000000 codes 7"}),
     (HEADER, ["--turns", "5"], {0: "0", 5: "0", 6: f"1000000 codes {HEADER_CODE}"}),
-    (TABLES, [], {0: "0", 1: "1 codes -", 2: "1 codes -", 3: "1000001 codes 3", 1 << 63: "1000001 codes 3"}),
+    (TABLES, ["--no-guards"], {0: "0", 1: "1 codes -", 2: "1 codes -", 3: "1000001 codes 3", 1 << 63: "1000001 codes 3"}),
+    (TABLES, [], {0: "0", 1: "1 codes -", 2: "1 codes -", 1 << 60: "stray at 11"}),
     (NULLS, [], {0: "1 codes -", 63: "1 codes -", 64: "stray at 6"}),
     (INDEX, [], {0: "0", 503: "0", 504: "stray at 6", 65535: "stray at 6"}),
     (INDEX, ["--guards"], {504: "stray at 6"}),
@@ -270,15 +279,16 @@ def stored_bytes(compiler, folder):
 def refusals(compiler, folder):
     """What the tool said otherwise than it should."""
     source = folder / "source.c"
-    for text, function, wanted in REFUSALS:
+    for text, function, wanted, *words in REFUSALS:
         source.unlink(missing_ok=True)
         (folder / "out.bpf").unlink(missing_ok=True)
         if text is not None:
             source.write_text(text)
-        done = cc(compiler, source, function, folder / "out.bpf")
+        done = cc(compiler, source, function, folder / "out.bpf", *words)
         said = re.sub(r"slot \d+", "slot N", done.stderr.replace(f"{folder}/", "").split("\n")[0])
         written = (folder / "out.bpf").exists()
-        good = said.startswith(wanted) and done.returncode == (2 if wanted else 0) and written != bool(wanted)
+        refused = bool(wanted) and wanted != WITH_MEMORY
+        good = said.startswith(wanted) and done.returncode == (2 if refused else 0) and written != refused
         yield None if good else f"{compiler} {function}: status {done.returncode}, '{said}', wanted '{wanted}'"
 
 
@@ -307,7 +317,7 @@ def runs(compiler, folder, program):
             refused = isinstance(wanted, str) and done.stderr.startswith(wanted)
             yield None if refused else f"{compiler} run {number}: wanted {wanted}, status {done.returncode} {done.stderr}"
             continue
-        options = ["--guards"] * ("cc: accepted with guards" in done.stderr)
+        options = ["--guards"] * ("explore needs --guards" in done.stderr)
         found = {value: answer(program, folder, value, options) for value in wanted}
         found |= {"note": done.stderr} if "no run reaches" in done.stderr + done.stdout else {}
         yield None if found == wanted else f"{compiler} run {number}: {found}, wanted {wanted}"

@@ -21,11 +21,14 @@ from pathlib import Path
 
 sys.dont_write_bytecode = True
 
+from machine_model import MEMORY, judged
 from notation import TOP, program
 
 sys.path.insert(0, str(TOP / "examples/cc"))
 
-from program import NoProgram, Object
+from calls import MADE, copy_code, expanded, set_code
+from data import ROOM, Memory, with_data
+from program import SLOT, NoProgram, Object, slots_of
 
 CC = TOP / "examples/cc/crashbpf-cc"
 CHANGED = 3000
@@ -52,9 +55,9 @@ NOTES = "#!/bin/sh\necho accepted budget 9\necho 'note: instructions that no run
 COMMON, FUNCTION, OBJECT, GLOBAL = 0xFFF2, 2, 1, 16
 
 
-def elf(functions, needs=(), machine=247):
-    """An object file. A function is a name, its code, and whether it is static; of each the code has a section of its own. A need
-    is a slot of the first function, the name of a symbol, and its section."""
+def elf(functions, needs=(), machine=247, data=()):
+    """An object file. A function is a name, its code, and whether it is static; of each the code has a section of its own. Then each
+    piece of data has one. A need is a slot of the first function, the name of a symbol, and its section."""
     names, heads, body = b"\0", [(0,) * 10], b""
 
     def section(name, kind, content, link=0, info=0):
@@ -67,6 +70,8 @@ def elf(functions, needs=(), machine=247):
         section(f".text.{name}", 1, code)
         symbols.append(struct.pack("<IBBHQQ", len(texts), FUNCTION + GLOBAL * (not static), 0, number, 0, len(code)))
         texts += name.encode() + b"\0"
+    for name, content in data:
+        section(f".data.{name}", 1, content)
     for _slot, name, place in needs:
         symbols.append(struct.pack("<IBBHQQ", len(texts), OBJECT + GLOBAL, 0, place, 0, 8))
         texts += name.encode() + b"\0"
@@ -90,8 +95,12 @@ def looked_at(bytes_):
         function = object_.function("check")
         if function is None:
             return None
-        list(object_.needs(function))
-        return object_.code(function, object_.moved(function))
+        needs = list(object_.needs(function))
+        moved = object_.moved(function)
+        memory = Memory(object_, function)
+        calls = {moved[it.slot]: it.name for it in needs if it.kind == "absent" and it.name in MADE and it.slot in moved}
+        code, _places = expanded(object_.code(function, moved, memory), calls)
+        return with_data(code, memory.beginning())
     except NoProgram as it:
         return it
 
@@ -111,7 +120,15 @@ def odd_objects(code):
     """What isn't read or refused, of object files that are cut off or changed."""
     call = bytes.fromhex("8510000002000000") + code
     local = [("check", call, False), ("sum", code, True)]
-    for number, whole in enumerate((elf([("check", code, False)], [(0, "counter", COMMON)]), elf(local))):
+    address = bytes.fromhex("18010000000000000000000000000000")
+    called = bytes.fromhex("b7030000180000008510000000000000") + code
+    wholes = [
+        elf([("check", code, False)], [(0, "counter", COMMON)]),
+        elf(local),
+        elf([("check", address + address + code, False)], [(0, "a", 2), (2, "b", 3)], data=[("a", bytes(range(40))), ("b", bytes(16))]),
+        elf([("check", called, False)], [(1, "memcpy", 0)]),
+    ]
+    for number, whole in enumerate(wholes):
         rng = random.Random(f"object {number}")
         some = [whole[:length] for length in range(len(whole))] + [changed(whole, rng) for _ in range(CHANGED)]
         found = {}
@@ -296,6 +313,144 @@ def stopped(place, code):
         yield f"--timeout {word}", [] if wrong[0] == 2 and "argument --timeout" in wrong[2] else [str(wrong)]
 
 
+# A program in which calls of memcpy and memset stand in front of jumps, behind them, and between; and what it answers.
+BYTES = 40
+CALLING = f"""
+lddw r6, {MEMORY}
+lddw r1, 506097522914230528
+stxdw [r6+0], r1
+stxdw [r6+13], r1
+mov64 r7, 2
+ja +1
+ja +6
+mov64 r1, r6
+add64 r1, 100
+mov64 r2, r6
+mov64 r3, 21
+call 500
+jne r7, 2, -7
+mov64 r8, r0
+mov64 r1, r6
+add64 r1, 200
+mov64 r2, 775
+mov64 r4, {BYTES - 1}
+mov64 r3, r4
+call 501
+callf +3
+ldxdw r1, [r8+13]
+add64 r0, r1
+exit
+lddw r1, {MEMORY + 200}
+ldxdw r0, [r1+{BYTES - 9}]
+exit
+"""
+SEVENS, COUNTED = 0x0707070707070707, 506097522914230528
+
+
+def calls(crashbpf, folder):
+    """What is wrong with calls that are written out: where jumps lead, and what the program answers; and which are refused."""
+    code = assembled(crashbpf, folder, CALLING.strip().replace("\n", "; "))
+    made = {it.immediate: at for at, it in slots_of(code).items() if it.opcode == 0x85 and it.source == 0}
+    names = {made[500]: "memcpy", made[501]: "sets_"}
+    out, places = expanded(code, names)
+    end = judged(out, Zeros(), 1000, True).text
+    wanted = f"answer {(SEVENS + COUNTED) % 2**64} codes -"
+    yield "calls that are written out", [] if end == wanted else [f"{end}, wanted {wanted}"]
+    grown = len(copy_code(21) + set_code(BYTES - 1)) - 2 * SLOT
+    last = places[max(places)] * SLOT
+    yield "how much longer it is", [] if len(out) == len(code) + grown and last == len(out) - SLOT else [f"{len(out)} of {len(code)}"]
+    outside = assembled(crashbpf, folder, "ja +900; ja -900; exit")
+    yield "jumps that lead nowhere", [] if expanded(outside, {}) == (outside, {0: 0, 1: 1, 2: 2}) else ["they have moved"]
+    ending = assembled(crashbpf, folder, "jeq r1, 0, +3; mov64 r3, 8; call 500; ja +0")
+    wanted = assembled(crashbpf, folder, "jeq r1, 0, +5; mov64 r3, 8; ldxdw r0, [r2+0]; stxdw [r1+0], r0; mov64 r0, r1; ja +0")
+    yield "jumps to the end", [] if expanded(ending, {2: "memcpy"})[0] == wanted else [expanded(ending, {2: "memcpy"})[0].hex()]
+    for text in UNKNOWN_LENGTHS:
+        some = assembled(crashbpf, folder, text + "; exit")
+        try:
+            expanded(some, {len(some) // SLOT - 2: "memset"})
+            yield f"a length that isn't known: {text}", ["it is written out"]
+        except NoProgram as it:
+            yield f"a length that isn't known: {text}", [] if "for a length that isn't a constant there" in str(it) or "at most 16384 are written out" in str(it) else [str(it)]
+
+
+class Zeros:
+    """A device of one sector that is zeros."""
+
+    class run:
+        sectors = 1
+
+    def sector(self, _number):
+        return bytes(512)
+
+    def epoch(self):
+        return 0
+
+    def marks(self):
+        return 0
+
+
+def memory(place, crashbpf):
+    """Programs with data: where it lies, and what is refused."""
+    address = "lddw r1, 4; ldxdw r0, [r1+0]; exit"
+    code = assembled(crashbpf, place.folder, address)
+    for name, data, needs, wanted in [
+        ("a number", [("a", bytes(4) + b"\7" + bytes(7))], [(0, "a", 2)], 7),
+        ("past a number that isn't needed", [("a", bytes(12)), ("b", bytes(4) + b"\x88" * 8 + bytes(4))], [(0, "b", 3)], 0x8888888888888888),
+        ("as much as there is", [("a", bytes(4) + b"\5" + bytes(ROOM - 5))], [(0, "a", 2)], 5),
+        ("a byte too much", [("a", bytes(ROOM + 1))], [(0, "a", 2)], f"cc: its variables, tables and strings take {ROOM + 1} bytes, and a program has {ROOM}"),
+        ("too many first bytes", [("a", b"\1" * 8 * 2100)], [(0, "a", 2)], "cc: the first bytes of its data take 4202 slots, and with them it has 4206: at most 4096"),
+        ("a function", [("a", bytes(16))], [(0, "check", 1)], "cc: source.c:10 (slot 0) needs check, which lies outside"),
+        ("another place than an address", [("a", bytes(16))], [(2, "a", 2)], "cc: the object file can't be read: a place of its code is filled with a"),
+        ("something that is nowhere", [], [(0, "a", 0)], "cc: source.c:10 (slot 0) needs a, which lies outside"),
+    ]:
+        place.holds("u64 check(void)\n{\n\treturn 0;\n}\n", elf([("check", code, False)], needs, data=data), listing_of(code))
+        if isinstance(wanted, str):
+            yield f"data: {name}", refused(place, wanted)
+            continue
+        status, _, said = place.run()
+        end = judged(place.written("out.bpf"), Zeros(), 10_000, True).text if status == 0 else said
+        size = sum(len(content) for label, content in data if label == needs[0][1])
+        told = "cc: it has what programs have with guards alone: explore needs --guards\n" f"cc: its variables, tables and strings take {size} of {ROOM} bytes of memory\n"
+        yield f"data: {name}", [] if end == f"answer {wanted} codes -" and said.startswith(told) else [f"{end}, {said}"]
+        yield f"data: {name}, without guards", refused(place, "which lies outside of the function check", "source.c", "check", "out.bpf", "--no-guards")
+
+
+# What stands in front of a call whose length isn't a constant on each way to it.
+UNKNOWN_LENGTHS = [
+    "ja +0; mov64 r3, 5; jeq r0, 0, -1; call 500",
+    "jeq r0, 0, +1; mov64 r3, 5; call 500",
+    "jeq r0, 0, +1; mov64 r3, 5; mov64 r2, 0; call 500",
+    "ldxdw r3, [r10-8]; call 500",
+    "mov64 r3, r4; call 500",
+    "call 4; call 500",
+    "mov64 r3, 5; call 4; call 500",
+    "mov64 r3, -1; call 500",
+    "mov64 r3, 5; add64 r3, 1; call 500",
+    "mov64 r3, 5; jeq r0, 0, +0; call 500",
+    "mov64 r3, 16385; call 500",
+]
+
+
+# A call in the midst of others, and of what is written out for it the slots at which an instruction begins.
+MIDST = "mov64 r1, r10; add64 r1, -64; mov64 r2, r10; add64 r2, -32; mov64 r3, 24; call 500; mov64 r0, 0; exit"
+BEGUN = {"memcpy": range(5, 12), "memset": (5, 6, 8, 9, 10, 11, 12)}
+
+
+def lines_of_calls(place, crashbpf):
+    """Which lines the slots have of a call that is written out, and those around it."""
+    code = assembled(crashbpf, place.folder, MIDST)
+    for name, begun in BEGUN.items():
+        place.holds("u64 check(void)\n{\n\treturn 0;\n}\n", elf([("check", code, False)], [(5, name, 0)]), listing_of(code))
+        status, _, said = place.run("source.c", "check", "out.bpf", "--sectors", "4")
+        numbers = [*range(5), *begun, begun[-1] + 1, begun[-1] + 2]
+        lines = [*range(10, 15), *[15] * len(begun), 16, 17]
+        wanted = "".join(f"{at} source.c {line}\n" for at, line in zip(numbers, lines))
+        found = (place.written("out.lines") or b"").decode()
+        yield f"the lines of {name}", [] if (status, found) == (0, wanted) else [f"{status} {said} {found}"]
+    place.holds("u64 check(void)\n{\n\treturn 0;\n}\n", elf([("check", code, False)], [(5, "memmove", 0)]), listing_of(code))
+    yield "a call of memmove", refused(place, "cc: source.c:15 (slot 5) needs memmove, which lies outside of the function check")
+
+
 NULL_POINTER = "mov64 r1, 0; call 1; ldxb r0, [r0+0]; exit"
 GUARDED = "cc: accepted with guards: explore needs --guards\ncc: source.c:12: slot 2 is guarded: ldxb r0, [r0+0]\n"
 LINES = "0 source.c 10\n1 source.c 11\n2 source.c 12\n3 source.c 13\n"
@@ -382,7 +537,10 @@ def outputs(place, code):
 def rows(crashbpf, folder):
     code = assembled(crashbpf, folder, "mov64 r0, 0; exit")
     yield from odd_objects(code)
+    yield from calls(crashbpf, folder)
     place = Place(folder, crashbpf)
+    yield from memory(place, crashbpf)
+    yield from lines_of_calls(place, crashbpf)
     yield from sources(place)
     yield from objects(place, code)
     yield from stopped(place, code)

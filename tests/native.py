@@ -251,7 +251,7 @@ def compiled(checker, compiler, folder, program, words):
     words = [CC, checker.source, checker.function, out, "--sectors", str(SECTORS), "--compiler", compiler, "--timeout", "600", *words]
     done = subprocess.run(words, capture_output=True, text=True, env={**os.environ, "PATH": path})
     if done.returncode == 0:
-        checker.options = ["--guards"] * ("accepted with guards" in done.stderr)
+        checker.options = ["--guards"] * ("explore needs --guards" in done.stderr)
         return out.read_bytes(), done.stdout.split("\n")[0]
     refused = re.search(r"^refused .*|^cc: .*", done.stderr, re.M)
     place = re.search(r"slot \d+, (\S+):", done.stderr)

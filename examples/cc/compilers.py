@@ -10,6 +10,9 @@ CC = Path(__file__).resolve().parent
 # checker.h is found from anywhere. So is "../checker.h", as seen from the folder of this file: an example may be copied.
 HEADERS = ["-I", CC.parent, "-I", CC, "-isystem", CC / "include"]
 
+# Each function and each variable has a section of its own, so that a program has no more than what it needs.
+APART = ["-ffunction-sections", "-fdata-sections"]
+
 # What a call of a helper leaves nothing of.
 CLOBBERED = '"r0", "r1", "r2", "r3", "r4", "r5", "memory"'
 
@@ -25,10 +28,50 @@ def hints_for(said):
     if "signed division" in said:
         yield "divide unsigned numbers"
     if "stack limit" in said or "stack frame" in said:
-        yield "all locals together have 512 bytes: no copy of a sector (u64_at(position) reads from it),"
-        yield "no large array (a pass for each element)"
+        yield "all locals together have 512 bytes: make large arrays and structs static, which have 65536 in memory"
     if "built-in function" in said:
-        yield "a checker has no library: no floating point; a struct of many bytes is copied or set field by field"
+        yield "a checker has no library: no floating point; memcpy and the like are those of checker.h"
+
+
+# What clang says where a library would be called, or too many bytes be held at once.
+NO_LIBRARY = re.compile("A call to built-in function 'mem(cpy|set)'|stack limit of 512 bytes")
+# A copy, or bytes that are set, in its own language; and how many bytes are left to it.
+INTRINSIC = re.compile(r"call void @llvm\.(memcpy|memset)\.[\w.]+\(")
+FEW = 32
+POINTER = re.compile(r"\bptr\b")
+
+
+def arguments(text):
+    """The arguments with which a text begins, up to the bracket that closes them."""
+    found, depth, start = [], 0, 0
+    for at, it in enumerate(text):
+        if it == ")" and depth == 0:
+            return [*found, text[start:at].strip()], text[at + 1 :]
+        if it == "," and depth == 0:
+            found.append(text[start:at].strip())
+            start = at + 1
+        depth += (it in "([{<") - (it in ")]}>")
+    return None, text
+
+
+def with_calls(text):
+    """A module of clang's own language in which many bytes are copied and set by calls."""
+    lines = [called_line(it) for it in text.split("\n")]
+    pointer = "ptr" if any(INTRINSIC.search(it) and POINTER.search(it) for it in text.split("\n")) else "i8*"
+    kinds = {"copies_": f"{pointer}, {pointer}, i64", "sets_": f"{pointer}, i8, i64"}
+    used = [name for name in kinds if any(f"@{name}(" in it for it in lines)]
+    return "\n".join([*lines, *(f"declare void @{name}({kinds[name]})" for name in used), ""])
+
+
+def called_line(line):
+    """A line, where a copy of many bytes, their number a constant, is a call."""
+    found = INTRINSIC.search(line)
+    given, rest = arguments(line[found.end() :]) if found else (None, "")
+    length = re.fullmatch(r"i64 (\d+)", given[2]) if given and len(given) == 4 else None
+    if not length or int(length[1]) <= FEW:
+        return line
+    name = "copies_" if found[1] == "memcpy" else "sets_"
+    return f"{line[: found.start()]}call void @{name}({', '.join(given[:3])}){rest}"
 
 
 class Clang:
@@ -55,10 +98,19 @@ class Clang:
 
     def compile(self, text, options, out):
         """Compiles the preprocessed text to the file `out`; each function gets a section of its own, .text.NAME."""
-        words = [*self.target, "-g", "-w", "-ffunction-sections", "-fno-jump-tables", "-fno-crash-diagnostics"]
+        words = [*self.target, "-g", "-w", *APART, "-fno-jump-tables", "-fno-crash-diagnostics"]
         # A loop stays one, and becomes no call of the library and no table.
-        words += ["-mllvm", "-disable-loop-idiom-all"]
-        return self.run([*words, *options, "-c", "-x", "cpp-output", "-", "-o", out], text)
+        words += ["-mllvm", "-disable-loop-idiom-all", *options]
+        done = self.run([*words, "-c", "-x", "cpp-output", "-", "-o", out], text)
+        return self.compile_with_calls(words, text, out) if NO_LIBRARY.search(done.stderr) else done
+
+    def compile_with_calls(self, words, text, out):
+        """The same, where the compiler would call a library for many bytes, or have them all in registers: it calls functions for
+        that which calls.py writes out."""
+        done = self.run([*words, "-S", "-emit-llvm", "-x", "cpp-output", "-", "-o", "-"], text)
+        if done.returncode != 0:
+            return done
+        return self.run([*words, "-Xclang", "-disable-llvm-passes", "-c", "-x", "ir", "-", "-o", out], with_calls(done.stdout))
 
     def turn(self, times, code, answer):
         """A statement that ends the run when this place has been passed `times` times."""
@@ -117,7 +169,7 @@ class Gcc:
         return self.run([*self.target, *definitions, "-Wall", "-fsyntax-only", source])
 
     def compile(self, text, options, out):
-        words = [*self.target, "-gdwarf", "-w", "-ffunction-sections"]
+        words = [*self.target, "-gdwarf", "-w", *APART]
         # Loops stay as with clang. A length of `copy` isn't kept in a register over a loop, where the verifier would round it up.
         words += ["-fno-tree-loop-distribute-patterns", "-fno-move-loop-invariants", "-fno-ipa-cp", "-fno-ipa-sra"]
         return self.run([*words, *options, "-c", "-x", "cpp-output", "-", "-o", out], text)

@@ -45,6 +45,7 @@ class Section:
     size: int
     link: int
     info: int
+    align: int = 1
 
 
 @dataclass
@@ -77,7 +78,7 @@ class Object:
         if names >= count:
             raise broken("its sections have no names")
         at = heads[names][4]
-        self.sections = [Section(self.text(at + it[0]), it[1], it[4], it[5], it[6], it[7]) for it in heads]
+        self.sections = [Section(self.text(at + it[0]), it[1], it[4], it[5], it[6], it[7], it[8]) for it in heads]
         self.symbols = [it for section in self.sections if section.kind == TABLE_OF_SYMBOLS for it in self.table(section)]
 
     def fields(self, form, at):
@@ -152,9 +153,10 @@ class Object:
             raise broken(f"the functions of its section {section.name} overlap, or are empty")
         return found
 
-    def code(self, function, moved):
-        """The instructions, with calls between functions as these have moved."""
+    def code(self, function, moved, memory=None):
+        """The instructions, with calls between functions as these have moved, and the addresses of what is in memory."""
         code = self.content(self.sections[function.section])
+        code = memory.filled_code(code) if memory else code
         out = bytearray(code)
         for at, it in slots_of(code).items():
             size = 2 if it.opcode == LDDW else 1
@@ -168,15 +170,22 @@ class Object:
                 struct.pack_into("<i", out, SLOT * moved[at] + 4, distance)
         return bytes(out)
 
-    def needs(self, function):
-        """The places of the function's section that the linker would have to fill."""
+    def filled(self, number):
+        """The places of a section that the linker would have to fill: where, of which kind, and with which symbol."""
         for section in self.sections:
-            if section.kind not in RELOCATIONS or section.info != function.section:
+            if section.kind not in RELOCATIONS or section.info != number:
                 continue
-            for offset, info, *_ in self.rows(section, RELOCATIONS[section.kind]):
+            for offset, info, *addend in self.rows(section, RELOCATIONS[section.kind]):
                 if info >> 32 >= len(self.symbols):
                     raise broken("a place that the linker fills has no symbol")
-                yield self.need(offset // SLOT, self.symbols[info >> 32])
+                if any(addend):
+                    raise broken("a place that the linker fills has an addend beside it")
+                yield offset, info % 2**32, self.symbols[info >> 32]
+
+    def needs(self, function):
+        """The places of the function's section that the linker would have to fill."""
+        for offset, _, symbol in self.filled(function.section):
+            yield self.need(offset // SLOT, symbol)
 
     def need(self, slot, symbol):
         section = self.section_at(symbol.section)
@@ -185,7 +194,7 @@ class Object:
             return Need(slot, name, "absent")
         if symbol.kind == FUNCTION or section and section.name.startswith(".text"):
             return Need(slot, name.removeprefix(".text."), "function")
-        return Need(slot, name, "data")
+        return Need(slot, name, "data" if section else "number")
 
 
 @dataclass

@@ -22,6 +22,10 @@
  *
  * Compile with -O0 or -Og: with more, a compiler may write a loop's body twice, and
  * then each has its own turns.
+ *
+ * Each judgement begins with the variables as the source gives them. So all files but
+ * the last are judged by children of this process; the last, or the only one, is judged
+ * by this process itself.
  */
 #ifndef NATIVE_CHECKER_H
 #define NATIVE_CHECKER_H
@@ -30,6 +34,8 @@
 #include <stdio.h>
 #include <stdlib.h>
 #include <string.h>
+#include <sys/wait.h>
+#include <unistd.h>
 
 #define LOCAL(checker) static __attribute__((noinline, unused))
 #define HELPER_(number, answer, name, ...) static answer name(__VA_ARGS__) __attribute__((unused))
@@ -188,6 +194,56 @@ static u64 same(u64 a, u64 b)
 	return !x || !y ? 2 : memcmp(x, y, SECTOR_BYTES_) == 0;
 }
 
+/* The checksums of helpers 8 to 11, bit by bit. */
+static u64 crc_(u64 crc, const u8 *from, u64 length, u32 polynomial)
+{
+	u32 sum = crc;
+
+	for (u64 i = 0; i < length && i < 4096; i++) {
+		sum ^= from[i];
+		for (int bit = 0; bit < 8; bit++)
+			sum = sum >> 1 ^ (sum & 1 ? polynomial : 0);
+	}
+	return sum;
+}
+
+static u64 crc_at_(u64 crc, u64 at, u64 length, u32 polynomial)
+{
+	u8 piece[512];
+
+	if (length > 4096)
+		length = 4096;
+	while (length > 0) {
+		u64 count = length < 512 ? length : 512;
+
+		copy(at, piece, count);
+		crc = crc_(crc, piece, count, polynomial);
+		at += count;
+		length -= count;
+	}
+	return crc;
+}
+
+static u64 crc32c_part(u64 crc, u64 at, u64 length)
+{
+	return crc_at_(crc, at, length, 0x82f63b78);
+}
+
+static u64 crc32_part(u64 crc, u64 at, u64 length)
+{
+	return crc_at_(crc, at, length, 0xedb88320);
+}
+
+static u64 crc32c_memory_part(u64 crc, const void *from, u64 length)
+{
+	return crc_(crc, from, length, 0x82f63b78);
+}
+
+static u64 crc32_memory_part(u64 crc, const void *from, u64 length)
+{
+	return crc_(crc, from, length, 0xedb88320);
+}
+
 /* Under AddressSanitizer a sector has bytes around it that may not be read, for indices that lead far. */
 #ifdef __SANITIZE_ADDRESS__
 #define MARGIN_ 65536
@@ -260,6 +316,23 @@ static int judge_(const struct context *context)
 	return answer != 0;
 }
 
+/* Judges the device at hand in a child, so that what the checker writes to its variables is gone after it. */
+static int judge_apart_(const struct context *context)
+{
+	int status = 0;
+	pid_t child = fork();
+
+	if (child < 0)
+		fail_("no process", "");
+	if (child == 0)
+		_exit(judge_(context));
+	if (waitpid(child, &status, 0) != child)
+		fail_("no process", "");
+	if (!WIFEXITED(status) || WEXITSTATUS(status) > 1)
+		exit(WIFEXITED(status) ? WEXITSTATUS(status) : 128 + WTERMSIG(status));
+	return WEXITSTATUS(status);
+}
+
 int main(int count, char **words)
 {
 	struct context context = { 0 };
@@ -275,7 +348,7 @@ int main(int count, char **words)
 		}
 		read_device_(words[i]);
 		context.sectors = device_.sectors;
-		failing |= judge_(&context);
+		failing |= i + 1 < count ? judge_apart_(&context) : judge_(&context);
 		judged = 1;
 	}
 	if (!judged)
