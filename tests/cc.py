@@ -271,7 +271,9 @@ RUNS = [
 def stored_bytes(compiler, folder):
     """The names of stored files that the compiler makes otherwise."""
     for source, function, path in stored():
-        done = cc(compiler, source, function, folder / "out.bpf", "--turns", "0")
+        # Those of whole formats have plain loops.
+        words = [] if path.with_suffix("").is_dir() else ["--turns", "0"]
+        done = cc(compiler, source, function, folder / "out.bpf", *words)
         same = done.returncode == 0 and (folder / "out.bpf").read_bytes() == path.read_bytes()
         yield None if same else f"{path.relative_to(TOP)}: other bytes {done.stderr}"
 

@@ -31,6 +31,8 @@ Where the rows stand
     rows/options.py     which options find what: the table of docs/CRASH-MODEL.md, cell by cell
     rows/each_option.py each option of each command: two runs that differ in it, and where what they print differs
     rows/checkers.py    the checkers in C of examples/: what the verifier says of them, and what they answer
+    rows/databases.py   the checkers of databases in examples/checkers, and their logs
+    rows/file_systems.py    the checkers of file systems in examples/checkers, and their logs
     rows/commands.py    each command, faults of the command line, the order of refusals
     rows/process.py     files that can't be read, a standard output that can't be written, by each command
     rows/inputs.py      each file of each command: a byte too long, as long as may be, unreadable, of another kind
@@ -47,6 +49,7 @@ Where the rows stand
     rows/promises.py    the notes of marks that promise what nothing made durable, and of FUA, against the model
     rows/tables.py      logs as tables, and listings with slots
     rows/guards.py      programs that `--guards` accepts: their guarded slots, and where their runs stray
+    rows/own_memory.py  the memory that a program has with guards, and its checksums, against the model and Python's own CRC-32
     rows/trials.py      programs on one image: what they come to, their steps and the last ones in words
     rows/modelled.py    whole reports of many logs, against the model
     rows/small_logs.py  every image of small logs, what their cuts leave open, accepted programs with and without checks
@@ -129,10 +132,12 @@ from rows import (
     commands,
     cure,
     cure_cases,
+    databases,
     each_option,
     encodings,
     examples,
     export,
+    file_systems,
     flushes,
     footprints,
     guards,
@@ -144,6 +149,7 @@ from rows import (
     modelled,
     notes,
     options,
+    own_memory,
     process,
     promises,
     ranges,
@@ -169,6 +175,8 @@ TABLES = [
     options,
     each_option,
     checkers,
+    databases,
+    file_systems,
     commands,
     process,
     inputs,
@@ -183,6 +191,7 @@ TABLES = [
     notes,
     tables,
     guards,
+    own_memory,
     trials,
     modelled,
     small_logs,

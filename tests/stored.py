@@ -1,6 +1,7 @@
 #!/usr/bin/env python3
 """Writes the texts that are stored of the designs of examples/: their reports, their cases with any number of losses, why they fail and why
-these cases do, their cures, by images and by cases, and an image of each wrong version in words. All are the model's; the rows compare them with what the program prints.
+these cases do, their cures, by images and by cases, and an image of each wrong version in words; and the reports of the databases and the
+file systems of examples/checkers, which take a quarter of an hour. All are the model's; the rows compare them with what the program prints.
 
     python3 tests/stored.py
 
@@ -15,6 +16,7 @@ from cure_cases_model import cure_cases
 from cure_model import cure
 from designs import DESIGNS, EXAMPLES, EXPLAINED, IN_WORDS, checker_of
 from model import explored, shown
+from rows import databases, file_systems
 from why_model import case_causes, causes
 
 
@@ -30,6 +32,8 @@ def texts():
         yield f"{which}.why", causes(EXPLAINED[which], checkers)
         if which in IN_WORDS:
             yield f"{which}.show", shown(run, list(run.images())[IN_WORDS[which]])
+    yield from databases.texts()
+    yield from file_systems.texts()
 
 
 def main():

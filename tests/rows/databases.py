@@ -1,0 +1,228 @@
+"""The checkers of databases in examples/checkers, lmdb.c and rollback_journal.c: what the verifier says of them, the reports of their
+logs, each a trace beside its report, and what they answer where something of the last image is changed.
+
+The reports are by model.py and machine_model.py; stored.py writes them. Places and answers of changes were written down by hand.
+"""
+import struct
+from dataclasses import dataclass, replace
+
+import machine_model
+from model import Checker, Run, explored
+from notation import SECTOR, TOP, Long, M, Row, S, explore
+from rows.checkers import by_rule, u16, u32, u64
+from rows.recording import entries_of, trace_log
+
+FOLDER = TOP / "examples/checkers"
+
+
+@dataclass(frozen=True)
+class Database:
+    """A checker: its budget and how many of its slots are guarded, the sectors of its device, and what each log's run is given."""
+
+    budget: int
+    guards: int
+    sectors: int
+    runs: dict
+
+
+DATABASES = {
+    "lmdb": Database(
+        115_999_015,
+        22,
+        88,
+        {"right": {"bound": 2}, "no_sync": {}, "no_meta_sync": {}, "wrong_order": {}},
+    ),
+    "rollback_journal": Database(
+        590_348_851,
+        51,
+        16,
+        {"right": {"bound": 2}, "no_sync": {}, "wrong_order": {}},
+    ),
+}
+
+
+def code_of(name):
+    return (FOLDER / f"{name}.bpf").read_bytes()
+
+
+def base_of(name):
+    """What the device held before entry 0."""
+    path = FOLDER / name / "base.img"
+    return path.read_bytes() if path.exists() else b""
+
+
+def log_of(name, which):
+    return trace_log.made((FOLDER / name / f"{which}.trace").read_text(), FOLDER / name)
+
+
+def run_of(name, which):
+    """The run whose report is stored."""
+    it = DATABASES[name]
+    return Run(entries_of(log_of(name, which)), it.sectors, base=base_of(name), **it.runs[which])
+
+
+def about(name):
+    """What a report says of the checker."""
+    it = DATABASES[name]
+    return f"slots {len(code_of(name)) // 8} budget {it.budget} guards {it.guards}"
+
+
+def ended(code, image):
+    """What the checker answers on an image, and its codes, by the machine's model."""
+    words = machine_model.judged(code, image, None, True).text.split()
+    return int(words[1]), [] if words[3] == "-" else words[3].split(",")
+
+
+def report_of(name, which):
+    """The report of a log, by the models."""
+    code = code_of(name)
+    return explored(run_of(name, which), [Checker(about(name), lambda image: ended(code, image))])
+
+
+def verified(name):
+    """A row of `verify`, whose budget has to be that of the rule."""
+    it, code = DATABASES[name], code_of(name)
+    rule = by_rule(code)
+    answer = f"accepted budget {it.budget} guards {it.guards}\n" if rule == it.budget else f"the rule says {rule}\n"
+    return Row(f"verify checkers/{name}", f"verify p --sectors {it.sectors} --guards", {"p": code}, answer)
+
+
+def reported(name, which):
+    """A row of `explore`."""
+    run = run_of(name, which)
+    wanted = Long(lambda: (FOLDER / name / f"{which}.report").read_bytes())
+    row = explore(f"checkers/{name}, {which}", f"{run.options()} --guards", log_of(name, which), code_of(name), wanted, int(which != "right"))
+    return replace(row, files={**row.files, **({"base": run.base} if run.base else {})})
+
+
+def texts():
+    """The names of the reports, and their texts."""
+    return ((f"checkers/{name}/{which}.report", report_of(name, which)) for name, it in DATABASES.items() for which in it.runs)
+
+
+# What is changed in the last image of the right log, and what is answered then
+
+PAGE = 4096
+FREE, MAIN = PAGE + 40, PAGE + 88  # the records of the meta page of transaction 3
+ROOT, LEAF, FREE_LIST = 7 * PAGE, 8 * PAGE, 10 * PAGE
+NODE = LEAF + 2880  # of key-001, with 1,200 bytes
+
+LMDB = [
+    ({}, 0, "-"),
+    ({PAGE + 10: u16(0)}, 1, "-"),
+    ({16: u32(0xBEEFC0DF)}, 1, "-"),
+    ({20: u32(999)}, 2, "-"),
+    ({40: u32(4095)}, 2, "-"),
+    ({PAGE + 136: u64(262144)}, 3, "-"),
+    ({PAGE + 136: u64(9)}, 4, "10"),
+    ({MAIN + 40: u64(11)}, 4, "11"),
+    ({MAIN + 40: u64(10)}, 5, "10"),
+    ({ROOT: u64(6)}, 6, "7"),
+    ({LEAF + 10: u16(1)}, 7, "8"),
+    ({MAIN + 6: u16(1)}, 7, "7"),
+    ({LEAF + 12: u16(21)}, 8, "8"),
+    ({LEAF + 14: u16(4097)}, 8, "8"),
+    ({LEAF + 16: u16(440)}, 9, "8"),
+    ({LEAF + 16: u16(4090)}, 9, "8"),
+    ({LEAF + 14: u16(446)}, 10, "8"),
+    ({NODE: u16(1202)}, 9, "8"),
+    ({NODE: u16(1198)}, 10, "8"),
+    ({NODE + 8 + 6: b"9"}, 11, "8"),
+    ({ROOT + 4056 + 8 + 6: b"0"}, 0, "-"),
+    ({ROOT + 4056 + 8 + 5: b"0"}, 11, "7"),
+    ({NODE + 4: u16(1), NODE + 15: u64(9)}, 12, "9,8"),
+    ({NODE + 4: u16(4)}, 13, "8"),
+    ({NODE + 4: u16(2)}, 9, "8"),
+    ({MAIN + 32: u64(4)}, 14, "7"),
+    ({MAIN + 16: u64(2)}, 14, "7"),
+    ({FREE_LIST + 4016 + 16: u64(4)}, 15, "10"),
+    ({FREE_LIST + 4016 + 8: u64(4)}, 15, "10"),
+    ({FREE_LIST + 4016 + 24: u64(7)}, 5, "7"),
+    ({FREE_LIST + 4016 + 16: u64(2)}, 16, "8"),
+    ({PAGE + 144: u64(1)}, 17, "-"),
+]
+
+
+def big(*numbers):
+    """Big-endian numbers of 32 bits."""
+    return struct.pack(f">{len(numbers)}I", *numbers)
+
+
+PAGE_1, PAGE_2, PAGE_3, PAGE_4, PAGE_5, PAGE_6 = (512 * it for it in range(6))
+JOURNAL = 4096
+MAGIC = bytes.fromhex("d9d505f920a163d7")
+
+ROLLBACK_JOURNAL = [
+    ({}, 0, "-"),
+    ({0: b"s"}, 1, "-"),
+    ({21: b"\x41"}, 1, "-"),
+    ({16: b"\x02\x01"}, 1, "-"),
+    ({18: b"\x02\x02"}, 2, "-"),
+    ({JOURNAL: MAGIC, JOURNAL + 3104: MAGIC}, 2, "-"),
+    ({JOURNAL: MAGIC + big(0, 0, 4096, 512, 512)}, 3, "-"),
+    ({28: big(7)}, 4, "-"),
+    ({PAGE_2 + 507: big(9)}, 4, "9"),
+    ({PAGE_2 + 507: big(1)}, 5, "1"),
+    ({PAGE_4: b"\x0a"}, 6, "4"),
+    ({PAGE_4: b"\x0b"}, 6, "4"),
+    ({PAGE_4 + 5: b"\x02\x58"}, 8, "4"),
+    ({PAGE_4 + 8: b"\x01\xfe"}, 9, "4"),
+    ({PAGE_4 + 8: b"\x01\x6a"}, 10, "4"),
+    ({PAGE_4 + 7: b"\x01"}, 10, "4"),
+    ({PAGE_4 + 1: b"\x00\x64"}, 11, "4"),
+    ({PAGE_4 + 438: b"\x09"}, 12, "4"),
+    ({PAGE_5 + 64: b"\x87\x68"}, 13, "2021161080,5"),
+    ({PAGE_1 + 441: b"\x0a"}, 14, "1"),
+    ({32: big(6, 1)}, 15, "6"),
+    ({36: big(1)}, 15, "-"),
+    ({PAGE_2 + 3: b"\x00\x01\x01\xfb", PAGE_6: b"\x05\x00\x00\x00\x00\x02\x00\x00" + big(5)}, 7, "5"),
+    ({PAGE_2 + 3: b"\x00\x01\x01\xfb", PAGE_2 + 8: big(5)}, 16, "5"),
+    ({PAGE_3 + 3: b"\x00\x0b\x01\x7d"}, 17, "3"),
+    ({24: big(6), 92: big(6)}, 18, "-"),
+    # a journal that isn't hot, or isn't one
+    ({JOURNAL + 1: MAGIC[1:]}, 0, "-"),
+    ({JOURNAL: b"\x01" + MAGIC[1:]}, 0, "-"),
+    # one that is hot, and has nothing: the database is as long as it says
+    ({JOURNAL: MAGIC + big(0, 0, 6, 512, 512)}, 0, "-"),
+    ({JOURNAL: MAGIC + big(0, 0, 5, 512, 512)}, 4, "-"),
+]
+
+CHANGED = {"lmdb": LMDB, "rollback_journal": ROLLBACK_JOURNAL}
+
+
+def last_image(name):
+    """What the device holds when all of the right log has arrived."""
+    run = run_of(name, "right")
+    content = bytearray(run.base.ljust(SECTOR * run.sectors, b"\0"))
+    for it in run.entries:
+        content[SECTOR * it.sector : SECTOR * it.sector + len(it.data)] = it.data
+    return content
+
+
+def changed(name):
+    """A row for each change, on a device that was written at once, with as many marks as commits."""
+    it, content, code = DATABASES[name], last_image(name), code_of(name)
+    right = run_of(name, "right")
+    marks = [M("commit")] * right.marks(len(right.entries))
+    for number, (pieces, answer, codes) in enumerate(CHANGED[name]):
+        device = bytearray(content)
+        for place, piece in pieces.items():
+            device[place : place + len(piece)] = piece
+        run = Run([S(0, bytes(device)), *marks], it.sectors, cuts="mark", bound=0, first=1 + len(marks))
+        wanted = explored(run, [Checker(about(name), lambda image, found=(answer, codes.split(",")): found)])
+        yield explore(f"checkers/{name}, change {number}", f"{run.options()} --guards", run.recorded, code, wanted, int(answer != 0))
+
+
+def zeros(marks):
+    """A row of a device of zeros, which is good before the first mark alone."""
+    run = Run([M("commit")] * marks, DATABASES["lmdb"].sectors, bound=0, first=marks)
+    wanted = explored(run, [Checker(about("lmdb"), lambda image: (int(marks > 0), []))])
+    return explore(f"checkers/lmdb, zeros, {marks} marks", f"{run.options()} --guards", run.recorded, code_of("lmdb"), wanted, int(marks > 0))
+
+
+ROWS = [
+    *(verified(name) for name in DATABASES),
+    *(reported(name, which) for name, it in DATABASES.items() for which in it.runs),
+    *(row for name in DATABASES for row in changed(name)),
+    *(zeros(marks) for marks in (0, 1)),
+]
