@@ -5,7 +5,7 @@
 
 PROGRAM is as in run.py; N is 20,000 where it isn't given, S is 1. Each run makes one checker, of pieces that are often accepted and
 often aren't: loads and stores of the stack at fixed and at computed places, with tests and without, sectors with and without a null
-test, `copy`, loops by `again` and by jumps, local calls, arithmetic of both widths, and now and then a slot of random bytes. Both
+test, `copy`, the memory of programs with guards and checksums, loops by `again` and by jumps, local calls, arithmetic of both widths, and now and then a slot of random bytes. Both
 programs are asked for `verify`, `verify --guards`, and for `explore` in the ways in which the checker is accepted. Status, output
 and notes have to be the same bytes.
 
@@ -24,6 +24,7 @@ from notation import FLUSH, Entry, W, log
 from soaking import Soak, options, run_all
 
 SECTORS = 4
+MEMORY = 1 << 40
 LIMIT = 60
 MOV, ADD, SUB, MUL, DIV, OR, AND, LSH, RSH, NEG, MOD, XOR, _, ARSH, END = (0x10 * it for it in (0xb, 0, 1, 2, 3, 4, 5, 6, 7, 8, 9, 10, 11, 12, 13))
 JUMPS = [0x10, 0x20, 0x30, 0x40, 0x50, 0x60, 0x70, 0xa0, 0xb0, 0xc0, 0xd0]
@@ -89,6 +90,28 @@ def sector(chance, registers):
     return text + (slot(0x7B, 0, it, 0) if chance.random() < 0.05 else b"") + slot(0xB7, 0, 0, 0, 0)
 
 
+def lddw(dst, number):
+    return slot(0x18, dst, 0, 0, number) + slot(0, 0, 0, 0, number >> 32)
+
+
+def own_memory(chance, registers):
+    """A load or a store of the memory that there is with guards, often by a number; or a checksum."""
+    place = MEMORY + chance.choice([0, 8, 1020, 65528, 65535, 65536, -1, chance.randrange(65536)])
+    it, base = chance.choice(registers), chance.choice([2, 3, 4])
+    if chance.random() < 0.3:
+        number = chance.choice([8, 9, 10, 11, 12])
+        length = lddw(3, chance.choice([0, 1, 8, 512, 4096, 4097])) if chance.random() < 0.9 else slot(0xBF, 3, it)
+        start = lddw(2, chance.choice([place, 0, 511, 2048])) if chance.random() < 0.8 else slot(0xBF, 2, 10) + slot(0x07, 2, 0, 0, -8)
+        return slot(0xBF, 1, it) + start + length + slot(0x85, 0, 0, 0, number) + slot(0xBF, it, 0)
+    text = lddw(base, place)
+    if chance.random() < 0.4:
+        text += slot(0x57, it, 0, 0, chance.choice([7, 255, 65535])) + slot(0x0F, base, it)
+    size, at = chance.choice([1, 2, 4, 8]), chance.choice([0, 0, 8, -8, 4])
+    if chance.random() < 0.5:
+        return text + slot(0x63 & 7 | 0x60 | SIZES[size], base, it, at)
+    return text + slot(0x61 & 7 | 0x60 | SIZES[size], it, base, at)
+
+
 def helper(chance, registers):
     number = chance.choice([2, 2, 4, 5, 6, 7, 8])
     text = slot(0xB7, 1, 0, 0, chance.choice([0, 1, 3, 512, 1000, 2040]))
@@ -121,7 +144,7 @@ def loop(chance, registers):
     return slot(0xB7, it, 0, 0, 0) + inner + slot(0x07, it, 0, 0, 1) + slot(0xA5, it, 0, -(len(inner) // 8 + 2), chance.choice([4, 30]))
 
 
-PIECES = [arithmetic, arithmetic, arithmetic, stack, stack, computed, sector, sector, helper, branch, branch, context, loop]
+PIECES = [arithmetic, arithmetic, arithmetic, stack, stack, computed, own_memory, sector, sector, helper, branch, branch, context, loop]
 
 
 def checker(chance):

@@ -8,8 +8,10 @@ device. `check` runs it on the image. `explore` runs it on that image too, as wh
 line of the one has to be the outcome in the failing line of the other, and answer 0 where there is none. The model says the same end.
 Of a run that strays, the line of the last step has to say by which register, at which place, and how many bytes.
 
-Checkers load and store by addresses that are made of numbers of the image, of the stacks of their frames and of the context, read
-locals that weren't written, call `copy`, and write to the locals of a caller.
+Checkers load and store by addresses that are made of numbers of the image, of the stacks of their frames, of the context and of the
+memory, read locals that weren't written, call `copy`, and write to the locals of a caller. They ask for checksums of the device, of the
+memory and of stacks. `explore` runs each of them twice more, on images that a log makes of this one, where the memory of a run has to be
+that of no other.
 
 Each run is made of its number and the seed alone. One that isn't as expected is printed, and `--only NUMBER` makes it again and
 leaves its files in the folder check_soak. The last line is as in run.py. It takes some minutes, and is no part of the gate.
@@ -23,11 +25,15 @@ from types import SimpleNamespace
 
 sys.dont_write_bytecode = True
 
-from machine_model import judged
-from notation import log
+from machine_model import MEMORY, OWN, judged
+from model import Run
+from notation import FLUSH, Entry, S, log
 from soaking import Soak, options, run_all
 
 SIZES = {"b": 1, "h": 2, "w": 4, "dw": 8}
+# Distances from the begin of the memory: at its ends, at the ends of pieces of 1,024 bytes, and far within.
+IN_MEMORY = [*[8, 100, 1016, 1020, 1024, 2047, 32768, OWN - 520, OWN - 16] * 4, 0, OWN - 512, OWN - 8, OWN - 4, OWN - 1, OWN, -1, -8]
+LENGTHS = [0, 1, 8, 40, 511, 512, 513, 4096, 4097, 2**40]
 HEAD = "crash check 1\n"
 
 
@@ -40,6 +46,13 @@ def place(chance, sectors, depth):
         f"mov64 r1, r10\nadd64 r1, {chance.choice([-8, -16, -16, -64, -504, -1, -512, -513, 0])}\n",
         f"mov64 r1, r7\nadd64 r1, {chance.choice([0, 8, 8, 24, 25, 32])}\n",
     ]
+    if chance.random() < 0.6:
+        ways = [
+            f"lddw r1, {MEMORY + chance.choice(IN_MEMORY)}\n",
+            f"lddw r1, {MEMORY + chance.choice(IN_MEMORY)}\n",
+            f"lddw r1, {MEMORY + chance.randrange(8, OWN - 520)}\n",
+            f"mov64 r1, {chance.randrange(sectors)}\ncall 1\njne r0, 0, +2\nmov64 r0, 0\nexit\nldxh r2, [r0+0]\nlddw r1, {MEMORY + chance.choice(IN_MEMORY)}\nadd64 r1, r2\n",
+        ]
     if depth:
         ways += ["mov64 r1, r6\n", f"mov64 r1, r6\nadd64 r1, {chance.choice([0, 4, 8])}\n"] * 2
     return chance.choice(ways)
@@ -49,7 +62,13 @@ def touched(chance, sectors, depth):
     """A load, a store or a copy at such a place; what was read is added to r8."""
     size = chance.choice(list(SIZES))
     at = chance.choice([0, 0, 0, 0, -8, 4, 1])
+    kind = chance.random()
+    if kind < 0.1:
+        start = chance.choice([0, 1, 511, 512 * sectors - 1, 512 * sectors, chance.randrange(512 * sectors), 2**64 - 1])
+        return f"lddw r1, {chance.choice([0, 1, 2**32 - 1, chance.getrandbits(64)])}\nlddw r2, {start}\nlddw r3, {chance.choice(LENGTHS)}\ncall {chance.choice([8, 9])}\nadd64 r8, r0\n"
     text = place(chance, sectors, depth)
+    if kind < 0.25:
+        return text + f"mov64 r2, r1\nmov64 r1, {chance.choice([0, -1, 5])}\nlddw r3, {chance.choice(LENGTHS)}\ncall {chance.choice([10, 11])}\nadd64 r8, r0\n"
     kind = chance.random()
     if kind < 0.5:
         return text + f"ldx{size} r0, [r1{at:+}]\nadd64 r8, r0\n"
@@ -111,6 +130,8 @@ def stray_differs(text, end):
     if not end.startswith("stray "):
         return [f"a stray is told: {it}" for it, told in zip(steps, found) if told]
     told = found[-1]
+    if steps and re.search(r" call 1[01]$", steps[-1]):
+        return [f"a place is told of a checksum: {it}" for it, told in zip(steps, found) if told]
     if any(found[:-1]) or not told or f"stray at slot {told[1]}" != end:
         return [f"the stray isn't told of {steps[-1]}"]
     if told[2] == "call 2":
@@ -127,10 +148,10 @@ class CheckSoak(Soak):
 
     def __init__(self, program, folder):
         super().__init__(program, folder)
-        self.ends = {}
+        self.ends, self.images = {}, 0
 
     def said(self):
-        return "".join(f", {count} {kind}" for kind, count in sorted(self.ends.items()))
+        return "".join(f", {count} {kind}" for kind, count in sorted(self.ends.items())) + f", {self.images} images of logs"
 
     def called(self, words):
         done = subprocess.run([self.program, *words.split()], cwd=self.folder, capture_output=True, text=True, timeout=60)
@@ -156,7 +177,28 @@ class CheckSoak(Soak):
         model = judged(code, View(image), 100_000, True)
         if str(model) != end:
             said.append(f"check ends in {end}, the model in {model}")
-        return said + stray_differs(text, end)
+        return said + stray_differs(text, end) + self.log_differs(chance, code, image)
+
+    def log_differs(self, chance, code, image):
+        """What isn't as expected of the runs on the images of a log over this one."""
+        sectors = len(image) // 512
+        entries = [S(chance.randrange(sectors), chance.choice([bytes(512), chance.randbytes(512)])) for _ in range(chance.randint(1, 4))]
+        entries.insert(chance.randrange(len(entries) + 1), Entry(flags=FLUSH))
+        run = Run(entries, sectors, "all", 2, base=image)
+        Path(self.folder, "log").write_bytes(log(entries))
+        wanted = [
+            f"image {it.number} cut {it.cut} program 0 {end.text} choice {it.choice()}"
+            for it in run.images()
+            for end in [judged(code, it, 100_000, True)]
+            if not end.good
+        ]
+        for more in ("", " --workers 2 --cache 9"):
+            _status, report = self.called(f"explore log p --sectors {sectors} --base image --bound 2 --guards{more}")
+            found = [it for it in report.splitlines() if it.startswith("image ")]
+            self.images += sum(1 for _image in run.images())
+            if found != wanted:
+                return [f"explore{more} says {found}, the model {wanted}"]
+        return []
 
 
 def main():

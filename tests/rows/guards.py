@@ -20,6 +20,15 @@ COPY_TO_CONTEXT = "mov64 r2, r1; mov64 r1, 0; mov64 r3, 8; call 2; exit"
 COMPARED = "jgt r1, r10, +0; mov64 r0, 0; exit"
 # the first word of sector 0 is added to the address of the sector
 INDEXED = "mov64 r1, 0; call 1; jne r0, 0, +2; mov64 r0, 0; exit; ldxdw r2, [r0+0]; add64 r0, r2; ldxb r0, [r0+0]; exit"
+# the program's own memory, and the checksums
+MEMORY = "lddw r1, 1099511627776; stb [r1+0], 5; ldxb r0, [r1+0]; exit"
+LAST_BYTE = "lddw r1, 1099511693311; ldxb r0, [r1+0]; exit"
+PAST_MEMORY = "lddw r1, 1099511693311; ldxh r0, [r1+0]; exit"
+CRC32C = "mov64 r1, 1; mov64 r2, 0; mov64 r3, 1; call 8; exit"
+CRC32 = CRC32C.replace("call 8", "call 9")
+CRC32C_MEMORY = "mov64 r1, 1; lddw r2, 1099511627776; mov64 r3, 1; call 10; exit"
+CRC32_STACK = "mov64 r1, 1; mov64 r2, r10; add64 r2, -8; mov64 r3, 8; call 11; exit"
+CRC32_NOWHERE = "mov64 r1, 1; mov64 r2, 8; mov64 r3, 1; call 11; exit"
 FIRST_BYTE = "mov64 r1, 0; call 1; jne r0, 0, +2; mov64 r0, 0; exit; ldxb r0, [r0+0]; exit"
 
 # A program; the refusal without guards, or "" where it is accepted; and with them the budget, and the guarded slots with their
@@ -40,8 +49,16 @@ ACCEPTED = [
     (COPY_TO_CONTEXT, "56 at 3", 5, {3: "call 2"}),
     (INDEXED, "54 at 6", 7, {7: "ldxb r0, [r0+0]"}),
     (FIRST_BYTE, "", 5, {}),
+    (MEMORY, "52 at 2", 4, {}),
+    (LAST_BYTE, "52 at 2", 3, {}),
+    (PAST_MEMORY, "52 at 2", 3, {2: "ldxh r0, [r1+0]"}),
+    (CRC32C, "58 at 3", 5, {}),
+    (CRC32, "58 at 3", 5, {}),
+    (CRC32C_MEMORY, "58 at 4", 5, {4: "call 10"}),
+    (CRC32_STACK, "58 at 4", 6, {4: "call 11"}),
+    (CRC32_NOWHERE, "58 at 3", 5, {3: "call 11"}),
 ]
-REFUSED = {EXIT_ALONE: "50 at 0", NO_LENGTH: "56 at 3", "mov64 r10, 0; exit": "57 at 0", "call 8; exit": "58 at 0", "mov64 r0, 0; jne r0, 1, -1; exit": "42 at 1"}
+REFUSED = {EXIT_ALONE: "50 at 0", NO_LENGTH: "56 at 3", "mov64 r10, 0; exit": "57 at 0", "call 8; exit": "50 at 0", "call 12; exit": "58 at 0", "mov64 r0, 0; jne r0, 1, -1; exit": "42 at 1"}
 
 
 def told(text):
@@ -89,6 +106,15 @@ ENDINGS = {
     COPY_TO_CONTEXT: "stray at slot 3",
     INDEXED: "",
     FIRST_BYTE: "",
+    MEMORY: "answer 5 codes -",
+    LAST_BYTE: "",
+    PAST_MEMORY: "stray at slot 2",
+    # of the register 1 by the bits of the polynomials, written out apart
+    CRC32C: "answer 4067132163 codes -",
+    CRC32: "answer 1996959894 codes -",
+    CRC32C_MEMORY: "answer 4067132163 codes -",
+    CRC32_STACK: "answer 3433693342 codes -",
+    CRC32_NOWHERE: "stray at slot 3",
 }
 
 
@@ -246,6 +272,18 @@ NOTED = [
             "r3: unset, or not of one kind on all paths",
             "an argument of the helper isn't of its kind (docs/VERIFIER.md, Rules at a slot)",
             "copy takes a constant length from 1 to 512",
+        ],
+    ),
+    Row(
+        told("notes of a helper that there isn't"),
+        "verify p --sectors 4 --guards",
+        {"p": program("call 12; exit")},
+        status=2,
+        error="refused 58 at 0",
+        notes=[
+            "slot 0: call 12",
+            "there is no helper of that number, with --guards only 1 to 11 (docs/MACHINE.md, Helpers)",
+            "take those of examples/checker.h, not Linux's",
         ],
     ),
 ]

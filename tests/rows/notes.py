@@ -428,7 +428,7 @@ RULES = [
         "slot 0: mul64 r1, 2",
         "r1: the context, offset 0",
         f"this arithmetic isn't allowed with a pointer, or leaves its range {AT_SLOT}",
-        "in C make the index a u64 and test it right before its use, or read by position, as u64_at(p)",
+        "in C make the index a u64 and test it right before its use, or read by position, as u64_at(p); an array of locals with a variable index needs --guards",
     ),
     (
         "mov64 r0, r1; exit",
@@ -452,7 +452,7 @@ RULES = [
         "58 at 0",
         "slot 0: call 8",
         "there is no helper of that number, only 1 to 7 (docs/MACHINE.md, Helpers)",
-        "take those of examples/checker.h, not Linux's",
+        "take those of examples/checker.h, not Linux's; its checksums take --guards",
     ),
 ]
 
