@@ -313,7 +313,7 @@ def stopped(place, code):
         yield f"--timeout {word}", [] if wrong[0] == 2 and "argument --timeout" in wrong[2] else [str(wrong)]
 
 
-# A program in which calls of memcpy and memset stand in front of jumps, behind them, and between; and what it answers.
+# A program in which calls of memcpy and memset stand before jumps, after them, and between; and what it answers.
 BYTES = 40
 CALLING = f"""
 lddw r6, {MEMORY}

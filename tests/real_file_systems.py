@@ -50,7 +50,7 @@ def number(content, form, at):
 
 
 def changed(rng, content, at, size, order="little"):
-    """The content with another number of so many bytes there, and what it was and is."""
+    """The content with another number of that size there, and what it was and is."""
     old, end = int.from_bytes(content[at : at + size], order), 1 << 8 * size
     bit = 1 << rng.randrange(8 * size)
     new = rng.choice([old + 1, old - 1, old ^ bit, old ^ bit, 0, rng.randrange(end), rng.randrange(256)]) % end

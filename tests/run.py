@@ -31,8 +31,7 @@ Where the rows stand
     rows/options.py     which options find what: the table of docs/CRASH-MODEL.md, cell by cell
     rows/each_option.py each option of each command: two runs that differ in it, and where what they print differs
     rows/checkers.py    the checkers in C of examples/: what the verifier says of them, and what they answer
-    rows/databases.py   the checkers of databases in examples/checkers, and their logs
-    rows/file_systems.py    the checkers of file systems in examples/checkers, and their logs
+    rows/whole_formats.py   the checkers of whole formats in examples/checkers, and their logs
     rows/commands.py    each command, faults of the command line, the order of refusals
     rows/process.py     files that can't be read, a standard output that can't be written, by each command
     rows/inputs.py      each file of each command: a byte too long, as long as may be, unreadable, of another kind
@@ -132,12 +131,10 @@ from rows import (
     commands,
     cure,
     cure_cases,
-    databases,
     each_option,
     encodings,
     examples,
     export,
-    file_systems,
     flushes,
     footprints,
     guards,
@@ -163,6 +160,7 @@ from rows import (
     tables,
     texts,
     trials,
+    whole_formats,
     why,
     why_cases,
     worked,
@@ -175,8 +173,7 @@ TABLES = [
     options,
     each_option,
     checkers,
-    databases,
-    file_systems,
+    whole_formats,
     commands,
     process,
     inputs,

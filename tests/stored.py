@@ -16,7 +16,7 @@ from cure_cases_model import cure_cases
 from cure_model import cure
 from designs import DESIGNS, EXAMPLES, EXPLAINED, IN_WORDS, checker_of
 from model import explored, shown
-from rows import databases, file_systems
+from rows import whole_formats
 from why_model import case_causes, causes
 
 
@@ -32,8 +32,7 @@ def texts():
         yield f"{which}.why", causes(EXPLAINED[which], checkers)
         if which in IN_WORDS:
             yield f"{which}.show", shown(run, list(run.images())[IN_WORDS[which]])
-    yield from databases.texts()
-    yield from file_systems.texts()
+    yield from whole_formats.texts()
 
 
 def main():

@@ -25,7 +25,7 @@ def slot(opcode, dst=0, src=0, offset=0, immediate=0):
 
 
 def pieces(length):
-    """Where words of 8, 4, 2 and 1 bytes begin that are so many bytes."""
+    """Where the words of 8, 4, 2 and 1 bytes begin that make up this length, and their sizes."""
     at = 0
     for size in SIZES:
         while length - at >= size:

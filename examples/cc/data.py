@@ -20,7 +20,7 @@ HALF = 1 << 31
 
 
 def signed(value, bits):
-    """A number of so many bits, read as signed."""
+    """A number of that many bits, read as signed."""
     return value - (1 << bits) if value >> (bits - 1) else value
 
 

@@ -659,7 +659,7 @@ LOCAL(check) u64 text_ends(u64 at, u64 size)
 	return size > 0 && u8_at(at + size - 1) && !u8_at(at + size);
 }
 
-/* The head of a node of a tree of extents is one of that depth, with room for so many entries. */
+/* Whether the head of a node of a tree of extents has this depth, and no more entries than there is room. */
 LOCAL(check) u64 node_is_right(u64 at, u64 room, u64 depth)
 {
 	u64 count = u16_at(at + 2), most = u16_at(at + 4);

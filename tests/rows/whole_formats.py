@@ -1,5 +1,5 @@
-"""The checkers of databases in examples/checkers, lmdb.c and rollback_journal.c: what the verifier says of them, the reports of their
-logs, each a trace beside its report, and what they answer where something of the last image is changed.
+"""The checkers of whole formats in examples/checkers, of databases and of file systems: what the verifier says of them, the reports of
+their logs, each a trace beside its report, and what those of databases answer where something of the last image is changed.
 
 The reports are by model.py and machine_model.py; stored.py writes them. Places and answers of changes were written down by hand.
 """
@@ -16,7 +16,7 @@ FOLDER = TOP / "examples/checkers"
 
 
 @dataclass(frozen=True)
-class Database:
+class Format:
     """A checker: its budget and how many of its slots are guarded, the sectors of its device, and what each log's run is given."""
 
     budget: int
@@ -25,18 +25,35 @@ class Database:
     runs: dict
 
 
-DATABASES = {
-    "lmdb": Database(
+FORMATS = {
+    "lmdb": Format(
         115_999_015,
         22,
         88,
         {"right": {"bound": 2}, "no_sync": {}, "no_meta_sync": {}, "wrong_order": {}},
     ),
-    "rollback_journal": Database(
+    "rollback_journal": Format(
         590_348_851,
         51,
         16,
         {"right": {"bound": 2}, "no_sync": {}, "wrong_order": {}},
+    ),
+    # Entry 5 of the logs of ext4 and entry 3 of those of fat is the mark that the file system is there.
+    "ext4": Format(
+        306_777_240,
+        59,
+        4096,
+        {
+            "right": {"cuts": "flush", "by": "write", "first": 6},
+            "no_flush": {"cuts": "mark", "by": "write", "first": 6},
+            "in_place": {"cuts": "flush", "by": "write", "first": 6},
+        },
+    ),
+    "fat": Format(
+        196_804_960,
+        7,
+        4400,
+        {"right": {"bound": 2, "first": 4}, "entry_first": {"first": 4}, "freed_first": {"first": 4}},
     ),
 }
 
@@ -57,13 +74,13 @@ def log_of(name, which):
 
 def run_of(name, which):
     """The run whose report is stored."""
-    it = DATABASES[name]
+    it = FORMATS[name]
     return Run(entries_of(log_of(name, which)), it.sectors, base=base_of(name), **it.runs[which])
 
 
 def about(name):
     """What a report says of the checker."""
-    it = DATABASES[name]
+    it = FORMATS[name]
     return f"slots {len(code_of(name)) // 8} budget {it.budget} guards {it.guards}"
 
 
@@ -81,7 +98,7 @@ def report_of(name, which):
 
 def verified(name):
     """A row of `verify`, whose budget has to be that of the rule."""
-    it, code = DATABASES[name], code_of(name)
+    it, code = FORMATS[name], code_of(name)
     rule = by_rule(code)
     answer = f"accepted budget {it.budget} guards {it.guards}\n" if rule == it.budget else f"the rule says {rule}\n"
     return Row(f"verify checkers/{name}", f"verify p --sectors {it.sectors} --guards", {"p": code}, answer)
@@ -97,7 +114,7 @@ def reported(name, which):
 
 def texts():
     """The names of the reports, and their texts."""
-    return ((f"checkers/{name}/{which}.report", report_of(name, which)) for name, it in DATABASES.items() for which in it.runs)
+    return ((f"checkers/{name}/{which}.report", report_of(name, which)) for name, it in FORMATS.items() for which in it.runs)
 
 
 # What is changed in the last image of the right log, and what is answered then
@@ -201,7 +218,7 @@ def last_image(name):
 
 def changed(name):
     """A row for each change, on a device that was written at once, with as many marks as commits."""
-    it, content, code = DATABASES[name], last_image(name), code_of(name)
+    it, content, code = FORMATS[name], last_image(name), code_of(name)
     right = run_of(name, "right")
     marks = [M("commit")] * right.marks(len(right.entries))
     for number, (pieces, answer, codes) in enumerate(CHANGED[name]):
@@ -215,14 +232,14 @@ def changed(name):
 
 def zeros(marks):
     """A row of a device of zeros, which is good before the first mark alone."""
-    run = Run([M("commit")] * marks, DATABASES["lmdb"].sectors, bound=0, first=marks)
+    run = Run([M("commit")] * marks, FORMATS["lmdb"].sectors, bound=0, first=marks)
     wanted = explored(run, [Checker(about("lmdb"), lambda image: (int(marks > 0), []))])
     return explore(f"checkers/lmdb, zeros, {marks} marks", f"{run.options()} --guards", run.recorded, code_of("lmdb"), wanted, int(marks > 0))
 
 
 ROWS = [
-    *(verified(name) for name in DATABASES),
-    *(reported(name, which) for name, it in DATABASES.items() for which in it.runs),
-    *(row for name in DATABASES for row in changed(name)),
+    *(verified(name) for name in FORMATS),
+    *(reported(name, which) for name, it in FORMATS.items() for which in it.runs),
+    *(row for name in CHANGED for row in changed(name)),
     *(zeros(marks) for marks in (0, 1)),
 ]
