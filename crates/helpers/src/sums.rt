@@ -46,7 +46,7 @@ impl Checksum {
 /// The most bytes that a call takes.
 pub const MOST_TAKEN: u64 = 4096;
 
-/// How many bytes a call takes of so many.
+/// How many bytes a call takes, of a length.
 pub fn taken(count: u64) -> u64
     ensures is { result ≡ taken count }
     ensures few { result ≤ 4096 }
@@ -87,7 +87,7 @@ fn sum_of<D: Device>(
     sum
 }
 
-/// The checksum of as many bytes of the device as a call takes of so many, from a position on.
+/// The checksum of the bytes of the device that a call takes of a length, from a position on.
 #[tactic(auto, unfolding(crate::specs::Sums::sum_answer))]
 pub fn of_device<D: Device>(
     device: &D,

@@ -241,7 +241,7 @@ fn argument_breach(are_read: bool, may: bool) -> Option<VerifierCause>
     }
 }
 
-/// The first rule that a call of a helper that takes so many numbers breaks.
+/// The first rule that a call of a helper breaks, by how many numbers it takes.
 fn number_breach(guards: bool, state: &State, arity: Arity) -> Option<VerifierCause>
     ensures { result ≡ first_failing (reads guards (state_of state.now) (registers_of arity) ∷ check VerifierCause.HelperArgument (guards || are_numbers (state_of state.now) (registers_of arity)) ∷ []) }
 {
