@@ -332,7 +332,7 @@ STRANGE = {
     "a program more": changed(MIDDLE, LINES[5] + "\n", LINES[5] + "\nprogram 3 slots 2 budget 2\n"),
 }
 
-GAP = "images are missing between the file and the part before it (docs/COMMANDS.md, Joining parts)"
+GAP = "images or cuts are missing between the file and the part before it (docs/COMMANDS.md, Joining parts)"
 PAST_ALL = "the images after those of all parts are missing; with --part the answer is the text of a part"
 
 MISUSES = [

@@ -451,7 +451,7 @@ RULES = [
         "call 8; exit",
         "58 at 0",
         "slot 0: call 8",
-        "there is no helper of that number, only 1 to 7 (docs/MACHINE.md, Helpers)",
+        "there is no helper of that number, only 1 to 7, and with --guards 8 to 11 (docs/MACHINE.md, Helpers)",
         "take those of examples/checker.h, not Linux's; its checksums take --guards",
     ),
 ]

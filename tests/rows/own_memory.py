@@ -529,7 +529,7 @@ NO_HELPER = [
     "take those of examples/checker.h, not Linux's",
 ]
 OF_FEWER = [
-    "there is no helper of that number, only 1 to 7 (docs/MACHINE.md, Helpers)",
+    "there is no helper of that number, only 1 to 7, and with --guards 8 to 11 (docs/MACHINE.md, Helpers)",
     f"{NO_HELPER[1]}; its checksums take --guards",
 ]
 

@@ -156,7 +156,7 @@ pub enum VerifierCause {
     HelperArgument = 56,
     #[error("register 10 is written (docs/VERIFIER.md, Shape rules)")]
     FramePointer = 57,
-    #[error("there is no helper of that number, only 1 to 7 (docs/MACHINE.md, Helpers)")]
+    #[error("there is no helper of that number, only 1 to 7, and with --guards 8 to 11 (docs/MACHINE.md, Helpers)")]
     UnknownHelper = 58,
     #[error("a table isn't settled: what is passed to a slot isn't contained in what the table has there (docs/VERIFIER.md, Good table)")]
     Unsettled = 59,
@@ -176,15 +176,15 @@ impl VerifierCause {
 /// Why texts are no parts of one run in a row (docs/COMMANDS.md, Joining parts).
 #[derive(Clone, Copy, Debug, PartialEq, Eq, Error)]
 pub enum JoinCause {
-    #[error("the file isn't the text of a part, as 'explore --images' and 'join --part' print it (docs/OUTPUT.md, The text of a part)")]
+    #[error("the file isn't the text of a part, as 'explore --images', 'explore --bound any' and 'join --part' print it (docs/OUTPUT.md, The text of a part)")]
     NotPart = 61,
     #[error("the file is a part of another run than the first one: of other options, or of another log or other programs (docs/COMMANDS.md, Joining parts)")]
     OtherRun = 62,
-    #[error("images are missing between the file and the part before it (docs/COMMANDS.md, Joining parts)")]
+    #[error("images or cuts are missing between the file and the part before it (docs/COMMANDS.md, Joining parts)")]
     Gap = 63,
-    #[error("the file has images that are in the part before it too (docs/COMMANDS.md, Joining parts)")]
+    #[error("the file has images or cuts that are in the part before it too (docs/COMMANDS.md, Joining parts)")]
     Overlap = 64,
-    #[error("with this file the parts have more than 1073741824 bytes (docs/COMMANDS.md, Joining parts)")]
+    #[error("there are more than 4096 files, or with this one they have more than 1073741824 bytes (docs/COMMANDS.md, Joining parts)")]
     TooLong = 65,
     #[error("there is no memory for the join")]
     Memory = 66,
