@@ -33,6 +33,8 @@ pub(crate) struct Own<const COUNT: usize> {
     bytes: Option<Vec<u8>>,
     /// Which pieces were written since they were cleared. All others are zeros.
     written: [bool; COUNT],
+    /// All pieces from this one on are zeros.
+    end: usize,
 }
 
 impl<const COUNT: usize> Model for Own<COUNT> {
@@ -44,7 +46,7 @@ impl<const COUNT: usize> Model for Own<COUNT> {
 
     ghost view = { λ o. option_map_or (λ bytes. bytes.items) o.bytes [] };
 
-    ghost invariant = { λ o. IsKept (option_map_or (λ bytes. bytes.items) o.bytes []) o.written × (length (option_map_or (λ bytes. bytes.items) o.bytes []) ≡ 1024 * COUNT) };
+    ghost invariant = { λ o. IsKept (option_map_or (λ bytes. bytes.items) o.bytes []) o.written o.end × (length (option_map_or (λ bytes. bytes.items) o.bytes []) ≡ 1024 * COUNT) };
 }
 
 /// The memory of programs with guards, for one run after the other: a run clears what the one before it wrote.
@@ -55,68 +57,71 @@ pub struct OwnMemory {
 
 /// Clears a piece.
 #[inline(always)]
-fn clear_piece(bytes: &mut [u8], written: &mut [bool], piece: usize)
+fn clear_piece(bytes: &mut [u8], written: &mut [bool], end: usize, piece: usize)
     requires inside { piece < 64 }
     requires pieces { length written.old ≡ 64 }
     requires whole { length bytes.old ≡ 65536 }
-    requires kept { IsKept bytes.old written.old }
+    requires kept { IsKept bytes.old written.old end }
     ensures pieces { length written.new ≡ 64 }
     ensures whole { length bytes.new ≡ 65536 }
     ensures cleared { bytes.new ≡ overwritten (1024 * piece) (replicate 1024 0) bytes.old }
-    ensures kept { IsKept bytes.new written.new }
+    ensures kept { IsKept bytes.new written.new end }
 {
+    let _end = end;
     write_at(bytes, PIECE * piece, &[0; PIECE]);
     written[piece] = false;
 }
 
 /// Clears a piece, if it was written.
 #[inline(always)]
-fn clear_noted(bytes: &mut [u8], written: &mut [bool], piece: usize)
+fn clear_noted(bytes: &mut [u8], written: &mut [bool], end: usize, piece: usize)
     requires inside { piece < 64 }
     requires pieces { length written.old ≡ 64 }
     requires whole { length bytes.old ≡ 65536 }
-    requires kept { IsKept bytes.old written.old }
+    requires kept { IsKept bytes.old written.old end }
     requires before { AreZeros bytes.old (1024 * piece) }
     ensures pieces { length written.new ≡ 64 }
     ensures whole { length bytes.new ≡ 65536 }
-    ensures kept { IsKept bytes.new written.new }
+    ensures kept { IsKept bytes.new written.new end }
     ensures zeros { AreZeros bytes.new (1024 * (piece + 1)) }
 {
     if !written[piece] {
         return;
     }
-    clear_piece(bytes, written, piece);
+    clear_piece(bytes, written, end, piece);
 }
 
-/// Clears the pieces that were written.
-fn clear_written(bytes: &mut [u8], written: &mut [bool])
+/// Clears the pieces that were written, of those before `end`.
+fn clear_written(bytes: &mut [u8], written: &mut [bool], end: usize)
     requires pieces { length written.old ≡ 64 }
     requires whole { length bytes.old ≡ 65536 }
-    requires kept { IsKept bytes.old written.old }
+    requires kept { IsKept bytes.old written.old end }
     ensures pieces { length written.new ≡ 64 }
     ensures whole { length bytes.new ≡ 65536 }
     ensures cleared { bytes.new ≡ zero_memory }
-    ensures kept { IsKept bytes.new written.new }
+    ensures kept { IsKept bytes.new written.new 0 }
 {
-    'pieces: for piece in 0..PIECES {
-        clear_noted(bytes, written, piece);
+    'pieces: for piece in 0..end {
+        clear_noted(bytes, written, end, piece);
     }
 }
 
 /// Writes bytes from a place on, and notes in which pieces. They are in two at most.
 #[inline(always)]
-fn write_noted(bytes: &mut [u8], written: &mut [bool], place: usize, from: &[u8])
+fn write_noted(bytes: &mut [u8], written: &mut [bool], end: &mut usize, place: usize, from: &[u8])
     requires pieces { length bytes.old ≡ 1024 * length written.old }
     requires some { 0 < length from.now }
     requires few { length from.now ≤ 1024 }
     requires inside { place + length from.now ≤ length bytes.old }
-    requires kept { IsKept bytes.old written.old }
+    requires kept { IsKept bytes.old written.old end.old }
     ensures whole { length bytes.new ≡ length bytes.old }
     ensures stored { bytes.new ≡ overwritten place from.now bytes.old }
-    ensures kept { IsKept bytes.new written.new }
+    ensures kept { IsKept bytes.new written.new end.new }
 {
+    let last = (place + from.len() - 1) / PIECE;
     written[place / PIECE] = true;
-    written[(place + from.len() - 1) / PIECE] = true;
+    written[last] = true;
+    *end = (*end).max(last + 1);
     write_at(bytes, place, from);
 }
 
@@ -130,6 +135,7 @@ impl Own<0> {
         Own {
             bytes: None,
             written: [],
+            end: 0,
         }
     }
 }
@@ -168,6 +174,7 @@ impl Own<PIECES> {
         Ok(Own {
             bytes: Some(bytes),
             written: unwritten(),
+            end: 0,
         })
     }
 
@@ -176,9 +183,10 @@ impl Own<PIECES> {
         ensures { self.new ≡ zero_memory }
     {
         match &mut self.bytes {
-            Some(bytes) => clear_written(bytes.as_mut_slice(), &mut self.written),
+            Some(bytes) => clear_written(bytes.as_mut_slice(), &mut self.written, self.end),
             None => unreachable!(),
         }
+        self.end = 0;
     }
 }
 
@@ -218,7 +226,13 @@ impl<const COUNT: usize> Own<COUNT> {
     {
         let place = (address - MEMORY_START) as usize;
         match &mut self.bytes {
-            Some(bytes) => write_noted(bytes.as_mut_slice(), &mut self.written, place, from),
+            Some(bytes) => write_noted(
+                bytes.as_mut_slice(),
+                &mut self.written,
+                &mut self.end,
+                place,
+                from,
+            ),
             None => unreachable!(),
         }
     }

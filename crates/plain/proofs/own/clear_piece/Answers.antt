@@ -12,5 +12,5 @@ returns-clause-whole c =
 
 pub returns-clause-kept : goal.returns-clause-kept
 returns-clause-kept c =
-    subst (λ (bytes : List ℕ). IsKept bytes (slice_set c.args.written.now c.args.piece false)) (sym c.write_at.ensures)
-    (kept_cleared c.args.bytes.now c.args.written.now c.args.piece c.requires.kept c.requires.whole c.requires.inside)
+    subst (λ (bytes : List ℕ). IsKept bytes (slice_set c.args.written.now c.args.piece false) c.args.end) (sym c.write_at.ensures)
+    (kept_cleared c.args.bytes.now c.args.written.now c.args.end c.args.piece c.requires.kept c.requires.whole c.requires.inside)
