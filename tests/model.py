@@ -314,6 +314,12 @@ def forced_notes(run):
     return [f"entries with FUA: {forced}; {words}"]
 
 
+def one_loss_notes(run, command="explore"):
+    """What is noted of a run in whose images at most one part is lost or torn, as it is without an option."""
+    words = "is lost or torn; --bound any explores every loss (docs/CRASH-MODEL.md, What a clean report doesn't say)"
+    return [f"in each image at most 1 {run.by} {words}"] if command == "explore" and run.bound == 1 else []
+
+
 def departures_of(image):
     return {(part.name, fate) for part, fate in image.departures}
 

@@ -1,7 +1,7 @@
 """Checkers that look at nothing of what the log writes: the note of them, against the model (docs/CRASH-MODEL.md, 'A checker that
 looks at nothing')."""
 from cases_model import ANY, cases, status as status_of
-from model import Checker, Run, blind_notes, cured, explored, forced_notes, promise_notes
+from model import Checker, Run, blind_notes, cured, explored, forced_notes, one_loss_notes, promise_notes
 from notation import FUA, D, F, Long, M, Row, Something, W, files, program
 from parts_model import count, found
 
@@ -102,7 +102,7 @@ def noted(name, run, names, more="", checked=None, command="explore", out=None, 
     words = f"{command} log {' '.join(f'p{number}' for number in range(len(programs)))} {options}"
     text = Long(lambda: explored(run, checkers, " --first" in more)) if out is None else out(run, programs, checkers)
     told = f"{more} --checked {checked}" if checked else more
-    return Row(f"blind: {command}, {name}: {', '.join(names)}{told}", words, content, text, status, notes=[*said, *promise_notes(run), *large_notes(run), *forced_notes(run)])
+    return Row(f"blind: {command}, {name}: {', '.join(names)}{told}", words, content, text, status, notes=[*said, *promise_notes(run), *large_notes(run), *forced_notes(run), *one_loss_notes(run, command)])
 
 
 def anything(run, programs, checkers):

@@ -540,6 +540,10 @@ UNREACHED = "is the checker the first function of its file?"
 LOOKS_AT_NOTHING = "looks at no sector that an entry writes, so no crash makes it fail"
 NOT_AMONG = "none is ever dropped as a whole"
 BY_WRITE = "with --by write each may be dropped as a whole"
+LEFT_OUT = "is lost or torn; --bound any explores every loss (docs/CRASH-MODEL.md, What a clean report doesn't say)"
+ONE_SECTOR, ONE_WRITE = (f"in each image at most 1 {part} {LEFT_OUT}" for part in ("sector", "write"))
+LOOKS = program("mov64 r1, 0; call 5; mov64 r0, 0; exit")
+FAILS = program("mov64 r1, 0; call 5; mov64 r0, 1; exit")
 NO_LARGE = lines("""
     cut 0 epoch 0 marks 0 volatile 0 images 1
     cut 1 epoch 0 marks 0 volatile 1 images 2
@@ -658,6 +662,24 @@ ANSWERS = [
         files([W(0, 1, 1)]),
         "cut 0 epoch 0 marks 0 volatile 0 images 1\ncut 1 epoch 0 marks 0 volatile 1 images 1\ntotal 2\n",
     ),
+    *(
+        answered(f"how much {command} leaves out{options}", f"{command} log p0 --sectors 4{options}", files(LOG, LOOKS), Something(), *said)
+        for command, options, *said in (
+            ("explore", "", ONE_SECTOR),
+            ("explore", " --first", ONE_SECTOR),
+            ("explore", " --images 0..1", ONE_SECTOR),
+            ("explore", " --cuts flush", ONE_SECTOR),
+            ("explore", " --by write", ONE_WRITE),
+            ("explore", " --bound 0"),
+            ("explore", " --bound 2"),
+            ("explore", " --bound any"),
+            ("why", ""),
+            ("cure", ""),
+            ("page", ""),
+        )
+    ),
+    answered("how much explore leaves out of large writes", "explore log p0 --sectors 4", files([W(0, 2, 1), F], LOOKS), Something(), f"entries with more than 1 sectors: 1; {NOT_AMONG}", BY_WRITE, ONE_SECTOR),
+    Row("notes: how much is left out of a run in which images fail", "explore log p0 --sectors 4", files(LOG, FAILS), Something(), 1, notes=[ONE_SECTOR]),
     answered("nothing beside a listing", "list p", {"p": program("mov64 r0, 0; exit; exit")}, "mov64 r0, 0\nexit\nexit\n"),
     answered("nothing beside the stored run", "", {}, STORED_RUN),
 ]

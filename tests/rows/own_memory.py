@@ -10,7 +10,7 @@ import zlib
 
 from cases_model import ANY, cases, status as status_of
 from machine_model import MEMORY, OWN, SECTORS, STACKS, judged, summed
-from model import Checker, Noted, Run, cured, head
+from model import Checker, Noted, Run, cured, head, one_loss_notes
 from notation import FIRST_LINE, SECTOR, D, F, Long, M, Row, S, W, files, refused
 
 CASTAGNOLI, ISO = 0x82F63B78, 0xEDB88320
@@ -470,7 +470,7 @@ def is_blind(run, code):
 def blind_row(helper, place, length):
     code = looks(helper, place, length)
     notes = ["program 0: looks at no sector that an entry writes, so no crash makes it fail"] if is_blind(BLIND, code) else []
-    notes += ["entries with more than 1 sectors: 1; none is ever dropped as a whole", "with --by write each may be dropped as a whole"]
+    notes += ["entries with more than 1 sectors: 1; none is ever dropped as a whole", "with --by write each may be dropped as a whole", *one_loss_notes(BLIND)]
     words = f"explore log p0 {BLIND.options()} --guards"
     return Row(told(f"what {NAMES[helper]} of {length} bytes from {place} looks at"), words, files(BLIND.recorded, code), Long(lambda: explored(BLIND, [(code, 1 if helper > 9 else 0)])), 0, notes=notes)
 

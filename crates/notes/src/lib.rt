@@ -38,7 +38,7 @@
 //! | Call | Answers |
 //! |---|---|
 //! | `notes_after(alloc, words, files, refusal, facts)` | what the number of a refusal means there, the instruction, entry, option or file that is meant, and what most likely helps |
-//! | `notes_beside(alloc, words, facts)` | beside an answer: what no run of a program reaches, which programs pass without looking at what the log writes, which marks promise what nothing made durable, how many writes never depart as a whole, and how many entries with FUA aren't torn |
+//! | `notes_beside(alloc, words, facts)` | beside an answer: what no run of a program reaches, which programs pass without looking at what the log writes, which marks promise what nothing made durable, how many writes never depart as a whole, how many entries with FUA aren't torn, and that an image loses at most one part |
 //!
 //! # What is proved
 //!

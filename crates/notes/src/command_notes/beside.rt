@@ -56,6 +56,24 @@ fn put_forced_notes(
     put_forced(out, facts.forced)
 }
 
+/// Appends that an image loses at most one part, where that is asked for: so it is without an option.
+fn put_one_loss(out: &mut String, options: OptionWords) -> Result<(), AllocError> {
+    if options.bound != 1 {
+        return Ok(());
+    }
+    match options.by {
+        Some(By::Sector) => put_note(
+            out,
+            "in each image at most 1 sector is lost or torn; --bound any explores every loss (docs/CRASH-MODEL.md, What a clean report doesn't say)",
+        ),
+        Some(By::Write) => put_note(
+            out,
+            "in each image at most 1 write is lost or torn; --bound any explores every loss (docs/CRASH-MODEL.md, What a clean report doesn't say)",
+        ),
+        None => Ok(()),
+    }
+}
+
 /// Appends what no image of a log has, by the options.
 fn put_survey_notes(
     out: &mut String,
@@ -70,7 +88,8 @@ fn put_survey_notes(
 /// and the commands of a run), which programs pass without looking at what the log writes (`explore`, `why` and `page`), which marks
 /// promise what nothing made durable (`log` and the commands of a run), how many writes never depart as a whole, and how many entries
 /// with FUA aren't torn (`images` and the commands of a run; not where any number of losses is explored, by which each write may be
-/// dropped, and one with FUA torn while it is in flight). Each line begins with `note: `; mostly there is none.
+/// dropped, and one with FUA torn while it is in flight), and that an image loses at most one part (`explore`). Each line begins with
+/// `note: `; mostly there is none.
 pub fn notes_beside(alloc: Global, words: &Words, facts: &Facts) -> Result<String, AllocError> {
     let mut out = String::new(alloc);
     match words.request() {
@@ -79,10 +98,13 @@ pub fn notes_beside(alloc: Global, words: &Words, facts: &Facts) -> Result<Strin
                 put_unreached(&mut out, None, *found)?;
             }
         }
-        Request::Explore(options)
-        | Request::Why(options)
-        | Request::Cure(options)
-        | Request::Page(options) => {
+        Request::Explore(options) => {
+            put_explored_notes(&mut out, facts)?;
+            put_mark_notes(&mut out, facts)?;
+            put_survey_notes(&mut out, options, facts)?;
+            put_one_loss(&mut out, options)?
+        }
+        Request::Why(options) | Request::Cure(options) | Request::Page(options) => {
             put_explored_notes(&mut out, facts)?;
             put_mark_notes(&mut out, facts)?;
             put_survey_notes(&mut out, options, facts)?
