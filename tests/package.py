@@ -7,10 +7,14 @@ PROGRAM is as in run.py. Both are made twice, the second time from a copy of the
 its files and another mask of modes, and have to be the same bytes.
 
 Then each is installed in a clean root, a folder with nothing else but the C libraries that the package asks for: the Debian
-package by dpkg, or unpacked where there is no dpkg, and the tar file below usr/local. From the installed files alone the first
-crash of README.md is run there, by chroot, and then its commands for the built program. Each line that README.md shows has to
-be printed. Where clang is there the checker is compiled once more by the installed `crashbpf-cc`, and has to find the same: only
-its numbers of slots and steps are the compiler's. Where there is no right to call chroot the program is run by its path.
+package by dpkg, or unpacked where there is no dpkg, and the tar file below usr/local. From the installed files alone the commands
+of README.md on its tree are run there, by chroot. Each line that README.md shows of them has to be printed. Where clang is there
+the checker is compiled once more by the installed `crashbpf-cc`, and has to find the same: only its numbers of slots and steps are
+the compiler's. Where there is no right to call chroot the program is run by its path.
+
+The tar file is unpacked once more, and its own README.md is followed in an empty folder: all commands that it has to begin with, by
+`sh`, with the programs of the package on the path and links to NEEDED of the system alone. What README.md shows of the program that
+saves settings has to be printed. Where there is no strace that is left out.
 
 Of the completions bash is asked what it completes; zsh and fish, where they are there, read theirs alone. For what isn't there
 a line says so.
@@ -108,18 +112,20 @@ def holds(made):
         found += [f"{it.name} has mode {it.mode:o}" for it in members if it.mode not in modes[it.isdir() or "/bin/" in it.name]]
         begin = "./usr/" if kind == ".deb" else f"{path.name.removesuffix('.tar.gz')}/"
         names[kind] = {it.name.removeprefix(begin).replace("vendor-completions", "site-functions") for it in members if it.isfile()}
-    found += differs("what one of both alone holds", names[".deb"] ^ names[".gz"], set())
+    found += differs("what one of both alone holds", names[".deb"] ^ names[".gz"], {"README.md"})
     wanted = {"bin/crashbpf", "bin/crashbpf-cc", "bin/crashbpf-record", "bin/crashbpf-files", "share/man/man1/crashbpf.1.gz", "share/doc/crashbpf/copyright"}
     wanted |= {"share/bash-completion/completions/crashbpf", "share/fish/vendor_completions.d/crashbpf.fish", "share/zsh/site-functions/_crashbpf"}
-    shown = ("README.md", "CONTRIBUTING.md", "docs/COMMANDS.md", "docs/OUTPUT.md", "docs/REFUSALS.md", "docs/page.png", "examples/checker.h", "examples/tree/root.c", "examples/tree/wrong.log", "tools/trace_log.py")
+    shown = ("README.md", "CONTRIBUTING.md", "docs/COMMANDS.md", "docs/OUTPUT.md", "docs/REFUSALS.md", "docs/page.png", "examples/checker.h", "examples/tree/root.c", "examples/tree/wrong.log", "examples/saving/save.sh", "tools/trace_log.py")
     shown += tuple(f"examples/many_machines/{it}" for it in ("README.md", "lay_out", "run_part", "join_all", "array.sh"))
     wanted |= {f"share/crashbpf/{it}" for it in shown} | {"bin/crashbpf-each", "share/crashbpf/examples/each/stream.py"}
+    wanted |= {"README.md", "share/doc/crashbpf/README.md"}
+    found += differs("what is of the source", [it for it in names[".gz"] if it.endswith((".rt", ".antt"))], [])
     return found + differs("what is missing", wanted - names[".gz"], set()) + dead_links(names[".gz"])
 
 
 def dead_links(names):
     """Returns the links of the pages that are installed to files that aren't."""
-    pages = [it.removeprefix("share/crashbpf/") for it in names if it.endswith(".md")]
+    pages = [it.removeprefix("share/crashbpf/") for it in names if it.startswith("share/crashbpf/") and it.endswith(".md")]
     kept = {str(it) for name in names for it in (Path(name), *Path(name).parents)}
     found = []
     for page in sorted(pages):
@@ -169,30 +175,30 @@ def install_tar(path, root):
     return differs("tar's status", done.returncode, 0)
 
 
-def column(text, head):
+def column(head):
     """Returns the code in the first column of the table of README.md with this head."""
-    rows = re.search(rf"(?m)^\| {head} \|.*\n\|--.*\n((?:\|.*\n)+)", text)
-    return re.findall(r"(?m)^\| `(.*?)` \|", rows[1]) if rows else []
+    rows = re.search(rf"(?m)^\| {head} \|.*\n\|--.*\n((?:\|.*\n)+)", (TOP / "README.md").read_text())
+    found = re.findall(r"(?m)^\| `(.*?)` \|", rows[1]) if rows else []
+    return found or sys.exit(f"README.md has no table as this test looks for it, with the head {head}")
 
 
-def first_crash():
-    """Returns the words of the first crash as README.md has them, the lines that it prints first, and the commands that follow."""
+def unprinted(lines, printed):
+    """What is wrong where not all lines were printed. One that ends in two dots is the beginning of what was."""
+    there = printed.splitlines()
+    begun = {it: it.removesuffix("..") for it in lines}
+    return [f"nothing prints {it!r}" for it, text in begun.items() if not any(line == text or text != it and line.startswith(text) for line in there)]
+
+
+def commands_on_tree():
+    """Returns the words of the commands of README.md on its tree, after the program's name."""
     text = (TOP / "README.md").read_text()
     checker = re.search(r"```c\n(.*?)```", text, re.S)
-    command = re.search(r"-- (why wrong\.log root\.bpf --[^)\n]*)", text)
-    printed = column(text, "Line")
-    follow = re.findall(r"(?m)^    crashbpf (.*?)(?: > \S*)?$", text)
-    if not (checker and command and printed and follow):
-        sys.exit("README.md has no first crash as this test looks for it: see first_crash")
+    found = re.findall(r"(?m)^    crashbpf (\w+ wrong\.log .*?)(?: > \S*)?$", text)
+    if not checker or not found:
+        sys.exit("README.md has no commands on its tree as this test looks for them")
     if checker[1] not in (TOP / "examples/tree/root.c").read_text():
         sys.exit("the checker of README.md isn't that of examples/tree/root.c")
-    return command[1].split(), printed, [it.split() for it in follow]
-
-
-def not_begun(lines, wanted):
-    """What is wrong with the first lines of an output, but for the checker's slots and steps, which are the compiler's."""
-    without = [[it for it in list(text)[: len(wanted)] if not it.startswith("program 0 slots")] for text in (lines, wanted)]
-    return differs("the output", *without)
+    return [it.split() for it in found]
 
 
 def in_root(root, words):
@@ -216,26 +222,21 @@ def runs(path, install, prefix, folder):
     for library in libraries(program):
         (root / library[1:]).parent.mkdir(parents=True, exist_ok=True)
         shutil.copy(library, root / library[1:])
-    words, printed, follow = first_crash()
     examples = f"/{prefix}/share/crashbpf/examples"
     (root / "home").mkdir()
-    places = {"wrong.log": f"{examples}/tree/wrong.log", "root.bpf": f"{examples}/tree/root.bpf"}
-    places |= {"$LOGS/wrong.log": places["wrong.log"], "examples/tree/root.bpf": places["root.bpf"]}
 
-    def call(words, **other):
-        return run(in_root(root, [f"/{prefix}/bin/crashbpf", *((places | other).get(it, it) for it in words)]), env={})
+    def tell(checker):
+        """What the commands print with a checker, and what is wrong with their statuses."""
+        places = {"wrong.log": f"{examples}/tree/wrong.log", "root.bpf": checker}
+        told, wrong = "", []
+        for words in commands_on_tree():
+            done = run(in_root(root, [f"/{prefix}/bin/crashbpf", *(places.get(it, it) for it in words)]), env={})
+            wrong += differs(f"the status of {words[0]}", done.returncode, int(words[0] != "show"))
+            told += done.stdout
+        return told, wrong + unprinted(column("Line"), told)
 
-    done = call(words)
-    found += differs("the first lines", done.stdout.splitlines()[: len(printed)], printed) + differs("the status", done.returncode, 1)
-    told = done.stdout
-    for words_of in follow:
-        done = call(words_of)
-        found += differs(f"the status of {words_of[0]}", done.returncode, int(words_of[0] != "show"))
-        told += done.stdout
-    for line in column((TOP / "README.md").read_text(), "It prints"):
-        begun = line.removesuffix("..")
-        if not any(it == line or begun != line and it.startswith(begun) for it in told.splitlines()):
-            found.append(f"nothing prints {line!r}")
+    told, wrong = tell(f"{examples}/tree/root.bpf")
+    found += wrong
     if not shutil.which("clang"):
         print("not run: crashbpf-cc, since there is no clang")
         return found
@@ -243,7 +244,46 @@ def runs(path, install, prefix, folder):
     done = run([tool, source, "check", root / "home/check.bpf"], cwd=folder)
     if done.returncode:
         return [*found, f"crashbpf-cc ended with {done.returncode}: {done.stderr}"]
-    return found + not_begun(call(words, **{"root.bpf": "/home/check.bpf"}).stdout.splitlines(), printed)
+    again, wrong = tell("/home/check.bpf")
+    slots = re.compile(r"(?m)^program 0 slots .*|^<.*")
+    return found + wrong + differs("what is told with the checker compiled anew", slots.sub("", again), slots.sub("", told))
+
+
+# What of the system the package's own README.md may use.
+NEEDED = ("sh", "python3", "strace", "cp", "dirname", "readlink", "env", "yes", "head", "mv", "sync", "tr", "cmp", "cat")
+
+
+def begins(path, folder):
+    """What is wrong with the commands of the package's own README.md, in an empty folder and with nothing else on the path."""
+    absent = [it for it in NEEDED if not shutil.which(it, path=PATH)]
+    if absent:
+        print(f"not run: the package's README.md, since there is no {', '.join(absent)}")
+        return []
+    room, tools, empty = (Path(folder, it) for it in ("room", "tools", "empty"))
+    for it in (room, tools, empty):
+        it.mkdir()
+    run(["tar", "-xzf", path, "-C", room])
+    for it in NEEDED:
+        (tools / it).symlink_to(sys.executable if it == "python3" else shutil.which(it, path=PATH))
+    (page,) = room.glob("*/README.md")
+    text = page.read_text()
+    found = [f"README.md of the package says {it}" for it in re.findall(r"\b(?:VERSION|NAME|DEB|MACHINE|NEEDS)\b", text)]
+    begin = text.partition("\n## Begin")[2].partition("\n## Go on")[0]
+    commands = re.findall(r"(?m)^    ((?:.*\\\n)*.*)$", begin)
+    environment = {"PATH": f"{page.parent}/bin:{tools}", "HOME": str(empty), "TMPDIR": str(empty)}
+    told = ""
+    # The second time with the two syncs: then nothing fails, and `why` has nothing to tell.
+    for word, failing in (("", 1), (" sync", 0)):
+        for command in commands:
+            if failing or "examples/saving" in command or "loose" in command:
+                command = re.sub(r"save\.sh", f"save.sh{word}", command).replace("loose", f"loose{word.strip()}")
+                done = run(["sh", "-c", command], cwd=empty, env=environment)
+                failing_now = 0 if command.startswith(("cp ", "crashbpf-record ")) else failing
+                found += differs(f"the status of {command}", done.returncode, failing_now)
+                found += [f"{command} says {done.stderr[-300:]}"] if done.returncode > 1 else []
+                told += done.stdout
+        told += (empty / "report").read_text()
+    return found + unprinted(column("It prints"), told)
 
 
 # What bash completes after words, the last of which is begun; as the help of the commands has it.
@@ -294,6 +334,7 @@ def main(words):
             "what shells complete": lambda room: completes(made[".gz"], room),
             "the Debian package in a clean root": lambda room: runs(made[".deb"], install_deb, "usr", room),
             "the tar file in a clean root": lambda room: runs(made[".gz"], install_tar, "usr/local", room),
+            "the tar file's own README.md": lambda room: begins(made[".gz"], room),
         }
         failed = 0
         for name, check in rows.items():
