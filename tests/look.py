@@ -4,7 +4,7 @@
     tests/look.py FOLDER PAGE ..
 
 writes four pictures of each page into the folder, by a headless Chromium (Debian's package `chromium`). examples/ has pages.
-docs/page.png is the last one, in its 64 most frequent colours, of the page that README.md makes: `convert PICTURE -colors 64 -strip docs/page.png`.
+docs/page.png is the last one, in its 64 most frequent colours, of the page that README.md makes of its tree, `crashbpf page .. --bound any`.
 """
 import subprocess
 import sys
