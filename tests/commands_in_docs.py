@@ -6,10 +6,10 @@
 PROGRAM is as in run.py. The documents are those at the top, in docs/ and in examples/, or the ones that are named.
 
 A block of commands is indented by four spaces, or fenced as `sh` or `python`. Each document has a copy of the repository, in
-which its blocks are run one after the other by one shell. One that is indented sets variables for those after it. What stands
+which its blocks are run one after the other by one shell, with the program and the scripts of a package on the path. One that is indented sets variables for those after it. What stands
 below a block in a fence without a language, before the next heading, is a part of what it prints; `...` there stands for any lines.
 
-For each block a line says the document, its line, and with which status it ended, or why it wasn't run. It failed where the
+For each block a line says the document, its line, and with which status it ended, or why it wasn't run: NOT_RUN has the reasons. It failed where the
 status is above 1, which is none that crashbpf has for a failing image, or where a line that is shown wasn't printed. The last
 line is `N passed, M failed`.
 """
@@ -28,31 +28,49 @@ from notation import TOP
 
 # The kinds of blocks that are run, and what stands around each: an indented one (no kind), and two that are fenced.
 RUN = {None: ("{", "}"), "sh": ("(", ")"), "python": ("{ python3 - <<'PYTHON'", "PYTHON\n}")}
-# What a copy of the repository has.
+# Where programs of the system are looked for, and the Python of Debian's packages.
+PATH = f"{os.environ['PATH']}:/usr/sbin:/sbin"
+PYTHON = "/usr/bin/python3"
+# What a copy of the repository has, and which of its folders are on the path, as a package has what is in them.
 COPIED = ("examples", "tools", "crates/aside/data")
-# Why blocks with these words aren't run.
+ON_PATH = ("crates/crashbpf/out", "examples/cc", "examples/each", "examples/record")
+# Why blocks with these words aren't run, and the programs with which they are all the same: none, where nothing here suffices. Of several
+# rows that fit a block the first one counts.
 NOT_RUN = {
-    r"\brt (ci|run|try)\b|\.ci/run": "it needs the kit",
-    r"\$DATA|dmsetup": "it needs root and a device",
-    r"qemu|examples/recording/(guest|in_flight)\b|formatting/|crashbpf-record --fuse": "it needs QEMU; tests/record.py runs what it can",
-    r"crashbpf-record|recorded/|named/": "it needs strace and sqlite3; tests/record.py records other programs",
-    r"log writes\.log 55 120": "it needs a log that QEMU recorded",
-    r"sbatch|parallel|try_slurm|join_all run >": "it needs Slurm or several machines; tests/many_machines.py runs parts as processes",
-    r"crashbpf-each .*e2fsck": "tests/each.py runs it on an ext2",
-    r"\bused/|\bkernel\b|recovery/|mounted": "it needs a log that QEMU recorded",
-    r"tests/real_programs\.py": "it is a test itself, which records databases",
+    r"\brt (ci|run|try)\b|\.ci/run": ("it needs the kit", []),
+    r"\$DATA|dmsetup": ("it needs root and a device", []),
+    r"qemu|examples/recording/(guest|in_flight)\b|formatting/|crashbpf-record --fuse": ("it needs QEMU; tests/record.py runs what it can", []),
+    r"log writes\.log 55 120": ("it needs a log that QEMU recorded", []),
+    r"sbatch|parallel|try_slurm|join_all run >": ("it needs Slurm or several machines; tests/many_machines.py runs parts as processes", []),
+    r"\bused/|\bkernel\b|recovery/sqlite|mounted|without\.": ("it needs a log that QEMU recorded", []),
+    r"tests/real_programs\.py": ("it is a test itself, which records databases", []),
+    r"recovery/lmdb": ("it needs strace and Debian's python3-lmdb", ["strace", "import lmdb"]),
+    r"saving/|loose/": ("it needs strace", ["strace"]),
+    r"crashbpf-record|recorded/|named/": ("it needs strace and sqlite3", ["strace", "sqlite3"]),
+    r"e2fsck": ("it needs e2fsck", ["e2fsck"]),
+    r"crashbpf-cc|\bcc -g": ("it needs clang and its llvm-objdump", ["clang", "llvm-objdump"]),
 }
 # What the reader of a document has, as commands that make it. The first C of the document is $FIRST_C, its first fence without a
 # language $FIRST_TEXT.
 HELD = {
+    "README.md": "cp examples/saving/* examples/tree/* crates/aside/data/tree/* .",
+    "docs/RECOVERY.md": "mke2fs -q -t ext2 base.img 128; for it in 0 32 64 96 128 160 192 224; do "
+    'echo "write $it 32 data base.img"; [ $it != 128 ] || echo flush; done | tools/trace_log.py - disk.log --sectors 256',
     "docs/ASSEMBLY.md": "cp examples/two_slots/checker.s check.s",
     "docs/CHECKERS.md": 'cp "$FIRST_C" check.c; cp crates/aside/data/pages/wrong.log writes.log',
     "docs/CI.md": "mkdir ci; cp examples/two_slots/checker.c ci/check.c; cp crates/aside/data/two_slots/wrong.log writes.log; "
     "crashbpf explore writes.log examples/two_slots/checker_c.bpf --sectors 4 --bound 2 --tears > known.report; "
     r"sed -n 's/^image .* \(program .*\) choice .*/\1/p' known.report | sort -u > known.answers",
-    "docs/RECORDING.md": 'cp "$FIRST_TEXT" commit.trace',
+    "docs/RECORDING.md": 'cp "$FIRST_TEXT" commit.trace; cp "$FIRST_C" check.c',
     "examples/many_machines/README.md": "cp examples/pages/checker.bpf check.bpf; cp crates/aside/data/pages/wrong.log disk.log; PATH=$PATH:$PWD/examples/many_machines",
 }
+
+
+def is_there(wanted):
+    """Whether there is a program of this name, or a module for Debian's Python."""
+    if wanted and wanted.startswith("import "):
+        return os.access(PYTHON, os.X_OK) and subprocess.run([PYTHON, "-c", wanted], capture_output=True).returncode == 0
+    return not wanted or bool(shutil.which(wanted, path=PATH))
 
 
 @dataclass
@@ -65,7 +83,8 @@ class Block:
 
     def reason(self):
         """Returns why it isn't run, or none."""
-        return next((why for words, why in NOT_RUN.items() if re.search(words, "\n".join(self.text))), None)
+        why, wanted = next((it for words, it in NOT_RUN.items() if re.search(words, "\n".join(self.text))), (None, [()]))
+        return None if wanted and all(is_there(it) for it in wanted) else why
 
 
 def blocks(lines):
@@ -108,7 +127,7 @@ def make_place(folder, program, found):
     out = folder / "crates/crashbpf/out"
     out.mkdir(parents=True)
     shutil.copy(program, out / "crashbpf")
-    variables = {**os.environ, "PATH": os.pathsep.join([str(out), str(folder / "examples/cc"), os.environ["PATH"]])}
+    variables = {**os.environ, "PATH": os.pathsep.join([*(str(folder / it) for it in ON_PATH), PATH])}
     for name, kind in {"FIRST_C": "c", "FIRST_TEXT": ""}.items():
         text = next((it.text for it in found if it.kind == kind), [])
         (folder / name).write_text("\n".join([*text, ""]))
