@@ -536,7 +536,7 @@ def answered(name, words, content, out, *notes):
     return Row(f"notes: {name}", words, content, out, notes=notes)
 
 
-UNREACHED = "is the checker the first function of its file?"
+UNREACHED = "a loop that crashbpf-cc bounds may leave some, else is the checker the first function of its file?"
 LOOKS_AT_NOTHING = "looks at no sector that an entry writes, so no crash makes it fail"
 NOT_AMONG = "none is ever dropped as a whole"
 BY_WRITE = "with --by write each may be dropped as a whole"

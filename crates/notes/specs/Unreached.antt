@@ -14,7 +14,7 @@ unfoldable pub first_text : ℕ → List ℕ
 first_text slot = codes ", the first at slot " ++ decimal slot
 
 unfoldable pub question : List ℕ
-question = codes "; is the checker the first function of its file?\n"
+question = codes "; a loop that crashbpf-cc bounds may leave some, else is the checker the first function of its file?\n"
 
 abbrev pub found_text : ℕ → ℕ → List ℕ
 found_text n first = count_text n ++ first_text first ++ question
