@@ -4,8 +4,8 @@
     tools/man_page.py [PROGRAM]
 
 runs PROGRAM (crates/crashbpf/out/crashbpf where it isn't given) with `--help`, and with each command's `--help`, and prints
-the page. docs/crashbpf.1 holds it; `man -l docs/crashbpf.1` shows it. tests/run.py compares the two, so help and page stay
-the same words. tools/completions.py makes of the page what shells complete, and tools/document_tables.py the
+the page: each list of a help with its items in bold, each paragraph filled to the reader's width. docs/crashbpf.1 holds it;
+`man -l docs/crashbpf.1` shows it. tests/run.py compares the two, so help and page stay the same words. tools/completions.py makes of the page what shells complete, and tools/document_tables.py the
 tables of docs/.
 """
 import re
@@ -14,6 +14,19 @@ import sys
 from pathlib import Path
 
 PROGRAM = Path(__file__).resolve().parent.parent / "crates/crashbpf/out/crashbpf"
+
+# What stands after the helps.
+LAST = (
+    ".SH FILES",
+    "The folder share/crashbpf beside that of the program, mostly /usr/share/crashbpf, has README.md, the pages of docs/ and examples.",
+    ".SH SEE ALSO",
+    ".BR crashbpf\\-each ,",
+    ".BR crashbpf\\-record ,",
+    ".B crashbpf\\-files",
+    "and",
+    ".B crashbpf\\-cc",
+    "say with \\-\\-help what they do.",
+)
 
 
 def help_of(program, *words):
@@ -38,8 +51,41 @@ def escaped(text):
     return "\n".join("\\&" + line if line[:1] in (".", "'") else line for line in lines)
 
 
-def verbatim(text):
-    return f".nf\n{escaped(text)}\n.fi"
+def is_list(block):
+    """Whether a block of a help is a title with items: `Options:`, and a line for each."""
+    title, *items = block.split("\n")
+    return bool(items) and re.fullmatch(r"\w+:", title) is not None and all(it.startswith("  ") for it in items)
+
+
+def items_of(block):
+    """Returns the items of such a block, each with what is said of it."""
+    return [re.split(r" {2,}", it.strip(), maxsplit=1) for it in block.split("\n")[1:]]
+
+
+def block_of(title, items):
+    """Returns such a block as the help has it: what is said of the items begins in one column."""
+    begun = [f"{'      ' if item.startswith('--') else '  '}{item}" for item, _ in items]
+    width = max(map(len, begun)) + 2
+    return "\n".join([f"{title}:", *(item.ljust(width) + says for item, (_, says) in zip(begun, items))])
+
+
+def set_out(text):
+    """Returns a help as roff: lists with their items in bold, examples as they are, and paragraphs that are filled to the reader's
+    width."""
+    out = []
+    for block in text.split("\n\n"):
+        if is_list(block):
+            out.append(f".SS {block.partition(':')[0]}")
+            out += [f".TP\n.B {escaped(item)}\n{escaped(says)}" for item, says in items_of(block)]
+        elif block.startswith("Example"):
+            out.append(f".PP\n.nf\n{escaped(block)}\n.fi")
+        else:
+            out.append(f".PP\n{escaped(block)}")
+    return "\n".join(out)
+
+
+def unescaped(lines):
+    return "\n".join(it.removeprefix("\\&") for it in lines).replace("\\-", "-").replace("\\e", "\\")
 
 
 def helps_in(page):
@@ -48,9 +94,15 @@ def helps_in(page):
     for section in page.split("\n.SH ")[1:]:
         name, _, text = section.partition("\n")
         if name == "DESCRIPTION" or name.startswith("CRASHBPF "):
-            body = text.removeprefix(".nf\n").rstrip("\n").removesuffix("\n.fi")
-            lines = [line.removeprefix("\\&") for line in body.split("\n")]
-            helps[name.partition(" ")[2].lower()] = "\n".join(lines).replace("\\-", "-").replace("\\e", "\\")
+            blocks = []
+            for part in re.split(r"(?m)^(?=\.(?:SS |PP$))", text.rstrip("\n"))[1:]:
+                head, *lines = part.rstrip("\n").split("\n")
+                if head == ".PP":
+                    blocks.append(unescaped([it for it in lines if it not in (".nf", ".fi")]))
+                else:
+                    items = [it.rstrip("\n").split("\n") for it in "\n".join(lines).split(".TP\n.B ")[1:]]
+                    blocks.append(block_of(head.removeprefix(".SS "), [[unescaped([item]), unescaped(says)] for item, *says in items]))
+            helps[name.partition(" ")[2].lower()] = "\n\n".join(blocks)
     return helps
 
 
@@ -58,14 +110,18 @@ def page(program):
     whole = help_of(program)
     about, _, rest = whole.partition("\n\n")
     parts = [
-        f'.TH CRASHBPF 1 "" "crashbpf {version_of(program)}" "User Commands"',
+        f'.TH CRASHBPF 1 "" "crashbpf {version_of(program)}" "User Commands"\n.nh\n.ad l',
         ".SH NAME\ncrashbpf \\- " + escaped(re.sub(r"\.$", "", about[0].lower() + about[1:])),
         ".SH SYNOPSIS\n.B crashbpf\n[\\fICOMMAND\\fR [\\fIOPTIONS\\fR] \\fIFILE\\fR ...]",
-        ".SH DESCRIPTION\n" + verbatim(rest),
+        ".SH DESCRIPTION\n" + set_out(rest),
     ]
-    for command in commands_in(whole):
-        parts.append(f".SH CRASHBPF {command.upper()}\n" + verbatim(help_of(program, command)))
-    return "\n".join(parts) + "\n"
+    helps = {"": rest, **{command: help_of(program, command) for command in commands_in(whole)}}
+    parts += [f".SH CRASHBPF {command.upper()}\n" + set_out(text) for command, text in helps.items() if command]
+    made = "\n".join([*parts, *LAST]) + "\n"
+    for command, text in helps_in(made).items():
+        if text != helps[command]:
+            sys.exit(f"man_page: the help of '{command}' isn't found again in its page")
+    return made
 
 
 if __name__ == "__main__":
