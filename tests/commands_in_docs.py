@@ -42,25 +42,30 @@ NOT_RUN = {
     r"qemu|examples/recording/(guest|in_flight)\b|formatting/|crashbpf-record --fuse": ("it needs QEMU; tests/record.py runs what it can", []),
     r"log writes\.log 55 120": ("it needs a log that QEMU recorded", []),
     r"sbatch|parallel|try_slurm|join_all run >": ("it needs Slurm or several machines; tests/many_machines.py runs parts as processes", []),
-    r"\bused/|\bkernel\b|recovery/sqlite|mounted|without\.": ("it needs a log that QEMU recorded", []),
+    r"\bused/|\bkernel\b|recovery/sqlite|mounted": ("it needs a log that QEMU recorded", []),
     r"tests/real_programs\.py": ("it is a test itself, which records databases", []),
+    r"recovery/ext4": ("it needs e2fsck", ["e2fsck"]),
     r"recovery/lmdb": ("it needs strace and Debian's python3-lmdb", ["strace", "import lmdb"]),
-    r"saving/|loose/": ("it needs strace", ["strace"]),
+    r"saving/|loose": ("it needs strace", ["strace"]),
     r"crashbpf-record|recorded/|named/": ("it needs strace and sqlite3", ["strace", "sqlite3"]),
     r"e2fsck": ("it needs e2fsck", ["e2fsck"]),
     r"crashbpf-cc|\bcc -g": ("it needs clang and its llvm-objdump", ["clang", "llvm-objdump"]),
 }
 # What the reader of a document has, as commands that make it. The first C of the document is $FIRST_C, its first fence without a
 # language $FIRST_TEXT.
+EXT2 = (
+    "mke2fs -q -t ext2 base.img 128 2> made; for it in 0 32 64 96 128 160 192 224; do "
+    'echo "write $it 32 data base.img"; [ $it != 128 ] || echo flush; done | tools/trace_log.py - disk.log --sectors 256'
+)
 HELD = {
     "README.md": "cp examples/saving/* examples/tree/* crates/aside/data/tree/* .",
-    "docs/RECOVERY.md": "mke2fs -q -t ext2 base.img 128; for it in 0 32 64 96 128 160 192 224; do "
-    'echo "write $it 32 data base.img"; [ $it != 128 ] || echo flush; done | tools/trace_log.py - disk.log --sectors 256',
+    "docs/RECOVERY.md": EXT2,
     "docs/ASSEMBLY.md": "cp examples/two_slots/checker.s check.s",
     "docs/CHECKERS.md": 'cp "$FIRST_C" check.c; cp crates/aside/data/pages/wrong.log writes.log',
     "docs/CI.md": "mkdir ci; cp examples/two_slots/checker.c ci/check.c; cp crates/aside/data/two_slots/wrong.log writes.log; "
     "crashbpf explore writes.log examples/two_slots/checker_c.bpf --sectors 4 --bound 2 --tears > known.report; "
-    r"sed -n 's/^image .* \(program .*\) choice .*/\1/p' known.report | sort -u > known.answers",
+    r"sed -n 's/^image .* \(program .*\) choice .*/\1/p' known.report | sort -u > known.answers; "
+    f"{EXT2}",
     "docs/RECORDING.md": 'cp "$FIRST_TEXT" commit.trace; cp "$FIRST_C" check.c',
     "examples/many_machines/README.md": "cp examples/pages/checker.bpf check.bpf; cp crates/aside/data/pages/wrong.log disk.log; PATH=$PATH:$PWD/examples/many_machines",
 }
