@@ -135,7 +135,7 @@ DEVICES = [
         f"images log --sectors {USUAL + 1}",
         files(ENTRIES),
         "refused 13 at 1",
-        "--sectors is 1 to 16384",
+        "--sectors is 1 to 16384, with --large to 1048576",
     ),
     noted(
         "large: no device holds it",

@@ -111,7 +111,9 @@ fn put_kind(
 /// What is said of a log that no device within the limits holds.
 fn no_device(limits: Limits) -> &'static str {
     match limits {
-        Limits::Usual => "no device of at most 16384 sectors holds this log",
+        Limits::Usual => {
+            "no device of at most 16384 sectors holds this log; with --large one may have 1048576"
+        }
         Limits::Large => "no device of at most 1048576 sectors holds this log",
     }
 }
@@ -469,7 +471,7 @@ const NOT_REPORT: &str =
 /// What the option or the number at a place has to be.
 fn option_rule(place: u64) -> &'static str {
     match place {
-        1 => "--sectors is 1 to 16384",
+        1 => "--sectors is 1 to 16384, with --large to 1048576",
         2 => "--bound is 0 to 3",
         3 => "--workers is 1 to 64",
         4 => "--cache is 0 to 65536",
@@ -480,7 +482,8 @@ fn option_rule(place: u64) -> &'static str {
         11 => "no image of that cut has that choice, as the report prints it with the same options",
         12 => "--flush is 1 to 64 numbers of entries, with commas between",
         13 => "--from isn't above --to",
-        14 => "the file of --base has no more bytes than the device, 512 for each sector",
+        14 =>
+            "the file of --base has no more bytes than the device: --sectors is at least a 512th of its bytes",
         15 => "--epoch is 0 to 65536",
         16 => "--marks is 0 to 65536",
         17 =>

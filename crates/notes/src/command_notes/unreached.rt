@@ -39,7 +39,9 @@ fn put_first(out: &mut String, slot: usize) -> Result<(), AllocError>
 fn put_question(out: &mut String) -> Result<(), AllocError>
     ensures { OnOk result (string_bytes out.new ≡ string_bytes out.old ++ question) }
 {
-    out.push_str("; a loop that crashbpf-cc bounds may leave some, else is the checker the first function of its file?\n")
+    out.push_str(
+        "; a loop that crashbpf-cc bounds may leave some, else is the checker the first function of its file?\n",
+    )
 }
 
 /// Appends how many there are, the first, and what that mostly means.
