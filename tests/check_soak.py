@@ -123,6 +123,27 @@ STRAY = re.compile(r"step \d+ slot (\d+) (.*); stray by r(\d+) at (.*) bytes (\d
 NAMED = re.compile(r"(?:ldx|st|stx)s?(b|h|w|dw) .*\[r(\d+)[+-]\d+\]|(?:ldxs|ldx)(b|h|w|dw) .*\[r(\d+)[+-]\d+\]")
 
 
+# Calls that may stray, and how many bytes they take at most.
+CALLS = {"call 2": 512, "call 10": 4096, "call 11": 4096}
+
+
+def held(steps, register):
+    """What a register holds after some steps, as the last of them that changed it says; None where none did."""
+    said = [it[1] for step in steps for it in re.finditer(rf"; r{register} ([^;]*)", step)]
+    return said[-1] if said else None
+
+
+def call_differs(steps, told, most):
+    """What isn't as expected of a call that strayed, which takes at most so many bytes: it names r2, its word, and the bytes of r3."""
+    place, length = held(steps, 2), held(steps, 3)
+    if told[3] != "2":
+        return ["another register than that of a call"]
+    if place is None or length is None:
+        return []
+    wanted = (place, str(min(int(length), most)))
+    return [] if (told[4], told[5]) == wanted else [f"the stray is at {told[4]} bytes {told[5]}, and not {' bytes '.join(wanted)}"]
+
+
 def stray_differs(text, end):
     """What isn't as expected of the line of the last step, where the run strays; and where it doesn't."""
     steps = [it for it in text.splitlines() if it.startswith("step ")]
@@ -130,12 +151,10 @@ def stray_differs(text, end):
     if not end.startswith("stray "):
         return [f"a stray is told: {it}" for it, told in zip(steps, found) if told]
     told = found[-1]
-    if steps and re.search(r" call 1[01]$", steps[-1]):
-        return [f"a place is told of a checksum: {it}" for it, told in zip(steps, found) if told]
     if any(found[:-1]) or not told or f"stray at slot {told[1]}" != end:
         return [f"the stray isn't told of {steps[-1]}"]
-    if told[2] == "call 2":
-        return [] if told[3] == "2" else ["another register than that of a copy"]
+    if told[2] in CALLS:
+        return call_differs(steps[:-1], told, CALLS[told[2]])
     named = NAMED.search(told[2])
     if not named:
         return [f"no load or store: {told[2]}"]

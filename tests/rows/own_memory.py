@@ -583,12 +583,32 @@ def trial(name, code, guarded, image, more="", steps=None):
     return Row(told(f"check, {name}"), f"check p image --guards{trace}", {"p": code, "image": image}, out, 0 if end.good else 1)
 
 
+# The places of NOWHERE that `check` names by their regions; it gives the others as numbers.
+IN_REGIONS = {
+    2**32: "context+0",
+    SECTORS: "sector 0+0",
+    STACKS + 512: "stack 0+512",
+    STACKS + 500: "stack 0+500",
+    STACKS - 1: "context+4294967295",
+    STACKS + 1024: "stack 1+0",
+}
+
+
+def strayed_sum(helper, name, address, length):
+    """A checksum that strays: the line of its step names r2, the place, and how many bytes a call takes."""
+    code, at = summing(helper, 1, address, length), IN_REGIONS.get(address, address)
+    step, slots = instructions(code), len(code) // 8 - 1
+    line = f"step {step} slot {slots} call {helper}; stray by r2 at {at} bytes {min(length, 4096)}\n"
+    return trial(f"{NAMES[helper]} of {name}", code + EXIT, 1, CONTENT, line, step)
+
+
 TRIALS = [
     trial("a store and a load", lddw(1, END - 8) + store(8, 1, 0, 77) + load(8, 0, 1) + EXIT, 0, CONTENT),
     trial("a checksum of what was copied", COPIED, 1, CONTENT),
     trial("a step to the memory", lddw(1, MEMORY) + load(8, 0, 1) + EXIT, 0, CONTENT, "step 3 slot 3 exit\n"),
     trial("a load past the memory", lddw(1, END) + load(8, 0, 1, -7) + EXIT, 1, CONTENT, f"step 2 slot 2 ldxdw r0, [r1-7]; stray by r1 at {END - 7} bytes 8\n", 2),
     trial("a store before it", lddw(1, MEMORY) + store(2, 1, -1, 0) + GOOD, 1, CONTENT, f"step 2 slot 2 sth [r1-1], 0; stray by r1 at {MEMORY - 1} bytes 2\n", 2),
+    *(strayed_sum(helper, name, *it) for name, it in NOWHERE.items() for helper in (10, 11)),
     trial("a copy past it", mov(1, 0) + lddw(2, END) + mov(3, 1) + call(2) + EXIT, 1, CONTENT, f"step 4 slot 4 call 2; stray by r2 at {END} bytes 1\n", 4),
 ]
 

@@ -12,7 +12,10 @@ use Rattle.bpf_isa.specs.Slots.{at}
 use Rattle.bpf_asm.specs.Listing.{line_text}
 use Rattle.helpers.specs.declared.helper.Helper.{Helper}
 use Rattle.helpers.specs.declared.helper.Helper.TheVariants as helper
+use Rattle.helpers.specs.declared.sums.Checksum.{Checksum}
+use Rattle.helpers.specs.declared.sums.Checksum.TheVariants as of
 use Rattle.helpers.specs.Helper.{helper_of}
+use Rattle.helpers.specs.Sums.{checksum_of, taken}
 use Rattle.helpers.specs.Answers.{sector_start}
 use Rattle.machine.specs.State.{State, register, word, context_start, stack_start}
 use Rattle.machine.specs.Memory.{byte_count, plain_size}
@@ -87,20 +90,31 @@ registers_of s = map (register s) (range_with_len 0 11)
 unfoldable pub changes_text : Limits → List (Option ℕ) → List (Option ℕ) → List ℕ
 changes_text limits before now = flat_map (λ r. change_text limits r (slice_index_or before r None) (slice_index_or now r None)) (range_with_len 0 11)
 
--- the place that an instruction reads or writes, and by which register: that of a load, a store or a copy
+-- the place that an instruction reads or writes, and by which register: that of a load, a store, a copy or a checksum of memory
 abbrev pub touch_at : State → ℕ → ℤ → ℕ → Touch
 touch_at s base distance count = record { register = base; address = address s base distance; count = count }
 
-abbrev pub call_touches : State → Helper → Option Touch
-call_touches s helper.Copy = Some (record { register = 2; address = word s 2; count = word s 3 })
-call_touches s _ = None
+-- where the second argument of a call points
+abbrev pub pointed_at : State → ℕ → Touch
+pointed_at s count = record { register = 2; address = word s 2; count = count }
+
+abbrev pub helper_touches : State → Helper → Option Touch
+helper_touches s helper.Copy = Some (pointed_at s (word s 3))
+helper_touches s _ = None
+
+abbrev pub sum_touches : State → Checksum → Option Touch
+sum_touches s (of.OfDevice p) = None
+sum_touches s (of.OfMemory p) = Some (pointed_at s (taken (word s 3)))
+
+abbrev pub call_touches : State → ℕ → Option Touch
+call_touches s number = option_map_or (sum_touches s) (checksum_of number) (option_and_then (helper_touches s) (helper_of number))
 
 abbrev pub touches : State → Instr → Option Touch
 touches s (instr.Load size dst base distance) = Some (touch_at s base distance (byte_count size))
 touches s (instr.LoadSigned size dst base distance) = Some (touch_at s base distance (byte_count (plain_size size)))
 touches s (instr.StoreImmediate size base distance n) = Some (touch_at s base distance (byte_count size))
 touches s (instr.Store size base distance src) = Some (touch_at s base distance (byte_count size))
-touches s (instr.CallHelper number) = option_and_then (call_touches s) (helper_of (cast_unsigned w32 number))
+touches s (instr.CallHelper number) = call_touches s (cast_unsigned w32 number)
 touches s _ = None
 
 unfoldable pub touch_here : List (Option Instr) → State → Option Touch

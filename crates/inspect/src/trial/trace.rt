@@ -7,7 +7,7 @@ ghost use Rattle.machine.specs.Memory.{context_bytes};
 ghost use Rattle.machine.specs.State.{word};
 ghost use Rattle.notes.specs.SourceLines.{source_text, values_of};
 ghost use Rattle.interp.specs.Walks.{memory_as, start_as, step_as, stepped_to, with_both};
-ghost use Rattle.inspect.specs.Trace.{call_touches, came_text, place_text, sector_end, word_text, held_text, is_same, begin_text, change_text, line_end, registers_of, changes_text, step_text, stray_text, strayed_by, strayed_bytes, touch_text, touch_at, touch_here, touches, trace_text};
+ghost use Rattle.inspect.specs.Trace.{call_touches, came_text, helper_touches, place_text, pointed_at, sector_end, sum_touches, word_text, held_text, is_same, begin_text, change_text, line_end, registers_of, changes_text, step_text, stray_text, strayed_by, strayed_bytes, touch_text, touch_at, touch_here, touches, trace_text};
 
 use arithmetic::{byte_count, plain_size};
 use base::limits::Limits;
@@ -15,7 +15,8 @@ use bpf_asm::put_instr;
 use bpf_isa::instr::Instr;
 use bpf_isa::program::Program;
 use bpf_isa::register::Register;
-use helpers::{Context, Device, Helper};
+use helpers::sums::taken;
+use helpers::{Checksum, Context, Device, Helper};
 use interp::{Halt, Walk};
 use notes::{SourceLine, put_source};
 use request::Trial;
@@ -168,17 +169,44 @@ fn touch_at<D: Device>(walk: &Walk<'_, D>, base: Register, offset: i16, count: u
     }
 }
 
+/// The place at which the second argument of a call points.
+fn pointed_at<D: Device>(walk: &Walk<'_, D>, count: u64) -> Touch
+    ensures { result ≡ pointed_at walk.now.state count }
+{
+    Touch {
+        register: 2,
+        address: word_in(walk, 2),
+        count,
+    }
+}
+
 /// The place that a helper writes, by its number.
-fn call_touches<D: Device>(walk: &Walk<'_, D>, number: u32) -> Option<Touch>
-    ensures { result ≡ option_and_then (call_touches walk.now.state) (helper_of number) }
+fn helper_touches<D: Device>(walk: &Walk<'_, D>, number: u32) -> Option<Touch>
+    ensures { result ≡ option_and_then (helper_touches walk.now.state) (helper_of number) }
 {
     match Helper::of(number) {
-        Some(Helper::Copy) => Some(Touch {
-            register: 2,
-            address: word_in(walk, 2),
-            count: word_in(walk, 3),
-        }),
+        Some(Helper::Copy) => Some(pointed_at(walk, word_in(walk, 3))),
         _ => None,
+    }
+}
+
+/// The place of the bytes of a checksum, where they are of memory: those that a call takes.
+fn sum_touches<D: Device>(walk: &Walk<'_, D>, checksum: Checksum) -> Option<Touch>
+    ensures { result ≡ sum_touches walk.now.state checksum }
+{
+    match checksum {
+        Checksum::OfDevice(_) => None,
+        Checksum::OfMemory(_) => Some(pointed_at(walk, taken(word_in(walk, 3)))),
+    }
+}
+
+/// The place that a call reads or writes, by its number.
+fn call_touches<D: Device>(walk: &Walk<'_, D>, number: u32) -> Option<Touch>
+    ensures { result ≡ call_touches walk.now.state number }
+{
+    match Checksum::of(number) {
+        Some(checksum) => sum_touches(walk, checksum),
+        None => helper_touches(walk, number),
     }
 }
 
