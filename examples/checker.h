@@ -108,6 +108,19 @@ HELPER_(11, u64, crc32_memory_part, u64 crc, const void *from, u64 length);
 #define ABOVE_ "jgt %0,%1,%l[above_]"
 #define SECTOR_ "mov %%r1,%1\n\tcall 1\n\tjeq %%r0,0,%l[past_]\n\tmov %0,%%r0"
 #define MOVE_ "add %0,%1"
+
+/*
+ * After a test as n == 16 gcc may take the register of n for 16, which the verifier doesn't. So a constant length of `copy`
+ * is loaded in front of each call.
+ */
+#define LOADED_(n)									\
+	({										\
+		u64 loaded_ = (n);							\
+		if (__builtin_constant_p(loaded_) && loaded_ <= 512)			\
+			__asm__ volatile("mov %0,%1" : "=r"(loaded_) : "i"(loaded_));	\
+		loaded_;								\
+	})
+#define copy(at, to, length) copy(at, to, LOADED_(length))
 #endif
 
 /*

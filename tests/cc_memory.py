@@ -4,8 +4,8 @@
     tests/cc_memory.py [PROGRAM]
 
 takes each compiler that is there, compiles by `crashbpf-cc`, runs the program by machine_model.py with guards, and compares its
-answer with the one that stands here. Without PROGRAM it needs no `crashbpf` and no verifier. With it each program is verified for 64
-sectors too, and `check --guards` has to answer the same.
+answer with the one that stands here. By gcc each call of `copy` has its length loaded in front of it. Without PROGRAM it needs no
+`crashbpf` and no verifier. With it each program is verified for 64 sectors too, and `check --guards` has to answer the same.
 """
 import binascii
 import os
@@ -20,7 +20,7 @@ sys.dont_write_bytecode = True
 TESTS = Path(__file__).resolve().parent
 sys.path.insert(0, str(TESTS))
 
-from machine_model import judged, summed
+from machine_model import ALU, ALU64, LDX, decoded, judged, summed
 
 CC = TESTS.parent / "examples" / "cc" / "crashbpf-cc"
 SECTORS = 64
@@ -31,6 +31,7 @@ CRC32 = zlib.crc32(DEVICE[100:9100])
 ADLER = zlib.adler32(DEVICE[:1000])
 MASK = 2**64 - 1
 ROOM = 65536
+MOVE_NUMBER, CALL, COPY = 0xB7, 0x85, 2
 LONG = " ".join(["the quick brown fox jumps over the dog"] * 4)
 
 
@@ -80,6 +81,29 @@ def xxhash64(seed, content):
     hash_ = (hash_ ^ hash_ >> 29) * three & MASK
     return hash_ ^ hash_ >> 32
 
+
+# A variable that is tested for a length lies on the stack, since others are used more often.
+ON_STACK = """
+	u64 n = c->marks, a = 0, b = 1, d = 2, e = 3;
+	for (;;) {
+		TURN(9, return a + b + d + e);
+		e += zero(a);
+		d += u8_at(a);
+		a += zero(b);
+		a ^= e;
+		a += u8_at(b);
+		if (n == 5) {
+			b ^= a;
+			a += u8_at(e);
+			a ^= d;
+			d = d * 3 + u16_at(d);
+			copy(b, m, 5);
+			e += m[1];
+		}
+		n++;
+	}
+"""
+AFTER = "r = a[1] * 3 + a[2] * 5 + a[c->epoch + 8]; zero(r);"
 
 # Each row: what it is about, the text outside of the function, its body, and the answer.
 ROWS = [
@@ -133,6 +157,11 @@ ROWS = [
     ("structs that are copied in a function that is LOCAL", "struct it { u8 b[300]; }; static struct it x, y; LOCAL(check) u64 swap(u64 n) { struct it t = x; x = y; y = t; return x.b[n]; }", "read_bytes(0, &x, 300); read_bytes(300, &y, 300); return swap(c->epoch) + 256 * swap(4) + 65536 * y.b[5];", DEVICE[303] + 256 * DEVICE[4] + 65536 * DEVICE[305]),
     ("memcpy of many bytes", "static u8 x[4096], y[4096];", "read_bytes(0, x, 4096); __builtin_memcpy(y, x, 4096); memset(x, 7, 4096); return y[c->epoch + 4000] + 256 * x[c->epoch + 4000];", DEVICE[4003] + 1792),
     ("memcmp of many bytes", "static u8 x[300], y[300];", "read_bytes(0, x, 300); read_bytes(0, y, 300); y[299] ^= 1; return (__builtin_memcmp(x, y, 300) == 0) + 2 * (__builtin_memcmp(x, y, 298 + c->marks) == 0) + 4 * (memcmp(x, y, 299) == 0);", 6),
+    ("a copy of as many bytes as a variable was tested for", "static u8 a[4];", "u64 n = c->epoch; if (n != 3) return 1; copy(100, a, 3); return a[2] + 256 * n;", DEVICE[102] + 768),
+    ("the same, of a variable on the stack", "static u8 m[8];", ON_STACK, None),
+    ("bytes that are read, as many as a variable was tested for", "static u8 a[40];", "u64 n = c->epoch + c->marks; if (n == 4) read_bytes(n, a, 4); if (n * 9 == 36) read_bytes(n, a + 4, 36); return a[3] + 256 * a[39];", DEVICE[7] + 256 * DEVICE[39]),
+    ("two copies of two lengths", "static u8 a[64];", "if (c->marks) copy(512, a, 16); else copy(1024, a, 8); return a[1] + 256 * a[12];", DEVICE[513] + 256 * DEVICE[524]),
+    ("the same, with the same after them", "static u8 a[64];", f"u64 r; if (c->marks) {{ copy(512, a, 16); {AFTER} }} else {{ copy(512, a, 8); {AFTER} }} return r;", 3 * DEVICE[513] + 5 * DEVICE[514] + DEVICE[523]),
     ("strncmp with a text", "", 'static const char a[] = "JBD2 hdr"; char b[8] = "JBD2 xyz"; b[c->marks] += c->epoch - 3; return (strncmp(a, b, 4) == 0) + 2 * (strncmp(a, b, 6) != 0);', 3),
 ]
 
@@ -152,7 +181,26 @@ def of_text():
     return number
 
 
+def on_stack():
+    """What ON_STACK answers."""
+    byte = lambda at: DEVICE[at] if at < len(DEVICE) else 0
+    zero = lambda at: int(not any(DEVICE[512 * at : 512 * at + 512])) if at < SECTORS else 2
+    a, b, d, e = range(4)
+    for n in range(1, 10):
+        e += zero(a)
+        d += byte(a)
+        a += zero(b)
+        a = (a ^ e) + byte(b)
+        if n == 5:
+            b ^= a
+            a = a + byte(e) ^ d
+            d = d * 3 + byte(d) + 256 * byte(d + 1)
+            e += byte(b + 1)
+    return a + b + d + e & MASK
+
+
 COMPUTED = {
+    "the same, of a variable on the stack": on_stack,
     "a long text": of_text,
     "fletcher": fletcher,
     "xxhash64": lambda: xxhash64(3, DEVICE[:199]) ^ xxhash64(0, b"") ^ xxhash64(1, DEVICE[:13]),
@@ -177,6 +225,20 @@ def compiled(compiler, outside, body, folder, crashbpf):
     return subprocess.run(words, capture_output=True, text=True, env=env), out
 
 
+def lengths(code):
+    """The calls of `copy` whose length isn't loaded in front of them; a compiler takes a variable for it that was tested."""
+    length, found = None, []
+    for slot, it in sorted(decoded(code).items()):
+        if it.code == MOVE_NUMBER and it.dst == 3:
+            length = it.imm
+        elif it.code == CALL and it.src == 0:
+            found += [slot] if it.imm == COPY and length is None else []
+            length = None
+        elif it.dst == 3 and it.kind() in (LDX, ALU, ALU64):
+            length = None
+    return found
+
+
 def checked(crashbpf, out, folder):
     """What the program under test says that the program ends in."""
     image = Path(folder) / "image"
@@ -197,6 +259,8 @@ def failing(compiler, folder, crashbpf):
         end = judged(out.read_bytes(), Image(), 10**6, True)
         if end.text != f"answer {wanted} codes -":
             yield f"{compiler}: {name}: {end}, not answer {wanted}"
+        elif compiler == "bpf-gcc" and lengths(out.read_bytes()):
+            yield f"{compiler}: {name}: a length isn't loaded in front of slot {lengths(out.read_bytes())[0]}"
         elif crashbpf and checked(crashbpf, out, folder) != end.text:
             yield f"{compiler}: {name}: check says {checked(crashbpf, out, folder)}, the model {end}"
     for name, outside, body, said in REFUSED:
@@ -212,6 +276,7 @@ def main(words):
     assert summed(0x82F63B78, 0xFFFFFFFF, b"123456789") ^ 0xFFFFFFFF == 0xE3069283
     assert summed(0xEDB88320, 0xFFFFFFFF, b"123456789") ^ 0xFFFFFFFF == binascii.crc32(b"123456789")
     compilers = [it for it in ("clang", "bpf-gcc") if shutil.which(it)]
+    print(*(f"there is no {it}: nothing is tried with it" for it in ("clang", "bpf-gcc") if it not in compilers), sep="\n", end="\n" * (len(compilers) < 2))
     with tempfile.TemporaryDirectory() as folder:
         bad = [line for it in compilers for line in failing(it, folder, crashbpf)]
     print(*bad, f"{len(compilers) * (len(ROWS) + len(REFUSED)) - len(bad)} checks passed, {len(bad)} failed", sep="\n")

@@ -77,9 +77,11 @@ def called_line(line):
 class Clang:
     """clang 14 or newer, and llvm-objdump of the same version."""
 
+    # Two calls of `copy` stay two: as one, its length would be either of theirs, which is no constant to the verifier.
+    UNMERGED = ["-mllvm", "-sink-common-insts=false", "-mllvm", "-enable-tail-merge=false"]
     # The ways in which a checker is compiled, of which the first is the usual one: whether the compiler knows nothing of the
     # variables of a loop's condition where that is tested (source.py), and more options. By the last indices stay as written.
-    WAYS = [(False, []), (True, []), (True, ["-mllvm", "-disable-lsr"])]
+    WAYS = [(False, []), (True, UNMERGED), (True, ["-mllvm", "-disable-lsr", *APART])]
 
     def __init__(self, name, run):
         self.name, self.run = name, run
@@ -141,7 +143,8 @@ class Clang:
 class Gcc:
     """gcc 12 or newer as it is built for BPF, with binutils of the same target."""
 
-    WAYS = [(False, []), (True, []), (True, ["-O1"])]
+    # As of clang; calls of `copy` stay apart by -O1 too.
+    WAYS = [(False, []), (True, ["-fno-crossjumping"]), (True, ["-O1"])]
 
     def __init__(self, name, run):
         self.name, self.run = name, run

@@ -243,8 +243,7 @@ LOCAL(check) u64 find_journal(void)
 
 #define JOURNAL_MAGIC 0xc03b3998
 enum { DESCRIPTOR = 1, COMMIT = 2, REVOKE = 5 };
-/* (Not 1, 2, 4 or 8: gcc may take a variable that is tested for the same constant of a read.) */
-enum { SCAN = 5, REVOCATIONS, REPLAY };
+enum { SCAN, REVOCATIONS, REPLAY };
 #define IS_64 0x2
 #define ASYNC 0x4
 #define SUMS_2 0x8
