@@ -197,7 +197,7 @@ fn refuses_a_run_without_programs(rt: HostRuntime) -> Result<(), Fail> {
 
 /// Holds block 0 before it is judged, until another block has ended, or for a million turns.
 #[derive(Drop)]
-struct Holding {
+struct HoldingFirst {
     /// The block that ended first, plus one.
     first: AtomicU64,
     ended: AtomicU64,
@@ -205,7 +205,7 @@ struct Holding {
     workers: AtomicU64,
 }
 
-impl Gate for Holding {
+impl Gate for HoldingFirst {
     fn before(&self, worker: u8, block: u32) {
         self.workers
             .fetch_add(u64::from(worker).wrapping_add(1), Ordering::SeqCst);
@@ -240,7 +240,7 @@ fn held<R: Threads + Wait + Sync + Abort>(
     let options = Options::new(settings).ok().ok_or("options")?;
     let mut programs = Vec::new(alloc);
     programs.push(program.to_vec(alloc)?)?;
-    let gate = Holding {
+    let gate = HoldingFirst {
         first: AtomicU64::new(0),
         ended: AtomicU64::new(0),
         workers: AtomicU64::new(0),

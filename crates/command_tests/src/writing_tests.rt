@@ -12,12 +12,12 @@ struct Slow {
     got: Vec<u8>,
     most: usize,
     calls: u64,
-    at_end: Answer,
+    at_end: WriterAnswer,
 }
 
 /// What a writer answers in place of taking bytes.
 #[derive(Drop, Clone, Copy)]
-enum Answer {
+enum WriterAnswer {
     /// It takes no byte.
     Nothing,
     /// It fails.
@@ -30,9 +30,9 @@ impl Write for Slow {
     fn write(&mut self, buf: &[u8]) -> io::Result<usize> {
         if self.calls == 0 {
             match self.at_end {
-                Answer::Nothing => return Ok(0),
-                Answer::Failure(kind) => return Err(io::Error::from(kind)),
-                Answer::Interruption => {
+                WriterAnswer::Nothing => return Ok(0),
+                WriterAnswer::Failure(kind) => return Err(io::Error::from(kind)),
+                WriterAnswer::Interruption => {
                     self.calls = u64::MAX;
                     return Err(io::Error::from(ErrorKind::Interrupted));
                 }
@@ -56,11 +56,11 @@ const BYTES: [u8; 23] = [
 
 /// At most how many bytes a writer takes a call, how often it takes any, what it answers then, and how many
 /// bytes of `BYTES` are written.
-type Case = (usize, u64, Answer, u64);
+type Case = (usize, u64, WriterAnswer, u64);
 
-const BROKEN: Answer = Answer::Failure(ErrorKind::BrokenPipe);
+const BROKEN: WriterAnswer = WriterAnswer::Failure(ErrorKind::BrokenPipe);
 
-const FULL: Answer = Answer::Failure(ErrorKind::StorageFull);
+const FULL: WriterAnswer = WriterAnswer::Failure(ErrorKind::StorageFull);
 
 const CASES: [Case; 11] = [
     (5, u64::MAX, BROKEN, 23),
@@ -70,10 +70,10 @@ const CASES: [Case; 11] = [
     (5, 5, FULL, 23),
     (1, u64::MAX, BROKEN, 23),
     (64, 1, BROKEN, 23),
-    (5, 2, Answer::Nothing, 10),
-    (5, 0, Answer::Nothing, 0),
-    (5, 3, Answer::Interruption, 23),
-    (5, 0, Answer::Interruption, 23),
+    (5, 2, WriterAnswer::Nothing, 10),
+    (5, 0, WriterAnswer::Nothing, 0),
+    (5, 3, WriterAnswer::Interruption, 23),
+    (5, 0, WriterAnswer::Interruption, 23),
 ];
 
 /// Whether that many of the bytes go out, and whether the answer is that number or, for all of them, Ok.

@@ -12,7 +12,7 @@ use Rattle.request.specs.Source.{Recording}
 use Rattle.request.specs.declared.trials.Trial.{Trial}
 use Rattle.request.specs.declared.trials.TrialWords.{TrialWords}
 use Rattle.request.specs.Trials.{AskForTrial}
-use Rattle.runs.specs.declared.explore_command.Wanted.{Wanted}
+use Rattle.runs.specs.declared.explore_command.WantedAnswer.{WantedAnswer}
 use Rattle.base.specs.declared.causes.JoinCause.TheVariants as joining
 use Rattle.commands.specs.Acting.{join_refusal, most_texts, RefusesTexts, RefusesParts, for_no_part, for_many_parts, for_unread_part, for_parts, for_part_memory}
 use Rattle.commands.specs.Acting.{second_held, lines_held, RefusesCheck, for_program_file, for_image_file, for_lines_file}
@@ -140,18 +140,18 @@ none_next items files n file programs lt here is before =
     rw (add-one n, more, is, before, append-nil) refl
 
 -- why `explore` is refused by its files
-pub no_file : {V : Type 0} {choice : List ℕ} {t : Wanted} (items : V → List ℕ) (files : List (Option V)) (base : Option (Option (List ℕ))) (s : Settings) (r : Refusal) → length files ≡ 0 → r ≡ file_refusal 0
+pub no_file : {V : Type 0} {choice : List ℕ} {t : WantedAnswer} (items : V → List ℕ) (files : List (Option V)) (base : Option (Option (List ℕ))) (s : Settings) (r : Refusal) → length files ≡ 0 → r ≡ file_refusal 0
     → RefusesFiles t (record { named = map (option_map items) files; base = base; choice = choice }) s r
 no_file items [] base s r none same = rw same (for_unread 0 refl)
 no_file items (file ∷ files) base s r none same = absurd (let bad : suc (length files) ≡ 0 = none in omega (arith, bad))
 
-pub no_log : {V : Type 0} {choice : List ℕ} {t : Wanted} (items : V → List ℕ) (files : List (Option V)) (first : Option V) (others : List (Option V)) (base : Option (Option (List ℕ))) (s : Settings) (r : Refusal)
+pub no_log : {V : Type 0} {choice : List ℕ} {t : WantedAnswer} (items : V → List ℕ) (files : List (Option V)) (first : Option V) (others : List (Option V)) (base : Option (Option (List ℕ))) (s : Settings) (r : Refusal)
     → files ≡ first ∷ others → first ≡ None → r ≡ file_refusal 0 → RefusesFiles t (record { named = map (option_map items) files; base = base; choice = choice }) s r
 no_log items files first others base s r split is same =
     let some : nat_lt 0 (suc (length (map (option_map items) others))) ≡ true = grind (arith, nat_tests) in
     rw (split, is, same) (for_unread 0 (rw some refl))
 
-pub no_program : {V : Type 0} {choice : List ℕ} {t : Wanted} (items : V → List ℕ) (files : List (Option V)) (first : Option V) (others : List (Option V)) (v : V) (place : ℕ) (base : Option (Option (List ℕ))) (s : Settings)
+pub no_program : {V : Type 0} {choice : List ℕ} {t : WantedAnswer} (items : V → List ℕ) (files : List (Option V)) (first : Option V) (others : List (Option V)) (v : V) (place : ℕ) (base : Option (Option (List ℕ))) (s : Settings)
     (r : Refusal) → files ≡ first ∷ others → first ≡ Some v → position is_none others ≡ Some place → r ≡ file_refusal (place + 1)
     → RefusesFiles t (record { named = map (option_map items) files; base = base; choice = choice }) s r
 no_program items files first others v place base s r split is there same =
@@ -164,13 +164,13 @@ pub files_read : {V : Type 0} (items : V → List ℕ) (files : List (Option V))
 files_read items files first others v log programs split is readable same all =
     rw (split, is, same, all) (ap (λ rest. Some (items v) ∷ rest) (all_read items others readable))
 
-pub memory_wanting : {V : Type 0} {choice : List ℕ} {t : Wanted} (items : V → List ℕ) (files : List (Option V)) (first : Option V) (others : List (Option V)) (v : V) (base : Option (Option (List ℕ))) (s : Settings) (r : Refusal)
+pub memory_wanting : {V : Type 0} {choice : List ℕ} {t : WantedAnswer} (items : V → List ℕ) (files : List (Option V)) (first : Option V) (others : List (Option V)) (v : V) (base : Option (Option (List ℕ))) (s : Settings) (r : Refusal)
     → files ≡ first ∷ others → first ≡ Some v → position is_none others ≡ None → r ≡ memory_refusal → RefusesFiles t (record { named = map (option_map items) files; base = base; choice = choice }) s r
 memory_wanting items files first others v base s r split is readable same =
     rw (split, is, same) (for_memory (none_unread items v others readable))
 
 -- all files that are named can be read, and that of the initial content can't be
-pub no_base : {V : Type 0} {choice : List ℕ} {t : Wanted} (items : V → List ℕ) (files : List (Option V)) (first : Option V) (others : List (Option V)) (v : V) (base : Option (Option (List ℕ))) (s : Settings) (r : Refusal)
+pub no_base : {V : Type 0} {choice : List ℕ} {t : WantedAnswer} (items : V → List ℕ) (files : List (Option V)) (first : Option V) (others : List (Option V)) (v : V) (base : Option (Option (List ℕ))) (s : Settings) (r : Refusal)
     → files ≡ first ∷ others → first ≡ Some v → position is_none others ≡ None → (initial_of base ≡ None) × (r ≡ file_refusal (length (map (option_map items) files)))
     → RefusesFiles t (record { named = map (option_map items) files; base = base; choice = choice }) s r
 no_base items files first others v base s r split is readable h =

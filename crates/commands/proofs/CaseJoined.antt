@@ -39,7 +39,7 @@ use Rattle.request.specs.AnyLosses.{loss_checks, losses_asked, losses_refusal}
 use Rattle.request.specs.OptionWords.{settings_with, settings_of, AskFor}
 use Rattle.request.specs.Source.{Recording, cut_past, lacking, IsLogOf, HasImages}
 use Rattle.request.proofs.Logs.{bounds_of}
-use Rattle.runs.specs.declared.explore_command.Wanted.TheVariants as wanted
+use Rattle.runs.specs.declared.explore_command.WantedAnswer.TheVariants as wanted
 use Rattle.runs.specs.CaseCuts.{losses_of}
 use Rattle.runs.specs.Cases.{IsTextOf, IsCases, IsLosses}
 use Rattle.runs.specs.Explore.{IsProgramCount, AreCheckersOf, head_of}

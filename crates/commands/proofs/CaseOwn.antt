@@ -7,7 +7,7 @@ use Rattle.request.specs.declared.settings.Settings.{Settings}
 use Rattle.request.specs.AnyLosses.{losses_asked, losses_refusal}
 use Rattle.request.specs.OptionWords.{AskFor}
 use Rattle.request.specs.Source.{Recording}
-use Rattle.runs.specs.declared.explore_command.Wanted.TheVariants as wanted
+use Rattle.runs.specs.declared.explore_command.WantedAnswer.TheVariants as wanted
 use Rattle.runs.specs.Cases.{IsCases, IsLosses}
 use Rattle.runs.specs.Cured.{IsAnswered}
 use Rattle.runs.specs.Explore.{head_of}

@@ -28,12 +28,12 @@ use Rattle.request.specs.OptionWords.{settings_with, settings_of, words_refusal,
 use Rattle.request.specs.Settings.{option_checks, option_refusal, settings_refusal}
 use Rattle.request.specs.Source.{Recording, IsLogOf, HasImages, images_of}
 use Rattle.request.specs.Source as source
-use Rattle.runs.specs.declared.explore_command.Wanted.TheVariants as wanted
+use Rattle.runs.specs.declared.explore_command.WantedAnswer.TheVariants as wanted
 use Rattle.runs.specs.Explore.{IsReport, AreCheckersOf, subject_of, report_of}
 use Rattle.runs.specs.Inputs.{inputs_number}
 use Rattle.runs.specs.Why.{Tells, IsTold}
-use Rattle.retold.specs.declared.command.Fault.{Fault}
-use Rattle.retold.specs.declared.command.Fault.TheVariants as fault
+use Rattle.retold.specs.declared.command.RetellFault.{RetellFault}
+use Rattle.retold.specs.declared.command.RetellFault.TheVariants as fault
 use Rattle.retold.specs.Retold as retold
 use Rattle.retold.specs.Retold.{head_given, options_given, starts_given, NoneIsGiven, IsGiven, Retells, IsRetoldOf, IsRetold, RefusesSourceAs, RefusesReport, RefusesRetold}
 use Rattle.commands.specs.Acting.{Files, first_held, first_file, second_held, initial_of, recording, status_of, AnswersExplore, AnswersRetold, Answers, RefusesWith, for_words, for_settings, RefusesReportOf, for_log_of_report, for_report_file, for_base_of_report, for_retold, retold_refusal}
@@ -237,7 +237,7 @@ not_of_plan s value _ (source.too_many cut past) bad = let own : Request asked.T
 not_of_plan s value _ (source.lacks_images few lack) bad = let own : Request asked.Option ≡ Request asked.NotReport = bad in cc
 not_of_plan s value _ source.no_plan_memory bad = cc
 
-not_of_source : (text : Recording) (s : Settings) (f : Fault) → RefusesSourceAs text s f → (retold_refusal f).code ≢ Request asked.NotReport
+not_of_source : (text : Recording) (s : Settings) (f : RetellFault) → RefusesSourceAs text s f → (retold_refusal f).code ≢ Request asked.NotReport
 not_of_source text s _ (retold.with_refusal _ (source.for_log r why)) = not_of_log text s r why
 not_of_source text s _ (retold.with_refusal _ (source.for_plan r value reads why)) = not_of_plan s value r why
 
@@ -246,7 +246,7 @@ none_images : (s : Settings) (value : LogValue) (report : List ℕ) → NoneIsGi
 unfolding head_given
 none_images s value report none = none
 
-not_of_report : AreOne → (w : OptionWords) (files : Files) (report : List ℕ) (r : IsRunOf w files report) (s : Settings) (value : LogValue) (f : Fault) → set_images s ≡ set_images r.settings
+not_of_report : AreOne → (w : OptionWords) (files : Files) (report : List ℕ) (r : IsRunOf w files report) (s : Settings) (value : LogValue) (f : RetellFault) → set_images s ≡ set_images r.settings
     → HasImages (recording r.log r.initial) s value → RefusesReport s value report f → (retold_refusal f).code ≢ Request asked.NotReport
 not_of_report one w files report r s value _ same has (retold.no_report line none) bad =
     let text : Recording = recording r.log r.initial in
@@ -258,7 +258,7 @@ not_of_report one w files report r s value _ same has (retold.no_report line non
     by_log.none (given_of r.settings e.value e.checkers) (given_is w files report r)
 not_of_report one w files report r s value _ same has retold.no_memory bad = cc
 
-not_refused : AreOne → (w : OptionWords) (files : Files) (report : List ℕ) (r : IsRunOf w files report) (s : Settings) (f : Fault) → set_images s ≡ set_images r.settings → length report ≤ 2 ^ 30
+not_refused : AreOne → (w : OptionWords) (files : Files) (report : List ℕ) (r : IsRunOf w files report) (s : Settings) (f : RetellFault) → set_images s ≡ set_images r.settings → length report ≤ 2 ^ 30
     → RefusesRetold (recording r.log r.initial) report s f → (retold_refusal f).code ≢ Request asked.NotReport
 not_refused one w files report r s _ same short (retold.for_part part) bad = let own : Request asked.Option ≡ Request asked.NotReport = bad in cc
 not_refused one w files report r s _ same short (retold.too_long whole long) bad = omega (arith, short, long)

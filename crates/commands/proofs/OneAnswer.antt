@@ -51,8 +51,8 @@ use Rattle.export.specs.Export.{export_text}
 use Rattle.inspect.specs.Table.{IsTable}
 use Rattle.inspect.specs.Verifying.{verified_text, IsAcceptedText}
 use Rattle.inspect.specs.Assembly.{listing_text, IsAssembled, IsListed}
-use Rattle.runs.specs.declared.explore_command.Wanted.{Wanted}
-use Rattle.runs.specs.declared.explore_command.Wanted.TheVariants as wanted
+use Rattle.runs.specs.declared.explore_command.WantedAnswer.{WantedAnswer}
+use Rattle.runs.specs.declared.explore_command.WantedAnswer.TheVariants as wanted
 use Rattle.commands.specs.Acting.{Files, initial_of, recording, status_of, AnswersRun, AnswersFiles, AnswersExplore, AnswersCases, wanted_by, AnswersLosses, any_words, AnswersRetold, AnswersFile, AnswersLog, AnswersOf, AnswersWith, AnswersTrial, AnswersJoin, JoinsEither, join_of_parts, join_of_cases, Answers, form_of}
 use Rattle.commands.proofs.OneReport.{same_log, same_asked, one_run}
 use Rattle.commands.proofs.OneText.{one_explanation}
@@ -83,7 +83,7 @@ one_told telling.Report inputs s value checkers bytes others a b = a ∙ sym b
 one_told telling.Causes inputs s value checkers bytes others a b = one_explanation _ _ _ bytes others a b
 one_told telling.Page inputs s value checkers bytes others a b = one_page _ _ _ _ bytes others a b
 
-answered_once : Laws → (w : Wanted) (text : Recording) (files : List (List ℕ)) (s : Settings) (bytes others : List ℕ) (failing fails : Bool)
+answered_once : Laws → (w : WantedAnswer) (text : Recording) (files : List (List ℕ)) (s : Settings) (bytes others : List ℕ) (failing fails : Bool)
     → IsAnswered w text files s bytes failing → IsAnswered w text files s others fails → (bytes ≡ others) × (failing ≡ fails)
 answered_once laws (wanted.Told t) text files s bytes others failing fails a b =
     one_run laws.texts laws.programs laws.verdicts (λ s value checkers bytes. Tells t (inputs_number text.text files) s value checkers bytes) (one_told t (inputs_number text.text files)) text files
@@ -96,7 +96,7 @@ answered_once laws (wanted.CuredCases l) text files s bytes others failing fails
     one_by_cases laws.texts laws.programs laws.verdicts (Cures (Some l)) (λ s value checkers bytes others x y. one_cures laws.findings (Some l) s value checkers bytes others x y) text files s bytes others
     failing fails a b
 
-run_once : Laws → (t : Wanted) (s : Settings) (log : Recording) (programs : List (List ℕ)) (bytes others : List ℕ) (status ended : ℕ)
+run_once : Laws → (t : WantedAnswer) (s : Settings) (log : Recording) (programs : List (List ℕ)) (bytes others : List ℕ) (status ended : ℕ)
     → AnswersRun t s log programs bytes status → AnswersRun t s log programs others ended → Same bytes others status ended
 run_once laws t s log programs bytes others status ended a b =
     let same = answered_once laws t log programs s bytes others a.failing b.failing a.told b.told in
@@ -119,7 +119,7 @@ same_files files xs ys a b = sym (contents_are xs) ∙ ap contents (sym a ∙ b)
 pub same_initial : (files : Files) (xs ys : List ℕ) → initial_of files.base ≡ Some xs → initial_of files.base ≡ Some ys → xs ≡ ys
 same_initial files xs ys a b = let both : Some xs ≡ Some ys = sym a ∙ b in cc
 
-files_once : Laws → (t : Wanted) (s : Settings) (files : Files) (bytes others : List ℕ) (status ended : ℕ)
+files_once : Laws → (t : WantedAnswer) (s : Settings) (files : Files) (bytes others : List ℕ) (status ended : ℕ)
     → AnswersFiles t s files bytes status → AnswersFiles t s files others ended → Same bytes others status ended
 files_once laws t s files bytes others status ended a b =
     let all : b.log ∷ b.programs ≡ a.log ∷ a.programs = same_files files.named (b.log ∷ b.programs) (a.log ∷ a.programs) b.read a.read in
@@ -133,7 +133,7 @@ files_once laws t s files bytes others status ended a b =
 pub same_settings : (w : OptionWords) (s t : Settings) → AskFor w s → AskFor w t → s ≡ t
 same_settings w s t a b = let both : Some s ≡ Some t = sym a.asked ∙ b.asked in cc
 
-explore_once : Laws → (t : Wanted) (w : OptionWords) (files : Files) (bytes others : List ℕ) (status ended : ℕ)
+explore_once : Laws → (t : WantedAnswer) (w : OptionWords) (files : Files) (bytes others : List ℕ) (status ended : ℕ)
     → AnswersExplore t w files bytes status → AnswersExplore t w files others ended → Same bytes others status ended
 explore_once laws t w files bytes others status ended a b =
     let same = same_settings w b.settings a.settings b.asked a.asked in

@@ -36,8 +36,8 @@ use Rattle.runs.specs.Cured.{TellsCure, IsCasesCured, IsAnswered}
 use Rattle.runs.specs.Cases.{IsLosses}
 use Rattle.runs.specs.Why.{Tells}
 use Rattle.runs.specs.Judged.{takes}
-use Rattle.runs.specs.declared.explore_command.Wanted.{Wanted}
-use Rattle.runs.specs.declared.explore_command.Wanted.TheVariants as wanted
+use Rattle.runs.specs.declared.explore_command.WantedAnswer.{WantedAnswer}
+use Rattle.runs.specs.declared.explore_command.WantedAnswer.TheVariants as wanted
 use Rattle.base.specs.Sizes.{sector_limit}
 use Rattle.base.specs.declared.limits.Limits.{Limits}
 use Rattle.raw_log.specs.Imported.{IsImported}
@@ -201,7 +201,7 @@ cured_or_refusal below one l text files s bytes failing _ taken h (for_cure m va
     absurd (not_many one.findings (losses_of l s) h.value s.by (case_cuts l.at_most s.cuts h.value.entries) h.checkers finds.found cut finds.are finds.few by_checkers)
 
 -- whatever is wanted
-answer_or_none : Below → CasesAreOne → (t : Wanted) (text : Recording) (files : List (List ℕ)) (s : Settings) (bytes : List ℕ) (failing : Bool) (r : Refusal)
+answer_or_none : Below → CasesAreOne → (t : WantedAnswer) (text : Recording) (files : List (List ℕ)) (s : Settings) (bytes : List ℕ) (failing : Bool) (r : Refusal)
     → takes t s.extent ≡ true → IsAnswered t text files s bytes failing → RefusesWanted t text files s r → IsOfMemory r.code
 answer_or_none below one (wanted.Told kind) text files s bytes failing r taken h why =
     wanted_or_refusal below (wanted.Told kind) (λ s value checkers bytes. Tells kind (inputs_number text.text files) s value checkers bytes) (λ l is. told_apart kind l is)
@@ -211,7 +211,7 @@ answer_or_none below one wanted.Cured text files s bytes failing r taken h why =
 answer_or_none below one (wanted.Cases l) text files s bytes failing r taken h why = cases_or_refusal below one l text files s bytes failing r taken h why
 answer_or_none below one (wanted.CuredCases l) text files s bytes failing r taken h why = cured_or_refusal below one l text files s bytes failing r taken h why
 
-of_files : Below → CasesAreOne → (t : Wanted) (files : Files) (s : Settings) (bytes : List ℕ) (status : ℕ) (r : Refusal) → AnswersFiles t s files bytes status → RefusesFiles t files s r
+of_files : Below → CasesAreOne → (t : WantedAnswer) (files : Files) (s : Settings) (bytes : List ℕ) (status : ℕ) (r : Refusal) → AnswersFiles t s files bytes status → RefusesFiles t files s r
     → IsOfMemory r.code
 of_files below one t files s bytes status _ h (for_unread place unreadable) =
     absurd (none_unread h.log h.programs place (subst (λ (fs : List (Option (List ℕ))). unread fs ≡ Some place) h.read unreadable))
@@ -227,7 +227,7 @@ of_files below one t files s bytes status _ h (for_run log programs initial r re
     (subst (λ (ps : List (List ℕ)). RefusesWanted t (recording h.log h.initial) ps s r) others by_log)
 of_files below one t files s bytes status _ h (for_memory readable) = refl
 
-of_explore : Below → CasesAreOne → (t : Wanted) (w : OptionWords) (files : Files) (bytes : List ℕ) (status : ℕ) (r : Refusal) → AnswersExplore t w files bytes status
+of_explore : Below → CasesAreOne → (t : WantedAnswer) (w : OptionWords) (files : Files) (bytes : List ℕ) (status : ℕ) (r : Refusal) → AnswersExplore t w files bytes status
     → RefusesWith w (RefusesFiles t files) r → IsOfMemory r.code
 of_explore below one t w files bytes status r h why =
     of_words w h.settings (RefusesFiles t files) r h.asked (λ q. of_files below one t files h.settings bytes status q h.answers) why
@@ -240,7 +240,7 @@ of_cases below one cured w l files bytes status r h why = of_words w h.settings 
     rest _ (for_losses q bad) = absurd (let both : None ≡ Some q = sym h.good ∙ bad in cc)
     rest _ (for_cases_of q good refused) = of_files below one (wanted_by cured (losses_asked l h.settings)) files h.settings bytes status q h.answers refused
 
-of_stored : Below → CasesAreOne → (t : Wanted) (text : Recording) (files : List (List ℕ)) (s : Settings) (bytes : List ℕ) (status : ℕ) (r : Refusal) → AnswersRun t s text files bytes status
+of_stored : Below → CasesAreOne → (t : WantedAnswer) (text : Recording) (files : List (List ℕ)) (s : Settings) (bytes : List ℕ) (status : ℕ) (r : Refusal) → AnswersRun t s text files bytes status
     → (r ≡ memory_refusal) ⊎ RefusesWanted t text files s r → IsOfMemory r.code
 of_stored below one t text files s bytes status r h (inl same) = subst (λ (q : Refusal). IsOfMemory q.code) (sym same) refl
 of_stored below one t text files s bytes status r h (inr why) =

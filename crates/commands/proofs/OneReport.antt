@@ -27,8 +27,8 @@ use Rattle.request.specs.Extents.{most_images, has_extent}
 use Rattle.runs.specs.Inputs.{inputs_number}
 use Rattle.runs.specs.Judged.{takes}
 use Rattle.request.specs.declared.any_losses.AnyLosses.{AnyLosses}
-use Rattle.runs.specs.declared.explore_command.Wanted.{Wanted}
-use Rattle.runs.specs.declared.explore_command.Wanted.TheVariants as wanted
+use Rattle.runs.specs.declared.explore_command.WantedAnswer.{WantedAnswer}
+use Rattle.runs.specs.declared.explore_command.WantedAnswer.TheVariants as wanted
 use Rattle.runs.specs.Programs.{IsAcceptedChecker, IsRunWithin}
 use Rattle.runs.specs.Explore as explore
 use Rattle.runs.specs.Explore.{IsProgramCount, IsCheckerOf, AreCheckersOf, subject_of, report_of, IsRun, RefusesProgram, with_code_fault, with_verifier_fault, no_code_memory, no_verifier_memory, no_list_memory, Refuses, for_count, for_program, RefusesWanted, for_extent, for_rest, for_cases, for_cure}
@@ -216,7 +216,7 @@ pub cured_by_images : (l : AnyLosses) → wanted.Cured ≡ wanted.CuredCases l �
 cured_by_images l is = let bad : wanted.Cured ≡ wanted.CuredCases l = is in cc
 
 -- a run that judges the images that are meant, and isn't asked for cases
-pub wanted_or_refusal : Below → (w : Wanted) (Tells : Settings → LogValue → List CheckerValue → List ℕ → Type 0) → ((l : AnyLosses) → w ≡ wanted.Cases l → ⊥)
+pub wanted_or_refusal : Below → (w : WantedAnswer) (Tells : Settings → LogValue → List CheckerValue → List ℕ → Type 0) → ((l : AnyLosses) → w ≡ wanted.Cases l → ⊥)
     → ((l : AnyLosses) → w ≡ wanted.CuredCases l → ⊥)
     → (text : Recording) (files : List (List ℕ)) (s : Settings) (bytes : List ℕ) (failing : Bool) (r : Refusal) → takes w s.extent ≡ true → IsRun Tells text files s bytes failing
     → RefusesWanted w text files s r → IsOfMemory r.code

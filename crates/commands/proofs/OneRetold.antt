@@ -21,8 +21,8 @@ use Rattle.request.specs.declared.settings.Retelling.{Retelling}
 use Rattle.request.specs.declared.settings.Retelling.TheVariants as retelling
 use Rattle.request.specs.Source.{Recording, HasImages}
 use Rattle.epochs.specs.Flushes.{places_of}
-use Rattle.retold.specs.declared.command.Fault.{Fault}
-use Rattle.retold.specs.declared.command.Fault.TheVariants as fault
+use Rattle.retold.specs.declared.command.RetellFault.{RetellFault}
+use Rattle.retold.specs.declared.command.RetellFault.TheVariants as fault
 use Rattle.retold.specs.Told.{images_told_of, outcomes_told_of, AreMissingFor, AreCausesOf, causes_after, opening_told, missing_told, count_of, TellsWhy, IsSaid, of_checker, of_own, TellsPage, TellsPlaces, uncured_told, end_told}
 use Rattle.retold.specs.Retold as retold
 use Rattle.retold.specs.Retold.{options_given, starts_given, IsGiven, Retells, IsRetoldOf, IsRetold, RefusesSourceAs, RefusesReport, RefusesRetold}
@@ -147,15 +147,15 @@ one_retold texts t text report s bytes others failing fails a b =
     one_of t s a.value report bytes others failing fails a.told (subst (λ (v : LogValue). IsRetoldOf t s v report others fails) value b.told)
 
 -- a report of which something is told is refused for want of memory alone
-of_sources : Below → (text : Recording) (s : Settings) (a : LogValue) (f : Fault) → HasImages text s a → RefusesSourceAs text s f → IsOfMemory (retold_refusal f).code
+of_sources : Below → (text : Recording) (s : Settings) (a : LogValue) (f : RetellFault) → HasImages text s a → RefusesSourceAs text s f → IsOfMemory (retold_refusal f).code
 of_sources below text s a _ h (retold.with_refusal r why) = of_source below text s a r h why
 
-of_report : (t : Retelling) (s : Settings) (value : LogValue) (report bytes : List ℕ) (failing : Bool) (f : Fault) → IsRetoldOf t s value report bytes failing → RefusesReport s value report f
+of_report : (t : Retelling) (s : Settings) (value : LogValue) (report bytes : List ℕ) (failing : Bool) (f : RetellFault) → IsRetoldOf t s value report bytes failing → RefusesReport s value report f
     → IsOfMemory (retold_refusal f).code
 of_report t s value report bytes failing _ h (retold.no_report line none) = absurd (none.none h.given h.is.is)
 of_report t s value report bytes failing _ h retold.no_memory = refl
 
-pub retold_or_refusal : Below → (t : Retelling) (text : Recording) (report : List ℕ) (s : Settings) (bytes : List ℕ) (failing : Bool) (f : Fault) → IsRetold t text report s bytes failing
+pub retold_or_refusal : Below → (t : Retelling) (text : Recording) (report : List ℕ) (s : Settings) (bytes : List ℕ) (failing : Bool) (f : RetellFault) → IsRetold t text report s bytes failing
     → RefusesRetold text report s f → IsOfMemory (retold_refusal f).code
 retold_or_refusal below t text report s bytes failing _ h (retold.for_part part) = absurd (part h.whole)
 retold_or_refusal below t text report s bytes failing _ h (retold.too_long whole long) = absurd (let short = h.short in omega (arith, short, long))

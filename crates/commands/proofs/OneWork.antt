@@ -40,8 +40,8 @@ use Rattle.runs.specs.Why.{Tells}
 use Rattle.join.specs.Given.{GivenValue}
 use Rattle.retold.specs.Retold.{head_given, Retells}
 use Rattle.losses.specs.declared.flushes.counted.MissingFlush.{MissingFlush}
-use Rattle.runs.specs.declared.explore_command.Wanted.{Wanted}
-use Rattle.runs.specs.declared.explore_command.Wanted.TheVariants as wanted
+use Rattle.runs.specs.declared.explore_command.WantedAnswer.{WantedAnswer}
+use Rattle.runs.specs.declared.explore_command.WantedAnswer.TheVariants as wanted
 use Rattle.inspect.specs.Image.{IsImage, IsShown}
 use Rattle.inspect.specs.AnyImage.{any_text_in, IsAnyImage}
 use Rattle.inspect.specs.CutSurvey.{IsCutSurvey}
@@ -241,7 +241,7 @@ by_cases_alone Is keeps text files s bytes failing h =
       tells = keeps s h.value h.checkers bytes failing h.tells;
     }
 
-answered_alone : (w : Wanted) (text : Recording) (files : List (List ℕ)) (s : Settings) (bytes : List ℕ) (failing : Bool)
+answered_alone : (w : WantedAnswer) (text : Recording) (files : List (List ℕ)) (s : Settings) (bytes : List ℕ) (failing : Bool)
     → IsAnswered w text files s bytes failing → IsAnswered w text files (set_alone s) bytes failing
 answered_alone (wanted.Told t) text files s bytes failing h =
     run_alone (λ s value checkers bytes. Tells t (inputs_number text.text files) s value checkers bytes) (tells_alone t (inputs_number text.text files)) text files s bytes failing h
@@ -251,7 +251,7 @@ answered_alone (wanted.Cases l) text files s bytes failing h =
 answered_alone (wanted.CuredCases l) text files s bytes failing h =
     by_cases_alone (Cures (Some l)) (λ s value cs bytes failing. cures_alone (Some l) s value cs bytes failing) text files s bytes failing h
 
-explore_alone : (t : Wanted) (w : OptionWords) (files : Files) (bytes : List ℕ) (status : ℕ)
+explore_alone : (t : WantedAnswer) (w : OptionWords) (files : Files) (bytes : List ℕ) (status : ℕ)
     → AnswersExplore t w files bytes status → AnswersExplore t (alone w) files bytes status
 explore_alone t w files bytes status h =
     let run = h.answers.answers in

@@ -9,7 +9,7 @@ use Rattle.request.specs.declared.command.Request.TheVariants as request
 use Rattle.request.specs.declared.extent.Extent.TheVariants as extent
 use Rattle.request.specs.OptionWords.{AskFor}
 use Rattle.request.specs.Source.{Recording, IsLogOf, HasImages}
-use Rattle.runs.specs.declared.explore_command.Wanted.TheVariants as wanted
+use Rattle.runs.specs.declared.explore_command.WantedAnswer.TheVariants as wanted
 use Rattle.runs.specs.Cured.{IsAnswered}
 use Rattle.runs.specs.Explore.{AreCheckersOf, head_of}
 use Rattle.runs.specs.Judged.{takes}

@@ -6,9 +6,9 @@ use Rattle.base.specs.declared.causes.JoinCause.TheVariants as joining
 use Rattle.base.specs.declared.refusal.Cause.TheVariants.{Join}
 use Rattle.base.specs.declared.refusal.Refusal.{Refusal}
 use Rattle.base.specs.Refusals.{memory_refusal}
-use Rattle.commands.specs.declared.action.Held.{Held}
-use Rattle.commands.specs.declared.action.Look.{Look}
-use Rattle.commands.specs.declared.action.Look.TheVariants as look
+use Rattle.commands.specs.declared.action.HeldFiles.{HeldFiles}
+use Rattle.commands.specs.declared.action.LogLook.{LogLook}
+use Rattle.commands.specs.declared.action.LogLook.TheVariants as look
 use Rattle.commands.specs.Stored.{stored_log, stored_programs, stored_settings}
 use Rattle.request.specs.declared.settings.Settings.{Settings}
 use Rattle.request.specs.declared.any_losses.AnyLosses.{AnyLosses}
@@ -28,11 +28,11 @@ use Rattle.request.specs.declared.settings.Telling.TheVariants as telling
 use Rattle.base.specs.declared.causes.RequestCause.TheVariants as asked
 use Rattle.base.specs.declared.refusal.Cause.TheVariants.{Request as AskedFor}
 use Rattle.request.specs.declared.settings.Retelling.{Retelling}
-use Rattle.retold.specs.declared.command.Fault.{Fault}
-use Rattle.retold.specs.declared.command.Fault.TheVariants as fault
+use Rattle.retold.specs.declared.command.RetellFault.{RetellFault}
+use Rattle.retold.specs.declared.command.RetellFault.TheVariants as fault
 use Rattle.retold.specs.Retold.{IsRetold, RefusesRetold}
-use Rattle.runs.specs.declared.explore_command.Wanted.{Wanted}
-use Rattle.runs.specs.declared.explore_command.Wanted.TheVariants as wanted
+use Rattle.runs.specs.declared.explore_command.WantedAnswer.{WantedAnswer}
+use Rattle.runs.specs.declared.explore_command.WantedAnswer.TheVariants as wanted
 use Rattle.runs.specs.Explore.{RefusesWanted}
 use Rattle.runs.specs.Judged.{takes}
 use Rattle.runs.specs.Cured.{IsAnswered}
@@ -66,7 +66,7 @@ pub record Files : Type 0 where
 abbrev pub files_of : {V : Type 0} → (V → List ℕ) → List (Option V) → Option (Option V) → List ℕ → Files
 files_of items named base choice = record { named = map (option_map items) named; base = option_map (option_map items) base; choice = choice }
 
-abbrev pub held_by : Held → Files
+abbrev pub held_by : HeldFiles → Files
 held_by held = files_of (λ f. f.items) held.named.now held.base.now held.choice.now
 
 -- the place of the first file that can't be read; without any file the first can't be read
@@ -117,14 +117,14 @@ abbrev pub status_of : Bool → ℕ
 status_of failing = if failing then 1 else 0
 
 -- what a run answers, and its status
-pub record AnswersRun (t : Wanted) (s : Settings) (log : Recording) (programs : List (List ℕ)) (bytes : List ℕ) (status : ℕ) : Type 0 where
+pub record AnswersRun (t : WantedAnswer) (s : Settings) (log : Recording) (programs : List (List ℕ)) (bytes : List ℕ) (status : ℕ) : Type 0 where
   pub taken : takes t s.extent ≡ true
   pub failing : Bool
   pub told : IsAnswered t log programs s bytes failing
   pub ends : status ≡ status_of failing
 
 -- the same of a run over the command's files, the log first
-pub record AnswersFiles (t : Wanted) (s : Settings) (files : Files) (bytes : List ℕ) (status : ℕ) : Type 0 where
+pub record AnswersFiles (t : WantedAnswer) (s : Settings) (files : Files) (bytes : List ℕ) (status : ℕ) : Type 0 where
   pub log : List ℕ
   pub programs : List (List ℕ)
   pub initial : List ℕ
@@ -133,13 +133,13 @@ pub record AnswersFiles (t : Wanted) (s : Settings) (files : Files) (bytes : Lis
   pub answers : AnswersRun t s (recording log initial) programs bytes status
 
 -- the same of the settings that the words ask for
-pub record AnswersExplore (t : Wanted) (w : OptionWords) (files : Files) (bytes : List ℕ) (status : ℕ) : Type 0 where
+pub record AnswersExplore (t : WantedAnswer) (w : OptionWords) (files : Files) (bytes : List ℕ) (status : ℕ) : Type 0 where
   pub settings : Settings
   pub asked : AskFor w settings
   pub answers : AnswersFiles t settings files bytes status
 
 -- what is wanted of any number of losses: its cases, or where flushes are missing for them
-abbrev pub wanted_by : Bool → AnyLosses → Wanted
+abbrev pub wanted_by : Bool → AnyLosses → WantedAnswer
 wanted_by cured l = if cured then wanted.CuredCases l else wanted.Cases l
 
 -- the same of what the words ask of any number of losses
@@ -271,7 +271,7 @@ pub record AnswersJoin (part : Bool) (files : Files) (bytes : List ℕ) (status 
   pub joins : JoinsEither part texts bytes status
 
 -- what is shown of a log
-abbrev pub Shows : Look → Settings → Recording → List ℕ → Type 0
+abbrev pub Shows : LogLook → Settings → Recording → List ℕ → Type 0
 Shows (look.Images parts) s text = IsSurvey parts text s
 Shows look.Export s text = IsExport text s
 Shows look.Log s text = IsTable text s
@@ -322,7 +322,7 @@ pub data RefusesRecording (files : Files) (Rest : Recording → Refusal → Type
 
 -- the refusals of a run's command after its options: the first file that can't be read, that of the initial content last, then
 -- those of the run; or want of memory
-pub data RefusesFiles (t : Wanted) (files : Files) (s : Settings) : Refusal → Type 0 where
+pub data RefusesFiles (t : WantedAnswer) (files : Files) (s : Settings) : Refusal → Type 0 where
   for_unread : (place : ℕ) → unread files.named ≡ Some place → RefusesFiles t files s (file_refusal place)
   for_base : unread files.named ≡ None → initial_of files.base ≡ None → RefusesFiles t files s (file_refusal (length files.named))
   for_run : (log : List ℕ) (programs : List (List ℕ)) (initial : List ℕ) (r : Refusal) → files.named ≡ map Some (log ∷ programs)
@@ -330,7 +330,7 @@ pub data RefusesFiles (t : Wanted) (files : Files) (s : Settings) : Refusal → 
   for_memory : unread files.named ≡ None → RefusesFiles t files s memory_refusal
 
 -- the refusal of a report, or of what it is to be of: 16 at the line at which a report shows that it is none
-abbrev pub retold_refusal : Fault → Refusal
+abbrev pub retold_refusal : RetellFault → Refusal
 retold_refusal (fault.Refused r) = r
 retold_refusal (fault.Report line) = record { code = AskedFor asked.NotReport; at = line; program = None }
 
@@ -341,7 +341,7 @@ pub data RefusesReportOf (t : Retelling) (files : Files) (s : Settings) : Refusa
   for_report_file : (log : List ℕ) → first_held files ≡ Some log → second_held files ≡ None → RefusesReportOf t files s (file_refusal 1)
   for_base_of_report : (log report : List ℕ) → first_held files ≡ Some log → second_held files ≡ Some report → initial_of files.base ≡ None
       → RefusesReportOf t files s (file_refusal (length files.named))
-  for_retold : (log report initial : List ℕ) (f : Fault) → first_held files ≡ Some log → second_held files ≡ Some report → initial_of files.base ≡ Some initial
+  for_retold : (log report initial : List ℕ) (f : RetellFault) → first_held files ≡ Some log → second_held files ≡ Some report → initial_of files.base ≡ Some initial
       → RefusesRetold (recording log initial) report s f → RefusesReportOf t files s (retold_refusal f)
 
 -- the refusals of a run by cases after its options: what is asked of losses first
@@ -396,7 +396,7 @@ pub data RefusesParts (part : Bool) (files : Files) : Refusal → Type 0 where
   for_part_memory : unread files.named ≡ None → RefusesParts part files (join_refusal (record { cause = joining.Memory; file = 0 }))
 
 -- when it is refused to show that of a log
-abbrev pub RefusesLook : Look → Settings → Recording → Refusal → Type 0
+abbrev pub RefusesLook : LogLook → Settings → Recording → Refusal → Type 0
 RefusesLook (look.Images parts) s text = RefusesSurvey parts text s
 RefusesLook look.Export s text = RefusesExport text s
 RefusesLook look.Log s text = RefusesTable text s

@@ -6,7 +6,7 @@ ghost use Rattle.base.specs.Refusals.{memory_refusal};
 ghost use Rattle.request.specs.declared.command.Request.TheVariants as asks;
 ghost use Rattle.runs.specs.Explore.{RefusesWanted};
 ghost use Rattle.request.specs.Refusals.{file_refusal};
-ghost use Rattle.runs.specs.declared.explore_command.Wanted.TheVariants as wants;
+ghost use Rattle.runs.specs.declared.explore_command.WantedAnswer.TheVariants as wants;
 ghost use Rattle.commands.specs.Acting.{first_held, second_held, lines_held, files_of, held_by, initial_of, recording, status_of, HoldsRecording, RefusesRecording, AnswersRun, AnswersFiles, AnswersExplore, AnswersCases, wanted_by, AnswersCuts, RefusesCuts, AnswersRetold, RefusesReportOf, retold_refusal, AnswersAny, RefusesAny, any_words, form_of, Shows, AnswersOf, Answers, JoinsCases, JoinsEither, JoinsTexts, RefusesTexts, are_cases, cases_refusal, join_refusal, most_texts, RefusesWith, RefusesCases, RefusesLook, RefusesToAct, RefusesFiles};
 ghost use Rattle.commands.specs.Stored.{stored_log, stored_programs, stored_settings};
 ghost use Rattle.request.specs.declared.settings.Telling.TheVariants as tells;
@@ -27,8 +27,8 @@ use request::{
     AnyLosses, CaseTelling, LossWords, OptionWords, Options, Request, Retelling, Telling,
     TrialWords, Which, losses_of, options_of, trial_of, unreadable,
 };
-use retold::{Fault, retell};
-use runs::{Question, Wanted, run_with};
+use retold::{RetellFault, retell};
+use runs::{Question, WantedAnswer, run_with};
 use std::alloc::{AllocError, Global};
 use std::sync::Wait;
 use std::thread::Threads;
@@ -42,7 +42,7 @@ const CASES_LINE: &[u8] = b"crash cases 1\n";
 
 /// What is shown of a log, for which no program runs.
 #[derive(Clone, Copy)]
-pub(crate) enum Look {
+pub(crate) enum LogLook {
     /// How many crash images each cut has, and how the run is laid out in that many parts, where that is asked for.
     Images(Option<u64>),
     /// The bytes of its crash images.
@@ -58,13 +58,13 @@ pub(crate) enum Look {
 /// What each file of a command holds, none where it could not be read: those that it names by themselves, and the one after
 /// `--base`, where that stands there. Beside them the text after `--choice`.
 #[derive(Clone, Copy)]
-pub(crate) struct Held<'x> {
+pub(crate) struct HeldFiles<'x> {
     pub named: &'x [Option<Vec<u8>>],
     pub base: &'x Option<Option<Vec<u8>>>,
     pub choice: &'x str,
 }
 
-impl<'x> Held<'x> {
+impl<'x> HeldFiles<'x> {
     /// What the first file holds: a log, a source text or a program.
     fn first(&self) -> Result<&'x [u8], Refusal>
         ensures { MatchResult result (λ bytes. first_held (held_by self.now) ≡ Some bytes.now)
@@ -121,10 +121,10 @@ impl<'x> Held<'x> {
     }
 
     /// A run's command of such words on these files.
-    fn run_asked_for(&'x self, wanted: Wanted, words: OptionWords) -> Asked<'x>
+    fn run_asked_for(&'x self, wanted: WantedAnswer, words: OptionWords) -> AskedOfRun<'x>
         ensures { result ≡ record { wanted = wanted; words = words; files = self.entry } }
     {
-        Asked {
+        AskedOfRun {
             wanted,
             words,
             files: self,
@@ -134,10 +134,10 @@ impl<'x> Held<'x> {
 
 /// What a command asks of a run: for what, by which words, and of which files.
 #[derive(Clone, Copy)]
-struct Asked<'x> {
-    wanted: Wanted,
+struct AskedOfRun<'x> {
+    wanted: WantedAnswer,
     words: OptionWords,
-    files: &'x Held<'x>,
+    files: &'x HeldFiles<'x>,
 }
 
 /// The place of the first file that cannot be read.
@@ -181,7 +181,7 @@ fn act_explore<G: Gate + Sync, R: Threads + Wait + Sync>(
     rt: &R,
     alloc: Global,
     gate: &G,
-    asked: &Asked<'_>,
+    asked: &AskedOfRun<'_>,
     facts: &mut Facts,
 ) -> Result<(Vec<u8>, u8), Refusal>
     ensures answers { IfOk result (λ answer. AnswersExplore asked.now.wanted asked.now.words (held_by asked.now.files.now) answer.0.items answer.1) }
@@ -192,13 +192,13 @@ fn act_explore<G: Gate + Sync, R: Threads + Wait + Sync>(
 }
 
 /// What is wanted of any number of losses.
-fn wanted_by(cured: bool, losses: AnyLosses) -> Wanted
+fn wanted_by(cured: bool, losses: AnyLosses) -> WantedAnswer
     ensures { result ≡ wanted_by cured losses }
 {
     if cured {
-        Wanted::CuredCases(losses)
+        WantedAnswer::CuredCases(losses)
     } else {
-        Wanted::Cases(losses)
+        WantedAnswer::Cases(losses)
     }
 }
 
@@ -212,7 +212,7 @@ fn act_cases<G: Gate + Sync, R: Threads + Wait + Sync>(
     cured: bool,
     words: OptionWords,
     losses: LossWords,
-    files: &Held<'_>,
+    files: &HeldFiles<'_>,
     facts: &mut Facts,
 ) -> Result<(Vec<u8>, u8), Refusal>
     ensures answers { IfOk result (λ answer. AnswersCases cured words losses (held_by files.now) answer.0.items answer.1) }
@@ -220,7 +220,7 @@ fn act_cases<G: Gate + Sync, R: Threads + Wait + Sync>(
 {
     let options = options_of(words)?;
     let meant = losses_of(losses, &options)?;
-    let asked = Asked {
+    let asked = AskedOfRun {
         wanted: wanted_by(cured, meant),
         words,
         files,
@@ -233,7 +233,7 @@ fn explore_readable<G: Gate + Sync, R: Threads + Wait + Sync>(
     rt: &R,
     alloc: Global,
     gate: &G,
-    asked: &Asked<'_>,
+    asked: &AskedOfRun<'_>,
     options: &Options,
     facts: &mut Facts,
 ) -> Result<(Vec<u8>, u8), Refusal>
@@ -280,7 +280,7 @@ fn act_stored<G: Gate + Sync, R: Threads + Wait + Sync>(
         Ok((log, programs)) => {
             let recording = Recording::of(log.as_slice(), &[]);
             let question = Question {
-                wanted: Wanted::Told(Telling::Report),
+                wanted: WantedAnswer::Told(Telling::Report),
                 recording: &recording,
                 programs: programs.as_slice(),
                 options: &options,
@@ -294,7 +294,7 @@ fn act_stored<G: Gate + Sync, R: Threads + Wait + Sync>(
 /// What is shown of a log.
 fn shown(
     alloc: Global,
-    look: Look,
+    look: LogLook,
     recording: &Recording<'_>,
     options: &Options,
     facts: &mut Facts,
@@ -303,11 +303,11 @@ fn shown(
     ensures refused { IfErr result (RefusesLook look options.now recording.now) }
 {
     match look {
-        Look::Images(parts) => survey(alloc, recording, parts, options, facts),
-        Look::Export => export_images(alloc, recording, options, facts),
-        Look::Log => shown_log(alloc, recording, options, facts),
-        Look::Image(which) => image(alloc, recording, which, options, facts),
-        Look::Show(which) => show(alloc, recording, which, options, facts),
+        LogLook::Images(parts) => survey(alloc, recording, parts, options, facts),
+        LogLook::Export => export_images(alloc, recording, options, facts),
+        LogLook::Log => shown_log(alloc, recording, options, facts),
+        LogLook::Image(which) => image(alloc, recording, which, options, facts),
+        LogLook::Show(which) => show(alloc, recording, which, options, facts),
     }
 }
 
@@ -315,9 +315,9 @@ fn shown(
 #[inline(never)]
 fn act_look(
     alloc: Global,
-    look: Look,
+    look: LogLook,
     words: OptionWords,
-    files: &Held<'_>,
+    files: &HeldFiles<'_>,
     facts: &mut Facts,
 ) -> Result<(Vec<u8>, u8), Refusal>
     ensures answers { IfOk result (λ answer. AnswersOf words (λ s text. Shows look s text) (held_by files.now) answer.0.items answer.1) }
@@ -355,7 +355,7 @@ fn act_any_image(
     words: OptionWords,
     cut: u64,
     in_words: bool,
-    files: &Held<'_>,
+    files: &HeldFiles<'_>,
     facts: &mut Facts,
 ) -> Result<(Vec<u8>, u8), Refusal>
     ensures answers { IfOk result (λ answer. AnswersAny words cut in_words (held_by files.now) answer.0.items answer.1) }
@@ -376,7 +376,7 @@ fn act_cuts(
     words: OptionWords,
     losses: LossWords,
     parts: Option<u64>,
-    files: &Held<'_>,
+    files: &HeldFiles<'_>,
     facts: &mut Facts,
 ) -> Result<(Vec<u8>, u8), Refusal>
     ensures answers { IfOk result (λ answer. AnswersCuts words losses parts (held_by files.now) answer.0.items answer.1) }
@@ -390,12 +390,12 @@ fn act_cuts(
 }
 
 /// The refusal of a report, or of what it is to be of.
-fn retold_refusal_of(fault: Fault) -> Refusal
+fn retold_refusal_of(fault: RetellFault) -> Refusal
     ensures { result ≡ retold_refusal fault }
 {
     match fault {
-        Fault::Refused(refusal) => refusal,
-        Fault::Report(line) => Refusal {
+        RetellFault::Refused(refusal) => refusal,
+        RetellFault::Report(line) => Refusal {
             code: Cause::Request(RequestCause::NotReport),
             at: line,
             program: None,
@@ -408,7 +408,7 @@ fn act_retold(
     alloc: Global,
     telling: Retelling,
     words: OptionWords,
-    files: &Held<'_>,
+    files: &HeldFiles<'_>,
     facts: &mut Facts,
 ) -> Result<(Vec<u8>, u8), Refusal>
     ensures answers { IfOk result (λ answer. AnswersRetold telling words (held_by files.now) answer.0.items answer.1) }
@@ -427,7 +427,11 @@ fn act_retold(
 
 /// The log that is imported of a raw log.
 #[inline(never)]
-fn act_import(alloc: Global, limits: Limits, files: &Held<'_>) -> Result<(Vec<u8>, u8), Refusal>
+fn act_import(
+    alloc: Global,
+    limits: Limits,
+    files: &HeldFiles<'_>,
+) -> Result<(Vec<u8>, u8), Refusal>
     ensures answers { IfOk result (λ answer. Answers (asks.Import limits) (held_by files.now) answer.0.items answer.1) }
     ensures refused { IfErr result (RefusesToAct (asks.Import limits) (held_by files.now)) }
 {
@@ -442,7 +446,7 @@ fn act_verify(
     alloc: Global,
     words: OptionWords,
     listed: bool,
-    files: &Held<'_>,
+    files: &HeldFiles<'_>,
     facts: &mut Facts,
 ) -> Result<(Vec<u8>, u8), Refusal>
     ensures answers { IfOk result (λ answer. Answers (asks.Verify words listed) (held_by files.now) answer.0.items answer.1) }
@@ -466,7 +470,7 @@ fn status_of(failing: bool) -> u8
 fn act_check(
     alloc: Global,
     words: TrialWords,
-    files: &Held<'_>,
+    files: &HeldFiles<'_>,
     facts: &mut Facts,
 ) -> Result<(Vec<u8>, u8), Refusal>
     ensures answers { IfOk result (λ answer. Answers (asks.Check words) (held_by files.now) answer.0.items answer.1) }
@@ -483,7 +487,7 @@ fn act_check(
 
 /// The program of a source text, as bytes.
 #[inline(never)]
-fn act_asm(alloc: Global, files: &Held<'_>) -> Result<(Vec<u8>, u8), Refusal>
+fn act_asm(alloc: Global, files: &HeldFiles<'_>) -> Result<(Vec<u8>, u8), Refusal>
     ensures answers { IfOk result (λ answer. Answers asks.Asm (held_by files.now) answer.0.items answer.1) }
     ensures refused { IfErr result (RefusesToAct asks.Asm (held_by files.now)) }
 {
@@ -494,7 +498,7 @@ fn act_asm(alloc: Global, files: &Held<'_>) -> Result<(Vec<u8>, u8), Refusal>
 
 /// The listing of a program.
 #[inline(never)]
-fn act_list(alloc: Global, numbered: bool, files: &Held<'_>) -> Result<(Vec<u8>, u8), Refusal>
+fn act_list(alloc: Global, numbered: bool, files: &HeldFiles<'_>) -> Result<(Vec<u8>, u8), Refusal>
     ensures answers { IfOk result (λ answer. Answers (asks.List numbered) (held_by files.now) answer.0.items answer.1) }
     ensures refused { IfErr result (RefusesToAct (asks.List numbered) (held_by files.now)) }
 {
@@ -589,7 +593,7 @@ fn join_texts(alloc: Global, part: bool, texts: &[Vec<u8>]) -> Result<(Vec<u8>, 
 
 /// What the parts that the files hold come to.
 #[inline(never)]
-fn act_join(alloc: Global, part: bool, files: &Held<'_>) -> Result<(Vec<u8>, u8), Refusal>
+fn act_join(alloc: Global, part: bool, files: &HeldFiles<'_>) -> Result<(Vec<u8>, u8), Refusal>
     ensures answers { IfOk result (λ answer. Answers (asks.Join part) (held_by files.now) answer.0.items answer.1) }
     ensures refused { IfErr result (RefusesToAct (asks.Join part) (held_by files.now)) }
 {
@@ -614,7 +618,7 @@ pub(crate) fn act_known<G: Gate + Sync, R: Threads + Wait + Sync>(
     alloc: Global,
     gate: &G,
     words: &Words,
-    files: &Held<'_>,
+    files: &HeldFiles<'_>,
     facts: &mut Facts,
 ) -> Result<(Vec<u8>, u8), Refusal>
     ensures answers { IfOk result (λ answer. Answers words.now.request (held_by files.now) answer.0.items answer.1) }
@@ -623,7 +627,7 @@ pub(crate) fn act_known<G: Gate + Sync, R: Threads + Wait + Sync>(
     match words.request() {
         Request::StoredRun => act_stored(rt, alloc, gate, facts),
         Request::Explore(words) => {
-            let asked = files.run_asked_for(Wanted::Told(Telling::Report), words);
+            let asked = files.run_asked_for(WantedAnswer::Told(Telling::Report), words);
             act_explore(rt, alloc, gate, &asked, facts)
         }
         Request::Cases(words, losses) => {
@@ -633,27 +637,33 @@ pub(crate) fn act_known<G: Gate + Sync, R: Threads + Wait + Sync>(
             act_cases(rt, alloc, gate, true, words, losses, files, facts)
         }
         Request::Why(words) => {
-            let asked = files.run_asked_for(Wanted::Told(Telling::Causes), words);
+            let asked = files.run_asked_for(WantedAnswer::Told(Telling::Causes), words);
             act_explore(rt, alloc, gate, &asked, facts)
         }
         Request::Cure(words) => {
-            let asked = files.run_asked_for(Wanted::Cured, words);
+            let asked = files.run_asked_for(WantedAnswer::Cured, words);
             act_explore(rt, alloc, gate, &asked, facts)
         }
         Request::Page(words) => {
-            let asked = files.run_asked_for(Wanted::Told(Telling::Page), words);
+            let asked = files.run_asked_for(WantedAnswer::Told(Telling::Page), words);
             act_explore(rt, alloc, gate, &asked, facts)
         }
         Request::Retold(words, telling) => act_retold(alloc, telling, words, files, facts),
-        Request::Images(words, parts) => act_look(alloc, Look::Images(parts), words, files, facts),
+        Request::Images(words, parts) => act_look(
+            alloc,
+            LogLook::Images(parts),
+            words,
+            files,
+            facts,
+        ),
         Request::Cuts(words, losses, parts) => {
             act_cuts(alloc, words, losses, parts, files, facts)
         }
-        Request::Export(words) => act_look(alloc, Look::Export, words, files, facts),
-        Request::Log(words) => act_look(alloc, Look::Log, words, files, facts),
+        Request::Export(words) => act_look(alloc, LogLook::Export, words, files, facts),
+        Request::Log(words) => act_look(alloc, LogLook::Log, words, files, facts),
         Request::Import(limits) => act_import(alloc, limits, files),
-        Request::Image(words, which) => act_look(alloc, Look::Image(which), words, files, facts),
-        Request::Show(words, which) => act_look(alloc, Look::Show(which), words, files, facts),
+        Request::Image(words, which) => act_look(alloc, LogLook::Image(which), words, files, facts),
+        Request::Show(words, which) => act_look(alloc, LogLook::Show(which), words, files, facts),
         Request::AnyImage {
             words,
             cut,
@@ -688,7 +698,7 @@ pub fn act<G: Gate + Sync, R: Threads + Wait + Sync>(
     ensures answers { IfOk result (λ answer. Answers words.now.request (files_of (λ f. f.items) files.now base.now words.now.choice) answer.0.items answer.1) }
     ensures refused { IfErr result (RefusesToAct words.now.request (files_of (λ f. f.items) files.now base.now words.now.choice)) }
 {
-    let held = Held {
+    let held = HeldFiles {
         named: files,
         base,
         choice: words.choice(),

@@ -4,7 +4,7 @@ ghost use Rattle.std.specs.Prelude.{◌≡◌};
 ghost use Rattle.commands.specs.Acting.{files_of};
 ghost use Rattle.commands.specs.Exits.{Exits};
 
-use crate::action::{Held, act_known};
+use crate::action::{HeldFiles, act_known};
 use base::refusal::Refusal;
 use command_line::Words;
 use request::facts::Facts;
@@ -41,7 +41,7 @@ pub fn perform<G: Gate + Sync, R: Threads + Wait + Sync>(
 ) -> Exit
     ensures { Exits words.now.request (files_of (λ f. f.items) files.now base.now words.now.choice) result.output.items result.refusal result.status }
 {
-    let held = Held {
+    let held = HeldFiles {
         named: files,
         base,
         choice: words.choice(),

@@ -5,7 +5,7 @@ ghost use Rattle.request.specs.declared.command.Request.TheVariants as asks;
 ghost use Rattle.commands.specs.Acting.{files_of, held_by};
 ghost use Rattle.commands.specs.Exits.{IsWritten, IsStopped};
 
-use crate::action::Held;
+use crate::action::HeldFiles;
 use export::Output;
 use inspect::looks::{Stopped, write_images};
 use request::facts::Facts;
@@ -28,7 +28,7 @@ pub struct Streamed<W> {
 fn write_export<W: Write>(
     alloc: Global,
     words: OptionWords,
-    files: &Held<'_>,
+    files: &HeldFiles<'_>,
     facts: &mut Facts,
     output: Output<W>,
 ) -> (Result<(), Stopped>, Output<W>)
@@ -60,7 +60,7 @@ pub fn perform_export<W: Write>(
     ensures all { OnOk result.written (IsWritten (asks.Export words) (files_of (λ f. f.items) files.now base.now choice.now) (W.contents writer) (W.contents result.writer)) }
     ensures stopped { IfErr result.written (IsStopped (asks.Export words) (files_of (λ f. f.items) files.now base.now choice.now) (W.contents writer) (W.contents result.writer)) }
 {
-    let held = Held {
+    let held = HeldFiles {
         named: files,
         base,
         choice,

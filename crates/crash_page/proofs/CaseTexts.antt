@@ -21,8 +21,8 @@ use Rattle.case_text.proofs.Collecting.{case_at}
 use Rattle.crash_page.specs.declared.counts.CutCount.{CutCount}
 use Rattle.crash_page.specs.declared.cut.Showing.{Showing}
 use Rattle.crash_page.specs.declared.parts.Room.{Room}
-use Rattle.crash_page.specs.declared.parts.Row.{Row}
-use Rattle.crash_page.specs.declared.pieces.Piece.TheVariants as piece
+use Rattle.crash_page.specs.declared.parts.CaseRow.{CaseRow}
+use Rattle.crash_page.specs.declared.pieces.PagePart.TheVariants as piece
 use Rattle.crash_page.specs.Pieces.{piece_text}
 use Rattle.crash_page.specs.Counts.{failing_of, case_count}
 use Rattle.crash_page.specs.Groups.{shown_of, one_failing, showing}
@@ -85,7 +85,7 @@ counts_within l program cs counts are is = subst (λ xs. All (λ (c : CutCount).
         omega (arith, cut, one, other)
 
 -- the parts of a case, with the set at the place of one
-pub parts_more : (row : Row) (parts : List Part) (sets : List ℕ) (n bits : ℕ) (d : Part) (room next : Room) (start before now : List ℕ) → Apart parts → n < length parts
+pub parts_more : (row : CaseRow) (parts : List Part) (sets : List ℕ) (n bits : ℕ) (d : Part) (room next : Room) (start before now : List ℕ) → Apart parts → n < length parts
     → fates_in bits ≡ option_map_or fates_in (slice_get sets n) (all_fates row.tears)
     → before ++ parts_from row (case_of row.tears parts sets) (length parts) room (drop n parts) ≡ start ++ all_parts row (case_of row.tears parts sets) parts
     → now ≡ before ++ part_shown row room (get_or parts n d) (fates_in bits) → next ≡ less_room room (state_of row.tears (fates_in bits))
@@ -101,7 +101,7 @@ parts_more row parts sets n bits d room next start before now apart within set s
     rw (taken ∙ ap (λ fates. less_room room (state_of row.tears fates)) own)
     (next_piece start before (part_shown row room p (c p)) now _ _ opened (written ∙ ap (λ fates. before ++ part_shown row room p fates) own))
 
-pub parts_end : (row : Row) (parts : List Part) (sets : List ℕ) (n hidden : ℕ) (room : Room) (start before now : List ℕ) → length parts ≤ n
+pub parts_end : (row : CaseRow) (parts : List Part) (sets : List ℕ) (n hidden : ℕ) (room : Room) (start before now : List ℕ) → length parts ≤ n
     → hidden ≡ length parts - (room_left full_room - room_left room)
     → before ++ parts_from row (case_of row.tears parts sets) (length parts) room (drop n parts) ≡ start ++ all_parts row (case_of row.tears parts sets) parts
     → now ≡ before ++ hidden_text hidden → now ≡ start ++ all_parts row (case_of row.tears parts sets) parts
@@ -111,7 +111,7 @@ parts_end row parts sets n hidden room start before now past count so_far writte
     ∙ ap (λ (rest : List Part). before ++ parts_from row c (length parts) room rest) (sym (drop_all parts n past)) ∙ so_far
 
 -- a case, part by part
-pub row_written : (row : Row) (parts : List Part) (f : FailingValue) (sets : List ℕ) (old said opened told now : List ℕ) → sets ≡ f.sets → said ≡ old ++ case_said f row.window
+pub row_written : (row : CaseRow) (parts : List Part) (f : FailingValue) (sets : List ℕ) (old said opened told now : List ℕ) → sets ≡ f.sets → said ≡ old ++ case_said f row.window
     → opened ≡ said ++ piece_text piece.CaseParts → told ≡ opened ++ all_parts row (case_of row.tears parts sets) parts → now ≡ told ++ piece_text piece.CaseClose
     → now ≡ old ++ row_text row (case_of row.tears parts f.sets) parts f
 unfolding row_text
@@ -135,7 +135,7 @@ rows_next at tears xs n x y first before after more same was is =
     is ∙ (λ i. was i ++ item i) ∙ append_assoc first (flat_map own (take n xs)) (own x) ∙ ap (λ t. first ++ t) (sym pushed)
 
 -- a case, by what is known of it
-pub case_told : (at : CutValue) (tears : Bool) (f : FailingValue) (known : KnownValue) (row : Row) (parts : List Part) (sets : List ℕ) (old now : List ℕ)
+pub case_told : (at : CutValue) (tears : Bool) (f : FailingValue) (known : KnownValue) (row : CaseRow) (parts : List Part) (sets : List ℕ) (old now : List ℕ)
     → parts ≡ parts_of at → sets ≡ f.sets → row.by ≡ at.way → row.tears ≡ tears → known ≡ known_of row.tears (case_of row.tears parts sets) parts
     → row.window ≡ between known.first_lost (later (last_staying at) known.last_arrived) → now ≡ old ++ row_text row (case_of row.tears parts f.sets) parts f
     → now ≡ old ++ case_row at tears f

@@ -7,10 +7,10 @@ use Rattle.logfmt.specs.declared.entry.Entry.{Entry}
 use Rattle.epochs.specs.Units.{epoch_at}
 use Rattle.notes.specs.LogTable.{word_text, is_write, what_text}
 use Rattle.losses.specs.declared.flushes.counted.MissingFlush.{MissingFlush}
-use Rattle.crash_page.specs.declared.pieces.Piece.TheVariants as piece
+use Rattle.crash_page.specs.declared.pieces.PagePart.TheVariants as piece
 use Rattle.crash_page.specs.Pieces.{piece_text}
 use Rattle.crash_page.specs.declared.counts.CutCount.{CutCount}
-use Rattle.crash_page.specs.declared.counts.Kind.{Kind}
+use Rattle.crash_page.specs.declared.counts.JudgedKind.{JudgedKind}
 use Rattle.crash_page.specs.Counts.{kind_word}
 use Rattle.crash_page.specs.Html.{html}
 use Rattle.crash_page.specs.Lacking.{flush_name, flush_title, most_named}
@@ -133,10 +133,10 @@ unfoldable pub row_blocks : List Entry → ℕ → List MissingFlush → List Cu
 row_blocks es program ms cs = flat_map (row_at es program ms cs) (range_with_len 0 (length es + 1))
 
 -- for what a cell of a large log stands
-unfoldable pub cell_means : Kind → List Entry → List ℕ
+unfoldable pub cell_means : JudgedKind → List Entry → List ℕ
 cell_means of es = piece_text piece.WidthOpen ++ decimal (width_of es) ++ piece_text piece.WidthClose ++ kind_word of ++ piece_text piece.WidthEnd
 
-abbrev pub width_text : Kind → List Entry → List ℕ
+abbrev pub width_text : JudgedKind → List Entry → List ℕ
 width_text of es = if is_large es then cell_means of es else []
 
 -- the line of an entry in its block: its number, its epoch, and what it asks of the device

@@ -13,13 +13,13 @@ use Rattle.case_runs.specs.declared.found.Losses.{Losses}
 use Rattle.case_runs.specs.declared.found.CutFound.{CutFound}
 use Rattle.case_runs.specs.Leaves.{failing_value}
 use Rattle.case_text.specs.Text.{options_text, count_torn_beyond, count_lost_beyond}
-use Rattle.crash_page.specs.declared.pieces.Piece.TheVariants as piece
+use Rattle.crash_page.specs.declared.pieces.PagePart.TheVariants as piece
 use Rattle.crash_page.specs.Pieces.{piece_text}
-use Rattle.crash_page.specs.declared.counts.Kind.TheVariants as kind
+use Rattle.crash_page.specs.declared.counts.JudgedKind.TheVariants as kind
 use Rattle.crash_page.specs.declared.counts.CutCount.{CutCount}
 use Rattle.crash_page.specs.Counts.{count_fails, all_in, failing_in, failing_of, case_count}
 use Rattle.crash_page.specs.declared.cut.Showing.{Showing}
-use Rattle.crash_page.specs.declared.judge.Judge.TheVariants as judging
+use Rattle.crash_page.specs.declared.judge.PageJudge.TheVariants as judging
 use Rattle.crash_page.specs.declared.run.CaseRun.{CaseRun}
 use Rattle.crash_page.specs.Shares.{legend_text}
 use Rattle.crash_page.specs.Blocks.{most_cells}

@@ -4,7 +4,7 @@ use Rattle.std.specs.Fmt.{decimal}
 use Rattle.logfmt.specs.declared.entry.Entry.{Entry}
 use Rattle.epochs.specs.Units.{epoch_at}
 use Rattle.losses.specs.declared.flushes.counted.MissingFlush.{MissingFlush}
-use Rattle.crash_page.specs.declared.pieces.Piece.TheVariants as piece
+use Rattle.crash_page.specs.declared.pieces.PagePart.TheVariants as piece
 use Rattle.crash_page.specs.Pieces.{piece_text}
 use Rattle.crash_page.specs.declared.counts.CutCount.{CutCount}
 use Rattle.crash_page.specs.Counts.{kind_word}

@@ -6,12 +6,12 @@ use Rattle.case_runs.specs.declared.leaves.FailingCase.{FailingCase}
 use Rattle.case_runs.specs.declared.found.Found.{Found}
 use Rattle.case_runs.specs.declared.found.CutFound.{CutFound}
 use Rattle.case_text.specs.Text.{in_word}
-use Rattle.crash_page.specs.declared.counts.Kind.{Kind}
-use Rattle.crash_page.specs.declared.counts.Kind.TheVariants as kind
+use Rattle.crash_page.specs.declared.counts.JudgedKind.{JudgedKind}
+use Rattle.crash_page.specs.declared.counts.JudgedKind.TheVariants as kind
 use Rattle.crash_page.specs.declared.counts.CutCount.{CutCount}
 
 -- what is judged, by its name
-unfoldable pub kind_word : Kind → List ℕ
+unfoldable pub kind_word : JudgedKind → List ℕ
 kind_word kind.Images = codes "images"
 kind_word kind.Cases = codes "cases"
 

@@ -7,7 +7,7 @@ use Rattle.logfmt.specs.declared.entry.Entry.{Entry}
 use Rattle.losses.specs.declared.flushes.counted.MissingFlush.{MissingFlush}
 use Rattle.epochs.specs.Units.{epoch_at}
 use Rattle.notes.specs.LogTable.{word_text, is_write, line_at}
-use Rattle.crash_page.specs.declared.pieces.Piece.TheVariants as piece
+use Rattle.crash_page.specs.declared.pieces.PagePart.TheVariants as piece
 use Rattle.crash_page.specs.Pieces.{piece_text}
 use Rattle.crash_page.specs.Html.{html, mark_label}
 use Rattle.crash_page.specs.Lacking.{lack_at}

@@ -14,10 +14,10 @@ use Rattle.losses.specs.declared.why.cut.CutFailures.{CutFailures}
 use Rattle.crash_page.specs.declared.counts.CutCount.{CutCount}
 use Rattle.losses.specs.declared.why.group.Group.{Group}
 use Rattle.losses.specs.CountedGroups.{ends_at}
-use Rattle.crash_page.specs.declared.pieces.Piece.TheVariants as piece
+use Rattle.crash_page.specs.declared.pieces.PagePart.TheVariants as piece
 use Rattle.crash_page.specs.Pieces.{piece_text}
 use Rattle.crash_page.specs.declared.cut.Showing.{Showing}
-use Rattle.crash_page.specs.declared.counts.Kind.{Kind}
+use Rattle.crash_page.specs.declared.counts.JudgedKind.{JudgedKind}
 use Rattle.crash_page.specs.Counts.{kind_word, image_count}
 use Rattle.crash_page.specs.Html.{html, side_by_side}
 use Rattle.crash_page.specs.Shares.{share_of, share_class}
@@ -156,8 +156,8 @@ cuts_text s outcomes program lines left (c ∷ cs) =
     ++ cuts_text s outcomes program (lines - one_failing c.failing) (left - shown_of left (length c.groups.items)) cs
 
 -- how many cuts at which something fails aren't listed
-unfoldable pub more_count : Kind → ℕ → List ℕ
+unfoldable pub more_count : JudgedKind → ℕ → List ℕ
 more_count of n = decimal n ++ piece_text piece.MoreCuts ++ kind_word of ++ piece_text piece.MoreClose
 
-unfoldable pub unlisted_text : Kind → ℕ → ℕ → List ℕ
+unfoldable pub unlisted_text : JudgedKind → ℕ → ℕ → List ℕ
 unlisted_text of program n = if n == 0 then [] else piece_text piece.MoreOpen ++ more_name program ++ piece_text piece.LinkEnd ++ more_count of n

@@ -3,8 +3,8 @@ use Rattle.std.specs.Prelude.{ℕ, List, ◌++◌, codes}
 use Rattle.std.specs.Fmt.{decimal}
 use Rattle.report.specs.declared.head.ProgramHead.{ProgramHead}
 use Rattle.report.specs.Report.{steps_text}
-use Rattle.crash_page.specs.declared.judge.Judge.{Judge}
-use Rattle.crash_page.specs.declared.judge.Judge.TheVariants as judging
+use Rattle.crash_page.specs.declared.judge.PageJudge.{PageJudge}
+use Rattle.crash_page.specs.declared.judge.PageJudge.TheVariants as judging
 use Rattle.crash_page.specs.Html.{html}
 
 -- of a checker how many slots it has, the most steps of a run, and how many slots are guarded where some may be
@@ -15,6 +15,6 @@ checker_text p = codes "slots " ++ decimal p.slots ++ codes " " ++ steps_text p
 unfoldable pub outside_text : List ℕ → List ℕ
 outside_text words = codes "outside " ++ html words
 
-abbrev pub judge_text : Judge → List ℕ
+abbrev pub judge_text : PageJudge → List ℕ
 judge_text (judging.Checker p) = checker_text p
 judge_text (judging.Outside words) = outside_text words.now

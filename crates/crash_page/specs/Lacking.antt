@@ -4,7 +4,7 @@ use Rattle.std.specs.List.{position}
 use Rattle.std.specs.Option.{option_map_or, option_and_then}
 use Rattle.std.specs.Fmt.{decimal}
 use Rattle.losses.specs.declared.flushes.counted.MissingFlush.{MissingFlush}
-use Rattle.crash_page.specs.declared.pieces.Piece.TheVariants as piece
+use Rattle.crash_page.specs.declared.pieces.PagePart.TheVariants as piece
 use Rattle.crash_page.specs.Pieces.{piece_text}
 
 -- the name of the place on the page of the one before an entry

@@ -9,13 +9,13 @@ use Rattle.losses.specs.declared.flushes.counted.MissingFlush.{MissingFlush}
 use Rattle.losses.specs.declared.why.cut.CutFailures.{CutFailures}
 use Rattle.losses.specs.WhyText.{IsNumbered}
 use Rattle.crash_page.specs.declared.counts.CutCount.{CutCount}
-use Rattle.crash_page.specs.declared.counts.Kind.{Kind}
-use Rattle.crash_page.specs.declared.counts.Kind.TheVariants as kind
+use Rattle.crash_page.specs.declared.counts.JudgedKind.{JudgedKind}
+use Rattle.crash_page.specs.declared.counts.JudgedKind.TheVariants as kind
 use Rattle.crash_page.specs.Counts.{count_fails, image_count}
-use Rattle.crash_page.specs.declared.pieces.Piece.TheVariants as piece
+use Rattle.crash_page.specs.declared.pieces.PagePart.TheVariants as piece
 use Rattle.crash_page.specs.Pieces.{piece_text}
 use Rattle.crash_page.specs.declared.program.ProgramFailures.{ProgramFailures}
-use Rattle.crash_page.specs.declared.judge.Judge.{Judge}
+use Rattle.crash_page.specs.declared.judge.PageJudge.{PageJudge}
 use Rattle.crash_page.specs.Html.{html}
 use Rattle.crash_page.specs.Judges.{judge_text}
 use Rattle.crash_page.specs.Entries.{rows_text}
@@ -41,13 +41,13 @@ abbrev pub verdict_text : ℕ → List CutCount → List ℕ
 verdict_text failing cs = if length cs == 0 then piece_text piece.NoCuts else judged_text failing cs
 
 -- the row of entries and cuts, narrow where there are many entries, and in blocks where the log is large
-unfoldable pub strip_open : Kind → List Entry → List ℕ
+unfoldable pub strip_open : JudgedKind → List Entry → List ℕ
 strip_open of es = width_text of es ++ piece_text piece.StripOpen ++ word_text (nat_lt 400 (length es)) (codes "many") ++ piece_text piece.OpenEnd
 
 abbrev pub row_of : List Entry → ℕ → List MissingFlush → List CutCount → List ℕ
 row_of es program ms cs = if is_large es then row_blocks es program ms cs else strip_from es program ms 0 cs
 
-unfoldable pub strip_text : Kind → List Entry → ℕ → List MissingFlush → List CutCount → List ℕ
+unfoldable pub strip_text : JudgedKind → List Entry → ℕ → List MissingFlush → List CutCount → List ℕ
 strip_text of es program ms cs = strip_open of es ++ row_of es program ms cs ++ piece_text piece.StripClose
 
 -- how many groups or cases of a program are shown, fewer where the log is large
@@ -55,10 +55,10 @@ abbrev pub most_of_program : List Entry → ℕ
 most_of_program es = if is_large es then 100 else 500
 
 -- the program: its number, and what the report says of it
-unfoldable pub name_text : ℕ → Judge → List ℕ
+unfoldable pub name_text : ℕ → PageJudge → List ℕ
 name_text program j = decimal program ++ codes ": " ++ judge_text j
 
-unfoldable pub title_text : ℕ → Judge → List ℕ
+unfoldable pub title_text : ℕ → PageJudge → List ℕ
 title_text program j =
     piece_text piece.ProgramOpen ++ decimal program ++ piece_text piece.ProgramId ++ decimal program ++ piece_text piece.ProgramName ++ name_text program j
     ++ piece_text piece.ProgramClose
@@ -102,15 +102,15 @@ unfoldable pub log_name : LogValue → List ℕ
 log_name l = codes "entries " ++ decimal (length l.entries) ++ codes ", sectors " ++ decimal l.sectors
 
 -- the style, with that of cases where these stand on the page
-abbrev pub own_style : Kind → List ℕ
+abbrev pub own_style : JudgedKind → List ℕ
 own_style kind.Images = []
 own_style kind.Cases = piece_text piece.CaseStyle
 
-unfoldable pub style_text : Kind → List ℕ
+unfoldable pub style_text : JudgedKind → List ℕ
 style_text of = piece_text piece.Style ++ own_style of ++ piece_text piece.StyleEnd
 
 -- the head of the page, which names the log in its title and in its first line
-unfoldable pub head_text : Kind → LogValue → List ℕ
+unfoldable pub head_text : JudgedKind → LogValue → List ℕ
 head_text of l = piece_text piece.Opening ++ log_name l ++ style_text of ++ log_name l ++ piece_text piece.HeadClose
 
 -- the page, with a text about the run at its head

@@ -1,10 +1,10 @@
 -- The parts of a page that are the same wherever they stand.
 use Rattle.std.specs.Prelude.{ℕ, List, codes}
 use Rattle.crash_page.specs.declared.dress.TheConstants.{OPENING, STYLE, CASE_STYLE, STYLE_END, LEGEND, CASE_KEYS, CLOSING}
-use Rattle.crash_page.specs.declared.pieces.Piece.{Piece}
-use Rattle.crash_page.specs.declared.pieces.Piece.TheVariants as piece
+use Rattle.crash_page.specs.declared.pieces.PagePart.{PagePart}
+use Rattle.crash_page.specs.declared.pieces.PagePart.TheVariants as piece
 
-unfoldable pub piece_text : Piece → List ℕ
+unfoldable pub piece_text : PagePart → List ℕ
 piece_text piece.Opening = OPENING.now
 piece_text piece.Style = STYLE.now
 piece_text piece.CaseStyle = CASE_STYLE.now

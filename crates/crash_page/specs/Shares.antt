@@ -3,10 +3,10 @@ use Rattle.std.specs.Prelude.{ℕ, ◌/◌, ◌==◌, nat_le, Bool, if◌then◌
 use Rattle.std.specs.Fmt.{decimal}
 use Rattle.crash_page.specs.declared.share.Share.{Share}
 use Rattle.crash_page.specs.declared.share.Share.TheVariants as share
-use Rattle.crash_page.specs.declared.pieces.Piece.TheVariants as piece
+use Rattle.crash_page.specs.declared.pieces.PagePart.TheVariants as piece
 use Rattle.crash_page.specs.Pieces.{piece_text}
-use Rattle.crash_page.specs.declared.counts.Kind.{Kind}
-use Rattle.crash_page.specs.declared.counts.Kind.TheVariants as kind
+use Rattle.crash_page.specs.declared.counts.JudgedKind.{JudgedKind}
+use Rattle.crash_page.specs.declared.counts.JudgedKind.TheVariants as kind
 use Rattle.crash_page.specs.Counts.{kind_word}
 
 -- a share with a bound is at most one image in that many
@@ -35,29 +35,29 @@ share_class share.More = codes "s4"
 share_class share.All = codes "s5"
 
 -- and its words
-abbrev pub none_words : Kind → List ℕ
+abbrev pub none_words : JudgedKind → List ℕ
 none_words kind.Images = codes "no image fails"
 none_words kind.Cases = codes "no case fails"
 
-unfoldable pub share_words : Kind → Share → List ℕ
+unfoldable pub share_words : JudgedKind → Share → List ℕ
 share_words of share.No = none_words of
 share_words of share.More = codes "more"
 share_words of share.All = codes "all of them"
 share_words of s = codes "up to 1 in " ++ decimal (one_in s)
 
 -- a share in the legend
-unfoldable pub key_text : Kind → Share → List ℕ
+unfoldable pub key_text : JudgedKind → Share → List ℕ
 key_text of s = piece_text piece.KeyOpen ++ share_class s ++ piece_text piece.KeyColour ++ share_words of s ++ piece_text piece.KeyClose
 
 -- a missing flush, which rows with images have alone
-abbrev pub lack_key : Kind → List ℕ
+abbrev pub lack_key : JudgedKind → List ℕ
 lack_key kind.Images = piece_text piece.LackKey
 lack_key kind.Cases = []
 
-unfoldable pub keys_open : Kind → List ℕ
+unfoldable pub keys_open : JudgedKind → List ℕ
 keys_open of = piece_text piece.Legend ++ lack_key of ++ piece_text piece.LegendRest ++ piece_text piece.KeysOpen ++ kind_word of ++ piece_text piece.KeysClose
 
-unfoldable pub legend_text : Kind → List ℕ
+unfoldable pub legend_text : JudgedKind → List ℕ
 legend_text of =
     keys_open of ++ key_text of share.No ++ key_text of share.Hundredth ++ key_text of share.Tenth ++ key_text of share.Half ++ key_text of share.More
     ++ key_text of share.All ++ piece_text piece.LegendClose

@@ -5,11 +5,11 @@ ghost use Rattle.std.specs.List.{flat_map, list_any, find};
 ghost use Rattle.notes.specs.LogTable.{is_write};
 ghost use Rattle.crash_page.specs.Blocks.{is_large, width_of, begins_block, beyond, end_of, range_text, is_within, fails_within, count_within, is_listed, more_name, listed_name, block_link, block_title, block_failing, no_failing, block_cuts, lack_link, lack_text, lacks_within, block_lack, first_lack, block_lacks, is_mark, kinds_text, entries_class, entries_link, entries_cell, block_cell, row_block, row_at, row_blocks, cell_means, width_text, short_line, short_at, line_text, lines_text, block_name, list_block, list_at, list_blocks, large_list};
 
-use crate::counts::{CutCount, Kind, put_kind};
+use crate::counts::{CutCount, JudgedKind, put_kind};
 use crate::entry::{is_write, put_shade, put_word};
 use crate::html::put_html;
 use crate::lacking::{Lacking, MOST_NAMED, put_flush_title, put_name as put_flush_name};
-use crate::pieces::{Piece, put, put_number};
+use crate::pieces::{PagePart, put, put_number};
 use crate::run::Logged;
 use crate::strip::{put_failing_class, put_failing_title, put_passing, put_place_name};
 use epochs::Plan;
@@ -166,7 +166,7 @@ fn put_block_link(
 ) -> Result<(), AllocError>
     ensures { OnOk result (string_bytes out.new ≡ string_bytes out.old ++ block_link program listed cut.now) }
 {
-    put(out, Piece::FailingLink)?;
+    put(out, PagePart::FailingLink)?;
     put_listed_name(out, program, listed, cut.cut)
 }
 
@@ -181,9 +181,9 @@ fn put_block_title(
     ensures { OnOk result (string_bytes out.new ≡ string_bytes out.old ++ block_title block.from block.to count cut.now) }
 {
     put_failing_title(out, cut)?;
-    put(out, Piece::BlockCuts)?;
+    put(out, PagePart::BlockCuts)?;
     put_range(out, block.from, block.to)?;
-    put(out, Piece::BlockFailing)?;
+    put(out, PagePart::BlockFailing)?;
     put_number(out, count as u64)
 }
 
@@ -204,7 +204,7 @@ fn put_block_failing(
     put_failing_class(out, plan.epoch(block.from), cut)?;
     put_block_link(out, program, is_listed(cuts, block.from), cut)?;
     put_block_title(out, block, count_within(block, cuts), cut)?;
-    put(out, Piece::FailingClose)
+    put(out, PagePart::FailingClose)
 }
 
 /// Whether a block has wanted cuts.
@@ -254,9 +254,9 @@ fn put_block_cuts(
 fn put_lack_link(out: &mut String, program: usize, entry: u32, from: u32) -> Result<(), AllocError>
     ensures { OnOk result (string_bytes out.new ≡ string_bytes out.old ++ lack_link program entry from) }
 {
-    put(out, Piece::LackOpen)?;
+    put(out, PagePart::LackOpen)?;
     put_flush_name(out, program, entry)?;
-    put(out, Piece::CellLink)?;
+    put(out, PagePart::CellLink)?;
     put_number(out, u64::from(from))
 }
 
@@ -272,7 +272,7 @@ fn put_lack(
 {
     put_lack_link(out, program, flush.at, from)?;
     put_flush_title(out, flush)?;
-    put(out, Piece::LackClose)
+    put(out, PagePart::LackClose)
 }
 
 /// Whether a flush is missing in a block.
@@ -392,7 +392,7 @@ fn put_entries_class(
     ensures { OnOk result (string_bytes out.new ≡ string_bytes out.old ++ entries_class logged.now.log.now.entries from end) }
 {
     let (plan, log) = (logged.plan, logged.log);
-    put(out, Piece::CellOpen)?;
+    put(out, PagePart::CellOpen)?;
     put_shade(out, plan.epoch(from))?;
     put_kinds(out, &log.entries()[from as usize..end as usize])
 }
@@ -402,9 +402,9 @@ fn put_entries_class(
 fn put_entries_link(out: &mut String, from: u32, end: u32) -> Result<(), AllocError>
     ensures { OnOk result (string_bytes out.new ≡ string_bytes out.old ++ entries_link from end) }
 {
-    put(out, Piece::CellLink)?;
+    put(out, PagePart::CellLink)?;
     put_number(out, u64::from(from))?;
-    put(out, Piece::LinkEnd)?;
+    put(out, PagePart::LinkEnd)?;
     put_range(out, from, u64::from(end))
 }
 
@@ -423,7 +423,7 @@ fn put_entries_cell(
 {
     put_entries_class(out, logged, from, end)?;
     put_entries_link(out, from, end)?;
-    put(out, Piece::CellClose)
+    put(out, PagePart::CellClose)
 }
 
 /// Appends the cell of the entries of the block from that entry on, if there are some.
@@ -493,18 +493,18 @@ pub(crate) fn put_row_blocks(
 
 /// Appends for what a cell of a large log stands.
 #[tactic(auto, unfolding(crate::specs::Blocks::cell_means))]
-fn put_cell_means(out: &mut String, of: Kind, log: &Log) -> Result<(), AllocError>
+fn put_cell_means(out: &mut String, of: JudgedKind, log: &Log) -> Result<(), AllocError>
     ensures { OnOk result (string_bytes out.new ≡ string_bytes out.old ++ cell_means of log.now.entries) }
 {
-    put(out, Piece::WidthOpen)?;
+    put(out, PagePart::WidthOpen)?;
     put_number(out, width_of(log))?;
-    put(out, Piece::WidthClose)?;
+    put(out, PagePart::WidthClose)?;
     put_kind(out, of)?;
-    put(out, Piece::WidthEnd)
+    put(out, PagePart::WidthEnd)
 }
 
 /// Appends for what a cell stands, where the log is large.
-pub(crate) fn put_width(out: &mut String, of: Kind, log: &Log) -> Result<(), AllocError>
+pub(crate) fn put_width(out: &mut String, of: JudgedKind, log: &Log) -> Result<(), AllocError>
     ensures { OnOk result (string_bytes out.new ≡ string_bytes out.old ++ width_text of log.now.entries) }
 {
     if is_large(log) {
@@ -581,11 +581,11 @@ fn put_lines(
 fn put_block_name(out: &mut String, from: u32, end: u32) -> Result<(), AllocError>
     ensures { OnOk result (string_bytes out.new ≡ string_bytes out.old ++ block_name from end) }
 {
-    put(out, Piece::BlockOpen)?;
+    put(out, PagePart::BlockOpen)?;
     put_number(out, u64::from(from))?;
-    put(out, Piece::BlockName)?;
+    put(out, PagePart::BlockName)?;
     put_range(out, from, u64::from(end))?;
-    put(out, Piece::BlockLines)
+    put(out, PagePart::BlockLines)
 }
 
 /// Appends the lines of a block.
@@ -604,7 +604,7 @@ fn put_list_block(
 {
     put_block_name(out, from, end)?;
     put_lines(alloc, out, plan, log, from, end)?;
-    put(out, Piece::BlockClose)
+    put(out, PagePart::BlockClose)
 }
 
 /// Appends the lines of the block that begins at that entry, if one does.
@@ -654,7 +654,7 @@ pub(crate) fn put_large_list(
     requires log { plan.now.log ≡ log.now }
     ensures { OnOk result (string_bytes out.new ≡ string_bytes out.old ++ large_list log.now.entries) }
 {
-    put(out, Piece::BlocksOpen)?;
+    put(out, PagePart::BlocksOpen)?;
     put_list_blocks(alloc, out, plan, log)?;
-    put(out, Piece::SectionClose)
+    put(out, PagePart::SectionClose)
 }

@@ -10,7 +10,7 @@ use crate::block::MOST_CELLS;
 use crate::case_row::put_case;
 use crate::counts::{case_count, failing_count, failing_of};
 use crate::cut::{Showing, put_begin, put_body, shown_of};
-use crate::pieces::{Piece, put, put_number};
+use crate::pieces::{PagePart, put, put_number};
 use crate::program::one_failing;
 use crate::run::CaseRun;
 use case_runs::{CutFound, FailingCase};
@@ -56,9 +56,9 @@ fn put_rest(out: &mut String, count: usize) -> Result<(), AllocError>
     if count == 0 {
         return Ok(());
     }
-    put(out, Piece::RestOpen)?;
+    put(out, PagePart::RestOpen)?;
     put_number(out, count as u64)?;
-    put(out, Piece::RestCases)
+    put(out, PagePart::RestCases)
 }
 
 /// Appends the line of a cut.
@@ -94,7 +94,7 @@ fn put_shown_cut(
     put_head(out, run, how, cut)?;
     put_cases(alloc, out, run, cut.cut, &failing[..how.rows])?;
     put_rest(out, failing.len() - how.rows)?;
-    put(out, Piece::CutClose)
+    put(out, PagePart::CutClose)
 }
 
 /// Appends a cut, where cases fail.

@@ -6,8 +6,8 @@ ghost use Rattle.cases.specs.AtCut.{Apart, case_of};
 ghost use Rattle.case_runs.specs.Leaves.{failing_value};
 ghost use Rattle.crash_page.specs.CaseRows.{window_words, helps_text, case_said, row_text, case_row};
 
-use crate::parts::{Row, put_parts};
-use crate::pieces::{Piece, put, put_number};
+use crate::parts::{CaseRow, put_parts};
+use crate::pieces::{PagePart, put, put_number};
 use case_runs::FailingCase;
 use case_text::{Known, Site};
 use epochs::Part;
@@ -20,9 +20,9 @@ fn put_window(out: &mut String, window: Window) -> Result<(), AllocError>
     ensures { OnOk result (string_bytes out.new ≡ string_bytes out.old ++ window_words window) }
 {
     if window.start == window.end {
-        put(out, Piece::OneFlushHelps)?;
+        put(out, PagePart::OneFlushHelps)?;
     } else {
-        put(out, Piece::FlushHelps)?;
+        put(out, PagePart::FlushHelps)?;
         put_number(out, u64::from(window.start))?;
         out.push_str(" to ")?;
     }
@@ -37,9 +37,9 @@ fn put_helps(out: &mut String, window: Option<Window>) -> Result<(), AllocError>
     match window {
         Some(window) => {
             put_window(out, window)?;
-            put(out, Piece::HelpsClose)
+            put(out, PagePart::HelpsClose)
         }
-        None => put(out, Piece::NoFlushHelps),
+        None => put(out, PagePart::NoFlushHelps),
     }
 }
 
@@ -48,7 +48,7 @@ fn put_helps(out: &mut String, window: Option<Window>) -> Result<(), AllocError>
 fn put_said(out: &mut String, case: &FailingCase, window: Option<Window>) -> Result<(), AllocError>
     ensures { OnOk result (string_bytes out.new ≡ string_bytes out.old ++ case_said (failing_value case.now) window) }
 {
-    put(out, Piece::CaseOpen)?;
+    put(out, PagePart::CaseOpen)?;
     put_number(out, case.number as u64)?;
     out.push_str(": ")?;
     put_outcome(out, &case.outcome)?;
@@ -60,7 +60,7 @@ fn put_said(out: &mut String, case: &FailingCase, window: Option<Window>) -> Res
 #[tactic(auto, unfolding(crate::specs::CaseRows::row_text))]
 fn put_row(
     out: &mut String,
-    row: &Row,
+    row: &CaseRow,
     parts: &[Part],
     case: &FailingCase,
 ) -> Result<(), AllocError>
@@ -68,9 +68,9 @@ fn put_row(
     ensures { OnOk result (string_bytes out.new ≡ string_bytes out.old ++ row_text row.now (case_of row.now.tears parts.now case.now.sets.items) parts.now (failing_value case.now)) }
 {
     put_said(out, case, row.window)?;
-    put(out, Piece::CaseParts)?;
+    put(out, PagePart::CaseParts)?;
     put_parts(out, row, parts, case.sets.as_slice())?;
-    put(out, Piece::CaseClose)
+    put(out, PagePart::CaseClose)
 }
 
 /// Appends a failing case of a cut.
@@ -84,7 +84,7 @@ pub(crate) fn put_case(
 {
     let (tears, parts) = (site.tears(), site.parts());
     known.read(tears, parts, case.sets.as_slice())?;
-    let row = Row {
+    let row = CaseRow {
         by: site.by(),
         tears,
         window: site.window(known),

@@ -10,11 +10,11 @@ ghost use Rattle.crash_page.specs.CasePage.{run_of, bad_text, good_text, open_te
 
 use crate::block::MOST_CELLS;
 use crate::case_cut::put_cuts;
-use crate::counts::{CutCount, Kind, all_in, case_counts, count_failing, failing_in};
-use crate::judge::Judge;
+use crate::counts::{CutCount, JudgedKind, all_in, case_counts, count_failing, failing_in};
+use crate::judge::PageJudge;
 use crate::lacking::Lacking;
 use crate::page::{put_about, put_head, put_list};
-use crate::pieces::{Piece, put, put_number};
+use crate::pieces::{PagePart, put, put_number};
 use crate::program::{most_of_program, put_row, put_title, put_unlisted};
 use crate::run::{CaseRun, Logged};
 use crate::share::put_legend;
@@ -30,13 +30,13 @@ use std::alloc::{AllocError, Global};
 fn put_bad(out: &mut String, cuts: &[CutCount]) -> Result<(), AllocError>
     ensures { OnOk result (string_bytes out.new ≡ string_bytes out.old ++ bad_text cuts.now) }
 {
-    put(out, Piece::BadOpen)?;
+    put(out, PagePart::BadOpen)?;
     put_number(out, failing_in(cuts))?;
-    put(out, Piece::Of)?;
+    put(out, PagePart::Of)?;
     put_number(out, all_in(cuts))?;
-    put(out, Piece::BadCases)?;
+    put(out, PagePart::BadCases)?;
     put_number(out, count_failing(cuts) as u64)?;
-    put(out, Piece::Of)
+    put(out, PagePart::Of)
 }
 
 /// Appends that no case fails.
@@ -44,9 +44,9 @@ fn put_bad(out: &mut String, cuts: &[CutCount]) -> Result<(), AllocError>
 fn put_good(out: &mut String, cuts: &[CutCount]) -> Result<(), AllocError>
     ensures { OnOk result (string_bytes out.new ≡ string_bytes out.old ++ good_text cuts.now) }
 {
-    put(out, Piece::GoodCases)?;
+    put(out, PagePart::GoodCases)?;
     put_number(out, all_in(cuts))?;
-    put(out, Piece::AtCuts)
+    put(out, PagePart::AtCuts)
 }
 
 /// Appends that cases were left out, and that no other one fails.
@@ -54,9 +54,9 @@ fn put_good(out: &mut String, cuts: &[CutCount]) -> Result<(), AllocError>
 fn put_open(out: &mut String, cuts: &[CutCount]) -> Result<(), AllocError>
     ensures { OnOk result (string_bytes out.new ≡ string_bytes out.old ++ open_text cuts.now) }
 {
-    put(out, Piece::OpenCases)?;
+    put(out, PagePart::OpenCases)?;
     put_number(out, all_in(cuts))?;
-    put(out, Piece::AtCuts)
+    put(out, PagePart::AtCuts)
 }
 
 /// Appends that no case fails, of all or of those that weren't left out.
@@ -88,7 +88,7 @@ fn put_judged(out: &mut String, complete: bool, cuts: &[CutCount]) -> Result<(),
 {
     put_failing(out, complete, cuts)?;
     put_number(out, cuts.len() as u64)?;
-    put(out, Piece::GoodClose)
+    put(out, PagePart::GoodClose)
 }
 
 /// Appends what a program comes to, or that nothing was judged.
@@ -96,7 +96,7 @@ fn put_verdict(out: &mut String, complete: bool, cuts: &[CutCount]) -> Result<()
     ensures { OnOk result (string_bytes out.new ≡ string_bytes out.old ++ verdict_text complete cuts.now) }
 {
     if cuts.is_empty() {
-        put(out, Piece::NoCaseCuts)
+        put(out, PagePart::NoCaseCuts)
     } else {
         put_judged(out, complete, cuts)
     }
@@ -123,11 +123,11 @@ fn put_summary(
         program,
         flushes: &[],
     };
-    put_title(out, program, &Judge::Checker(head))?;
+    put_title(out, program, &PageJudge::Checker(head))?;
     put_verdict(out, run.complete, cuts)?;
-    put_row(alloc, out, Kind::Cases, &logged, &lacking, cuts)?;
-    put_legend(out, Kind::Cases)?;
-    put(out, Piece::CaseKeys)
+    put_row(alloc, out, JudgedKind::Cases, &logged, &lacking, cuts)?;
+    put_legend(out, JudgedKind::Cases)?;
+    put(out, PagePart::CaseKeys)
 }
 
 /// Appends the first cuts at which cases fail, and how many more there are.
@@ -147,7 +147,7 @@ fn put_shown_cuts(
     let most = most_of_program(run.log);
     let count = count_failing(counts).saturating_sub(MOST_CELLS);
     put_cuts(alloc, out, run, program, most, found)?;
-    put_unlisted(out, Kind::Cases, program, count)
+    put_unlisted(out, JudgedKind::Cases, program, count)
 }
 
 /// Appends a program.
@@ -166,7 +166,7 @@ fn put_program(
     let counts = case_counts(alloc, program, found)?;
     put_summary(alloc, out, run, program, head, counts.as_slice())?;
     put_shown_cuts(alloc, out, run, program, found, counts.as_slice())?;
-    put(out, Piece::SectionClose)
+    put(out, PagePart::SectionClose)
 }
 
 /// Appends programs, by their numbers from 0 on.
@@ -199,9 +199,9 @@ fn is_complete(torn: u64, lost: u64) -> bool
 fn put_counts(out: &mut String, torn: u64, lost: u64) -> Result<(), AllocError>
     ensures { OnOk result (string_bytes out.new ≡ string_bytes out.old ++ left_counts torn lost) }
 {
-    put(out, Piece::TornBeyond)?;
+    put(out, PagePart::TornBeyond)?;
     put_number(out, torn)?;
-    put(out, Piece::LostBeyond)?;
+    put(out, PagePart::LostBeyond)?;
     put_number(out, lost)
 }
 
@@ -249,11 +249,11 @@ fn put_page(
         plan: run.plan,
         log: run.log,
     };
-    put_head(out, Kind::Cases, run.log)?;
+    put_head(out, JudgedKind::Cases, run.log)?;
     put_about(out, about)?;
     put_programs(alloc, out, run, found, heads)?;
     put_list(alloc, out, &logged)?;
-    put(out, Piece::Closing)
+    put(out, PagePart::Closing)
 }
 
 /// The page of the failing cases of a run (docs/OUTPUT.md, The page of `page --bound any`): the options and the programs, what was found

@@ -9,7 +9,7 @@ use std::alloc::{AllocError, Global};
 
 /// What is judged at a cut.
 #[derive(Clone, Copy)]
-pub(crate) enum Kind {
+pub(crate) enum JudgedKind {
     Images,
     Cases,
 }
@@ -18,19 +18,19 @@ pub(crate) enum Kind {
 #[derive(Clone, Copy, Drop)]
 pub(crate) struct CutCount {
     pub(crate) cut: u32,
-    pub(crate) of: Kind,
+    pub(crate) of: JudgedKind,
     pub(crate) all: u64,
     pub(crate) failing: u64,
 }
 
 /// Appends what is judged, by its name.
 #[tactic(auto, unfolding(crate::specs::Counts::kind_word))]
-pub(crate) fn put_kind(out: &mut String, of: Kind) -> Result<(), AllocError>
+pub(crate) fn put_kind(out: &mut String, of: JudgedKind) -> Result<(), AllocError>
     ensures { OnOk result (string_bytes out.new ≡ string_bytes out.old ++ kind_word of) }
 {
     match of {
-        Kind::Images => out.push_str("images"),
-        Kind::Cases => out.push_str("cases"),
+        JudgedKind::Images => out.push_str("images"),
+        JudgedKind::Cases => out.push_str("cases"),
     }
 }
 
@@ -84,7 +84,7 @@ pub(crate) fn image_count(cut: &CutFailures) -> CutCount
 {
     CutCount {
         cut: cut.cut,
-        of: Kind::Images,
+        of: JudgedKind::Images,
         all: cut.images,
         failing: cut.failing as u64,
     }
@@ -134,7 +134,7 @@ pub(crate) fn case_count(program: usize, cut: &CutFound) -> CutCount
 {
     CutCount {
         cut: cut.cut,
-        of: Kind::Cases,
+        of: JudgedKind::Cases,
         all: cases_of(program, cut) as u64,
         failing: failing_count(program, cut) as u64,
     }

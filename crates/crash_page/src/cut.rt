@@ -11,8 +11,8 @@ ghost use Rattle.crash_page.specs.Page.{IsOfRun};
 
 use crate::counts::{CutCount, image_count};
 use crate::group::{put_choice_at, put_group};
-use crate::pieces::{Piece, put, put_number};
-use crate::run::Run;
+use crate::pieces::{PagePart, put, put_number};
+use crate::run::PageRun;
 use crate::share::{put_class, share_of};
 use crate::strip::{put_count, put_place_name};
 use epochs::Plan;
@@ -35,18 +35,18 @@ pub(crate) struct Showing {
 
 /// Appends the first of the choices of a cut, and how many there are.
 #[tactic(auto, unfolding(crate::specs::Groups::first_text))]
-fn put_first(out: &mut String, run: &Run<'_>, groups: &[Group]) -> Result<(), AllocError>
+fn put_first(out: &mut String, run: &PageRun<'_>, groups: &[Group]) -> Result<(), AllocError>
     requires images { All (λ (g : GroupValue). g.image < length (ranked_choices run.now.starts.now.plan run.now.starts.now.bound run.now.starts.now.tears)) groups.now }
     ensures { OnOk result (string_bytes out.new ≡ string_bytes out.old ++ first_text run.now.starts.now groups.now) }
 {
     match groups {
         [] => Ok(()),
         [group, ..] => {
-            put(out, Piece::FirstOpen)?;
+            put(out, PagePart::FirstOpen)?;
             put_choice_at(out, run, group.image)?;
-            put(out, Piece::FirstOf)?;
+            put(out, PagePart::FirstOf)?;
             put_number(out, groups.len() as u64)?;
-            put(out, Piece::FirstClose)
+            put(out, PagePart::FirstClose)
         }
     }
 }
@@ -57,13 +57,13 @@ fn put_stand(out: &mut String, plan: &Plan<'_>, cut: u32) -> Result<(), AllocErr
     requires { cut ≤ length plan.now.log.entries }
     ensures { OnOk result (string_bytes out.new ≡ string_bytes out.old ++ stand_text plan.now.log.entries cut) }
 {
-    put(out, Piece::CutNumber)?;
+    put(out, PagePart::CutNumber)?;
     put_number(out, u64::from(cut))?;
-    put(out, Piece::CutEpoch)?;
+    put(out, PagePart::CutEpoch)?;
     put_number(out, u64::from(plan.epoch(cut)))?;
-    put(out, Piece::CutMarks)?;
+    put(out, PagePart::CutMarks)?;
     put_number(out, u64::from(plan.marks(cut)))?;
-    put(out, Piece::CutMarksEnd)
+    put(out, PagePart::CutMarksEnd)
 }
 
 /// Appends how much of a cut fails, in words and as a bar.
@@ -71,13 +71,13 @@ fn put_stand(out: &mut String, plan: &Plan<'_>, cut: u32) -> Result<(), AllocErr
 fn put_bar(out: &mut String, cut: &CutCount) -> Result<(), AllocError>
     ensures { OnOk result (string_bytes out.new ≡ string_bytes out.old ++ bar_text cut.now) }
 {
-    put(out, Piece::BarOpen)?;
+    put(out, PagePart::BarOpen)?;
     put_count(out, cut)?;
-    put(out, Piece::BarMost)?;
+    put(out, PagePart::BarMost)?;
     put_number(out, cut.all)?;
-    put(out, Piece::BarValue)?;
+    put(out, PagePart::BarValue)?;
     put_number(out, cut.failing)?;
-    put(out, Piece::BarClose)
+    put(out, PagePart::BarClose)
 }
 
 /// Appends what begins the line of a cut, open or not.
@@ -85,9 +85,9 @@ fn put_line(out: &mut String, is_open: bool) -> Result<(), AllocError>
     ensures { OnOk result (string_bytes out.new ≡ string_bytes out.old ++ cut_line is_open) }
 {
     if is_open {
-        put(out, Piece::CutOpened)
+        put(out, PagePart::CutOpened)
     } else {
-        put(out, Piece::CutLine)
+        put(out, PagePart::CutLine)
     }
 }
 
@@ -97,7 +97,7 @@ fn put_open(out: &mut String, is_open: bool, cut: &CutCount) -> Result<(), Alloc
     ensures { OnOk result (string_bytes out.new ≡ string_bytes out.old ++ cut_open is_open cut.now) }
 {
     let share = share_of(cut.all, cut.failing);
-    put(out, Piece::CutOpen)?;
+    put(out, PagePart::CutOpen)?;
     put_class(out, share)?;
     put_line(out, is_open)
 }
@@ -107,9 +107,9 @@ fn put_open(out: &mut String, is_open: bool, cut: &CutCount) -> Result<(), Alloc
 pub(crate) fn put_body(out: &mut String, program: usize, cut: u32) -> Result<(), AllocError>
     ensures { OnOk result (string_bytes out.new ≡ string_bytes out.old ++ cut_body program cut) }
 {
-    put(out, Piece::CutBody)?;
+    put(out, PagePart::CutBody)?;
     put_place_name(out, program, cut)?;
-    put(out, Piece::OpenEnd)
+    put(out, PagePart::OpenEnd)
 }
 
 /// Appends the line of a cut, open or not, without what only a cut of images has.
@@ -132,7 +132,7 @@ pub(crate) fn put_begin(
 #[tactic(auto, unfolding(crate::specs::Groups::cut_head))]
 fn put_head(
     out: &mut String,
-    run: &Run<'_>,
+    run: &PageRun<'_>,
     how: Showing,
     cut: &CutFailures,
 ) -> Result<(), AllocError>
@@ -154,16 +154,16 @@ fn put_rest(out: &mut String, count: usize) -> Result<(), AllocError>
     if count == 0 {
         return Ok(());
     }
-    put(out, Piece::RestOpen)?;
+    put(out, PagePart::RestOpen)?;
     put_number(out, count as u64)?;
-    put(out, Piece::RestClose)
+    put(out, PagePart::RestClose)
 }
 
 /// Appends groups that aren't open.
 fn put_closed(
     alloc: Global,
     out: &mut String,
-    run: &Run<'_>,
+    run: &PageRun<'_>,
     outcomes: &[&str],
     groups: &[Group],
 ) -> Result<(), AllocError>
@@ -181,7 +181,7 @@ fn put_closed(
 fn put_groups(
     alloc: Global,
     out: &mut String,
-    run: &Run<'_>,
+    run: &PageRun<'_>,
     outcomes: &[&str],
     is_open: bool,
     groups: &[Group],
@@ -212,7 +212,7 @@ pub(crate) fn shown_of(left: usize, rows: usize) -> usize
 fn put_shown_cut(
     alloc: Global,
     out: &mut String,
-    run: &Run<'_>,
+    run: &PageRun<'_>,
     outcomes: &[&str],
     how: Showing,
     cut: &CutFailures,
@@ -225,14 +225,14 @@ fn put_shown_cut(
     put_head(out, run, how, cut)?;
     put_groups(alloc, out, run, outcomes, how.is_open, &groups[..how.rows])?;
     put_rest(out, groups.len() - how.rows)?;
-    put(out, Piece::CutClose)
+    put(out, PagePart::CutClose)
 }
 
 /// Appends a cut, where images fail.
 pub(crate) fn put_cut(
     alloc: Global,
     out: &mut String,
-    run: &Run<'_>,
+    run: &PageRun<'_>,
     outcomes: &[&str],
     how: Showing,
     cut: &CutFailures,

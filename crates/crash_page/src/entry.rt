@@ -7,7 +7,7 @@ ghost use Rattle.crash_page.specs.Entries.{shade_text, class_text, label_text, l
 
 use crate::html::{put_html, put_mark_label};
 use crate::lacking::{Lacking, put_lacking};
-use crate::pieces::{Piece, put, put_number};
+use crate::pieces::{PagePart, put, put_number};
 use crate::run::Logged;
 use epochs::Plan;
 use logfmt::{Entry, Log};
@@ -67,9 +67,9 @@ fn put_label(alloc: Global, out: &mut String, entry: &Entry) -> Result<(), Alloc
 fn put_link(out: &mut String, number: u32) -> Result<(), AllocError>
     ensures { OnOk result (string_bytes out.new ≡ string_bytes out.old ++ link_text number) }
 {
-    put(out, Piece::CellLink)?;
+    put(out, PagePart::CellLink)?;
     put_number(out, u64::from(number))?;
-    put(out, Piece::LinkEnd)?;
+    put(out, PagePart::LinkEnd)?;
     put_number(out, u64::from(number))
 }
 
@@ -78,7 +78,7 @@ fn put_link(out: &mut String, number: u32) -> Result<(), AllocError>
 fn put_cell_class(out: &mut String, epoch: u32, entry: &Entry) -> Result<(), AllocError>
     ensures { OnOk result (string_bytes out.new ≡ string_bytes out.old ++ cell_class epoch entry.now) }
 {
-    put(out, Piece::CellOpen)?;
+    put(out, PagePart::CellOpen)?;
     put_shade(out, epoch)?;
     put_classes(out, entry)
 }
@@ -97,7 +97,7 @@ fn put_cell(
     put_cell_class(out, epoch, entry)?;
     put_link(out, number)?;
     put_label(alloc, out, entry)?;
-    put(out, Piece::CellClose)
+    put(out, PagePart::CellClose)
 }
 
 /// Appends the cell of an entry of the log.
@@ -185,11 +185,11 @@ fn put_row(
     ensures { OnOk result (string_bytes out.new ≡ string_bytes out.old ++ row_text log.now.entries number) }
 {
     let line = line_of(alloc, plan, log, number)?;
-    put(out, Piece::RowOpen)?;
+    put(out, PagePart::RowOpen)?;
     put_number(out, u64::from(number))?;
-    put(out, Piece::LinkEnd)?;
+    put(out, PagePart::LinkEnd)?;
     put_html(out, line.as_bytes())?;
-    put(out, Piece::RowClose)
+    put(out, PagePart::RowClose)
 }
 
 /// Appends the lines of all entries.

@@ -10,10 +10,10 @@ ghost use Rattle.crash_page.specs.Judges.{judge_text};
 ghost use Rattle.crash_page.specs.Failing.{own_failures, IsFailing};
 ghost use Rattle.crash_page.specs.Page.{AreOfRun};
 
-use crate::judge::Judge;
+use crate::judge::PageJudge;
 use crate::laws::failures_are_of_run;
 use crate::program::ProgramFailures;
-use crate::run::Run;
+use crate::run::PageRun;
 use losses::cure::{Failure, windows_of};
 use losses::flushes::{MissingFlush, missing_flushes};
 use losses::why::failures;
@@ -89,10 +89,10 @@ fn missing_for(
 /// Memory was refused.
 pub fn program_failures<'a>(
     alloc: Global,
-    run: &Run<'_>,
+    run: &PageRun<'_>,
     failures_of_run: &[Failure],
     program: usize,
-    judge: Judge<'a>,
+    judge: PageJudge<'a>,
     images: &[u64],
     outcomes: Vec<&'a str>,
 ) -> Result<ProgramFailures<'a>, AllocError>

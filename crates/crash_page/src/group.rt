@@ -7,8 +7,8 @@ ghost use Rattle.losses.specs.WhyText.{IsNumbered};
 ghost use Rattle.crash_page.specs.Groups.{image_text, block_text, choice_at, sides_text, group_open, group_choice, group_size, same_text, group_end, group_line, chosen_text, group_text};
 
 use crate::html::{put_html, put_sided};
-use crate::pieces::{Piece, put, put_number};
-use crate::run::Run;
+use crate::pieces::{PagePart, put, put_number};
+use crate::run::PageRun;
 use choices::{Choice, Starts, choice_named};
 use crash_text::put_shown;
 use images::images_are_devices;
@@ -41,7 +41,7 @@ fn nothing_departs(starts: &Starts<'_>, choice: &Choice) -> Choice
 
 /// The image of a choice in words.
 #[tactic(auto, using(crate::proofs::Departing::member_cut))]
-fn image_text(alloc: Global, run: &Run<'_>, choice: &Choice) -> Result<String, AllocError>
+fn image_text(alloc: Global, run: &PageRun<'_>, choice: &Choice) -> Result<String, AllocError>
     requires member { IsMember run.now.starts.now.plan choice.now }
     ensures { IfOk result (λ text. string_bytes text ≡ image_text run.now.starts.now choice.now) }
 {
@@ -62,17 +62,21 @@ fn put_block(out: &mut String, text: &str) -> Result<(), AllocError>
     ensures { OnOk result (string_bytes out.new ≡ string_bytes out.old ++ block_text text.now) }
 {
     if text.len() <= LONGEST {
-        put(out, Piece::TextOpen)?;
+        put(out, PagePart::TextOpen)?;
         put_sided(out, text.as_bytes())?;
-        return put(out, Piece::TextClose);
+        return put(out, PagePart::TextClose);
     }
-    put(out, Piece::LongOpen)?;
+    put(out, PagePart::LongOpen)?;
     put_number(out, text.len() as u64)?;
-    put(out, Piece::LongClose)
+    put(out, PagePart::LongClose)
 }
 
 /// Appends the choice of an image.
-pub(crate) fn put_choice_at(out: &mut String, run: &Run<'_>, image: u64) -> Result<(), AllocError>
+pub(crate) fn put_choice_at(
+    out: &mut String,
+    run: &PageRun<'_>,
+    image: u64,
+) -> Result<(), AllocError>
     requires image { image < length (ranked_choices run.now.starts.now.plan run.now.starts.now.bound run.now.starts.now.tears) }
     ensures { OnOk result (string_bytes out.new ≡ string_bytes out.old ++ choice_at run.now.starts.now image) }
 {
@@ -87,7 +91,7 @@ fn put_sides(out: &mut String, choice: &Choice) -> Result<(), AllocError>
     if choice.departures().is_empty() {
         Ok(())
     } else {
-        put(out, Piece::Sides)
+        put(out, PagePart::Sides)
     }
 }
 
@@ -96,9 +100,9 @@ fn put_group_open(out: &mut String, is_open: bool) -> Result<(), AllocError>
     ensures { OnOk result (string_bytes out.new ≡ string_bytes out.old ++ group_open is_open) }
 {
     if is_open {
-        put(out, Piece::GroupOpened)
+        put(out, PagePart::GroupOpened)
     } else {
-        put(out, Piece::GroupOpen)
+        put(out, PagePart::GroupOpen)
     }
 }
 
@@ -106,7 +110,7 @@ fn put_group_open(out: &mut String, is_open: bool) -> Result<(), AllocError>
 #[tactic(auto, unfolding(crate::specs::Groups::group_choice))]
 fn put_group_choice(
     out: &mut String,
-    run: &Run<'_>,
+    run: &PageRun<'_>,
     is_open: bool,
     choice: &Choice,
 ) -> Result<(), AllocError>
@@ -121,9 +125,9 @@ fn put_group_choice(
 fn put_group_size(out: &mut String, group: Group) -> Result<(), AllocError>
     ensures { OnOk result (string_bytes out.new ≡ string_bytes out.old ++ group_size group) }
 {
-    put(out, Piece::GroupImage)?;
+    put(out, PagePart::GroupImage)?;
     put_number(out, group.image)?;
-    put(out, Piece::GroupSize)?;
+    put(out, PagePart::GroupSize)?;
     put_number(out, group.failing as u64)
 }
 
@@ -132,9 +136,9 @@ fn put_same(out: &mut String, same: bool) -> Result<(), AllocError>
     ensures { OnOk result (string_bytes out.new ≡ string_bytes out.old ++ same_text same) }
 {
     if same {
-        put(out, Piece::GroupAll)
+        put(out, PagePart::GroupAll)
     } else {
-        put(out, Piece::GroupSome)
+        put(out, PagePart::GroupSome)
     }
 }
 
@@ -146,14 +150,14 @@ fn put_group_end(out: &mut String, outcomes: &[&str], group: Group) -> Result<()
 {
     put_same(out, group.same)?;
     put_html(out, outcomes[group.line].as_bytes())?;
-    put(out, Piece::GroupLineEnd)
+    put(out, PagePart::GroupLineEnd)
 }
 
 /// Appends the line of a group.
 #[tactic(auto, unfolding(crate::specs::Groups::group_line))]
 fn put_group_line(
     out: &mut String,
-    run: &Run<'_>,
+    run: &PageRun<'_>,
     outcomes: &[&str],
     is_open: bool,
     group: Group,
@@ -172,7 +176,7 @@ fn put_group_line(
 pub(crate) fn put_group(
     alloc: Global,
     out: &mut String,
-    run: &Run<'_>,
+    run: &PageRun<'_>,
     outcomes: &[&str],
     is_open: bool,
     group: Group,
@@ -185,5 +189,5 @@ pub(crate) fn put_group(
     put_group_line(out, run, outcomes, is_open, group, &choice)?;
     put_sides(out, &choice)?;
     put_block(out, text.as_str())?;
-    put(out, Piece::GroupClose)
+    put(out, PagePart::GroupClose)
 }

@@ -5,7 +5,7 @@ ghost use Rattle.std.specs.List.{flat_map};
 ghost use Rattle.notes.specs.Escaped.{escaped_text};
 ghost use Rattle.crash_page.specs.Html.{plain_byte, html_byte, html, is_odd, low_char, mark_char, mark_label, side_text, begin_text, end_text, sided_byte, side_by_side};
 
-use crate::pieces::{Piece, put};
+use crate::pieces::{PagePart, put};
 use notes::put_escaped;
 use std::alloc::{AllocError, Global};
 
@@ -119,9 +119,9 @@ fn put_side(out: &mut String, byte: u8) -> Result<(), AllocError>
     ensures { OnOk result (string_bytes out.new ≡ string_bytes out.old ++ side_text byte) }
 {
     match byte {
-        b'<' => put(out, Piece::WholeSide),
-        b'>' => put(out, Piece::WrongSide),
-        _ => put(out, Piece::NoSide),
+        b'<' => put(out, PagePart::WholeSide),
+        b'>' => put(out, PagePart::WrongSide),
+        _ => put(out, PagePart::NoSide),
     }
 }
 
@@ -137,7 +137,7 @@ fn put_end(out: &mut String, byte: u8) -> Result<(), AllocError>
     ensures { OnOk result (string_bytes out.new ≡ string_bytes out.old ++ end_text byte) }
 {
     if byte == b'\n' {
-        put(out, Piece::SideClose)
+        put(out, PagePart::SideClose)
     } else {
         Ok(())
     }

@@ -9,7 +9,7 @@ use std::alloc::AllocError;
 
 /// What a program is whose failing images stand on a page.
 #[derive(Clone, Copy)]
-pub enum Judge<'a> {
+pub enum PageJudge<'a> {
     /// A checker, with what the report says of it.
     Checker(ProgramHead),
     /// A program that is given images as files, with its words as the report has them.
@@ -35,11 +35,11 @@ fn put_outside(out: &mut String, words: &str) -> Result<(), AllocError>
 }
 
 /// Appends what the report says of a program after its number.
-pub(crate) fn put_judge(out: &mut String, judge: &Judge<'_>) -> Result<(), AllocError>
+pub(crate) fn put_judge(out: &mut String, judge: &PageJudge<'_>) -> Result<(), AllocError>
     ensures { OnOk result (string_bytes out.new ≡ string_bytes out.old ++ judge_text judge.now) }
 {
     match judge {
-        Judge::Checker(head) => put_checker(out, *head),
-        Judge::Outside(words) => put_outside(out, words),
+        PageJudge::Checker(head) => put_checker(out, *head),
+        PageJudge::Outside(words) => put_outside(out, words),
     }
 }

@@ -5,7 +5,7 @@ ghost use Rattle.std.specs.List.{position};
 ghost use Rattle.losses.specs.declared.flushes.counted.MissingFlush.{MissingFlush as FlushValue};
 ghost use Rattle.crash_page.specs.Lacking.{flush_name, from_text, flush_title, flush_link, flush_text, lack_at, between_text, named_text, named_from, more_text, entries_word, flushes_text, cure_text, uncured_text, advice_text};
 
-use crate::pieces::{Piece, put, put_number};
+use crate::pieces::{PagePart, put, put_number};
 use losses::flushes::MissingFlush;
 use std::alloc::AllocError;
 
@@ -35,9 +35,9 @@ fn put_from(out: &mut String, flush: MissingFlush) -> Result<(), AllocError>
     if flush.from == flush.at {
         return Ok(());
     }
-    put(out, Piece::LackFrom)?;
+    put(out, PagePart::LackFrom)?;
     put_number(out, u64::from(flush.from))?;
-    put(out, Piece::LackOn)
+    put(out, PagePart::LackOn)
 }
 
 /// Appends what stands beside the pointer at a flush: where it may stand, and how many failing images it takes away.
@@ -45,10 +45,10 @@ fn put_from(out: &mut String, flush: MissingFlush) -> Result<(), AllocError>
 pub(crate) fn put_flush_title(out: &mut String, flush: MissingFlush) -> Result<(), AllocError>
     ensures { OnOk result (string_bytes out.new ≡ string_bytes out.old ++ flush_title flush) }
 {
-    put(out, Piece::LackTitle)?;
+    put(out, PagePart::LackTitle)?;
     put_number(out, u64::from(flush.at))?;
     put_from(out, flush)?;
-    put(out, Piece::LackImages)?;
+    put(out, PagePart::LackImages)?;
     put_number(out, flush.failing as u64)
 }
 
@@ -57,9 +57,9 @@ pub(crate) fn put_flush_title(out: &mut String, flush: MissingFlush) -> Result<(
 fn put_flush_link(out: &mut String, program: usize, entry: u32) -> Result<(), AllocError>
     ensures { OnOk result (string_bytes out.new ≡ string_bytes out.old ++ flush_link program entry) }
 {
-    put(out, Piece::LackOpen)?;
+    put(out, PagePart::LackOpen)?;
     put_name(out, program, entry)?;
-    put(out, Piece::CellLink)?;
+    put(out, PagePart::CellLink)?;
     put_number(out, u64::from(entry))
 }
 
@@ -70,7 +70,7 @@ fn put_flush(out: &mut String, program: usize, flush: MissingFlush) -> Result<()
 {
     put_flush_link(out, program, flush.at)?;
     put_flush_title(out, flush)?;
-    put(out, Piece::LackClose)
+    put(out, PagePart::LackClose)
 }
 
 /// The number of the flush before an entry, if there is one.
@@ -121,11 +121,11 @@ fn put_named(
     ensures { OnOk result (string_bytes out.new ≡ string_bytes out.old ++ named_text program count number flush) }
 {
     put_between(out, count, number)?;
-    put(out, Piece::NamedOpen)?;
+    put(out, PagePart::NamedOpen)?;
     put_name(out, program, flush.at)?;
-    put(out, Piece::LinkEnd)?;
+    put(out, PagePart::LinkEnd)?;
     put_number(out, u64::from(flush.at))?;
-    put(out, Piece::NamedClose)
+    put(out, PagePart::NamedClose)
 }
 
 /// Appends the first of that many flushes.
@@ -161,9 +161,9 @@ fn put_entries_word(out: &mut String, count: usize) -> Result<(), AllocError>
     ensures { OnOk result (string_bytes out.new ≡ string_bytes out.old ++ entries_word count) }
 {
     if count == 1 {
-        put(out, Piece::CureEntry)
+        put(out, PagePart::CureEntry)
     } else {
-        put(out, Piece::CureEntries)
+        put(out, PagePart::CureEntries)
     }
 }
 
@@ -177,7 +177,7 @@ fn put_flushes(out: &mut String, lacking: &Lacking<'_>) -> Result<(), AllocError
     put_entries_word(out, count)?;
     put_names(out, lacking.program, count, &lacking.flushes[..named])?;
     put_more(out, count - named)?;
-    put(out, Piece::CureClose)
+    put(out, PagePart::CureClose)
 }
 
 /// Appends where a flush is missing, if one is.
@@ -198,9 +198,9 @@ fn put_uncured(out: &mut String, count: usize) -> Result<(), AllocError>
     if count == 0 {
         return Ok(());
     }
-    put(out, Piece::UncuredOpen)?;
+    put(out, PagePart::UncuredOpen)?;
     put_number(out, count as u64)?;
-    put(out, Piece::UncuredClose)
+    put(out, PagePart::UncuredClose)
 }
 
 /// Appends what flushes would do: which are missing, and how many failing images none takes away.

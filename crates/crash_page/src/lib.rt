@@ -98,8 +98,8 @@ mod strip;
 
 pub use cases_page::case_page;
 pub use failing::program_failures;
-pub use judge::Judge;
+pub use judge::PageJudge;
 pub use laws::{failures_are_of_run, text_is_no_markup};
 pub use page::put_page;
 pub use program::ProgramFailures;
-pub use run::Run;
+pub use run::PageRun;

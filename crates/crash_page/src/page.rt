@@ -5,12 +5,12 @@ ghost use Rattle.crash_page.specs.Html.{html};
 ghost use Rattle.crash_page.specs.Page.{log_name, own_style, style_text, head_text, programs_text, about_text, small_list, list_text, page_text, AreOfRun};
 
 use crate::block::{is_large, put_large_list};
-use crate::counts::Kind;
+use crate::counts::JudgedKind;
 use crate::entry::put_rows;
 use crate::html::put_html;
-use crate::pieces::{Piece, put};
+use crate::pieces::{PagePart, put};
 use crate::program::{ProgramFailures, put_program};
-use crate::run::{Logged, Run, logged_of};
+use crate::run::{Logged, PageRun, logged_of};
 use logfmt::Log;
 use std::alloc::{AllocError, Global};
 
@@ -24,35 +24,35 @@ fn put_log_name(out: &mut String, log: &Log) -> Result<(), AllocError>
 }
 
 /// Appends the style of cases, where these stand on the page.
-fn put_own_style(out: &mut String, of: Kind) -> Result<(), AllocError>
+fn put_own_style(out: &mut String, of: JudgedKind) -> Result<(), AllocError>
     ensures { OnOk result (string_bytes out.new ≡ string_bytes out.old ++ own_style of) }
 {
     match of {
-        Kind::Images => Ok(()),
-        Kind::Cases => put(out, Piece::CaseStyle),
+        JudgedKind::Images => Ok(()),
+        JudgedKind::Cases => put(out, PagePart::CaseStyle),
     }
 }
 
 /// Appends the style.
 #[tactic(auto, unfolding(crate::specs::Page::style_text))]
-fn put_style(out: &mut String, of: Kind) -> Result<(), AllocError>
+fn put_style(out: &mut String, of: JudgedKind) -> Result<(), AllocError>
     ensures { OnOk result (string_bytes out.new ≡ string_bytes out.old ++ style_text of) }
 {
-    put(out, Piece::Style)?;
+    put(out, PagePart::Style)?;
     put_own_style(out, of)?;
-    put(out, Piece::StyleEnd)
+    put(out, PagePart::StyleEnd)
 }
 
 /// Appends the head of the page.
 #[tactic(auto, unfolding(crate::specs::Page::head_text))]
-pub(crate) fn put_head(out: &mut String, of: Kind, log: &Log) -> Result<(), AllocError>
+pub(crate) fn put_head(out: &mut String, of: JudgedKind, log: &Log) -> Result<(), AllocError>
     ensures { OnOk result (string_bytes out.new ≡ string_bytes out.old ++ head_text of log.now) }
 {
-    put(out, Piece::Opening)?;
+    put(out, PagePart::Opening)?;
     put_log_name(out, log)?;
     put_style(out, of)?;
     put_log_name(out, log)?;
-    put(out, Piece::HeadClose)
+    put(out, PagePart::HeadClose)
 }
 
 /// Appends the text about the run.
@@ -60,9 +60,9 @@ pub(crate) fn put_head(out: &mut String, of: Kind, log: &Log) -> Result<(), Allo
 pub(crate) fn put_about(out: &mut String, about: &str) -> Result<(), AllocError>
     ensures { OnOk result (string_bytes out.new ≡ string_bytes out.old ++ about_text about.now) }
 {
-    put(out, Piece::AboutOpen)?;
+    put(out, PagePart::AboutOpen)?;
     put_html(out, about.as_bytes())?;
-    put(out, Piece::AboutClose)
+    put(out, PagePart::AboutClose)
 }
 
 /// Appends the list of the entries of a log that isn't large.
@@ -70,9 +70,9 @@ pub(crate) fn put_about(out: &mut String, about: &str) -> Result<(), AllocError>
 fn put_small_list(alloc: Global, out: &mut String, logged: &Logged<'_>) -> Result<(), AllocError>
     ensures { OnOk result (string_bytes out.new ≡ string_bytes out.old ++ small_list logged.now.log.now.entries) }
 {
-    put(out, Piece::ListOpen)?;
+    put(out, PagePart::ListOpen)?;
     put_rows(alloc, out, logged.plan, logged.log)?;
-    put(out, Piece::ListClose)
+    put(out, PagePart::ListClose)
 }
 
 /// Appends the list of entries.
@@ -95,7 +95,7 @@ pub(crate) fn put_list(
 fn put_programs(
     alloc: Global,
     out: &mut String,
-    run: &Run<'_>,
+    run: &PageRun<'_>,
     programs: &[ProgramFailures<'_>],
 ) -> Result<(), AllocError>
     requires programs { All (AreOfRun run.now.starts.now) programs.now }
@@ -120,16 +120,16 @@ pub fn put_page(
     alloc: Global,
     out: &mut String,
     about: &str,
-    run: &Run<'_>,
+    run: &PageRun<'_>,
     programs: &[ProgramFailures<'_>],
 ) -> Result<(), AllocError>
     requires programs { All (AreOfRun run.now.starts.now) programs.now }
     ensures { OnOk result (string_bytes out.new ≡ string_bytes out.old ++ page_text about.now run.now.starts.now programs.now) }
 {
     let logged = logged_of(run);
-    put_head(out, Kind::Images, run.numbering.log)?;
+    put_head(out, JudgedKind::Images, run.numbering.log)?;
     put_about(out, about)?;
     put_programs(alloc, out, run, programs)?;
     put_list(alloc, out, &logged)?;
-    put(out, Piece::Closing)
+    put(out, PagePart::Closing)
 }

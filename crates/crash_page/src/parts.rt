@@ -7,7 +7,7 @@ ghost use Rattle.cases.specs.AtCut.{Apart, case_of};
 ghost use Rattle.crash_page.specs.CaseRows.{state_of, state_word, full_room, room_of, less_room, room_left, is_inside, part_class, part_cell, part_shown, hidden_text, parts_from, all_parts};
 
 use crate::entry::put_word;
-use crate::pieces::{Piece, put, put_number};
+use crate::pieces::{PagePart, put, put_number};
 use case_text::{fates_of, is_free, is_kept, is_never_whole, put_fates, set_at};
 use choices::Fate;
 use epochs::{By, Part};
@@ -20,7 +20,7 @@ const MOST_OF_STATE: u8 = 32;
 
 /// What becomes of a part: anything, it is whole, it isn't, or either.
 #[derive(Clone, Copy)]
-pub(crate) enum State {
+pub(crate) enum PartState {
     Free,
     Kept,
     Lost,
@@ -38,7 +38,7 @@ pub(crate) struct Room {
 
 /// What is the same of each part of a case.
 #[derive(Clone, Copy)]
-pub(crate) struct Row {
+pub(crate) struct CaseRow {
     /// What departs as one.
     pub(crate) by: By,
     /// Whether parts may be torn.
@@ -48,30 +48,30 @@ pub(crate) struct Row {
 }
 
 /// What becomes of a part.
-fn state_of(tears: bool, fates: &[Option<Fate>]) -> State
+fn state_of(tears: bool, fates: &[Option<Fate>]) -> PartState
     ensures { result ≡ state_of tears fates.now }
 {
     if is_free(tears, fates) {
-        State::Free
+        PartState::Free
     } else if is_kept(fates) {
-        State::Kept
+        PartState::Kept
     } else if is_never_whole(fates) {
-        State::Lost
+        PartState::Lost
     } else {
-        State::Mixed
+        PartState::Mixed
     }
 }
 
 /// Appends the class of a state.
 #[tactic(auto, unfolding(crate::specs::CaseRows::state_word))]
-fn put_state(out: &mut String, state: State) -> Result<(), AllocError>
+fn put_state(out: &mut String, state: PartState) -> Result<(), AllocError>
     ensures { OnOk result (string_bytes out.new ≡ string_bytes out.old ++ state_word state) }
 {
     match state {
-        State::Free => out.push_str("free"),
-        State::Kept => out.push_str("kept"),
-        State::Lost => out.push_str("lost"),
-        State::Mixed => out.push_str("some"),
+        PartState::Free => out.push_str("free"),
+        PartState::Kept => out.push_str("kept"),
+        PartState::Lost => out.push_str("lost"),
+        PartState::Mixed => out.push_str("some"),
     }
 }
 
@@ -88,26 +88,26 @@ fn full_room() -> Room
 }
 
 /// How many more parts of a state may be shown.
-fn room_of(room: &Room, state: State) -> u8
+fn room_of(room: &Room, state: PartState) -> u8
     ensures { result ≡ room_of room.now state }
 {
     match state {
-        State::Free => room.free,
-        State::Kept => room.kept,
-        State::Lost => room.lost,
-        State::Mixed => room.mixed,
+        PartState::Free => room.free,
+        PartState::Kept => room.kept,
+        PartState::Lost => room.lost,
+        PartState::Mixed => room.mixed,
     }
 }
 
 /// Takes room for a part of a state, if there is some.
-fn take_room(room: &mut Room, state: State)
+fn take_room(room: &mut Room, state: PartState)
     ensures { room.new ≡ less_room room.old state }
 {
     match state {
-        State::Free => room.free = room.free.saturating_sub(1),
-        State::Kept => room.kept = room.kept.saturating_sub(1),
-        State::Lost => room.lost = room.lost.saturating_sub(1),
-        State::Mixed => room.mixed = room.mixed.saturating_sub(1),
+        PartState::Free => room.free = room.free.saturating_sub(1),
+        PartState::Kept => room.kept = room.kept.saturating_sub(1),
+        PartState::Lost => room.lost = room.lost.saturating_sub(1),
+        PartState::Mixed => room.mixed = room.mixed.saturating_sub(1),
     }
 }
 
@@ -133,10 +133,15 @@ fn is_inside(window: Option<Window>, entry: u32) -> bool
 
 /// Appends the classes of a part.
 #[tactic(auto, unfolding(crate::specs::CaseRows::part_class))]
-fn put_class(out: &mut String, row: &Row, state: State, part: Part) -> Result<(), AllocError>
+fn put_class(
+    out: &mut String,
+    row: &CaseRow,
+    state: PartState,
+    part: Part,
+) -> Result<(), AllocError>
     ensures { OnOk result (string_bytes out.new ≡ string_bytes out.old ++ part_class row.now state part) }
 {
-    put(out, Piece::PartOpen)?;
+    put(out, PagePart::PartOpen)?;
     put_state(out, state)?;
     put_word(out, is_inside(row.window, part.entry), "in")
 }
@@ -145,24 +150,24 @@ fn put_class(out: &mut String, row: &Row, state: State, part: Part) -> Result<()
 #[tactic(auto, unfolding(crate::specs::CaseRows::part_cell))]
 fn put_cell(
     out: &mut String,
-    row: &Row,
+    row: &CaseRow,
     part: Part,
     fates: &[Option<Fate>],
 ) -> Result<(), AllocError>
     ensures { OnOk result (string_bytes out.new ≡ string_bytes out.old ++ part_cell row.now part fates.now) }
 {
     put_class(out, row, state_of(row.tears, fates), part)?;
-    put(out, Piece::PartTitle)?;
+    put(out, PagePart::PartTitle)?;
     put_fates(out, fates)?;
-    put(out, Piece::LinkEnd)?;
+    put(out, PagePart::LinkEnd)?;
     put_part(out, row.by, part.entry, part.place)?;
-    put(out, Piece::PartClose)
+    put(out, PagePart::PartClose)
 }
 
 /// Appends the cell of a part, if there is room.
 fn put_shown(
     out: &mut String,
-    row: &Row,
+    row: &CaseRow,
     room: &Room,
     part: Part,
     fates: &[Option<Fate>],
@@ -178,7 +183,7 @@ fn put_shown(
 /// Appends the cell of a part with the set of its fates, if there is room, and takes that.
 fn put_next(
     out: &mut String,
-    row: &Row,
+    row: &CaseRow,
     room: &mut Room,
     part: Part,
     set: u16,
@@ -200,9 +205,9 @@ fn put_hidden(out: &mut String, count: usize) -> Result<(), AllocError>
     if count == 0 {
         return Ok(());
     }
-    put(out, Piece::PartsOpen)?;
+    put(out, PagePart::PartsOpen)?;
     put_number(out, count as u64)?;
-    put(out, Piece::PartsClose)
+    put(out, PagePart::PartsClose)
 }
 
 /// How many parts of a case aren't shown, with that room left.
@@ -217,7 +222,7 @@ fn hidden_of(parts: usize, room: &Room) -> usize
 #[tactic(auto, using(crate::proofs::CaseTexts::parts_end))]
 pub(crate) fn put_parts(
     out: &mut String,
-    row: &Row,
+    row: &CaseRow,
     parts: &[Part],
     sets: &[u16],
 ) -> Result<(), AllocError>

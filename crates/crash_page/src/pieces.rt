@@ -9,7 +9,7 @@ use std::alloc::AllocError;
 
 /// A part of a page.
 #[derive(Clone, Copy)]
-pub(crate) enum Piece {
+pub(crate) enum PagePart {
     Opening,
     Style,
     CaseStyle,
@@ -141,159 +141,160 @@ pub(crate) enum Piece {
 
 /// The text of a part.
 #[tactic(auto, unfolding(crate::specs::Pieces::piece_text))]
-fn text_of(piece: Piece) -> &'static str
+fn text_of(piece: PagePart) -> &'static str
     ensures { result.now ≡ piece_text piece }
 {
     match piece {
-        Piece::Opening => OPENING,
-        Piece::Style => STYLE,
-        Piece::CaseStyle => CASE_STYLE,
-        Piece::StyleEnd => STYLE_END,
-        Piece::Legend => LEGEND,
-        Piece::LackKey => "<span><b class='lack'></b>flush missing</span>",
-        Piece::LegendRest => {
+        PagePart::Opening => OPENING,
+        PagePart::Style => STYLE,
+        PagePart::CaseStyle => CASE_STYLE,
+        PagePart::StyleEnd => STYLE_END,
+        PagePart::Legend => LEGEND,
+        PagePart::LackKey => "<span><b class='lack'></b>flush missing</span>",
+        PagePart::LegendRest => {
             "<span><b class='mark'></b>mark</span><span><b class='even'></b><b class='odd'></b>epochs in turn</span>"
         }
-        Piece::CaseKeys => CASE_KEYS,
-        Piece::Closing => CLOSING,
-        Piece::AboutOpen => "<pre class='about'>",
-        Piece::AboutClose => "</pre>\n</header>\n<main>\n",
-        Piece::HeadClose => "</h1>\n",
-        Piece::TextOpen => "<pre>",
-        Piece::TextClose => "</pre>\n",
-        Piece::ProgramOpen => "<section aria-labelledby='p",
-        Piece::ProgramId => "'>\n<h2 id='p",
-        Piece::ProgramName => "'>Program ",
-        Piece::ProgramClose => "</h2>\n",
-        Piece::NoCuts => "<p class='none'>The log has no wanted cut: no image was judged.</p>\n",
-        Piece::NoCaseCuts => "<p class='none'>The log has no wanted cut: no case was judged.</p>\n",
-        Piece::GoodOpen => "<p class='good'>No image fails, at ",
-        Piece::GoodCases => "<p class='good'>No case fails, of ",
-        Piece::OpenCases =>
+        PagePart::CaseKeys => CASE_KEYS,
+        PagePart::Closing => CLOSING,
+        PagePart::AboutOpen => "<pre class='about'>",
+        PagePart::AboutClose => "</pre>\n</header>\n<main>\n",
+        PagePart::HeadClose => "</h1>\n",
+        PagePart::TextOpen => "<pre>",
+        PagePart::TextClose => "</pre>\n",
+        PagePart::ProgramOpen => "<section aria-labelledby='p",
+        PagePart::ProgramId => "'>\n<h2 id='p",
+        PagePart::ProgramName => "'>Program ",
+        PagePart::ProgramClose => "</h2>\n",
+        PagePart::NoCuts => "<p class='none'>The log has no wanted cut: no image was judged.</p>\n",
+        PagePart::NoCaseCuts =>
+            "<p class='none'>The log has no wanted cut: no case was judged.</p>\n",
+        PagePart::GoodOpen => "<p class='good'>No image fails, at ",
+        PagePart::GoodCases => "<p class='good'>No case fails, of ",
+        PagePart::OpenCases =>
             "<p class='none'>Cases were left out, and nothing is said of them. No other fails, of ",
-        Piece::TornBeyond => "torn beyond ",
-        Piece::LostBeyond => " lost beyond ",
-        Piece::AtCuts => " at ",
-        Piece::GoodClose => " cuts.</p>\n",
-        Piece::BadOpen => "<p class='bad'>",
-        Piece::BadCuts => " images fail, at ",
-        Piece::BadCases => " cases fail, at ",
-        Piece::Of => " of ",
-        Piece::CureEntry => "<p class='cure'>A flush right before entry ",
-        Piece::CureEntries => "<p class='cure'>A flush right before each of the entries ",
-        Piece::CureClose => {
+        PagePart::TornBeyond => "torn beyond ",
+        PagePart::LostBeyond => " lost beyond ",
+        PagePart::AtCuts => " at ",
+        PagePart::GoodClose => " cuts.</p>\n",
+        PagePart::BadOpen => "<p class='bad'>",
+        PagePart::BadCuts => " images fail, at ",
+        PagePart::BadCases => " cases fail, at ",
+        PagePart::Of => " of ",
+        PagePart::CureEntry => "<p class='cure'>A flush right before entry ",
+        PagePart::CureEntries => "<p class='cure'>A flush right before each of the entries ",
+        PagePart::CureClose => {
             " takes every failing image away against which a flush helps. This isn't tried here: crashbpf cure tries it.</p>\n"
         }
-        Piece::NamedOpen => "<a href='#",
-        Piece::NamedClose => "</a>",
-        Piece::UncuredOpen => "<p class='order'>Against ",
-        Piece::UncuredClose => {
+        PagePart::NamedOpen => "<a href='#",
+        PagePart::NamedClose => "</a>",
+        PagePart::UncuredOpen => "<p class='order'>Against ",
+        PagePart::UncuredClose => {
             " of the failing images no flush helps: the order of the writes is wrong there, or a write that may arrive in part is taken for whole.</p>\n"
         }
-        Piece::StripOpen => {
+        PagePart::StripOpen => {
             "<div tabindex='0' role='group' aria-label='The log: arrow keys move' class='log"
         }
-        Piece::OpenEnd => "'>\n",
-        Piece::StripClose => "</div>\n",
-        Piece::CellOpen => "<a tabindex='-1' class='e",
-        Piece::CellLink => "' href='#e",
-        Piece::LinkEnd => "'>",
-        Piece::CellClose => "</a>\n",
-        Piece::LackOpen => "<a tabindex='-1' class='lack' id='",
-        Piece::LackTitle => "' title='a flush is missing before entry ",
-        Piece::LackFrom => ", or any from ",
-        Piece::LackOn => " on",
-        Piece::LackImages => "; failing images: ",
-        Piece::LackClose => "'>flush missing</a>\n",
-        Piece::PassingOpen => "<i class='c ",
-        Piece::PassingClose => "'></i>\n",
-        Piece::FailingOpen => "<a tabindex='-1' class='c ",
-        Piece::FailingLink => "' href='#",
-        Piece::FailingTitle => "' title='cut ",
-        Piece::FailingClose => "'></a>\n",
-        Piece::KeysOpen => "<span>",
-        Piece::KeysClose => " of a cut that fail:</span>",
-        Piece::KeyOpen => "<span><b class='",
-        Piece::KeyColour => "'></b>",
-        Piece::KeyClose => "</span>",
-        Piece::LegendClose => "</p>\n",
-        Piece::CutOpen => "<details class='cut ",
-        Piece::CutLine => "'><summary>",
-        Piece::CutOpened => "' open><summary>",
-        Piece::CutNumber => "<b>cut ",
-        Piece::CutEpoch => "</b> <span>epoch ",
-        Piece::CutMarks => ", marks ",
-        Piece::CutMarksEnd => "</span> ",
-        Piece::BarOpen => "<span>",
-        Piece::BarMost => "</span> <progress max='",
-        Piece::BarValue => "' value='",
-        Piece::BarClose => "'></progress> ",
-        Piece::FirstOpen => "<code>",
-        Piece::FirstOf => "</code> <small>first of ",
-        Piece::FirstClose => "</small>",
-        Piece::CutBody => "</summary>\n<div id='",
-        Piece::CutClose => "</div></details>\n",
-        Piece::GroupOpen => "<details><summary><code>",
-        Piece::GroupOpened => "<details open><summary><code>",
-        Piece::GroupImage => "</code> <small>image ",
-        Piece::GroupSize => ", group of ",
-        Piece::GroupAll => ", all: ",
-        Piece::GroupSome => ", some: ",
-        Piece::GroupLineEnd => "</small></summary>\n",
-        Piece::Sides => {
+        PagePart::OpenEnd => "'>\n",
+        PagePart::StripClose => "</div>\n",
+        PagePart::CellOpen => "<a tabindex='-1' class='e",
+        PagePart::CellLink => "' href='#e",
+        PagePart::LinkEnd => "'>",
+        PagePart::CellClose => "</a>\n",
+        PagePart::LackOpen => "<a tabindex='-1' class='lack' id='",
+        PagePart::LackTitle => "' title='a flush is missing before entry ",
+        PagePart::LackFrom => ", or any from ",
+        PagePart::LackOn => " on",
+        PagePart::LackImages => "; failing images: ",
+        PagePart::LackClose => "'>flush missing</a>\n",
+        PagePart::PassingOpen => "<i class='c ",
+        PagePart::PassingClose => "'></i>\n",
+        PagePart::FailingOpen => "<a tabindex='-1' class='c ",
+        PagePart::FailingLink => "' href='#",
+        PagePart::FailingTitle => "' title='cut ",
+        PagePart::FailingClose => "'></a>\n",
+        PagePart::KeysOpen => "<span>",
+        PagePart::KeysClose => " of a cut that fail:</span>",
+        PagePart::KeyOpen => "<span><b class='",
+        PagePart::KeyColour => "'></b>",
+        PagePart::KeyClose => "</span>",
+        PagePart::LegendClose => "</p>\n",
+        PagePart::CutOpen => "<details class='cut ",
+        PagePart::CutLine => "'><summary>",
+        PagePart::CutOpened => "' open><summary>",
+        PagePart::CutNumber => "<b>cut ",
+        PagePart::CutEpoch => "</b> <span>epoch ",
+        PagePart::CutMarks => ", marks ",
+        PagePart::CutMarksEnd => "</span> ",
+        PagePart::BarOpen => "<span>",
+        PagePart::BarMost => "</span> <progress max='",
+        PagePart::BarValue => "' value='",
+        PagePart::BarClose => "'></progress> ",
+        PagePart::FirstOpen => "<code>",
+        PagePart::FirstOf => "</code> <small>first of ",
+        PagePart::FirstClose => "</small>",
+        PagePart::CutBody => "</summary>\n<div id='",
+        PagePart::CutClose => "</div></details>\n",
+        PagePart::GroupOpen => "<details><summary><code>",
+        PagePart::GroupOpened => "<details open><summary><code>",
+        PagePart::GroupImage => "</code> <small>image ",
+        PagePart::GroupSize => ", group of ",
+        PagePart::GroupAll => ", all: ",
+        PagePart::GroupSome => ", some: ",
+        PagePart::GroupLineEnd => "</small></summary>\n",
+        PagePart::Sides => {
             "<p class='sides'><span class='whole'>&lt; where nothing is lost</span> <span class='wrong'>&gt; this image, which fails</span></p>\n"
         }
-        Piece::WholeSide => "<span class='whole'>",
-        Piece::WrongSide => "<span class='wrong'>",
-        Piece::NoSide => "<span>",
-        Piece::SideClose => "</span>",
-        Piece::GroupClose => "</details>\n",
-        Piece::LongOpen => "<p class='about'>Its text has ",
-        Piece::LongClose => " bytes: crashbpf show prints it.</p>\n",
-        Piece::RestOpen => "<p class='about'>",
-        Piece::RestClose => " more groups of this cut: crashbpf why lists them.</p>\n",
-        Piece::RestCases => " more cases of this cut: crashbpf why lists them.</p>\n",
-        Piece::CaseOpen => "<div class='case'>case ",
-        Piece::NoFlushHelps => "no flush takes it away",
-        Piece::FlushHelps => "a flush before any of the entries ",
-        Piece::OneFlushHelps => "a flush before entry ",
-        Piece::HelpsClose => " takes it away",
-        Piece::CaseParts => "\n<div class='log'>\n",
-        Piece::PartOpen => "<b class='p ",
-        Piece::PartTitle => "' title='",
-        Piece::PartClose => "</b>\n",
-        Piece::PartsOpen => "<small>",
-        Piece::PartsClose => " more parts</small>\n",
-        Piece::CaseClose => "</div></div>\n",
-        Piece::SectionClose => "</section>\n",
-        Piece::ListOpen => {
+        PagePart::WholeSide => "<span class='whole'>",
+        PagePart::WrongSide => "<span class='wrong'>",
+        PagePart::NoSide => "<span>",
+        PagePart::SideClose => "</span>",
+        PagePart::GroupClose => "</details>\n",
+        PagePart::LongOpen => "<p class='about'>Its text has ",
+        PagePart::LongClose => " bytes: crashbpf show prints it.</p>\n",
+        PagePart::RestOpen => "<p class='about'>",
+        PagePart::RestClose => " more groups of this cut: crashbpf why lists them.</p>\n",
+        PagePart::RestCases => " more cases of this cut: crashbpf why lists them.</p>\n",
+        PagePart::CaseOpen => "<div class='case'>case ",
+        PagePart::NoFlushHelps => "no flush takes it away",
+        PagePart::FlushHelps => "a flush before any of the entries ",
+        PagePart::OneFlushHelps => "a flush before entry ",
+        PagePart::HelpsClose => " takes it away",
+        PagePart::CaseParts => "\n<div class='log'>\n",
+        PagePart::PartOpen => "<b class='p ",
+        PagePart::PartTitle => "' title='",
+        PagePart::PartClose => "</b>\n",
+        PagePart::PartsOpen => "<small>",
+        PagePart::PartsClose => " more parts</small>\n",
+        PagePart::CaseClose => "</div></div>\n",
+        PagePart::SectionClose => "</section>\n",
+        PagePart::ListOpen => {
             "<section aria-labelledby='entries'>\n<h2 id='entries'>Entries</h2>\n<ol>\n"
         }
-        Piece::RowOpen => "<li id='e",
-        Piece::RowClose => "</li>\n",
-        Piece::ListClose => "</ol>\n</section>\n",
-        Piece::BlocksOpen => {
+        PagePart::RowOpen => "<li id='e",
+        PagePart::RowClose => "</li>\n",
+        PagePart::ListClose => "</ol>\n</section>\n",
+        PagePart::BlocksOpen => {
             "<section aria-labelledby='entries'>\n<h2 id='entries'>Entries</h2>\n<p class='about'>Each by its number, its epoch and what it asks of the device.</p>\n"
         }
-        Piece::BlockOpen => "<details id='e",
-        Piece::BlockName => "'><summary>entries ",
-        Piece::BlockLines => "</summary>\n<pre>",
-        Piece::BlockClose => "</pre></details>\n",
-        Piece::BlockCuts => "; of cuts ",
-        Piece::BlockFailing => " fail: ",
-        Piece::WidthOpen => "<p class='about'>A cell stands for up to ",
-        Piece::WidthClose => {
+        PagePart::BlockOpen => "<details id='e",
+        PagePart::BlockName => "'><summary>entries ",
+        PagePart::BlockLines => "</summary>\n<pre>",
+        PagePart::BlockClose => "</pre></details>\n",
+        PagePart::BlockCuts => "; of cuts ",
+        PagePart::BlockFailing => " fail: ",
+        PagePart::WidthOpen => "<p class='about'>A cell stands for up to ",
+        PagePart::WidthClose => {
             " entries, and the one before it for as many cuts, in the colour of the first at which "
         }
-        Piece::WidthEnd => " fail.</p>\n",
-        Piece::MoreOpen => "<p class='about' id='",
-        Piece::MoreCuts => " more cuts at which ",
-        Piece::MoreClose => " fail: crashbpf why lists them.</p>\n",
+        PagePart::WidthEnd => " fail.</p>\n",
+        PagePart::MoreOpen => "<p class='about' id='",
+        PagePart::MoreCuts => " more cuts at which ",
+        PagePart::MoreClose => " fail: crashbpf why lists them.</p>\n",
     }
 }
 
 /// Appends a part.
-pub(crate) fn put(out: &mut String, piece: Piece) -> Result<(), AllocError>
+pub(crate) fn put(out: &mut String, piece: PagePart) -> Result<(), AllocError>
     ensures { OnOk result (string_bytes out.new ≡ string_bytes out.old ++ piece_text piece) }
 {
     out.push_str(text_of(piece))

@@ -1,23 +1,23 @@
 //! What is said of a program.
 
 ghost use Rattle.std.specs.Prelude.{◌≡◌, ◌==◌, if◌then◌else◌, ◌≤◌, ◌++◌, [], ◌∷◌, All, length, map, OnOk, string_bytes};
-ghost use Rattle.crash_page.specs.declared.pieces.Piece.TheVariants as piece;
+ghost use Rattle.crash_page.specs.declared.pieces.PagePart.TheVariants as piece;
 ghost use Rattle.crash_page.specs.Pieces.{piece_text};
 ghost use Rattle.crash_page.specs.declared.counts.CutCount.{CutCount as CutValue};
-ghost use Rattle.crash_page.specs.declared.counts.Kind.TheVariants as kind;
+ghost use Rattle.crash_page.specs.declared.counts.JudgedKind.TheVariants as kind;
 ghost use Rattle.crash_page.specs.Blocks.{most_cells};
 ghost use Rattle.crash_page.specs.Groups.{one_failing, listed_text, cuts_text, more_count, unlisted_text};
 ghost use Rattle.crash_page.specs.Counts.{count_fails};
 ghost use Rattle.crash_page.specs.Page.{counts_of, bad_text, judged_text, verdict_text, strip_open, row_of, strip_text, name_text, title_text, summary_text, most_of_program, shown_cuts, program_text, IsOfRun, AreOfRun};
 
 use crate::block::{MOST_CELLS, is_large, put_more_name, put_row_blocks, put_width};
-use crate::counts::{CutCount, Kind, count_failing, image_counts, put_kind};
+use crate::counts::{CutCount, JudgedKind, count_failing, image_counts, put_kind};
 use crate::cut::{Showing, put_cut, shown_of};
 use crate::entry::put_word;
-use crate::judge::{Judge, put_judge};
+use crate::judge::{PageJudge, put_judge};
 use crate::lacking::{Lacking, put_advice};
-use crate::pieces::{Piece, put, put_number};
-use crate::run::{Logged, Run, logged_of};
+use crate::pieces::{PagePart, put, put_number};
+use crate::run::{Logged, PageRun, logged_of};
 use crate::share::put_legend;
 use crate::strip::put_strip;
 use logfmt::Log;
@@ -38,7 +38,7 @@ const MANY: usize = 400;
 #[derive(Drop)]
 pub struct ProgramFailures<'a> {
     /// What the program is.
-    pub judge: Judge<'a>,
+    pub judge: PageJudge<'a>,
     /// On how many images it fails.
     pub failing: usize,
     /// What it ends in on each of these images.
@@ -56,11 +56,11 @@ pub struct ProgramFailures<'a> {
 fn put_bad(out: &mut String, failing: usize, cuts: &[CutCount]) -> Result<(), AllocError>
     ensures { OnOk result (string_bytes out.new ≡ string_bytes out.old ++ bad_text failing cuts.now) }
 {
-    put(out, Piece::BadOpen)?;
+    put(out, PagePart::BadOpen)?;
     put_number(out, failing as u64)?;
-    put(out, Piece::BadCuts)?;
+    put(out, PagePart::BadCuts)?;
     put_number(out, count_failing(cuts) as u64)?;
-    put(out, Piece::Of)
+    put(out, PagePart::Of)
 }
 
 /// Appends whether a program fails.
@@ -68,7 +68,7 @@ fn put_failing(out: &mut String, failing: usize, cuts: &[CutCount]) -> Result<()
     ensures { OnOk result (string_bytes out.new ≡ string_bytes out.old ++ (if failing == 0 then piece_text piece.GoodOpen else bad_text failing cuts.now)) }
 {
     if failing == 0 {
-        put(out, Piece::GoodOpen)
+        put(out, PagePart::GoodOpen)
     } else {
         put_bad(out, failing, cuts)
     }
@@ -81,7 +81,7 @@ fn put_judged(out: &mut String, failing: usize, cuts: &[CutCount]) -> Result<(),
 {
     put_failing(out, failing, cuts)?;
     put_number(out, cuts.len() as u64)?;
-    put(out, Piece::GoodClose)
+    put(out, PagePart::GoodClose)
 }
 
 /// Appends what a program comes to, or that nothing was judged.
@@ -89,7 +89,7 @@ fn put_verdict(out: &mut String, failing: usize, cuts: &[CutCount]) -> Result<()
     ensures { OnOk result (string_bytes out.new ≡ string_bytes out.old ++ verdict_text failing cuts.now) }
 {
     if cuts.is_empty() {
-        put(out, Piece::NoCuts)
+        put(out, PagePart::NoCuts)
     } else {
         put_judged(out, failing, cuts)
     }
@@ -97,13 +97,13 @@ fn put_verdict(out: &mut String, failing: usize, cuts: &[CutCount]) -> Result<()
 
 /// Appends what begins a row of that many entries.
 #[tactic(auto, unfolding(crate::specs::Page::strip_open))]
-fn put_strip_open(out: &mut String, of: Kind, log: &Log) -> Result<(), AllocError>
+fn put_strip_open(out: &mut String, of: JudgedKind, log: &Log) -> Result<(), AllocError>
     ensures { OnOk result (string_bytes out.new ≡ string_bytes out.old ++ strip_open of log.now.entries) }
 {
     put_width(out, of, log)?;
-    put(out, Piece::StripOpen)?;
+    put(out, PagePart::StripOpen)?;
     put_word(out, log.entries().len() > MANY, "many")?;
-    put(out, Piece::OpenEnd)
+    put(out, PagePart::OpenEnd)
 }
 
 /// Appends the cells of a row: in blocks where the log is large.
@@ -129,7 +129,7 @@ fn put_row_of(
 pub(crate) fn put_row(
     alloc: Global,
     out: &mut String,
-    of: Kind,
+    of: JudgedKind,
     logged: &Logged<'_>,
     lacking: &Lacking<'_>,
     cuts: &[CutCount],
@@ -139,7 +139,7 @@ pub(crate) fn put_row(
 {
     put_strip_open(out, of, logged.log)?;
     put_row_of(alloc, out, logged, lacking, cuts)?;
-    put(out, Piece::StripClose)
+    put(out, PagePart::StripClose)
 }
 
 /// How many cuts a cut at which that much fails is.
@@ -153,7 +153,7 @@ pub(crate) fn one_failing(failing: usize) -> usize
 fn put_listed(
     alloc: Global,
     out: &mut String,
-    run: &Run<'_>,
+    run: &PageRun<'_>,
     outcomes: &[&str],
     lines: usize,
     how: Showing,
@@ -174,7 +174,7 @@ fn put_listed(
 fn put_cuts(
     alloc: Global,
     out: &mut String,
-    run: &Run<'_>,
+    run: &PageRun<'_>,
     program: usize,
     outcomes: &[&str],
     most: usize,
@@ -200,20 +200,20 @@ fn put_cuts(
 
 /// Appends how many cuts more there are at which something fails.
 #[tactic(auto, unfolding(crate::specs::Groups::more_count))]
-fn put_more_count(out: &mut String, of: Kind, count: usize) -> Result<(), AllocError>
+fn put_more_count(out: &mut String, of: JudgedKind, count: usize) -> Result<(), AllocError>
     ensures { OnOk result (string_bytes out.new ≡ string_bytes out.old ++ more_count of count) }
 {
     put_number(out, count as u64)?;
-    put(out, Piece::MoreCuts)?;
+    put(out, PagePart::MoreCuts)?;
     put_kind(out, of)?;
-    put(out, Piece::MoreClose)
+    put(out, PagePart::MoreClose)
 }
 
 /// Appends how many cuts at which something fails aren't listed, if there are any.
 #[tactic(auto, unfolding(crate::specs::Groups::unlisted_text))]
 pub(crate) fn put_unlisted(
     out: &mut String,
-    of: Kind,
+    of: JudgedKind,
     program: usize,
     count: usize,
 ) -> Result<(), AllocError>
@@ -222,9 +222,9 @@ pub(crate) fn put_unlisted(
     if count == 0 {
         return Ok(());
     }
-    put(out, Piece::MoreOpen)?;
+    put(out, PagePart::MoreOpen)?;
     put_more_name(out, program)?;
-    put(out, Piece::LinkEnd)?;
+    put(out, PagePart::LinkEnd)?;
     put_more_count(out, of, count)
 }
 
@@ -244,7 +244,7 @@ pub(crate) fn most_of_program(log: &Log) -> usize
 fn put_shown_cuts(
     alloc: Global,
     out: &mut String,
-    run: &Run<'_>,
+    run: &PageRun<'_>,
     program: usize,
     failures: &ProgramFailures<'_>,
     counts: &[CutCount],
@@ -257,7 +257,7 @@ fn put_shown_cuts(
     let most = most_of_program(run.numbering.log);
     put_cuts(alloc, out, run, program, outcomes, most, cuts)?;
     let count = count_failing(counts).saturating_sub(MOST_CELLS);
-    put_unlisted(out, Kind::Images, program, count)
+    put_unlisted(out, JudgedKind::Images, program, count)
 }
 
 /// The flushes that are missing for a program.
@@ -273,7 +273,7 @@ fn lacking_of<'a>(program: usize, failures: &'a ProgramFailures<'_>) -> Lacking<
 
 /// Appends the number of a program, and what the report says of it.
 #[tactic(auto, unfolding(crate::specs::Page::name_text))]
-fn put_name(out: &mut String, program: usize, judge: &Judge<'_>) -> Result<(), AllocError>
+fn put_name(out: &mut String, program: usize, judge: &PageJudge<'_>) -> Result<(), AllocError>
     ensures { OnOk result (string_bytes out.new ≡ string_bytes out.old ++ name_text program judge.now) }
 {
     write!(out, "{program}: ")?;
@@ -285,17 +285,17 @@ fn put_name(out: &mut String, program: usize, judge: &Judge<'_>) -> Result<(), A
 pub(crate) fn put_title(
     out: &mut String,
     program: usize,
-    judge: &Judge<'_>,
+    judge: &PageJudge<'_>,
 ) -> Result<(), AllocError>
     ensures { OnOk result (string_bytes out.new ≡ string_bytes out.old ++ title_text program judge.now) }
 {
-    put(out, Piece::ProgramOpen)?;
+    put(out, PagePart::ProgramOpen)?;
     put_number(out, program as u64)?;
-    put(out, Piece::ProgramId)?;
+    put(out, PagePart::ProgramId)?;
     put_number(out, program as u64)?;
-    put(out, Piece::ProgramName)?;
+    put(out, PagePart::ProgramName)?;
     put_name(out, program, judge)?;
-    put(out, Piece::ProgramClose)
+    put(out, PagePart::ProgramClose)
 }
 
 /// Appends what a program comes to, and what flushes would do.
@@ -320,7 +320,7 @@ fn put_summary(
 pub(crate) fn put_program(
     alloc: Global,
     out: &mut String,
-    run: &Run<'_>,
+    run: &PageRun<'_>,
     program: usize,
     failures: &ProgramFailures<'_>,
 ) -> Result<(), AllocError>
@@ -333,12 +333,12 @@ pub(crate) fn put_program(
     put_row(
         alloc,
         out,
-        Kind::Images,
+        JudgedKind::Images,
         &logged,
         &lacking,
         counts.as_slice(),
     )?;
-    put_legend(out, Kind::Images)?;
+    put_legend(out, JudgedKind::Images)?;
     put_shown_cuts(alloc, out, run, program, failures, counts.as_slice())?;
-    put(out, Piece::SectionClose)
+    put(out, PagePart::SectionClose)
 }

@@ -10,7 +10,7 @@ use logfmt::Log;
 
 /// The run of which a page is: the table of its choices, the images, and what these are numbered by.
 #[derive(Clone, Copy)]
-pub struct Run<'a> {
+pub struct PageRun<'a> {
     /// The choices.
     pub starts: &'a Starts<'a>,
     /// The images.
@@ -45,7 +45,7 @@ pub(crate) struct CaseRun<'a> {
 }
 
 /// The log of a run.
-pub(crate) fn logged_of<'a>(run: &Run<'a>) -> Logged<'a>
+pub(crate) fn logged_of<'a>(run: &PageRun<'a>) -> Logged<'a>
     ensures { result.log.now ≡ run.now.numbering.log.now }
 {
     Logged {

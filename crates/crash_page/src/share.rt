@@ -3,8 +3,8 @@
 ghost use Rattle.std.specs.Prelude.{◌≡◌, ◌≤◌, ◌++◌, OnOk, string_bytes};
 ghost use Rattle.crash_page.specs.Shares.{one_in, is_within, share_of, share_class, none_words, share_words, key_text, lack_key, keys_open, legend_text};
 
-use crate::counts::{Kind, put_kind};
-use crate::pieces::{Piece, put};
+use crate::counts::{JudgedKind, put_kind};
+use crate::pieces::{PagePart, put};
 use std::alloc::AllocError;
 
 /// Which share of the images of a cut fails: none, at most a hundredth, a tenth or half of them, more, or all.
@@ -80,18 +80,18 @@ pub(crate) fn put_class(out: &mut String, share: Share) -> Result<(), AllocError
 }
 
 /// Appends that nothing fails.
-fn put_none(out: &mut String, of: Kind) -> Result<(), AllocError>
+fn put_none(out: &mut String, of: JudgedKind) -> Result<(), AllocError>
     ensures { OnOk result (string_bytes out.new ≡ string_bytes out.old ++ none_words of) }
 {
     match of {
-        Kind::Images => out.push_str("no image fails"),
-        Kind::Cases => out.push_str("no case fails"),
+        JudgedKind::Images => out.push_str("no image fails"),
+        JudgedKind::Cases => out.push_str("no case fails"),
     }
 }
 
 /// Appends the words of a share.
 #[tactic(auto, unfolding(crate::specs::Shares::share_words))]
-fn put_words(out: &mut String, of: Kind, share: Share) -> Result<(), AllocError>
+fn put_words(out: &mut String, of: JudgedKind, share: Share) -> Result<(), AllocError>
     ensures { OnOk result (string_bytes out.new ≡ string_bytes out.old ++ share_words of share) }
 {
     match share {
@@ -104,42 +104,42 @@ fn put_words(out: &mut String, of: Kind, share: Share) -> Result<(), AllocError>
 
 /// Appends a share to the legend.
 #[tactic(auto, unfolding(crate::specs::Shares::key_text))]
-fn put_key(out: &mut String, of: Kind, share: Share) -> Result<(), AllocError>
+fn put_key(out: &mut String, of: JudgedKind, share: Share) -> Result<(), AllocError>
     ensures { OnOk result (string_bytes out.new ≡ string_bytes out.old ++ key_text of share) }
 {
-    put(out, Piece::KeyOpen)?;
+    put(out, PagePart::KeyOpen)?;
     put_class(out, share)?;
-    put(out, Piece::KeyColour)?;
+    put(out, PagePart::KeyColour)?;
     put_words(out, of, share)?;
-    put(out, Piece::KeyClose)
+    put(out, PagePart::KeyClose)
 }
 
 /// Appends how a missing flush is shown, which rows with images have alone.
-fn put_lack_key(out: &mut String, of: Kind) -> Result<(), AllocError>
+fn put_lack_key(out: &mut String, of: JudgedKind) -> Result<(), AllocError>
     ensures { OnOk result (string_bytes out.new ≡ string_bytes out.old ++ lack_key of) }
 {
     match of {
-        Kind::Images => put(out, Piece::LackKey),
-        Kind::Cases => Ok(()),
+        JudgedKind::Images => put(out, PagePart::LackKey),
+        JudgedKind::Cases => Ok(()),
     }
 }
 
 /// Appends what the colours and lines of entries mean, and of what those of cuts tell.
 #[tactic(auto, unfolding(crate::specs::Shares::keys_open))]
-fn put_keys_open(out: &mut String, of: Kind) -> Result<(), AllocError>
+fn put_keys_open(out: &mut String, of: JudgedKind) -> Result<(), AllocError>
     ensures { OnOk result (string_bytes out.new ≡ string_bytes out.old ++ keys_open of) }
 {
-    put(out, Piece::Legend)?;
+    put(out, PagePart::Legend)?;
     put_lack_key(out, of)?;
-    put(out, Piece::LegendRest)?;
-    put(out, Piece::KeysOpen)?;
+    put(out, PagePart::LegendRest)?;
+    put(out, PagePart::KeysOpen)?;
     put_kind(out, of)?;
-    put(out, Piece::KeysClose)
+    put(out, PagePart::KeysClose)
 }
 
 /// Appends what the colours and lines in a row of entries mean.
 #[tactic(auto, unfolding(crate::specs::Shares::legend_text))]
-pub(crate) fn put_legend(out: &mut String, of: Kind) -> Result<(), AllocError>
+pub(crate) fn put_legend(out: &mut String, of: JudgedKind) -> Result<(), AllocError>
     ensures { OnOk result (string_bytes out.new ≡ string_bytes out.old ++ legend_text of) }
 {
     put_keys_open(out, of)?;
@@ -149,5 +149,5 @@ pub(crate) fn put_legend(out: &mut String, of: Kind) -> Result<(), AllocError>
     put_key(out, of, Share::Half)?;
     put_key(out, of, Share::More)?;
     put_key(out, of, Share::All)?;
-    put(out, Piece::LegendClose)
+    put(out, PagePart::LegendClose)
 }

@@ -7,7 +7,7 @@ ghost use Rattle.crash_page.specs.declared.counts.CutCount.{CutCount as CutValue
 use crate::counts::{CutCount, put_kind};
 use crate::entry::{put_cells, put_shade};
 use crate::lacking::Lacking;
-use crate::pieces::{Piece, put, put_number};
+use crate::pieces::{PagePart, put, put_number};
 use crate::run::Logged;
 use crate::share::{Share, put_class, share_of};
 use epochs::Plan;
@@ -28,7 +28,7 @@ pub(crate) fn put_count(out: &mut String, cut: &CutCount) -> Result<(), AllocErr
     ensures { OnOk result (string_bytes out.new ≡ string_bytes out.old ++ count_text cut.now) }
 {
     put_number(out, cut.failing)?;
-    put(out, Piece::Of)?;
+    put(out, PagePart::Of)?;
     put_number(out, cut.all)?;
     out.push_str(" ")?;
     put_kind(out, cut.of)?;
@@ -40,10 +40,10 @@ pub(crate) fn put_count(out: &mut String, cut: &CutCount) -> Result<(), AllocErr
 pub(crate) fn put_passing(out: &mut String, epoch: u32) -> Result<(), AllocError>
     ensures { OnOk result (string_bytes out.new ≡ string_bytes out.old ++ passing_text epoch) }
 {
-    put(out, Piece::PassingOpen)?;
+    put(out, PagePart::PassingOpen)?;
     put_class(out, Share::No)?;
     put_shade(out, epoch)?;
-    put(out, Piece::PassingClose)
+    put(out, PagePart::PassingClose)
 }
 
 /// Appends the classes of the cell of a cut at which something fails.
@@ -56,7 +56,7 @@ pub(crate) fn put_failing_class(
     ensures { OnOk result (string_bytes out.new ≡ string_bytes out.old ++ failing_class epoch cut.now) }
 {
     let share = share_of(cut.all, cut.failing);
-    put(out, Piece::FailingOpen)?;
+    put(out, PagePart::FailingOpen)?;
     put_class(out, share)?;
     put_shade(out, epoch)
 }
@@ -66,7 +66,7 @@ pub(crate) fn put_failing_class(
 fn put_failing_link(out: &mut String, program: usize, cut: &CutCount) -> Result<(), AllocError>
     ensures { OnOk result (string_bytes out.new ≡ string_bytes out.old ++ failing_link program cut.now) }
 {
-    put(out, Piece::FailingLink)?;
+    put(out, PagePart::FailingLink)?;
     put_place_name(out, program, cut.cut)
 }
 
@@ -75,7 +75,7 @@ fn put_failing_link(out: &mut String, program: usize, cut: &CutCount) -> Result<
 pub(crate) fn put_failing_title(out: &mut String, cut: &CutCount) -> Result<(), AllocError>
     ensures { OnOk result (string_bytes out.new ≡ string_bytes out.old ++ failing_title cut.now) }
 {
-    put(out, Piece::FailingTitle)?;
+    put(out, PagePart::FailingTitle)?;
     put_number(out, u64::from(cut.cut))?;
     out.push_str(": ")?;
     put_count(out, cut)
@@ -94,7 +94,7 @@ fn put_failing(
     put_failing_class(out, epoch, cut)?;
     put_failing_link(out, program, cut)?;
     put_failing_title(out, cut)?;
-    put(out, Piece::FailingClose)
+    put(out, PagePart::FailingClose)
 }
 
 /// Appends the cell of a cut.

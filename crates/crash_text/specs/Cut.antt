@@ -11,8 +11,8 @@ use Rattle.choices.specs.declared.fate.Fate.{Fate}
 use Rattle.choices.specs.declared.fate.Fate.TheVariants as fate
 use Rattle.choices.specs.declared.choice.Departure.{Departure}
 use Rattle.notes.specs.LogTable.{line_at}
-use Rattle.crash_text.specs.declared.cut.Told.{Told}
-use Rattle.crash_text.specs.declared.cut.Told.TheVariants as told
+use Rattle.crash_text.specs.declared.cut.ToldKind.{ToldKind}
+use Rattle.crash_text.specs.declared.cut.ToldKind.TheVariants as told
 
 -- a part: its entry, and the sectors of the device that it covers
 unfoldable pub place_text : Part → List ℕ
@@ -40,12 +40,12 @@ unfoldable pub volatile_text : PlanValue → ℕ → List ℕ
 volatile_text plan cut = codes "volatile parts: " ++ decimal (length (volatile_parts plan.by plan.log.entries cut)) ++ codes "\n" ++ parts_text plan cut
 
 -- what an entry of a kind is called
-abbrev pub told_word : Told → List ℕ
+abbrev pub told_word : ToldKind → List ℕ
 told_word told.Flush = codes "flush"
 told_word told.Mark = codes "mark"
 
 -- entry e is of a kind
-abbrev pub is_told_at : Told → List Entry → ℕ → Bool
+abbrev pub is_told_at : ToldKind → List Entry → ℕ → Bool
 is_told_at told.Flush es e = option_map_or (λ (entry : Entry). entry.flags.flush) (slice_get es e) false
 is_told_at told.Mark es e = option_map_or (λ (entry : Entry). entry.flags.mark) (slice_get es e) false
 
@@ -54,7 +54,7 @@ abbrev pub last_before : (ℕ → Bool) → ℕ → Option ℕ
 last_before is_so cut = last_or None (filter is_so (range_with_len 0 cut))
 
 -- the line of the last entry of a kind before a cut, if there is one
-unfoldable pub last_text : Told → List Entry → ℕ → List ℕ
+unfoldable pub last_text : ToldKind → List Entry → ℕ → List ℕ
 last_text kind es cut = codes "last " ++ told_word kind ++ codes ": " ++ option_map_or (line_at es) (last_before (is_told_at kind es) cut) (codes "none\n")
 
 -- the last entries before a cut, at most four

@@ -11,7 +11,7 @@ use Rattle.epochs.specs.Plan.{PlanValue}
 use Rattle.choices.specs.Choices.{ChoiceValue}
 use Rattle.report.specs.ChoiceText.{departures_text}
 use Rattle.report.specs.Words.{cuts_words}
-use Rattle.crash_text.specs.declared.cut.Told.TheVariants as told
+use Rattle.crash_text.specs.declared.cut.ToldKind.TheVariants as told
 use Rattle.crash_text.specs.Cut.{departed_line, volatile_text, last_text, before_text}
 use Rattle.crash_text.specs.Sectors.{difference_text}
 

@@ -216,35 +216,35 @@ fn put_entry(out: &mut String, numbering: &Numbering<'_>, entry: u32) -> Result<
 
 /// The kinds of entries of which the last one before a cut is told.
 #[derive(Clone, Copy)]
-pub(crate) enum Told {
+pub(crate) enum ToldKind {
     Flush,
     Mark,
 }
 
 /// What an entry of a kind is called.
-fn told_word(kind: Told) -> &'static str
+fn told_word(kind: ToldKind) -> &'static str
     ensures { result.now ≡ told_word kind }
 {
     match kind {
-        Told::Flush => "flush",
-        Told::Mark => "mark",
+        ToldKind::Flush => "flush",
+        ToldKind::Mark => "mark",
     }
 }
 
 /// Whether an entry is of a kind.
-fn is_told(kind: Told, entries: &[Entry], number: u32) -> bool
+fn is_told(kind: ToldKind, entries: &[Entry], number: u32) -> bool
     requires { number < length entries.now }
     ensures { result ≡ is_told_at kind entries.now number }
 {
     let flags = entries[number as usize].flags;
     match kind {
-        Told::Flush => flags.flush,
-        Told::Mark => flags.mark,
+        ToldKind::Flush => flags.flush,
+        ToldKind::Mark => flags.mark,
     }
 }
 
 /// The last entry of a kind, of those before an entry and of that.
-fn later(kind: Told, entries: &[Entry], last: Option<u32>, number: u32) -> Option<u32>
+fn later(kind: ToldKind, entries: &[Entry], last: Option<u32>, number: u32) -> Option<u32>
     requires { number < length entries.now }
     ensures { result ≡ if is_told_at kind entries.now number then Some number else last }
 {
@@ -256,7 +256,7 @@ fn later(kind: Told, entries: &[Entry], last: Option<u32>, number: u32) -> Optio
 }
 
 /// The last entry of a kind before a cut.
-fn last_told(kind: Told, entries: &[Entry], cut: u32) -> Option<u32>
+fn last_told(kind: ToldKind, entries: &[Entry], cut: u32) -> Option<u32>
     requires { cut ≤ length entries.now }
     ensures value { result ≡ last_before (is_told_at kind entries.now) cut }
     ensures before { IfSome result (λ entry. entry < cut) }
@@ -273,7 +273,7 @@ fn last_told(kind: Told, entries: &[Entry], cut: u32) -> Option<u32>
 fn put_last(
     out: &mut String,
     numbering: &Numbering<'_>,
-    kind: Told,
+    kind: ToldKind,
     cut: u32,
 ) -> Result<(), AllocError>
     requires cut { cut ≤ length numbering.now.log.now.entries }
@@ -321,8 +321,8 @@ pub fn put_cut(out: &mut String, numbering: &Numbering<'_>, cut: u32) -> Result<
 {
     put_volatile(out, numbering.plan, cut)?;
     put_before(out, numbering, cut)?;
-    put_last(out, numbering, Told::Flush, cut)?;
-    put_last(out, numbering, Told::Mark, cut)
+    put_last(out, numbering, ToldKind::Flush, cut)?;
+    put_last(out, numbering, ToldKind::Mark, cut)
 }
 
 /// Appends the same of a cut where any number of parts may be lost, and which entry is in flight.
@@ -338,6 +338,6 @@ pub(crate) fn put_any_cut(
     put_volatile(out, numbering.plan, cut)?;
     put_flight(out, numbering.log.entries(), cut)?;
     put_before(out, numbering, cut)?;
-    put_last(out, numbering, Told::Flush, cut)?;
-    put_last(out, numbering, Told::Mark, cut)
+    put_last(out, numbering, ToldKind::Flush, cut)?;
+    put_last(out, numbering, ToldKind::Mark, cut)
 }

@@ -41,7 +41,7 @@ use commands::{
     Exit, Facts, Fault, OptionWords, Output, Progress, Request, Stopped, Streamed, Words, emit,
     escaped_words, fault_line, lines_of_image, notes_after, notes_beside, perform, perform_export,
 };
-use input_files::{DeviceSize, Inputs, Source};
+use input_files::{DeviceSize, FileSource, Inputs};
 use std::alloc::AllocError;
 use std::io::{ErrorKind, Write};
 use std::process::ExitCode;
@@ -65,7 +65,7 @@ const NOT_TAKEN: &str = "error: the command line has a word that is not taken\n"
 
 /// How a command ended.
 #[derive(Drop)]
-struct Ended<W> {
+struct CommandEnd<W> {
     /// The status of the process.
     status: u8,
     /// Standard output, whatever became of its writes.
@@ -182,7 +182,7 @@ fn run_whole<R: AllocGlobal + Eprint + Clock + Threads + Wait + Sync, W: Write>(
     words: &Words,
     inputs: &Inputs,
     writer: W,
-) -> Ended<W>
+) -> CommandEnd<W>
     ensures { Ends (Answers words.now.request (held_in inputs.now words.now.choice)) (RefusesToAct words.now.request (held_in inputs.now words.now.choice)) (W.contents writer) (W.contents result.writer) result.status }
 {
     let files = inputs.contents();
@@ -192,10 +192,10 @@ fn run_whole<R: AllocGlobal + Eprint + Clock + Threads + Wait + Sync, W: Write>(
             let (written, writer) = put_answer(writer, exit.output.as_slice());
             if written.is_err() {
                 let status = print_line(rt, UNWRITTEN);
-                return Ended { status, writer };
+                return CommandEnd { status, writer };
             }
             print_notes(rt, notes_beside(rt.alloc(), words, &exit.facts));
-            Ended {
+            CommandEnd {
                 status: exit.status,
                 writer,
             }
@@ -208,7 +208,7 @@ fn run_whole<R: AllocGlobal + Eprint + Clock + Threads + Wait + Sync, W: Write>(
                 notes_after(rt.alloc(), words, files, &refusal, &exit.facts),
             );
             rt.eprint(inputs.note(&refusal)).ok();
-            Ended { status, writer }
+            CommandEnd { status, writer }
         }
     }
 }
@@ -220,7 +220,7 @@ fn run_streamed<R: AllocGlobal + Eprint, W: Write>(
     asked: OptionWords,
     inputs: &Inputs,
     writer: W,
-) -> Ended<W>
+) -> CommandEnd<W>
     requires { words.now.request ≡ asks.Export asked }
     ensures { Ends (Answers words.now.request (held_in inputs.now words.now.choice)) (RefusesToAct words.now.request (held_in inputs.now words.now.choice)) (W.contents writer) (W.contents result.writer) result.status }
 {
@@ -235,11 +235,11 @@ fn run_streamed<R: AllocGlobal + Eprint, W: Write>(
     match written {
         Ok(()) => {
             print_notes(rt, notes_beside(rt.alloc(), words, &facts));
-            Ended { status: 0, writer }
+            CommandEnd { status: 0, writer }
         }
         Err(why) => {
             let status = print_stopped(rt, words, inputs, why, &facts);
-            Ended { status, writer }
+            CommandEnd { status, writer }
         }
     }
 }
@@ -283,7 +283,7 @@ fn run<R: AllocGlobal + Eprint + Clock + Threads + Wait + Sync, W: Write>(
     words: &Words,
     inputs: &Inputs,
     writer: W,
-) -> Ended<W>
+) -> CommandEnd<W>
     ensures { Ends (Answers words.now.request (held_in inputs.now words.now.choice)) (RefusesToAct words.now.request (held_in inputs.now words.now.choice)) (W.contents writer) (W.contents result.writer) result.status }
 {
     match words.request() {
@@ -303,12 +303,12 @@ fn files_name<'a>(command: &'a str, words: &Words) -> &'a str
 }
 
 /// Reads the files of a command, and performs it.
-fn read_and_run<S: Source + AllocGlobal + Eprint + Clock + Threads + Wait + Sync, W: Write>(
+fn read_and_run<S: FileSource + AllocGlobal + Eprint + Clock + Threads + Wait + Sync, W: Write>(
     rt: &S,
     command: &str,
     words: &Words,
     writer: W,
-) -> Ended<W>
+) -> CommandEnd<W>
     ensures { EndsOn (AreInputs S.named S.File.remaining (files_name words.now.request command.now) (sectors_asked words.now.request) (limits_asked words.now.request) words.now.files words.now.base)
         (λ i. Ends (Answers words.now.request (held_in i words.now.choice)) (RefusesToAct words.now.request (held_in i words.now.choice)) (W.contents writer) (W.contents result.writer) result.status)
         (W.contents writer) (W.contents result.writer) result.status }
@@ -331,7 +331,7 @@ fn read_and_run<S: Source + AllocGlobal + Eprint + Clock + Threads + Wait + Sync
                 rt,
                 notes_after(rt.alloc(), words, &[], &refusal, &Facts::new()),
             );
-            Ended { status, writer }
+            CommandEnd { status, writer }
         }
     }
 }
@@ -377,7 +377,7 @@ fn print_text<R: AllocGlobal + Print + Eprint>(rt: &R, fault: &clap::Error) -> u
 }
 
 /// Performs what the command line asks for.
-fn start<R: Env + Source + AllocGlobal + Print + Eprint + Clock + Threads + Wait + Sync>(
+fn start<R: Env + FileSource + AllocGlobal + Print + Eprint + Clock + Threads + Wait + Sync>(
     rt: &R,
 ) -> u8 {
     let words = match words_of(rt) {

@@ -8,7 +8,7 @@ use Rattle.std.proofs.lemmas.List.{take_all}
 use Rattle.base.specs.Numbers.{number_at}
 use Rattle.raw_log.specs.Raw.{bytes_in}
 use Rattle.raw_log.specs.Faults.{size_at, times_at, header, data_sectors}
-use Rattle.input_files.specs.declared.reach.Reach.{Reach}
+use Rattle.input_files.specs.declared.reach.RawReach.{RawReach}
 use Rattle.input_files.specs.RawLogs.{is_known, entries_of, needed_length, read_raw, IsNext, IsReach}
 use Rattle.input_files.proofs.Kept.{number_kept}
 use Rattle.input_files.proofs.RawLogs.{sectors_in, sizes, up_to, needed_known, some_needed}
@@ -55,7 +55,7 @@ one_more bytes i known =
     omega (arith, bytes_are, spread)
 
 -- how far a raw log is to be read, as a value
-abbrev pub Reaches : List ℕ → Reach → Type 0
+abbrev pub Reaches : List ℕ → RawReach → Type 0
 Reaches bytes r = IsReach bytes r.size r.needed r.left
 
 cases_zero : (n : ℕ) → (n ≡ 0) ⊎ (0 < n)
@@ -63,7 +63,7 @@ cases_zero zero = inl refl
 cases_zero (suc n) = inr (omega arith)
 
 -- what is needed is no less than what is read next
-pub reached_needed : (bytes : List ℕ) (r : Reach) → r.needed ≤ 201326592 → Reaches bytes r → r.needed ≤ needed_length bytes
+pub reached_needed : (bytes : List ℕ) (r : RawReach) → r.needed ≤ 201326592 → Reaches bytes r → r.needed ≤ needed_length bytes
 reached_needed bytes r most is = elim (cases_zero r.left) [
   | inl none ↦ let e = is.last none in omega (arith, e)
   | inr some ↦
@@ -126,7 +126,7 @@ told_alike raw rest h within =
     rw (count, word) refl
 
 -- the extent after the first entry that is left, and the header after them
-pub go_on : (raw rest : List ℕ) (r : Reach) (extent sum next reached : ℕ) → 0 < r.left → 512 ≤ r.size → r.size ≤ r.needed → r.needed ≤ length raw
+pub go_on : (raw rest : List ℕ) (r : RawReach) (extent sum next reached : ℕ) → 0 < r.left → 512 ≤ r.size → r.size ≤ r.needed → r.needed ≤ length raw
     → extent ≡ min (data_sectors raw (r.needed - r.size) * r.size) (2 ^ 64 - 1) → (r.left - 1 ≡ 0 → next ≡ 0) → (0 < r.left - 1 → next ≡ r.size)
     → sum ≡ min (r.needed + extent) (2 ^ 64 - 1) → reached ≡ min (sum + next) (2 ^ 64 - 1) → Reaches (raw ++ rest) r
     → (201326592 < reached → IsReach (raw ++ rest) r.size 201326592 0)
@@ -180,15 +180,15 @@ go_on raw rest r extent sum next reached some sector header_in within data_is no
     )
 
 -- a relation to what a reader gave, of a raw log whose bytes are known
-abbrev pub OfKnown : Option (List ℕ) → Reach → Type 0
+abbrev pub OfKnown : Option (List ℕ) → RawReach → Type 0
 OfKnown known r = IfSome known (λ xs. Reaches xs r)
 
-pub reach_of : (a b : Option (List ℕ)) (bs slice : List ℕ) (r : Reach) → slice ≡ bs → Consumes a b bs → ((rest : List ℕ) → Reaches (slice ++ rest) r) → OfKnown a r
+pub reach_of : (a b : Option (List ℕ)) (bs slice : List ℕ) (r : RawReach) → slice ≡ bs → Consumes a b bs → ((rest : List ℕ) → Reaches (slice ++ rest) r) → OfKnown a r
 reach_of None b bs slice r same p first = tt
 reach_of (Some xs) None bs slice r same p first = absurd p
 reach_of (Some xs) (Some ys) bs slice r same p first = subst (λ zs. Reaches zs r) (ap (λ l. l ++ ys) same ∙ sym p) (first ys)
 
-pub reach_after : (a b : Option (List ℕ)) (bs slice : List ℕ) (r s : Reach) → slice ≡ bs → Consumes a b bs → OfKnown a r
+pub reach_after : (a b : Option (List ℕ)) (bs slice : List ℕ) (r s : RawReach) → slice ≡ bs → Consumes a b bs → OfKnown a r
     → ((rest : List ℕ) → Reaches (slice ++ rest) r → Reaches (slice ++ rest) s) → OfKnown a s
 reach_after None b bs slice r s same p is more = tt
 reach_after (Some xs) None bs slice r s same p is more = absurd p
@@ -197,7 +197,7 @@ reach_after (Some xs) (Some ys) bs slice r s same p is more =
     subst (λ zs. Reaches zs s) all (more ys (subst (λ zs. Reaches zs r) (sym all) is))
 
 -- what was read, where a reader gave as much as is needed, or came to its end before
-pub all_read : (a b : Option (List ℕ)) (bs : List ℕ) (r : Reach) → Consumes a b bs → OfKnown a r → r.left ≡ 0 → length bs ≡ r.needed
+pub all_read : (a b : Option (List ℕ)) (bs : List ℕ) (r : RawReach) → Consumes a b bs → OfKnown a r → r.left ≡ 0 → length bs ≡ r.needed
     → IfSome a (λ xs. bs ≡ read_raw xs)
 all_read None b bs r p is none long = tt
 all_read (Some xs) None bs r p is none long = absurd p
@@ -205,7 +205,7 @@ all_read (Some xs) (Some ys) bs r p is none long =
     let most : needed_length xs ≡ length bs = sym (is.last none) ∙ sym long in
     sym (take-append_seam bs ys) ∙ ap (take (length bs)) (sym p) ∙ ap (λ n. take n xs) (sym most)
 
-pub read_to_end : (a b : Option (List ℕ)) (bs : List ℕ) (r : Reach) → r.needed ≤ 201326592 → Consumes a b bs → IsAtEnd b → OfKnown a r → length bs ≤ r.needed
+pub read_to_end : (a b : Option (List ℕ)) (bs : List ℕ) (r : RawReach) → r.needed ≤ 201326592 → Consumes a b bs → IsAtEnd b → OfKnown a r → length bs ≤ r.needed
     → IfSome a (λ xs. bs ≡ read_raw xs)
 read_to_end None b bs r most p end is within = tt
 read_to_end (Some xs) None bs r most p end is within = absurd p

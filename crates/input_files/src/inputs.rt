@@ -9,8 +9,8 @@ ghost use Rattle.input_files.specs.Standing.{refusal_of_files};
 
 use crate::cut::refusal_of_whole;
 use crate::kind::{FileKind, MOST_OF_PARTS, MOST_PARTS, are_too_many, too_long_at, unreadable_at};
-use crate::reading::{Piece, read_base, read_file};
-use crate::source::Source;
+use crate::reading::{ReadFile, read_base, read_file};
+use crate::source::FileSource;
 use base::causes::RequestCause;
 use base::limits::Limits;
 use base::refusal::{Cause, Refusal};
@@ -70,16 +70,16 @@ fn readable<T>(read: io::Result<T>) -> Result<Option<T>, AllocError>
 /// # Errors
 ///
 /// There is no memory for it.
-fn read_one<S: Source + AllocGlobal>(
+fn read_one<S: FileSource + AllocGlobal>(
     rt: &S,
     name: &str,
     kind: FileKind,
-) -> Result<Piece, AllocError>
+) -> Result<ReadFile, AllocError>
     ensures { IfOk result (λ piece. IsRead S.named S.File.remaining name.now kind (option_map (λ b. b.items) piece.bytes) piece.length) }
 {
     match readable(read_file(rt, name, kind))? {
         Some(piece) => Ok(piece),
-        None => Ok(Piece {
+        None => Ok(ReadFile {
             bytes: None,
             length: 0,
         }),
@@ -91,7 +91,7 @@ fn read_one<S: Source + AllocGlobal>(
 /// # Errors
 ///
 /// There is no memory for it.
-fn base_of<S: Source + AllocGlobal>(
+fn base_of<S: FileSource + AllocGlobal>(
     rt: &S,
     name: &str,
     size: &DeviceSize,
@@ -110,7 +110,7 @@ impl Inputs {
     ///
     /// There is no memory for one of them: 11, 26, 35, 66 or 72 at 0; or for the list of them: 72 at 0. They are more parts than can
     /// be joined: 65 at 4096. Of parts the first that can't be read, 14, or with which they have more than 1 GiB together, 65.
-    pub fn read<S: Source + AllocGlobal>(
+    pub fn read<S: FileSource + AllocGlobal>(
         rt: &S,
         command: &str,
         names: &[String],
@@ -138,7 +138,7 @@ impl Inputs {
     }
 
     /// Reads one more file of the command of that name. That many bytes are left for parts; answers how many are left after it.
-    fn read_next<S: Source + AllocGlobal>(
+    fn read_next<S: FileSource + AllocGlobal>(
         &mut self,
         rt: &S,
         command: &str,
@@ -169,7 +169,7 @@ impl Inputs {
     }
 
     /// Reads what a device of that size held before, where a file is named for it.
-    fn read_base<S: Source + AllocGlobal>(
+    fn read_base<S: FileSource + AllocGlobal>(
         &mut self,
         rt: &S,
         base: Option<&str>,
@@ -191,7 +191,7 @@ impl Inputs {
     }
 
     /// Appends what was read of one more file.
-    fn push(&mut self, piece: Piece) -> Result<(), AllocError>
+    fn push(&mut self, piece: ReadFile) -> Result<(), AllocError>
         ensures files { OnOk result (self.new.files ≡ self.old.files ++ (option_map (λ b. b.items) piece.bytes ∷ [])) }
         ensures lengths { OnOk result (self.new.lengths ≡ self.old.lengths ++ (piece.length ∷ [])) }
         ensures base { OnOk result (self.new.base ≡ self.old.base) }

@@ -92,4 +92,4 @@ pub use laws::{
     no_more_is_read, part_is_read_alike, raw_is_imported_alike, raw_is_refused_alike,
     read_raw_is_short, short_is_kept_whole, short_log_is_read, short_stands_for_itself,
 };
-pub use source::Source;
+pub use source::FileSource;

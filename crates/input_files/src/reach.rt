@@ -14,7 +14,7 @@ const DISCARD: u64 = 4;
 
 /// How far a raw log is to be read. Where entries are left, that is to the end of the header of the first of them.
 #[derive(Clone, Copy)]
-pub(crate) struct Reach {
+pub(crate) struct RawReach {
     /// How many bytes a sector has.
     size: u64,
     /// How many bytes are to be read.
@@ -26,15 +26,15 @@ pub(crate) struct Reach {
     pub ghost most: { needed ≤ 201326592 },
 }
 
-impl Reach {
+impl RawReach {
     /// That of a raw log that begins with these bytes.
-    pub(crate) fn of_super(raw: &[u8]) -> Reach
+    pub(crate) fn of_super(raw: &[u8]) -> RawReach
         requires there { 512 ≤ length raw.now }
         ensures { (rest : List ℕ) → IsReach (raw.now ++ rest) result.size result.needed result.left }
     {
         let size = u64::from(u32_at(raw, 24));
         if size != 512 && size != 4096 {
-            return Reach {
+            return RawReach {
                 size: 512,
                 needed: 512,
                 left: 0,
@@ -42,11 +42,11 @@ impl Reach {
         }
         let left = u64_at(raw, 16);
         let needed = if left == 0 { size } else { 2 * size };
-        Reach { size, needed, left }
+        RawReach { size, needed, left }
     }
 
     /// That after the first entry that is left, of a raw log that was read as far as this one says.
-    pub(crate) fn beyond(self, raw: &[u8]) -> Reach
+    pub(crate) fn beyond(self, raw: &[u8]) -> RawReach
         requires left { 0 < self.left }
         requires there { self.needed ≤ length raw.now }
         ensures less { result.left < self.left }
@@ -59,13 +59,13 @@ impl Reach {
         let next = if left == 0 { 0 } else { size };
         let needed = self.needed.saturating_add(data).saturating_add(next);
         if needed > MOST_NEEDED {
-            return Reach {
+            return RawReach {
                 size,
                 needed: MOST_NEEDED,
                 left: 0,
             };
         }
-        Reach { size, needed, left }
+        RawReach { size, needed, left }
     }
 }
 

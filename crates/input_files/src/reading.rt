@@ -12,8 +12,8 @@ ghost use Rattle.input_files.specs.Reads.{IsBase, IsRead};
 
 use crate::cut::standing_length;
 use crate::kind::FileKind;
-use crate::reach::Reach;
-use crate::source::Source;
+use crate::reach::RawReach;
+use crate::source::FileSource;
 use base::limits::Limits;
 use std::alloc::Global;
 use std::fs::{Metadata, OpenFile};
@@ -37,7 +37,7 @@ const SECTOR: usize = 512;
 
 /// What was read of a file.
 #[derive(Drop)]
-pub(crate) struct Piece {
+pub(crate) struct ReadFile {
     /// Its bytes, or those that stand for them; none where it has too many.
     pub bytes: Option<Vec<u8>>,
     /// How many bytes it has, as far as that matters.
@@ -137,7 +137,7 @@ fn read_raw<F: Read>(alloc: Global, file: &mut F) -> io::Result<Vec<u8>>
     if !read_on(alloc, file, &mut bytes, SECTOR)? {
         return Ok(bytes);
     }
-    let mut reach = Reach::of_super(bytes.as_slice());
+    let mut reach = RawReach::of_super(bytes.as_slice());
     loop {
         if !read_on(alloc, file, &mut bytes, reach.needed as usize)? {
             return Ok(bytes);
@@ -248,26 +248,26 @@ fn read_part_piece<F: Read>(
     file: &mut F,
     most: usize,
     expected: usize,
-) -> io::Result<Piece>
+) -> io::Result<ReadFile>
     ensures held { IfOk result (λ piece. IfSome (F.remaining file.old) (λ xs. (piece.length ≡ length (part_read most xs)) × (option_map (λ b. b.items) piece.bytes ≡ Some (part_read most xs)))) }
     ensures some { IfOk result (λ piece. IsSome piece.bytes) }
 {
     let bytes = read_part_text(alloc, file, most, expected)?;
     let length = bytes.len() as u64;
-    Ok(Piece {
+    Ok(ReadFile {
         bytes: Some(bytes),
         length,
     })
 }
 
 /// Reads a raw log.
-fn read_raw_piece<F: Read>(alloc: Global, file: &mut F) -> io::Result<Piece>
+fn read_raw_piece<F: Read>(alloc: Global, file: &mut F) -> io::Result<ReadFile>
     ensures held { IfOk result (λ piece. IfSome (F.remaining file.old) (λ xs. (piece.length ≡ length (read_raw xs)) × (option_map (λ b. b.items) piece.bytes ≡ Some (read_raw xs)))) }
     ensures some { IfOk result (λ piece. IsSome piece.bytes) }
 {
     let bytes = read_raw(alloc, file)?;
     let length = bytes.len() as u64;
-    Ok(Piece {
+    Ok(ReadFile {
         bytes: Some(bytes),
         length,
     })
@@ -290,7 +290,7 @@ fn expected_of(kind: FileKind, said: Option<u64>) -> usize {
 }
 
 /// Reads a program, which is said to have that many bytes.
-fn read_program<F: Read>(alloc: Global, file: &mut F, said: Option<u64>) -> io::Result<Piece>
+fn read_program<F: Read>(alloc: Global, file: &mut F, said: Option<u64>) -> io::Result<ReadFile>
     ensures held { IfOk result (λ piece. IfSome (F.remaining file.old) (λ xs. Holds kinds.Program said xs (option_map (λ b. b.items) piece.bytes) piece.length)) }
     ensures some { IfOk result (λ piece. IsSome piece.bytes) }
 {
@@ -298,7 +298,7 @@ fn read_program<F: Read>(alloc: Global, file: &mut F, said: Option<u64>) -> io::
     read_on(alloc, file, &mut bytes, FileKind::Program.most_read())?;
     let length = program_length(alloc, file, bytes.len(), said)?;
     bytes.truncate(standing_length(length));
-    Ok(Piece {
+    Ok(ReadFile {
         bytes: Some(bytes),
         length,
     })
@@ -316,12 +316,12 @@ fn short_text(bytes: Vec<u8>) -> Option<Vec<u8>>
 }
 
 /// Reads an assembly text.
-fn read_text<F: Read>(alloc: Global, file: &mut F, expected: usize) -> io::Result<Piece>
+fn read_text<F: Read>(alloc: Global, file: &mut F, expected: usize) -> io::Result<ReadFile>
     ensures { IfOk result (λ piece. IfSome (F.remaining file.old) (λ xs. Holds kinds.Text None xs (option_map (λ b. b.items) piece.bytes) piece.length)) }
 {
     let bytes = read_first(alloc, file, FileKind::Text.most_read(), expected)?;
     let length = bytes.len() as u64;
-    Ok(Piece {
+    Ok(ReadFile {
         bytes: short_text(bytes),
         length,
     })
@@ -333,13 +333,13 @@ fn read_whole<F: Read>(
     file: &mut F,
     most: usize,
     expected: usize,
-) -> io::Result<Piece>
+) -> io::Result<ReadFile>
     ensures held { IfOk result (λ piece. IfSome (F.remaining file.old) (λ xs. (piece.length ≡ length (take most xs)) × (option_map (λ b. b.items) piece.bytes ≡ Some (take most xs)))) }
     ensures some { IfOk result (λ piece. IsSome piece.bytes) }
 {
     let bytes = read_first(alloc, file, most, expected)?;
     let length = bytes.len() as u64;
-    Ok(Piece {
+    Ok(ReadFile {
         bytes: Some(bytes),
         length,
     })
@@ -356,7 +356,7 @@ fn read_piece<F: Read>(
     file: &mut F,
     kind: FileKind,
     said: Option<u64>,
-) -> io::Result<Piece>
+) -> io::Result<ReadFile>
     ensures held { IfOk result (λ piece. IfSome (F.remaining file.old) (λ xs. Holds kind said xs (option_map (λ b. b.items) piece.bytes) piece.length)) }
     ensures some { IfOk result (λ piece. kind ≢ kinds.Text → IsSome piece.bytes) }
 {
@@ -404,7 +404,7 @@ fn most_of_base(sectors: u64, limits: Limits) -> usize
 /// # Errors
 ///
 /// It can't be read, or there is no memory for it.
-pub(crate) fn read_base<S: Source + AllocGlobal>(
+pub(crate) fn read_base<S: FileSource + AllocGlobal>(
     rt: &S,
     name: &str,
     sectors: u64,
@@ -423,11 +423,11 @@ pub(crate) fn read_base<S: Source + AllocGlobal>(
 /// # Errors
 ///
 /// It can't be read, or there is no memory for it.
-pub(crate) fn read_file<S: Source + AllocGlobal>(
+pub(crate) fn read_file<S: FileSource + AllocGlobal>(
     rt: &S,
     name: &str,
     kind: FileKind,
-) -> io::Result<Piece>
+) -> io::Result<ReadFile>
     ensures held { IfOk result (λ piece. IsRead S.named S.File.remaining name.now kind (option_map (λ b. b.items) piece.bytes) piece.length) }
     ensures some { IfOk result (λ piece. kind ≢ kinds.Text → IsSome piece.bytes) }
 {

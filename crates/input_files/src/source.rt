@@ -8,7 +8,7 @@ use std::rt::Files;
 use std::{fs, io};
 
 /// What opens files by their names, as the system does.
-pub trait Source {
+pub trait FileSource {
     /// An open file.
     type File: Read + OpenFile + Drop;
 
@@ -24,7 +24,7 @@ pub trait Source {
         ensures { IfOk result (λ file. named file name.now) };
 }
 
-impl<R: Files> Source for R {
+impl<R: Files> FileSource for R {
     type File = R::File;
 
     ghost named = { λ _ _. Unit {0} };

@@ -13,8 +13,8 @@ use Rattle.request.specs.declared.extent.Extent.TheVariants as extent
 use Rattle.request.specs.Settings.{option_refusal}
 use Rattle.request.specs.Source.{Recording, HasImages, RefusesSource, plan_of, images_of}
 use Rattle.join.specs.Given.{GivenValue, NoReport, IsReportRead}
-use Rattle.retold.specs.declared.command.Fault.{Fault}
-use Rattle.retold.specs.declared.command.Fault.TheVariants as fault
+use Rattle.retold.specs.declared.command.RetellFault.{RetellFault}
+use Rattle.retold.specs.declared.command.RetellFault.TheVariants as fault
 use Rattle.request.specs.declared.settings.Retelling.{Retelling}
 use Rattle.request.specs.declared.settings.Retelling.TheVariants as retelling
 use Rattle.retold.specs.Told.{TellsWhy, TellsPage, TellsPlaces}
@@ -71,19 +71,19 @@ pub record IsRetold (t : Retelling) (text : Recording) (report : List ℕ) (s : 
   pub told : IsRetoldOf t s value report bytes failing
 
 -- the recording, or the number of its images, is refused
-pub data RefusesSourceAs (text : Recording) (s : Settings) : Fault → Type 0 where
+pub data RefusesSourceAs (text : Recording) (s : Settings) : RetellFault → Type 0 where
   with_refusal : (r : Refusal) → RefusesSource text s r → RefusesSourceAs text s (fault.Refused r)
 
 -- the bytes are the report of no run of that log with these settings, at whatever line that shows; or want of memory
-pub data RefusesReport (s : Settings) (value : LogValue) (report : List ℕ) : Fault → Type 0 where
+pub data RefusesReport (s : Settings) (value : LogValue) (report : List ℕ) : RetellFault → Type 0 where
   no_report : (line : ℕ) → NoneIsGiven s value report → RefusesReport s value report (fault.Report line)
   no_memory : RefusesReport s value report (fault.Refused memory_refusal)
 
 -- The refusals in their order: options that mean a part of a run; a report that is longer than 1 GiB; the log and the number of its images;
 -- a report that is none of the log with these settings. Want of memory may come wherever a list has to grow.
-pub data RefusesRetold (text : Recording) (report : List ℕ) (s : Settings) : Fault → Type 0 where
+pub data RefusesRetold (text : Recording) (report : List ℕ) (s : Settings) : RetellFault → Type 0 where
   for_part : s.extent ≢ extent.Whole → RefusesRetold text report s (fault.Refused (option_refusal place.Images))
   too_long : s.extent ≡ extent.Whole → 2 ^ 30 < length report → RefusesRetold text report s (fault.Report 0)
-  for_source : (f : Fault) → s.extent ≡ extent.Whole → length report ≤ 2 ^ 30 → RefusesSourceAs text s f → RefusesRetold text report s f
-  for_report : (f : Fault) (value : LogValue) → s.extent ≡ extent.Whole → length report ≤ 2 ^ 30 → HasImages text s value → RefusesReport s value report f → RefusesRetold text report s f
+  for_source : (f : RetellFault) → s.extent ≡ extent.Whole → length report ≤ 2 ^ 30 → RefusesSourceAs text s f → RefusesRetold text report s f
+  for_report : (f : RetellFault) (value : LogValue) → s.extent ≡ extent.Whole → length report ≤ 2 ^ 30 → HasImages text s value → RefusesReport s value report f → RefusesRetold text report s f
   want_of_memory : RefusesRetold text report s (fault.Refused memory_refusal)

@@ -26,7 +26,7 @@ pub const MOST_OF_REPORT: usize = 1_073_741_824;
 
 /// Why nothing is told.
 #[derive(Clone, Copy)]
-pub enum Fault {
+pub enum RetellFault {
     /// The options, the log or the number of its images are refused, or memory was.
     Refused(Refusal),
     /// The report is none of the log with these options, which shows at this line.
@@ -35,7 +35,7 @@ pub enum Fault {
 
 /// The run of which a report is to be.
 #[derive(Clone, Copy)]
-struct Basis<'x> {
+struct ReportBasis<'x> {
     log: &'x Log,
     starts: &'x Starts<'x>,
     options: &'x Options,
@@ -97,7 +97,7 @@ fn count_of(given: &Given<'_>) -> usize
 /// The page of a report that was read.
 fn page_of(
     alloc: Global,
-    basis: &Basis<'_>,
+    basis: &ReportBasis<'_>,
     subject: &Subject<'_>,
     given: &Given<'_>,
 ) -> Result<Vec<u8>, AllocError>
@@ -117,7 +117,7 @@ fn page_of(
 fn told(
     alloc: Global,
     telling: Retelling,
-    basis: &Basis<'_>,
+    basis: &ReportBasis<'_>,
     report: &[u8],
     given: &Given<'_>,
 ) -> Result<Vec<u8>, AllocError>
@@ -146,25 +146,29 @@ fn log_of(
     recording: &Recording<'_>,
     options: &Options,
     facts: &mut Facts,
-) -> Result<Log, Fault>
+) -> Result<Log, RetellFault>
     ensures log { IfOk result (IsLogOf recording.now options.now) }
     ensures refused { IfErr result (RefusesSourceAs recording.now options.now) }
 {
     match recording.read(alloc, options, facts) {
         Ok(log) => Ok(log),
-        Err(refusal) => Err(Fault::Refused(refusal)),
+        Err(refusal) => Err(RetellFault::Refused(refusal)),
     }
 }
 
 /// What a report says, where it is one of the run.
-fn given_of<'t>(alloc: Global, basis: &Basis<'_>, report: &'t [u8]) -> Result<Given<'t>, Fault>
+fn given_of<'t>(
+    alloc: Global,
+    basis: &ReportBasis<'_>,
+    report: &'t [u8],
+) -> Result<Given<'t>, RetellFault>
     requires { length report.now ≤ 2 ^ 30 }
     ensures given { IfOk result (λ g. IsGiven basis.now.options.now basis.now.log.now report.now (given_told g)) }
     ensures refused { IfErr result (RefusesReport basis.now.options.now basis.now.log.now report.now) }
 {
     let (log, starts, options, images) = (basis.log, basis.starts, basis.options, basis.images);
     let Ok(line) = options_line(alloc, log, options, images) else {
-        return Err(Fault::Refused(Refusal::of_memory()));
+        return Err(RetellFault::Refused(Refusal::of_memory()));
     };
     let run = ReportRun {
         options: line.as_str(),
@@ -174,11 +178,11 @@ fn given_of<'t>(alloc: Global, basis: &Basis<'_>, report: &'t [u8]) -> Result<Gi
     };
     let mut at = 0;
     let Ok(found) = read_report(alloc, &run, report, &mut at) else {
-        return Err(Fault::Refused(Refusal::of_memory()));
+        return Err(RetellFault::Refused(Refusal::of_memory()));
     };
     match found {
         Some(given) => Ok(given),
-        None => Err(Fault::Report(at)),
+        None => Err(RetellFault::Report(at)),
     }
 }
 
@@ -193,10 +197,10 @@ fn is_failing(given: &Given<'_>) -> bool
 fn retold_of(
     alloc: Global,
     telling: Retelling,
-    basis: &Basis<'_>,
+    basis: &ReportBasis<'_>,
     report: &[u8],
     given: &Given<'_>,
-) -> Result<Retold, Fault>
+) -> Result<Retold, RetellFault>
     requires { IsGiven basis.now.options.now basis.now.log.now report.now (given_told given.now) }
     ensures told { IfOk result (λ r. IsRetoldOf telling basis.now.options.now basis.now.log.now report.now r.bytes.items r.failing) }
     ensures refused { IfErr result (RefusesReport basis.now.options.now basis.now.log.now report.now) }
@@ -206,7 +210,7 @@ fn retold_of(
             bytes,
             failing: is_failing(given),
         }),
-        Err(_error) => Err(Fault::Refused(Refusal::of_memory())),
+        Err(_error) => Err(RetellFault::Refused(Refusal::of_memory())),
     }
 }
 
@@ -214,9 +218,9 @@ fn retold_of(
 fn told_of(
     alloc: Global,
     telling: Retelling,
-    basis: &Basis<'_>,
+    basis: &ReportBasis<'_>,
     report: &[u8],
-) -> Result<Retold, Fault>
+) -> Result<Retold, RetellFault>
     requires { length report.now ≤ 2 ^ 30 }
     ensures told { IfOk result (λ r. IsRetoldOf telling basis.now.options.now basis.now.log.now report.now r.bytes.items r.failing) }
     ensures refused { IfErr result (RefusesReport basis.now.options.now basis.now.log.now report.now) }
@@ -242,27 +246,27 @@ pub fn retell(
     report: &[u8],
     options: &Options,
     facts: &mut Facts,
-) -> Result<Retold, Fault>
+) -> Result<Retold, RetellFault>
     ensures told { IfOk result (λ r. IsRetold telling recording.now report.now options.now r.bytes.items r.failing) }
     ensures refused { IfErr result (RefusesRetold recording.now report.now options.now) }
 {
     *facts = Facts::new();
     match options.extent() {
         Extent::Whole => {}
-        _ => return Err(Fault::Refused(option_refusal_of(OptionPlace::Images))),
+        _ => return Err(RetellFault::Refused(option_refusal_of(OptionPlace::Images))),
     }
     if report.len() > MOST_OF_REPORT {
-        return Err(Fault::Report(0));
+        return Err(RetellFault::Report(0));
     }
     let log = log_of(alloc, recording, options, facts)?;
     let (plan, images) = match facts.plan(alloc, &log, options) {
         Ok(found) => found,
-        Err(refusal) => return Err(Fault::Refused(refusal)),
+        Err(refusal) => return Err(RetellFault::Refused(refusal)),
     };
     let Ok(starts) = Starts::new(alloc, &plan, options.bound(), options.tears()) else {
-        return Err(Fault::Refused(Refusal::of_memory()));
+        return Err(RetellFault::Refused(Refusal::of_memory()));
     };
-    let basis = Basis {
+    let basis = ReportBasis {
         log: &log,
         starts: &starts,
         options,

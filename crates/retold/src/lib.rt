@@ -62,4 +62,4 @@ mod places;
 mod subject;
 mod why;
 
-pub use command::{Fault, MOST_OF_REPORT, Retold, retell};
+pub use command::{MOST_OF_REPORT, RetellFault, Retold, retell};

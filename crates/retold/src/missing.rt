@@ -13,7 +13,7 @@ use std::alloc::{AllocError, Global};
 
 /// The failures of a report, and the flushes that are missing for them.
 #[derive(Drop)]
-pub(crate) struct Missing {
+pub(crate) struct MissingInReport {
     pub(crate) failures: Vec<Failure>,
     pub(crate) flushes: Vec<MissingFlush>,
 }
@@ -34,12 +34,15 @@ pub(crate) fn failures_in(alloc: Global, subject: &Subject<'_>) -> Result<Vec<Fa
 }
 
 /// The failures of a report, and the flushes that are missing for them.
-pub(crate) fn missing_of(alloc: Global, subject: &Subject<'_>) -> Result<Missing, AllocError>
+pub(crate) fn missing_of(
+    alloc: Global,
+    subject: &Subject<'_>,
+) -> Result<MissingInReport, AllocError>
     requires { AreOfRun subject.now.starts.now (map line_told subject.now.lines.now) }
     ensures { IfOk result (λ m. AreMissingFor subject.now.starts.now (map line_told subject.now.lines.now) m.failures.items m.flushes.items) }
 {
     let failures = failures_in(alloc, subject)?;
     let windows = windows_of(alloc, failures.as_slice())?;
     let flushes = missing_flushes(alloc, windows.as_slice(), subject.log.entries().len())?;
-    Ok(Missing { failures, flushes })
+    Ok(MissingInReport { failures, flushes })
 }

@@ -13,7 +13,7 @@ ghost use Rattle.retold.specs.Told.{AreOfRun, HasHead, IsOwnHead, NoOwnHead, IsS
 use crate::lines::{images_of, outcomes_of};
 use crate::missing::failures_in;
 use crate::subject::Subject;
-use crash_page::{Judge, ProgramFailures, Run, program_failures, put_page};
+use crash_page::{PageJudge, PageRun, ProgramFailures, program_failures, put_page};
 use crash_text::Numbering;
 use epochs::Cuts;
 use images::History;
@@ -59,21 +59,21 @@ fn checker_at(programs: &[ProgramHead], program: usize) -> ProgramHead
 
 /// The program that is given images as files.
 #[tactic(auto, using(crate::proofs::Titles::own_there, crate::proofs::Titles::said_own))]
-fn own_judge<'t>(options: &str, given: &Given<'t>, program: usize) -> Judge<'t>
+fn own_judge<'t>(options: &str, given: &Given<'t>, program: usize) -> PageJudge<'t>
     requires head { HasHead options.now (given_told given.now) }
     requires outside { (given_told given.now).outside ≡ true }
     ensures { IsSaid options.now (given_told given.now) program (judge_text result) }
 {
     let _program = program;
     match words_of(options, given.head) {
-        Some(words) => Judge::Outside(words),
+        Some(words) => PageJudge::Outside(words),
         None => unreachable!(),
     }
 }
 
 /// What the program of that number is.
 #[tactic(auto, using(crate::proofs::Titles::said_checker, crate::proofs::Titles::checker_there))]
-fn judge_of<'t>(options: &str, given: &Given<'t>, program: usize) -> Judge<'t>
+fn judge_of<'t>(options: &str, given: &Given<'t>, program: usize) -> PageJudge<'t>
     requires head { HasHead options.now (given_told given.now) }
     requires there { program < count_of (given_told given.now) }
     ensures { IsSaid options.now (given_told given.now) program (judge_text result) }
@@ -81,18 +81,18 @@ fn judge_of<'t>(options: &str, given: &Given<'t>, program: usize) -> Judge<'t>
     if given.outside {
         own_judge(options, given, program)
     } else {
-        Judge::Checker(checker_at(given.programs.as_slice(), program))
+        PageJudge::Checker(checker_at(given.programs.as_slice(), program))
     }
 }
 
 /// What a page takes of the program of that number.
 fn failures_told<'x>(
     alloc: Global,
-    run: &Run<'_>,
+    run: &PageRun<'_>,
     subject: &Subject<'x>,
     failures: &[Failure],
     program: usize,
-    judge: Judge<'x>,
+    judge: PageJudge<'x>,
 ) -> Result<ProgramFailures<'x>, AllocError>
     requires run { run.now.starts.now ≡ subject.now.starts.now }
     requires inside { AreWindows (length run.now.numbering.log.now.entries) (windows_in failures.now) }
@@ -128,7 +128,7 @@ fn push_told<'x>(
 /// What a page takes of each program of a report.
 fn all_told<'x>(
     alloc: Global,
-    run: &Run<'_>,
+    run: &PageRun<'_>,
     subject: &Subject<'x>,
     failures: &[Failure],
     options: &str,
@@ -198,7 +198,7 @@ pub(crate) fn page_text(
 {
     let failures = failures_in(alloc, subject)?;
     let history = History::new(alloc, subject.starts.plan(), subject.log)?;
-    let run = Run {
+    let run = PageRun {
         starts: subject.starts,
         history: &history,
         numbering: numbering_of(subject, cuts),

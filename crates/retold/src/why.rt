@@ -6,7 +6,7 @@ ghost use Rattle.join.specs.GivenReading.{given_told};
 ghost use Rattle.retold.specs.Told.{AreOfRun, TellsOne, TellsAll, TellsWhy, missing_told, opening_told, count_of};
 
 use crate::lines::{images_of, outcomes_of};
-use crate::missing::{Missing, missing_of};
+use crate::missing::{MissingInReport, missing_of};
 use crate::subject::Subject;
 use join::Given;
 use losses::cure::{put_missing, put_programs};
@@ -64,7 +64,11 @@ fn put_opening(out: &mut String, given: &Given<'_>) -> Result<(), AllocError>
 
 /// Appends of each program how many of its failing images have no window, and the flushes that are missing.
 #[tactic(auto, unfolding(crate::specs::Told::missing_told))]
-fn put_flushes(out: &mut String, programs: usize, missing: &Missing) -> Result<(), AllocError>
+fn put_flushes(
+    out: &mut String,
+    programs: usize,
+    missing: &MissingInReport,
+) -> Result<(), AllocError>
     ensures { OnOk result (string_bytes out.new ≡ string_bytes out.old ++ missing_told programs missing.now.failures.items missing.now.flushes.items) }
 {
     put_programs(out, programs, missing.failures.as_slice())?;

@@ -35,8 +35,8 @@ use Rattle.runs.specs.CaseRefusals.{StopsFor, RefusesFor, RefusesAll}
 use Rattle.runs.specs.Cases.{IsTextOf, TellsCases, TellsFirst, of_first, of_none, IsByCases, TellsLosses}
 use Rattle.runs.specs.Judged.{takes}
 use Rattle.runs.specs.declared.explore_command.Explored.{Explored}
-use Rattle.runs.specs.declared.explore_command.Wanted.{Wanted}
-use Rattle.runs.specs.declared.explore_command.Wanted.TheVariants as wanted
+use Rattle.runs.specs.declared.explore_command.WantedAnswer.{WantedAnswer}
+use Rattle.runs.specs.declared.explore_command.WantedAnswer.TheVariants as wanted
 use Rattle.runs.specs.Explore.{IsProgramCount, AreCheckersOf, head_of, for_source, RefusesWanted, for_rest, for_cases, for_cure}
 use Rattle.runs.specs.Cured.{RefusesRun}
 use Rattle.runs.specs.Why.{with_first}
@@ -175,7 +175,7 @@ is_cases Tells text files s log checkers now bytes failing count source made sam
     record { count = count; value = log; source = source; checkers = now; made = subst (AreCheckersOf s files) (sym same) made; tells = tells }
 
 -- and when it is refused
-pub refused_for : (w : Wanted) (l : AnyLosses) (text : Recording) (files : List (List ℕ)) (s : Settings) (log : LogValue) (checkers now : List CheckerValue) (r : Refusal)
+pub refused_for : (w : WantedAnswer) (l : AnyLosses) (text : Recording) (files : List (List ℕ)) (s : Settings) (log : LogValue) (checkers now : List CheckerValue) (r : Refusal)
     → w ≡ wanted.Cases l → takes w s.extent ≡ true → IsProgramCount (length files) → HasImages text s log → AreCheckersOf s files checkers → now ≡ checkers
     → (r ≡ memory_refusal) ⊎ ((cut : ℕ) × (r ≡ images_refusal cut) × HasTooMany l s log now cut) → RefusesWanted w text files s r
 refused_for w l text files s log checkers now r is taken count source made same (inl memory) =
@@ -185,7 +185,7 @@ refused_for w l text files s log checkers now r is taken count source made same 
     (for_cases l log now cut is taken count source (subst (AreCheckersOf s files) (sym same) made) many)
 
 -- or of a cure by cases
-pub cure_refused : (w : Wanted) (l : AnyLosses) (text : Recording) (files : List (List ℕ)) (s : Settings) (log : LogValue) (checkers now : List CheckerValue) (r : Refusal)
+pub cure_refused : (w : WantedAnswer) (l : AnyLosses) (text : Recording) (files : List (List ℕ)) (s : Settings) (log : LogValue) (checkers now : List CheckerValue) (r : Refusal)
     → w ≡ wanted.CuredCases l → takes w s.extent ≡ true → IsProgramCount (length files) → HasImages text s log → AreCheckersOf s files checkers → now ≡ checkers
     → RefusesRun (Some l) s now log r → RefusesWanted w text files s r
 cure_refused w l text files s log checkers now r is taken count source made same (inl plan) =

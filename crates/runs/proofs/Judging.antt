@@ -12,7 +12,7 @@ use Rattle.request.specs.declared.settings.Settings.{Settings}
 use Rattle.request.specs.Extents.{first_meant, end_meant, is_extent, has_extent, most_images}
 use Rattle.request.specs.Source.{plan_of, images_of}
 use Rattle.request.proofs.Plans.{counted_of}
-use Rattle.runs.specs.declared.explore_command.Wanted.{Wanted}
+use Rattle.runs.specs.declared.explore_command.WantedAnswer.{WantedAnswer}
 use Rattle.runs.specs.Judged.{takes_part, takes, IsJudged}
 
 pub ordered : (from to : ℕ) → (nat_lt from to || (from == 0 && to == 0)) ≡ true → from ≤ to
@@ -55,7 +55,7 @@ whole_judged images inputs few = record {
 }
 
 -- the span of the images that are meant
-pub span_judged : (w : Wanted) (e : Extent) (images inputs : ℕ) → takes w e ≡ true → is_extent e ≡ true → images ≤ most_images e → has_extent e images ≡ true
+pub span_judged : (w : WantedAnswer) (e : Extent) (images inputs : ℕ) → takes w e ≡ true → is_extent e ≡ true → images ≤ most_images e → has_extent e images ≡ true
     → IsJudged e images (record { from = first_meant e; to = end_meant e images; images = images; inputs = inputs })
 span_judged w extent.Whole images inputs taken good few has = whole_judged images inputs few
 span_judged w extent.Wide images inputs taken good few has = absurd (false≢true taken)
@@ -99,7 +99,7 @@ pub judged_of : (e f : Extent) (images : ℕ) (span : Span) → e ≡ f → IsJu
 judged_of e f images span same judged = subst (λ (x : Extent). IsJudged x images span) same judged
 
 -- where no part is taken, all images are judged
-pub whole_of : (w : Wanted) (e : Extent) → takes_part w ≡ false → takes w e ≡ true → e ≡ extent.Whole
+pub whole_of : (w : WantedAnswer) (e : Extent) → takes_part w ≡ false → takes w e ≡ true → e ≡ extent.Whole
 whole_of w extent.Whole none taken = refl
 whole_of w extent.Wide none taken = absurd (false≢true taken)
 whole_of w (extent.Part from to) none taken = absurd (false≢true (sym none ∙ taken))

@@ -33,7 +33,7 @@ use Rattle.workers.specs.Failing.{Subject, choices_of, ending_at, failing_lines}
 use Rattle.workers.specs.Laws.{IsFailing, LinesAreSet}
 use Rattle.request.specs.declared.settings.Settings.{Settings}
 use Rattle.request.specs.Source.{Recording, HasImages, plan_of}
-use Rattle.runs.specs.declared.explore_command.Wanted.{Wanted}
+use Rattle.runs.specs.declared.explore_command.WantedAnswer.{WantedAnswer}
 use Rattle.runs.specs.Explore.{AreCheckersOf}
 use Rattle.runs.specs.Blind.{covers, is_bare, whole_at, ending_on, looks_on, is_blind_at, is_blind, blind_found, FindsBlind, BlindProgramsPass}
 
@@ -311,7 +311,7 @@ blind_pass law covering devices set = record {
 }
 
 -- What is found of a run.
-pub found_blind : (w : Wanted) (text : Recording) (files : List (List ℕ)) (s : Settings) (log : LogValue) (checkers now : List CheckerValue) (found : List Bool)
+pub found_blind : (w : WantedAnswer) (text : Recording) (files : List (List ℕ)) (s : Settings) (log : LogValue) (checkers now : List CheckerValue) (found : List Bool)
     → HasImages text s log → AreCheckersOf s files checkers → now ≡ checkers → found ≡ blind_found w (plan_of s log) now → FindsBlind w text files s found
 found_blind w text files s log checkers now found source made same is = record {
   value = log;

@@ -16,8 +16,8 @@ use Rattle.report.specs.Line.{FailingLine, fails}
 use Rattle.workers.specs.Failing.{Subject, choices_of, ending_at, failing_lines}
 use Rattle.request.specs.declared.settings.Settings.{Settings}
 use Rattle.request.specs.Source.{Recording, HasImages, plan_of}
-use Rattle.runs.specs.declared.explore_command.Wanted.{Wanted}
-use Rattle.runs.specs.declared.explore_command.Wanted.TheVariants as wanted
+use Rattle.runs.specs.declared.explore_command.WantedAnswer.{WantedAnswer}
+use Rattle.runs.specs.declared.explore_command.WantedAnswer.TheVariants as wanted
 use Rattle.runs.specs.Explore.{AreCheckersOf}
 
 -- an entry writes or discards a sector
@@ -77,14 +77,14 @@ pub record IsLastContext (plan : PlanValue) (place last cut : ℕ) : Type 0 wher
   pub same : same_context plan.log.entries last cut ≡ true
 
 -- of which programs it is found that they are blind: of all, one after the other, where failing images or cases are told
-abbrev pub blind_found : Wanted → PlanValue → List CheckerValue → List Bool
+abbrev pub blind_found : WantedAnswer → PlanValue → List CheckerValue → List Bool
 blind_found (wanted.Told t) plan checkers = map (is_noticed plan) checkers
 blind_found wanted.Cured plan checkers = []
 blind_found (wanted.CuredCases l) plan checkers = []
 blind_found (wanted.Cases l) plan checkers = map (is_noticed plan) checkers
 
 -- that is found of a run
-pub record FindsBlind (w : Wanted) (text : Recording) (files : List (List ℕ)) (s : Settings) (found : List Bool) : Type 0 where
+pub record FindsBlind (w : WantedAnswer) (text : Recording) (files : List (List ℕ)) (s : Settings) (found : List Bool) : Type 0 where
   pub value : LogValue
   pub source : HasImages text s value
   pub checkers : List CheckerValue

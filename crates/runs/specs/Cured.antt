@@ -21,8 +21,8 @@ use Rattle.case_text.specs.Cured.{cure_begin}
 use Rattle.request.specs.declared.settings.Settings.{Settings}
 use Rattle.request.specs.declared.any_losses.AnyLosses.{AnyLosses}
 use Rattle.request.specs.Source.{Recording, plan_of, images_of, images_refusal, RefusesPlan}
-use Rattle.runs.specs.declared.explore_command.Wanted.{Wanted}
-use Rattle.runs.specs.declared.explore_command.Wanted.TheVariants as wanted
+use Rattle.runs.specs.declared.explore_command.WantedAnswer.{WantedAnswer}
+use Rattle.runs.specs.declared.explore_command.WantedAnswer.TheVariants as wanted
 use Rattle.runs.specs.Explore.{IsRun, subject_of, head_of}
 use Rattle.runs.specs.Why.{IsTold, with_first}
 use Rattle.case_runs.specs.Cuts.{case_cuts}
@@ -130,7 +130,7 @@ IsCasesCured l text files s bytes failing = IsByCases (Cures (Some l)) text file
 
 -- what a run answers that is asked for this: what is told of it, where flushes are missing, run by run, by images or by cases, or which
 -- cases fail, or which first
-abbrev pub IsAnswered : Wanted → Recording → List (List ℕ) → Settings → List ℕ → Bool → Type 0
+abbrev pub IsAnswered : WantedAnswer → Recording → List (List ℕ) → Settings → List ℕ → Bool → Type 0
 IsAnswered (wanted.Told t) text files s bytes failing = IsTold t text files s bytes failing
 IsAnswered wanted.Cured text files s bytes failing = IsCured text files s bytes failing
 IsAnswered (wanted.CuredCases l) text files s bytes failing = IsCasesCured l text files s bytes failing

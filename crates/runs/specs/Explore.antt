@@ -23,8 +23,8 @@ use Rattle.request.specs.Settings.{option_refusal}
 use Rattle.runs.specs.Programs.{IsRunWithin, code_refusal, IsCodeFault, verifier_refusal, IsVerifierFault}
 use Rattle.request.specs.declared.any_losses.AnyLosses.{AnyLosses}
 use Rattle.request.specs.Source.{Recording, plan_of, images_of, images_refusal, HasImages, RefusesSource}
-use Rattle.runs.specs.declared.explore_command.Wanted.{Wanted}
-use Rattle.runs.specs.declared.explore_command.Wanted.TheVariants as wanted
+use Rattle.runs.specs.declared.explore_command.WantedAnswer.{WantedAnswer}
+use Rattle.runs.specs.declared.explore_command.WantedAnswer.TheVariants as wanted
 use Rattle.runs.specs.CaseCuts.{HasTooMany, HasMore}
 use Rattle.runs.specs.Inputs.{inputs_number}
 use Rattle.request.specs.Extents.{first_meant, end_meant}
@@ -156,7 +156,7 @@ pub data Refuses (text : Recording) (files : List (List ℕ)) (s : Settings) : R
 
 -- a run is refused that doesn't judge the images that are meant; every other one by these rules; and one that is asked for cases, or for a
 -- cure by cases, where there are too many, by the cut with which there are
-pub data RefusesWanted (w : Wanted) (text : Recording) (files : List (List ℕ)) (s : Settings) : Refusal → Type 0 where
+pub data RefusesWanted (w : WantedAnswer) (text : Recording) (files : List (List ℕ)) (s : Settings) : Refusal → Type 0 where
   for_extent : takes w s.extent ≡ false → RefusesWanted w text files s (option_refusal place.Images)
   for_rest : (r : Refusal) → takes w s.extent ≡ true → Refuses text files s r → RefusesWanted w text files s r
   for_cases : (l : AnyLosses) (value : LogValue) (checkers : List CheckerValue) (cut : ℕ) → w ≡ wanted.Cases l → takes w s.extent ≡ true

@@ -6,11 +6,11 @@ use Rattle.request.specs.Extents.{first_meant, end_meant}
 use Rattle.request.specs.declared.extent.Extent.{Extent}
 use Rattle.request.specs.declared.extent.Extent.TheVariants as extent
 use Rattle.request.specs.declared.settings.Telling.TheVariants as telling
-use Rattle.runs.specs.declared.explore_command.Wanted.{Wanted}
-use Rattle.runs.specs.declared.explore_command.Wanted.TheVariants as wanted
+use Rattle.runs.specs.declared.explore_command.WantedAnswer.{WantedAnswer}
+use Rattle.runs.specs.declared.explore_command.WantedAnswer.TheVariants as wanted
 
 -- a part is told of by the report alone
-abbrev pub takes_part : Wanted → Bool
+abbrev pub takes_part : WantedAnswer → Bool
 takes_part (wanted.Told telling.Report) = true
 takes_part (wanted.Told telling.Causes) = false
 takes_part (wanted.Told telling.Page) = false
@@ -19,7 +19,7 @@ takes_part (wanted.CuredCases l) = false
 takes_part (wanted.Cases l) = false
 
 -- whether a run that is asked for this judges the images that are meant: no run judges all of a run that may have more than 16,777,216
-abbrev pub takes : Wanted → Extent → Bool
+abbrev pub takes : WantedAnswer → Extent → Bool
 takes w extent.Whole = true
 takes w extent.Wide = false
 takes w (extent.Part from to) = takes_part w

@@ -4,8 +4,8 @@ use Rattle.report.specs.Line.{FailingLine}
 use Rattle.workers.specs.Failing.{failing_lines}
 use Rattle.request.specs.declared.settings.Telling.{Telling}
 use Rattle.request.specs.declared.settings.Telling.TheVariants as telling
-use Rattle.runs.specs.declared.explore_command.Form.{Form}
-use Rattle.runs.specs.declared.explore_command.Form.TheVariants as form
+use Rattle.runs.specs.declared.explore_command.CauseForm.{CauseForm}
+use Rattle.runs.specs.declared.explore_command.CauseForm.TheVariants as form
 use Rattle.runs.specs.declared.task.Task.{Task}
 use Rattle.runs.specs.Explore.{subject_of}
 use Rattle.runs.specs.Why.{Tells}
@@ -14,7 +14,7 @@ abbrev pub lines_of : Task → List FailingLine
 lines_of t = failing_lines (subject_of t.options.now t.log.now t.checkers.now)
 
 -- what is told in that form
-abbrev pub telling_in : Form → Telling
+abbrev pub telling_in : CauseForm → Telling
 telling_in form.Text = telling.Causes
 telling_in form.Page = telling.Page
 

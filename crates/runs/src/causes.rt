@@ -7,7 +7,7 @@ ghost use Rattle.runs.specs.Why.{IsMissing, why_head, missing_text, TellsCauses}
 ghost use Rattle.runs.specs.Marked.{own_image, images_marked, TellsProgram, TellsPrograms};
 ghost use Rattle.runs.specs.Tasks.{lines_of};
 
-use crate::missing::{Missing, missing_of};
+use crate::missing::{MissingInRun, missing_of};
 use crate::reading::Reading;
 use losses::cure::{put_missing, put_programs};
 use losses::outcomes::outcomes_of;
@@ -95,7 +95,7 @@ fn put_head(out: &mut String, head: &Head, lines: &Lines) -> Result<(), AllocErr
 
 /// Appends of each program how many of its failing images have no window, and the flushes that are missing.
 #[tactic(auto, unfolding(crate::specs::Why::missing_text))]
-fn put_flushes(out: &mut String, programs: usize, missing: &Missing) -> Result<(), AllocError>
+fn put_flushes(out: &mut String, programs: usize, missing: &MissingInRun) -> Result<(), AllocError>
     ensures { OnOk result (string_bytes out.new ≡ string_bytes out.old ++ missing_text programs missing.now.failures.items missing.now.flushes.items) }
 {
     put_programs(out, programs, missing.failures.as_slice())?;

@@ -15,7 +15,7 @@ ghost use Rattle.case_runs.specs.Found.{AreFoundIn, cases_in, most_cases};
 ghost use Rattle.request.specs.declared.extent.Extent.TheVariants as extent;
 ghost use Rattle.request.specs.Source.{RefusesPlan, images_refusal};
 ghost use Rattle.report.specs.Report.{totals_line};
-ghost use Rattle.runs.specs.declared.explore_command.Wanted.TheVariants as wants;
+ghost use Rattle.runs.specs.declared.explore_command.WantedAnswer.TheVariants as wants;
 ghost use Rattle.case_runs.specs.Cuts.{case_cuts};
 ghost use Rattle.runs.specs.CaseCuts.{losses_of};
 ghost use Rattle.runs.specs.CaseRefusals.{RefusesAll};
@@ -30,7 +30,7 @@ ghost use Rattle.runs.specs.Trials.{HasFailures, IsFound, HasFound, TellsOn};
 
 use crate::basis::{Basis, judge_images};
 use crate::case_command::{cases_at, cuts_of_cases, losses_of};
-use crate::explore_command::{Explored, Question, Wanted, head_of_run, run_with};
+use crate::explore_command::{Explored, Question, WantedAnswer, head_of_run, run_with};
 use crate::task::Task;
 use base::causes::RequestCause;
 use base::refusal::{Cause, Refusal};
@@ -56,7 +56,7 @@ use workers::{Gate, Work, lines_are_set};
 
 /// What judges a log in each run: its images, or its cases, where any number of losses is asked for.
 #[derive(Clone, Copy)]
-pub(crate) struct Judges<'x> {
+pub(crate) struct CureJudges<'x> {
     pub(crate) checkers: &'x [Checker<'x>],
     pub(crate) options: &'x Options,
     pub(crate) losses: Option<AnyLosses>,
@@ -65,7 +65,7 @@ pub(crate) struct Judges<'x> {
 /// What a run finds for a cure: its failures with their windows, the last line of its text, and how many judgements were taken from the
 /// cache.
 #[derive(Drop)]
-pub(crate) struct Found {
+pub(crate) struct CureFindings {
     pub(crate) failures: Vec<Failure>,
     pub(crate) last: String,
     pub(crate) hits: u64,
@@ -73,16 +73,16 @@ pub(crate) struct Found {
 
 /// What a run of a log finds, and how a cure begins with it.
 #[derive(Drop)]
-pub(crate) struct Run {
+pub(crate) struct CureRun {
     pub(crate) begin: Vec<u8>,
-    pub(crate) found: Found,
+    pub(crate) found: CureFindings,
 }
 
 /// A log, and what a run of it finds.
 #[derive(Drop)]
-pub(crate) struct Trial {
+pub(crate) struct LogRun {
     pub(crate) log: Log,
-    pub(crate) found: Found,
+    pub(crate) found: CureFindings,
 }
 
 /// The failures of a run, by its failing lines.
@@ -136,7 +136,7 @@ fn found_by(
     task: &Task<'_>,
     starts: &Starts<'_>,
     work: Work,
-) -> Result<Run, AllocError>
+) -> Result<CureRun, AllocError>
     requires whole { task.now.options.now.extent ≡ extent.Whole }
     requires starts { starts.now ≡ starts_of task.now.options.now task.now.log.now }
     requires order { IsNonDecreasing (map (λ l. l.image) work.lines) }
@@ -147,9 +147,9 @@ fn found_by(
     let failures = failures_of_lines(alloc, task, starts, &work.lines)?;
     let begin = begin_bytes(alloc, &head, &work.lines, failures.as_slice())?;
     let last = last_line(alloc, &head, &work.lines)?;
-    Ok(Run {
+    Ok(CureRun {
         begin,
-        found: Found {
+        found: CureFindings {
             failures,
             last,
             hits: work.hits,
@@ -163,7 +163,7 @@ fn images_found<'x, G: Gate + Sync, R: Threads + Wait + Sync>(
     alloc: Global,
     gate: &G,
     task: &'x Task<'x>,
-) -> Result<Run, Refusal>
+) -> Result<CureRun, Refusal>
     requires checkers { length task.now.checkers.now ≤ 8 }
     requires verified { AreFor task.now.options.now.sectors task.now.checkers.now }
     requires whole { task.now.options.now.extent ≡ extent.Whole }
@@ -199,7 +199,7 @@ fn run_of_cases(
     losses: AnyLosses,
     cuts: &[u32],
     found: &[CutFound],
-) -> Result<Run, AllocError>
+) -> Result<CureRun, AllocError>
     requires cuts { cuts.now ≡ case_cuts losses.at_most task.now.options.now.cuts task.now.log.now.entries }
     requires within { All (λ cut. cut ≤ length task.now.log.now.entries) cuts.now }
     requires found { AreFoundIn (losses_of losses task.now.options.now) task.now.log.now task.now.options.now.by cuts.now task.now.checkers.now found.now }
@@ -212,9 +212,9 @@ fn run_of_cases(
     let head = head_of_run(alloc, task, false)?;
     let asked = losses_of(losses, task.options);
     let cure = cure_of_cases(alloc, &head, task.log, task.plan, asked, found)?;
-    Ok(Run {
+    Ok(CureRun {
         begin: cure.begin,
-        found: Found {
+        found: CureFindings {
             failures: cure.failures,
             last: cure.last,
             hits: 0,
@@ -229,7 +229,7 @@ fn cases_found<G: Gate + Sync, R: Threads + Sync>(
     gate: &G,
     task: &Task<'_>,
     losses: AnyLosses,
-) -> Result<Run, Refusal>
+) -> Result<CureRun, Refusal>
     requires checkers { length task.now.checkers.now ≤ 8 }
     requires verified { AreFor task.now.options.now.sectors task.now.checkers.now }
     requires whole { task.now.options.now.extent ≡ extent.Whole }
@@ -252,9 +252,9 @@ fn run_of<G: Gate + Sync, R: Threads + Wait + Sync>(
     rt: &R,
     alloc: Global,
     gate: &G,
-    judges: &Judges<'_>,
+    judges: &CureJudges<'_>,
     log: &Log,
-) -> Result<Run, Refusal>
+) -> Result<CureRun, Refusal>
     requires checkers { length judges.now.checkers.now ≤ 8 }
     requires verified { AreFor judges.now.options.now.sectors judges.now.checkers.now }
     requires whole { judges.now.options.now.extent ≡ extent.Whole }
@@ -352,9 +352,9 @@ fn all_rounds<G: Gate + Sync, R: Threads + Wait + Sync>(
     rt: &R,
     alloc: Global,
     gate: &G,
-    judges: &Judges<'_>,
+    judges: &CureJudges<'_>,
     out: &mut String,
-    first: Trial,
+    first: LogRun,
 ) -> Result<u64, Refusal>
     requires checkers { length judges.now.checkers.now ≤ 8 }
     requires verified { AreFor judges.now.options.now.sectors judges.now.checkers.now }
@@ -365,7 +365,7 @@ fn all_rounds<G: Gate + Sync, R: Threads + Wait + Sync>(
     ensures told { IfOk result (λ hits. TellsOn judges.now.losses judges.now.options.now judges.now.checkers.now first.log (string_bytes out.old) (string_bytes out.new)) }
     ensures refused { IfErr result (λ r. r ≡ memory_refusal) }
 {
-    let Trial { mut log, mut found } = first;
+    let LogRun { mut log, mut found } = first;
     let mut hits = found.hits;
     let mut windows = windows_found(alloc, found.failures.as_slice())?;
     let mut round = 1;
@@ -401,7 +401,7 @@ fn join_texts(begin: Vec<u8>, rounds: &str) -> Result<Vec<u8>, Refusal>
 }
 
 /// Whether a run has a failure.
-fn is_failing(found: &Found) -> bool
+fn is_failing(found: &CureFindings) -> bool
     ensures { IsTrue result ↔ (found.now.failures.items ≢ []) }
 {
     !found.failures.is_empty()
@@ -412,7 +412,7 @@ pub(crate) fn cured_log<G: Gate + Sync, R: Threads + Wait + Sync>(
     rt: &R,
     alloc: Global,
     gate: &G,
-    judges: &Judges<'_>,
+    judges: &CureJudges<'_>,
     log: Log,
 ) -> Result<Explored, Refusal>
     requires checkers { length judges.now.checkers.now ≤ 8 }
@@ -426,7 +426,7 @@ pub(crate) fn cured_log<G: Gate + Sync, R: Threads + Wait + Sync>(
     let made = run_of(rt, alloc, gate, judges, &log)?;
     let failing = is_failing(&made.found);
     let mut rounds = String::new(alloc);
-    let first = Trial {
+    let first = LogRun {
         log,
         found: made.found,
     };
@@ -457,7 +457,7 @@ pub(crate) fn cured_images<'x, G: Gate + Sync, R: Threads + Wait + Sync>(
     ensures failing { IfOk result (λ e. IsTrue e.failing ↔ (run_lines options.now checkers.now log ≢ [])) }
     ensures refused { IfErr result (RefusesPlan options.now log) }
 {
-    let judges = Judges {
+    let judges = CureJudges {
         checkers,
         options,
         losses: None,
@@ -483,7 +483,7 @@ pub(crate) fn cured_cases<'x, G: Gate + Sync, R: Threads + Wait + Sync>(
     ensures cured { IfOk result (λ e. Cures (Some losses) options.now log checkers.now e.bytes.items e.failing) }
     ensures refused { IfErr result (RefusesRun (Some losses) options.now checkers.now log) }
 {
-    let judges = Judges {
+    let judges = CureJudges {
         checkers,
         options,
         losses: Some(losses),
@@ -515,7 +515,7 @@ pub fn cure_run<G: Gate + Sync, R: Threads + Wait + Sync>(
     ensures fewer { IfSome facts.new.fewer (FindsFewer question.now.recording.now question.now.options.now) }
 {
     let question = Question {
-        wanted: Wanted::Cured,
+        wanted: WantedAnswer::Cured,
         ..*question
     };
     run_with(rt, alloc, gate, &question, facts)

@@ -11,13 +11,13 @@ ghost use Rattle.request.specs.Source.{RefusesPlan};
 ghost use Rattle.runs.specs.Explore.{HasReport, IsReport, IsProgramCount, RefusesWanted, program_head, head_of};
 ghost use Rattle.runs.specs.Inputs.{inputs_number, number_told};
 ghost use Rattle.runs.specs.Judged.{takes, IsJudged};
-ghost use Rattle.runs.specs.declared.explore_command.Wanted.TheVariants as wants;
+ghost use Rattle.runs.specs.declared.explore_command.WantedAnswer.TheVariants as wants;
 ghost use Rattle.request.specs.declared.settings.Telling.TheVariants as tells;
 ghost use Rattle.runs.specs.Why.{with_first, first_asked, IsExplained, IsPaged};
 ghost use Rattle.runs.specs.Blind.{is_noticed, FindsBlind};
 ghost use Rattle.runs.specs.Cured.{IsAnswered};
 ghost use Rattle.runs.specs.Tasks.{lines_of, telling_in, TellsTask};
-ghost use Rattle.runs.specs.Found.{AreFound};
+ghost use Rattle.runs.specs.CureFindings.{AreFound};
 ghost use Rattle.request.specs.Fewer.{FindsFewer};
 ghost use Rattle.request.specs.Promises.{FindsPromises};
 ghost use Rattle.runs.specs.Finds.{FindsNext, FindsUnreached, IsBreachOf, IsBreachIn, FindsBreach, FindsAll};
@@ -299,7 +299,7 @@ fn report_of(alloc: Global, findings: &Findings<'_>) -> Result<Vec<u8>, AllocErr
 
 /// The form in which it is told why programs fail.
 #[derive(Clone, Copy)]
-pub(crate) enum Form {
+pub(crate) enum CauseForm {
     /// As a text.
     Text,
     /// As a page for a browser.
@@ -307,7 +307,7 @@ pub(crate) enum Form {
 }
 
 /// Why the programs fail, in that form, by what was found.
-fn why_of(alloc: Global, form: Form, findings: &Findings<'_>) -> Result<Vec<u8>, AllocError>
+fn why_of(alloc: Global, form: CauseForm, findings: &Findings<'_>) -> Result<Vec<u8>, AllocError>
     requires order { IsNonDecreasing (map (λ l. l.image) findings.now.work.now.lines) }
     requires lines { findings.now.work.now.lines ≡ lines_of findings.now.task.now }
     ensures { IfOk result (λ bytes. TellsTask (telling_in form) findings.now.task.now bytes.items) }
@@ -323,13 +323,13 @@ fn why_of(alloc: Global, form: Form, findings: &Findings<'_>) -> Result<Vec<u8>,
         marks: marks.as_slice(),
     };
     match form {
-        Form::Text => causes_text(alloc, &head, &reading),
-        Form::Page => page_bytes(alloc, &head, &reading),
+        CauseForm::Text => causes_text(alloc, &head, &reading),
+        CauseForm::Page => page_bytes(alloc, &head, &reading),
     }
 }
 
 /// The images that are judged, of that many: all, or those of the part that is meant.
-fn span_with(wanted: Wanted, extent: Extent, images: u64, inputs: u64) -> Span
+fn span_with(wanted: WantedAnswer, extent: Extent, images: u64, inputs: u64) -> Span
     requires taken { takes wanted extent ≡ true }
     requires good { is_extent extent ≡ true }
     requires few { images ≤ most_images extent }
@@ -353,8 +353,8 @@ fn tell(alloc: Global, telling: Telling, findings: &Findings<'_>) -> Result<Vec<
 {
     match telling {
         Telling::Report => report_of(alloc, findings),
-        Telling::Causes => why_of(alloc, Form::Text, findings),
-        Telling::Page => why_of(alloc, Form::Page, findings),
+        Telling::Causes => why_of(alloc, CauseForm::Text, findings),
+        Telling::Page => why_of(alloc, CauseForm::Page, findings),
     }
 }
 
@@ -435,7 +435,7 @@ fn judge_task<'x, G: Gate + Sync, R: Threads + Wait + Sync>(
 
 /// What a run is asked for.
 #[derive(Clone, Copy)]
-pub enum Wanted {
+pub enum WantedAnswer {
     /// To be told of its failing images.
     Told(Telling),
     /// To be told where flushes are missing, run by run.
@@ -448,7 +448,7 @@ pub enum Wanted {
 
 /// Whether a run that is asked for this judges the images that are meant: all of a run, or those of a part where the report is asked
 /// for.
-fn does_take(wanted: Wanted, extent: Extent) -> bool
+fn does_take(wanted: WantedAnswer, extent: Extent) -> bool
     ensures { result ≡ takes wanted extent }
 {
     match extent {
@@ -457,7 +457,7 @@ fn does_take(wanted: Wanted, extent: Extent) -> bool
         Extent::Part {
             from: _from,
             to: _to,
-        } => matches!(wanted, Wanted::Told(Telling::Report)),
+        } => matches!(wanted, WantedAnswer::Told(Telling::Report)),
     }
 }
 
@@ -465,7 +465,7 @@ fn does_take(wanted: Wanted, extent: Extent) -> bool
 #[derive(Clone, Copy)]
 pub struct Question<'a> {
     /// What is to be told.
-    pub wanted: Wanted,
+    pub wanted: WantedAnswer,
     /// The log, over what the device held before entry 0.
     pub recording: &'a Recording<'a>,
     /// The bytes of each program.
@@ -507,7 +507,7 @@ fn make_run<G: Gate + Sync, R: Threads + Wait + Sync>(
     accepted_checkers_run_safely();
     let made = checkers.as_slice();
     match question.wanted {
-        Wanted::Told(telling) => {
+        WantedAnswer::Told(telling) => {
             let task = Task {
                 log: &log,
                 plan: &plan,
@@ -517,16 +517,16 @@ fn make_run<G: Gate + Sync, R: Threads + Wait + Sync>(
             };
             judge_task(rt, alloc, gate, telling, &task, &mut facts.blind)
         }
-        Wanted::Cured => {
+        WantedAnswer::Cured => {
             // The log is changed from run to run.
             drop(plan);
             cured_images(rt, alloc, gate, made, options, log)
         }
-        Wanted::CuredCases(losses) => {
+        WantedAnswer::CuredCases(losses) => {
             drop(plan);
             cured_cases(rt, alloc, gate, made, options, losses, log)
         }
-        Wanted::Cases(losses) => {
+        WantedAnswer::Cases(losses) => {
             let task = Task {
                 log: &log,
                 plan: &plan,
@@ -603,7 +603,7 @@ pub fn explore_with<G: Gate + Sync, R: Threads + Wait + Sync>(
     ensures refused { IfErr result (RefusesWanted (wants.Told tells.Report) recording.now (map (λ f. f.items) programs.now) options.now) }
 {
     let question = Question {
-        wanted: Wanted::Told(Telling::Report),
+        wanted: WantedAnswer::Told(Telling::Report),
         recording,
         programs,
         options,
@@ -630,7 +630,7 @@ pub fn why<G: Gate + Sync, R: Threads + Wait + Sync>(
     ensures refused { IfErr result (RefusesWanted (wants.Told tells.Causes) recording.now (map (λ f. f.items) programs.now) options.now) }
 {
     let question = Question {
-        wanted: Wanted::Told(Telling::Causes),
+        wanted: WantedAnswer::Told(Telling::Causes),
         recording,
         programs,
         options,
@@ -656,7 +656,7 @@ pub fn page<G: Gate + Sync, R: Threads + Wait + Sync>(
     ensures refused { IfErr result (RefusesWanted (wants.Told tells.Page) recording.now (map (λ f. f.items) programs.now) options.now) }
 {
     let question = Question {
-        wanted: Wanted::Told(Telling::Page),
+        wanted: WantedAnswer::Told(Telling::Page),
         recording,
         programs,
         options,

@@ -112,5 +112,7 @@ mod reading;
 mod task;
 
 pub use curing::cure_run;
-pub use explore_command::{Explored, Question, Wanted, explore, explore_with, page, run_with, why};
+pub use explore_command::{
+    Explored, Question, WantedAnswer, explore, explore_with, page, run_with, why,
+};
 pub use laws::{any_loss_is_told, blind_programs_pass, told_cases_fail};

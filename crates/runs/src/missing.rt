@@ -17,7 +17,7 @@ use workers::lines_are_set;
 
 /// The failures of a run, and the flushes that are missing for them.
 #[derive(Drop)]
-pub(crate) struct Missing {
+pub(crate) struct MissingInRun {
     pub(crate) failures: Vec<Failure>,
     pub(crate) flushes: Vec<MissingFlush>,
 }
@@ -44,7 +44,7 @@ pub(crate) fn missing_of(
     alloc: Global,
     findings: &Findings<'_>,
     marks: &[Mark],
-) -> Result<Missing, AllocError>
+) -> Result<MissingInRun, AllocError>
     requires lines { findings.now.work.now.lines ≡ lines_of findings.now.task.now }
     requires marks { marks.now ≡ marks_of findings.now.work.now.lines }
     ensures { IfOk result (λ m. IsMissing findings.now.starts.now findings.now.work.now.lines m.failures.items m.flushes.items) }
@@ -52,5 +52,5 @@ pub(crate) fn missing_of(
     let failures = failures_found(alloc, findings, marks)?;
     let windows = windows_of(alloc, failures.as_slice())?;
     let flushes = missing_flushes(alloc, windows.as_slice(), findings.task.log.entries().len())?;
-    Ok(Missing { failures, flushes })
+    Ok(MissingInRun { failures, flushes })
 }

@@ -17,7 +17,7 @@ use crate::causes::images_of_program;
 use crate::missing::failures_found;
 use crate::reading::Reading;
 use crate::task::Task;
-use crash_page::{Judge, ProgramFailures, Run, program_failures, put_page};
+use crash_page::{PageJudge, PageRun, ProgramFailures, program_failures, put_page};
 use crash_text::Numbering;
 use losses::cure::Failure;
 use losses::outcomes::outcomes_of;
@@ -28,7 +28,7 @@ use std::alloc::{AllocError, Global};
 /// What fails of the checker of that number.
 fn checker_failures<'x>(
     alloc: Global,
-    run: &Run<'_>,
+    run: &PageRun<'_>,
     reading: &Reading<'x>,
     failures: &[Failure],
     head: ProgramHead,
@@ -43,7 +43,7 @@ fn checker_failures<'x>(
 {
     let images = images_of_program(alloc, reading.marks, program)?;
     let outcomes = outcomes_of(alloc, reading.text, reading.marks, program)?;
-    let judge = Judge::Checker(head);
+    let judge = PageJudge::Checker(head);
     program_failures(
         alloc,
         run,
@@ -69,7 +69,7 @@ fn push_failures<'x>(
 /// What fails of each program.
 fn all_failures<'x>(
     alloc: Global,
-    run: &Run<'_>,
+    run: &PageRun<'_>,
     reading: &Reading<'x>,
     failures: &[Failure],
     heads: &[ProgramHead],
@@ -132,7 +132,7 @@ pub(crate) fn page_bytes(
     let findings = reading.findings;
     let text = about(alloc, head, &findings.work.lines)?;
     let failures = failures_found(alloc, findings, reading.marks)?;
-    let run = Run {
+    let run = PageRun {
         starts: findings.starts,
         history: findings.history,
         numbering: numbering_of(findings.task),

@@ -2,7 +2,7 @@ use Rattle.std.proofs.Common.{sym, subst}
 use Rattle.std.proofs.lemmas.Result.{err_from_is_err_and}
 use Rattle.request.proofs.Results.{both_ok, one_err}
 use Rattle.request.specs.declared.any_losses.AnyLosses.{AnyLosses}
-use Rattle.runs.specs.declared.explore_command.Wanted.{Wanted}
+use Rattle.runs.specs.declared.explore_command.WantedAnswer.{WantedAnswer}
 use Rattle.commands.specs.Acting.{held_by, wanted_by, AnswersFiles, for_words, for_settings, RefusesFiles, for_losses, for_cases_of}
 use Rattle.commands.proofs.action.act_cases.Goals as goal
 
@@ -23,7 +23,7 @@ returns-clause-refused g c =
     for_settings c.in_ok-options.options r c.in_ok-options.ensures
     (for_cases_of r c.in_ok-meant.ensures.1
     (subst (λ (l : AnyLosses). RefusesFiles (wanted_by c.args.cured l) (held_by c.args.files.now) c.in_ok-options.options r) (sym c.in_ok-meant.ensures.0)
-    (subst (λ (w : Wanted). RefusesFiles w (held_by c.args.files.now) c.in_ok-options.options r) c.wanted_by.ensures refused))))
+    (subst (λ (w : WantedAnswer). RefusesFiles w (held_by c.args.files.now) c.in_ok-options.options r) c.wanted_by.ensures refused))))
 
 pub returns-clause-answers : goal.returns-clause-answers
 returns-clause-answers g c =
@@ -33,5 +33,5 @@ returns-clause-answers g c =
       asked = c.in_ok-options.ensures;
       good = c.in_ok-meant.ensures.1;
       answers = subst (λ (l : AnyLosses). AnswersFiles (wanted_by c.args.cured l) c.in_ok-options.options (held_by c.args.files.now) x.0.items x.1) (sym c.in_ok-meant.ensures.0)
-          (subst (λ (w : Wanted). AnswersFiles w c.in_ok-options.options (held_by c.args.files.now) x.0.items x.1) c.wanted_by.ensures is);
+          (subst (λ (w : WantedAnswer). AnswersFiles w c.in_ok-options.options (held_by c.args.files.now) x.0.items x.1) c.wanted_by.ensures is);
     })

@@ -3,7 +3,7 @@ use Rattle.std.proofs.lemmas.Bool.{false≢true}
 use Rattle.std.proofs.lemmas.Result.{err_from_is_err_and}
 use Rattle.epochs.specs.Plan.{PlanValue}
 use Rattle.request.specs.Source.{for_plan}
-use Rattle.runs.specs.declared.explore_command.Wanted.TheVariants as wanted
+use Rattle.runs.specs.declared.explore_command.WantedAnswer.TheVariants as wanted
 use Rattle.runs.specs.Blind.{is_noticed}
 use Rattle.runs.specs.Cases.{TellsLosses}
 use Rattle.runs.specs.Cured.{TellsCure, Cures}
@@ -11,7 +11,7 @@ use Rattle.runs.specs.Why.{Tells}
 use Rattle.runs.specs.Explore.{for_count, for_source, for_program, no_list_memory, for_rest}
 use Rattle.runs.specs.Inputs.{inputs_number}
 use Rattle.runs.specs.Judged.{takes, IsJudged}
-use Rattle.runs.specs.declared.explore_command.Wanted.{Wanted}
+use Rattle.runs.specs.declared.explore_command.WantedAnswer.{WantedAnswer}
 use Rattle.runs.proofs.Judging.{whole_of}
 use Rattle.runs.proofs.Findings.{told_by_number}
 use Rattle.runs.proofs.RefusalLemmas.{counted, uncounted, few_decoded, unaccepted_of, undecoded_of, checkers_decoded}
@@ -145,7 +145,7 @@ cured_images-requires-clause-device g c =
     λ κs lives. device_of _ c.args.question.now.options.now c.in_ok-log.log c.in_ok-log.ensures.log
 
 pub cured_images-requires-clause-whole : goal.cured_images-requires-clause-whole
-cured_images-requires-clause-whole g c = λ κs lives. whole_of wanted.Cured c.args.question.now.options.now.extent refl (subst (λ (w : Wanted). takes w c.args.question.now.options.now.extent ≡ true) c.in-Cured.is c.requires)
+cured_images-requires-clause-whole g c = λ κs lives. whole_of wanted.Cured c.args.question.now.options.now.extent refl (subst (λ (w : WantedAnswer). takes w c.args.question.now.options.now.extent ≡ true) c.in-Cured.is c.requires)
 
 pub returns-in-Cured-clause-told : goal.returns-in-Cured-clause-told
 returns-in-Cured-clause-told g c =
@@ -208,7 +208,7 @@ cured_cases-requires-clause-device g c =
 pub cured_cases-requires-clause-whole : goal.cured_cases-requires-clause-whole
 cured_cases-requires-clause-whole g c =
     λ κs lives. whole_of (wanted.CuredCases c.in-CuredCases.losses) c.args.question.now.options.now.extent refl
-    (subst (λ (w : Wanted). takes w c.args.question.now.options.now.extent ≡ true) c.in-CuredCases.is c.requires)
+    (subst (λ (w : WantedAnswer). takes w c.args.question.now.options.now.extent ≡ true) c.in-CuredCases.is c.requires)
 
 pub returns-in-CuredCases-clause-told : goal.returns-in-CuredCases-clause-told
 returns-in-CuredCases-clause-told g c =

@@ -1,7 +1,7 @@
 use Rattle.std.proofs.Common.{rules, inl, inr, arith}
 use Rattle.input_files.proofs.Reaching.{first_unknown, first_known}
-use Rattle.input_files.proofs.reach.Reach.of_super.Goals.{else-size-ne512-via-then-size-ne512+else-size-ne4096, else-size-ne512-via-else-size-ne512, then-left-eq0, else-left-eq0}
-use Rattle.input_files.proofs.reach.Reach.of_super.Goals as goal
+use Rattle.input_files.proofs.reach.RawReach.of_super.Goals.{else-size-ne512-via-then-size-ne512+else-size-ne4096, else-size-ne512-via-else-size-ne512, then-left-eq0, else-left-eq0}
+use Rattle.input_files.proofs.reach.RawReach.of_super.Goals as goal
 
 pub returns-then-size-ne4096 : goal.returns-then-size-ne4096
 returns-then-size-ne4096 c = λ rest. first_unknown _ rest c.from-size.result c.requires.there (search rules) c.if-size-ne512.true c.if-size-ne4096.true

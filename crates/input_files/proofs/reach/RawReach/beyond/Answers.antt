@@ -1,7 +1,7 @@
 use Rattle.std.proofs.Common.{arith}
 use Rattle.input_files.proofs.Reaching.{go_on}
-use Rattle.input_files.proofs.reach.Reach.beyond.Goals.{then-left-eq0, else-left-eq0}
-use Rattle.input_files.proofs.reach.Reach.beyond.Goals as goal
+use Rattle.input_files.proofs.reach.RawReach.beyond.Goals.{then-left-eq0, else-left-eq0}
+use Rattle.input_files.proofs.reach.RawReach.beyond.Goals as goal
 
 pub returns-then-needed-gt-MOST_NEEDED-clause-reach : goal.returns-then-needed-gt-MOST_NEEDED-clause-reach
 returns-then-needed-gt-MOST_NEEDED-clause-reach c = λ rest is.

@@ -1,6 +1,6 @@
 use Rattle.std.proofs.lemmas.Result.{err_from_is_err_and}
 use Rattle.commands.proofs.Acts.{no_log_file, no_base_file}
-use Rattle.commands.proofs.action.Held.recording.Goals as goal
+use Rattle.commands.proofs.action.HeldFiles.recording.Goals as goal
 
 pub returns-in_err-log : goal.returns-in_err-log
 returns-in_err-log c =
