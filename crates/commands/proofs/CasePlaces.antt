@@ -55,23 +55,23 @@ before_before p q r (inl one) (inr (same, up)) = inl (omega (arith, one, same))
 before_before p q r (inr (same, up)) (inl two) = inl (omega (arith, two, same))
 before_before p q r (inr (same, up)) (inr (also, more)) = inr (omega (arith, same, also), omega (arith, up, more))
 
-behind_more : (last : Option PartName) (p q : PartName) → comes_after last p ≡ true → is_before p q ≡ true → comes_after last q ≡ true
-behind_more None p q one two = refl
-behind_more (Some l) p q one two = before_is l q (before_before l p q (before_told l p one) (before_told p q two))
+comes_after_more : (last : Option PartName) (p q : PartName) → comes_after last p ≡ true → is_before p q ≡ true → comes_after last q ≡ true
+comes_after_more None p q one two = refl
+comes_after_more (Some l) p q one two = before_is l q (before_before l p q (before_told l p one) (before_told p q two))
 
 rise_from : (last : Option PartName) (p : PartName) (ps : List PartName) → comes_after last p ≡ true → parts_rise (Some p) ps ≡ true → parts_rise last ps ≡ true
 rise_from last p [] one rise = refl
 rise_from last p (q ∷ ps) one rise =
-    both_so (comes_after last q) (parts_rise (Some q) ps) (behind_more last p q one (first_so (is_before p q) (parts_rise (Some q) ps) rise)) (second_so (is_before p q) (parts_rise (Some q) ps) rise)
+    both_so (comes_after last q) (parts_rise (Some q) ps) (comes_after_more last p q one (first_so (is_before p q) (parts_rise (Some q) ps) rise)) (second_so (is_before p q) (parts_rise (Some q) ps) rise)
 
 pub some_parts_rise : (last : Option PartName) (ps qs : List PartName) → AreSome ps qs → parts_rise last qs ≡ true → parts_rise last ps ≡ true
 some_parts_rise last [] qs some rise = refl
 some_parts_rise last (p ∷ ps) [] some rise = absurd some
 some_parts_rise last (p ∷ ps) (q ∷ qs) (inl one) rise =
-    let behind = first_so (comes_after last q) (parts_rise (Some q) qs) rise in
+    let after = first_so (comes_after last q) (parts_rise (Some q) qs) rise in
     let rest = some_parts_rise (Some q) ps qs one.1 (second_so (comes_after last q) (parts_rise (Some q) qs) rise) in
     both_so (comes_after last p) (parts_rise (Some p) ps)
-    (subst (λ (x : PartName). comes_after last x ≡ true) one.0 behind)
+    (subst (λ (x : PartName). comes_after last x ≡ true) one.0 after)
     (subst (λ (x : PartName). parts_rise (Some x) ps ≡ true) one.0 rest)
 some_parts_rise last (p ∷ ps) (q ∷ qs) (inr more) rise =
     some_parts_rise last (p ∷ ps) qs more

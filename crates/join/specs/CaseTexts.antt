@@ -1,5 +1,5 @@
 -- The text of the cases of a range of cuts, as it is read (docs/OUTPUT.md, The text of cases). No log is known here: of a case its line is,
--- and parts are told by their names.
+-- and parts are told by their names. What `of_run` says is by the rules of that section; which log would print the text isn't asked.
 use Rattle.std.specs.Prelude.{ℕ, ◌≡◌, ◌<◌, ◌≤◌, ◌^◌, ◌+◌, ◌-◌, ◌==◌, ◌&&◌, ◌||◌, nat_lt, nat_le, not, Bool, true, false, if◌then◌else◌, List, [], ◌∷◌, ◌++◌, length, map, codes, find, Option, None, Some, option_map, unwrap_or, slice_get}
 use Rattle.std.specs.Fmt.{decimal}
 use Rattle.std.specs.List.{flat_map, list_all, list_any}
@@ -217,7 +217,7 @@ abbrev pub is_case_of_run : HeadValue → ToldCase → Bool
 is_case_of_run h t =
     is_front_of_run h t.front && is_window_of_run t.front.cut t.window && (all_of_run h.by h.tears t.front.cut t && (all_rise t && go_together t))
 
--- a line that a run with that head may print
+-- a line of a run with that head, by the rules of docs/OUTPUT.md
 pub record IsToldCase (h : HeadValue) (t : ToldCase) : Type 0 where
   pub outcome : IsEnding t.outcome
   pub free : t.free < 2 ^ 64
@@ -263,7 +263,7 @@ pub record AreTotals (c : CasesValue) : Type 0 where
   pub torn : c.totals.torn < 2 ^ 64
   pub lost : c.totals.lost < 2 ^ 64
 
--- the bytes are the text of these cases, as a run can print it
+-- the bytes are the text of these cases, by the rules of docs/OUTPUT.md
 pub record IsCasesText (bytes : List ℕ) (c : CasesValue) : Type 0 where
   pub utf8 : IsUtf8 bytes
   pub head : IsPrintedHead c.head

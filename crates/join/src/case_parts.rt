@@ -1,6 +1,6 @@
 //! Texts of runs of any number of losses over ranges of cuts, read and joined (docs/OUTPUT.md, The text of cases).
 //!
-//! A text is read word by word, and printed again from what was read: where this gives other bytes, no run prints the text.
+//! A text is read word by word, and printed again from what was read: where this gives other bytes, it is no text of cases.
 
 mod fault;
 mod front;

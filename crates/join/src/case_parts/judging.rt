@@ -1,4 +1,4 @@
-//! Whether what a line says is what a run may print. The parts that it tells rise, so two lists of them are walked through together.
+//! Whether what a line says is by the rules of docs/OUTPUT.md. The parts that it tells rise, so two lists of them are walked through together.
 
 ghost use Rattle.std.specs.Prelude.{◌≡◌, ◌&&◌, IfOk, None, Some, map, not, true};
 ghost use Rattle.std.specs.List.{list_all};
@@ -387,7 +387,7 @@ fn is_window_of_run(cut: u64, window: Option<Window>) -> bool
     }
 }
 
-/// Whether a line is what a run with that head may print.
+/// Whether a line is one of a run with that head, by the rules of docs/OUTPUT.md.
 pub(crate) fn is_case_of_run(
     alloc: Global,
     head: &Head,
