@@ -1,3 +1,4 @@
+pub mod Lists
 pub mod Imaging
 pub mod Running
 pub mod Telling
@@ -13,4 +14,5 @@ pub mod Piecing
 pub mod Going
 pub mod Turning
 pub mod Joined
+pub mod Answering
 pub mod Crossing

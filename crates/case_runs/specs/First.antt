@@ -1,16 +1,21 @@
 -- The first failing case of some cuts with some checkers: by cut, by checker, and in the order of the tree.
-use Rattle.std.specs.Prelude.{ℕ, ◌≡◌, ◌+◌, ◌<◌, ◌≤◌, List, [], ◌∷◌, ◌++◌, map, slice_get, Some, All}
+use Rattle.std.specs.Prelude.{ℕ, ◌≡◌, ◌+◌, ◌<◌, ◌≤◌, true, false, List, [], ◌∷◌, ◌++◌, map, slice_get, Option, None, Some, All}
 use Rattle.logfmt.specs.Bounds.{LogValue}
 use Rattle.epochs.specs.declared.part.By.{By}
+use Rattle.machine.specs.Outcome.{Ending}
 use Rattle.checker.specs.Checker.{CheckerValue}
+use Rattle.cases.specs.Cases.{whole_case, representative}
 use Rattle.cases.specs.AtCut.{CutValue}
-use Rattle.cases.specs.Search.{LeafValue, BegunCases}
+use Rattle.cases.specs.Trees.{Program, ending_of}
+use Rattle.cases.specs.Search.{SearchValue, LeafValue, BegunCases, SameSearch, Went, pending, case_in, subject_of}
 use Rattle.case_runs.specs.declared.found.Losses.{Losses}
 use Rattle.case_runs.specs.declared.found.Found.{Found}
 use Rattle.case_runs.specs.declared.found.CutFound.{CutFound}
 use Rattle.case_runs.specs.declared.found.CasesFault.{CasesFault}
 use Rattle.case_runs.specs.declared.found.CasesFault.TheVariants as fault
 use Rattle.case_runs.specs.declared.first.FirstCase.{FirstCase}
+use Rattle.case_runs.specs.declared.first.Next.{Next}
+use Rattle.case_runs.specs.declared.first.Next.TheVariants as next
 use Rattle.case_runs.specs.declared.first.Met.{Met}
 use Rattle.case_runs.specs.declared.first.Met.TheVariants as met
 use Rattle.case_runs.specs.declared.first.MetAt.{MetAt}
@@ -18,7 +23,7 @@ use Rattle.case_runs.specs.declared.first.MetAt.TheVariants as met_at
 use Rattle.case_runs.specs.declared.first.Sought.{Sought}
 use Rattle.case_runs.specs.declared.first.Sought.TheVariants as sought
 use Rattle.case_runs.specs.declared.leaves.FailingCase.{FailingCase}
-use Rattle.case_runs.specs.Leaves.{failing_value, failing_from}
+use Rattle.case_runs.specs.Leaves.{failing_value, failing_if, failing_from}
 use Rattle.case_runs.specs.Laws.{subject_at}
 use Rattle.case_runs.specs.Found.{IsFoundAt, AreFoundAt, AreFoundIn, AreFirstAt, AreFirstIn, KnownCase, known_case, cases_at, cases_in, most_cases}
 
@@ -41,6 +46,47 @@ pub record PassesMost (asked : Losses) (at : CutValue) (checker : CheckerValue) 
   pub last : LeafValue
   pub those : BegunCases (subject_at at.log at.way at.cut checker asked.torn asked.lost) asked.tears at [] (leaves ++ last ∷ []) (most + 1)
   pub passing : failing_from 0 leaves ≡ []
+
+-- what is asked of a search, and that it begins at all choices of its cut
+abbrev pub losses_in : SearchValue → Losses
+losses_in v = record { tears = v.tears; torn = v.asked.torn; lost = v.asked.lost }
+
+pub record BeginsAt (v : SearchValue) : Type 0 where
+  pub whole : pending v ≡ whole_case v.tears ∷ []
+  pub none : (v.torn_beyond ≡ 0) × (v.lost_beyond ≡ 0)
+
+-- a search went to the next leaf, on which the program ends so
+pub record NextLeaf (program : Program) (now new : SearchValue) (ending : Ending) : Type 0 where
+  pub same : SameSearch now new
+  pub went : Went (subject_of now.asked program) now new true
+  pub ends : ending ≡ ending_of (subject_of now.asked program) (representative (case_in new))
+
+abbrev pub leaf_at : SearchValue → Ending → LeafValue
+leaf_at v ending = record { sets = v.sets; ending = ending }
+
+-- what is met at a leaf of that number
+abbrev pub IsMetAt : ℕ → LeafValue → Next → Type 0
+IsMetAt n leaf next.Ended = ⊥
+IsMetAt n leaf next.Passing = failing_if n leaf ≡ []
+IsMetAt n leaf (next.Failing f) = failing_if n leaf ≡ failing_value f ∷ []
+
+-- a search went to the leaf of that number, at which this is met, or there is none
+abbrev pub GoesTo : Program → SearchValue → SearchValue → ℕ → Next → Type 0
+GoesTo program now new n next.Ended = Went (subject_of now.asked program) now new false
+GoesTo program now new n next.Passing = (ending : Ending) × NextLeaf program now new ending × (failing_if n (leaf_at new ending) ≡ [])
+GoesTo program now new n (next.Failing f) = (ending : Ending) × NextLeaf program now new ending × (failing_if n (leaf_at new ending) ≡ failing_value f ∷ [])
+
+-- that many leaves were found, which all pass
+pub record IsPassing (v : SearchValue) (count : ℕ) (found : Found) : Type 0 where
+  pub cases : found.cases ≡ count
+  pub torn : found.torn_beyond ≡ v.torn_beyond
+  pub lost : found.lost_beyond ≡ v.lost_beyond
+  pub none : found.failing.items ≡ []
+
+-- where that many leaves pass, there is no other, or there is one
+abbrev pub EndsWith : Program → SearchValue → SearchValue → ℕ → Option Found → Type 0
+EndsWith program now new count None = (ending : Ending) × NextLeaf program now new ending
+EndsWith program now new count (Some found) = Went (subject_of now.asked program) now new false × IsPassing new count found
 
 -- the first failing case at a cut, within the first `left` cases there: with the checkers before its own no case fails
 pub record FailsFirstAt (asked : Losses) (at : CutValue) (checkers : List CheckerValue) (left : ℕ) (first : FirstCase) : Type 0 where

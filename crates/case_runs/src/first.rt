@@ -4,8 +4,9 @@ ghost use Rattle.std.specs.Prelude.{◌≡◌, ◌≤◌, ◌∷◌, [], length,
 ghost use Rattle.interp.specs.Ending.{ending_of};
 ghost use Rattle.images.specs.Views.{context_at};
 ghost use Rattle.checker.specs.Checker.{AreFor};
+ghost use Rattle.case_runs.specs.Judges.{program_of};
 ghost use Rattle.case_runs.specs.Leaves.{IsFit, failing_value, failing_if};
-ghost use Rattle.case_runs.specs.First.{MeetsOne, TakesOne, MeetsAt, TakesAt, IsSought, EndsAtOne, EndsAt, EndsIn};
+ghost use Rattle.case_runs.specs.First.{losses_in, BeginsAt, IsMetAt, GoesTo, IsPassing, EndsWith, MeetsOne, TakesOne, MeetsAt, TakesAt, IsSought, EndsAtOne, EndsAt, EndsIn};
 
 use crate::found::{CasesFault, CutFound, Found, Losses, MOST_CASES};
 use crate::gate::{CaseGate, Watched};
@@ -56,6 +57,17 @@ pub(crate) enum MetAt {
     Failing(FirstCase),
 }
 
+/// What is met at the next leaf.
+#[derive(Drop)]
+pub(crate) enum Next {
+    /// There is none.
+    Ended,
+    /// The checker passes there.
+    Passing,
+    /// It fails there.
+    Failing(FailingCase),
+}
+
 /// A leaf of that number, if the checker fails there.
 fn failing_leaf(
     alloc: Global,
@@ -72,16 +84,82 @@ fn failing_leaf(
 
 /// What was found where all leaves pass.
 fn passing(alloc: Global, search: &Search<'_>, cases: u32) -> Found
-    ensures cases { result.cases ≡ cases }
-    ensures torn { result.torn_beyond ≡ search.now.torn_beyond }
-    ensures lost { result.lost_beyond ≡ search.now.lost_beyond }
-    ensures none { result.failing.items ≡ [] }
+    ensures { IsPassing search.now cases result }
 {
     Found {
         cases: cases as usize,
         torn_beyond: search.torn_beyond(),
         lost_beyond: search.lost_beyond(),
         failing: Vec::new(alloc),
+    }
+}
+
+/// What is met at a leaf of that number.
+fn met_at(alloc: Global, number: u32, outcome: &Outcome, sets: &[u16]) -> Result<Next, AllocError>
+    ensures { IfOk result (IsMetAt number (record { sets = sets.now; ending = ending_of outcome.now })) }
+{
+    match failing_leaf(alloc, number, outcome, sets)? {
+        Some(failing) => Ok(Next::Failing(failing)),
+        None => Ok(Next::Passing),
+    }
+}
+
+/// Goes to the next leaf, whose number is at hand.
+fn next_leaf<G: CaseGate>(
+    alloc: Global,
+    gate: &G,
+    search: &mut Search<'_>,
+    judge: &mut Watched<'_, '_, '_, G>,
+    number: u32,
+) -> Result<Next, AllocError>
+    ensures judge { program_of judge.new.checker judge.new.context ≡ program_of judge.old.checker judge.old.context }
+    ensures next { IfOk result (GoesTo (program_of judge.old.checker judge.old.context) search.old search.new number) }
+{
+    if !search.next(judge)? {
+        return Ok(Next::Ended);
+    }
+    gate.case();
+    met_at(alloc, number, judge.judge().outcome(), search.sets())
+}
+
+/// What was found where `count` leaves pass, if there is no other.
+fn all_passing<G: CaseGate>(
+    alloc: Global,
+    search: &mut Search<'_>,
+    judge: &mut Watched<'_, '_, '_, G>,
+    count: u32,
+) -> Result<Option<Found>, AllocError>
+    ensures { IfOk result (EndsWith (program_of judge.old.checker judge.old.context) search.old search.new count) }
+{
+    if search.next(judge)? {
+        return Ok(None);
+    }
+    Ok(Some(passing(alloc, search, count)))
+}
+
+/// Goes through the leaves of a search that begins, to the first on which the checker fails, if that is one of the first `left`.
+fn seek_from<G: CaseGate>(
+    alloc: Global,
+    gate: &G,
+    search: &mut Search<'_>,
+    judge: &mut Watched<'_, '_, '_, G>,
+    left: u32,
+) -> Result<Met, CasesFault>
+    requires context { judge.old.context ≡ context_at search.old.asked.at.log search.old.asked.at.cut }
+    requires begins { BeginsAt search.old }
+    ensures met { IfOk result (MeetsOne (losses_in search.old) search.old.asked.at judge.old.checker left) }
+    ensures many { IfErr result (EndsAtOne (losses_in search.old) search.old.asked.at judge.old.checker left) }
+{
+    for number in 0..left {
+        match next_leaf(alloc, gate, search, judge, number)? {
+            Next::Passing => {}
+            Next::Failing(failing) => return Ok(Met::Failing(failing)),
+            Next::Ended => return Ok(Met::Passing(passing(alloc, search, number))),
+        }
+    }
+    match all_passing(alloc, search, judge, left)? {
+        Some(found) => Ok(Met::Passing(found)),
+        None => Err(CasesFault::TooMany(search.cut().number())),
     }
 }
 
@@ -102,24 +180,7 @@ fn seek_one<G: CaseGate>(
 {
     let mut judge = Watched::new(CaseJudge::new(alloc, checker, context)?, gate);
     let mut search = Search::new(alloc, cut, asked.tears, asked.torn, asked.lost)?;
-    for number in 0..left {
-        if !search.next(&mut judge)? {
-            return Ok(Met::Passing(passing(alloc, &search, number)));
-        }
-        gate.case();
-        if let Some(failing) = failing_leaf(
-            alloc,
-            number,
-            judge.judge().outcome(),
-            search.sets(),
-        )? {
-            return Ok(Met::Failing(failing));
-        }
-    }
-    if search.next(&mut judge)? {
-        return Err(CasesFault::TooMany(cut.number()));
-    }
-    Ok(Met::Passing(passing(alloc, &search, left)))
+    seek_from(alloc, gate, &mut search, &mut judge, left)
 }
 
 /// The first failing case of a cut, taken from those that may still be met.

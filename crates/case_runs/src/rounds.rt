@@ -134,6 +134,27 @@ fn is_done(begun: &Begun) -> bool {
     true
 }
 
+/// Pieces, with the answers in their places.
+fn pieces_on(
+    alloc: Global,
+    work: &Work<'_>,
+    cut: u32,
+    program: usize,
+    pieces: Vec<Piece>,
+    places: &mut Vec<Option<Answer>>,
+) -> Result<Vec<Piece>, AllocError>
+    requires places { AreAnswers work.now places.old.items }
+    requires pieces { AreAllOf work.now cut program pieces.items }
+    ensures places { AreAnswers work.now places.new.items }
+    ensures pieces { IfOk result (λ pieces. AreAllOf work.now cut program pieces.items) }
+{
+    let mut out = Vec::new(alloc);
+    for piece in pieces {
+        put_piece(work, &mut out, cut, program, piece, places)?;
+    }
+    Ok(out)
+}
+
 /// What was begun, with the answers in their places.
 fn gone_on(
     alloc: Global,
@@ -154,15 +175,30 @@ fn gone_on(
         program,
         pieces,
     } = begun;
-    let mut out = Vec::new(alloc);
-    for piece in pieces {
-        put_piece(work, &mut out, cut, program, piece, places)?;
-    }
+    let pieces = pieces_on(alloc, work, cut, program, pieces, places)?;
     Ok(Begun {
         cut,
         program,
-        pieces: out,
+        pieces,
     })
+}
+
+/// Appends what was begun at a cut with a checker, with the answers in their places.
+fn put_gone_on(
+    work: &Work<'_>,
+    out: &mut Vec<Begun>,
+    begun: Begun,
+    places: &mut Vec<Option<Answer>>,
+) -> Result<(), AllocError>
+    requires places { AreAnswers work.now places.old.items }
+    requires begun { IsBegun work.now begun }
+    requires out { All (IsBegun work.now) out.old.items }
+    ensures places { AreAnswers work.now places.new.items }
+    ensures out { OnOk result (All (IsBegun work.now) out.new.items) }
+{
+    let begun = gone_on(*out.allocator(), work, begun, places)?;
+    out.push(begun)?;
+    Ok(())
 }
 
 /// All that was begun, with the answers in their places.
@@ -179,7 +215,7 @@ fn all_gone_on(
     let mut places = places;
     let mut out = Vec::new(alloc);
     for one in begun {
-        out.push(gone_on(alloc, work, one, &mut places)?)?;
+        put_gone_on(work, &mut out, one, &mut places)?;
     }
     Ok(out)
 }

@@ -1,6 +1,6 @@
 //! Open pieces, shared out to workers.
 
-ghost use Rattle.std.specs.Prelude.{◌≡◌, slice_get, Some, None, All, IfOk, IfSome};
+ghost use Rattle.std.specs.Prelude.{◌≡◌, ◌≤◌, length, slice_get, Some, None, All, IfOk, IfSome};
 ghost use Rattle.images.specs.Views.{context_at};
 ghost use Rattle.checker.specs.Checker.{AreFor};
 ghost use Rattle.case_runs.specs.Leaves.{IsFit};
@@ -146,7 +146,113 @@ impl Hand {
         Ok(())
     }
 
+    /// Takes an open piece of a cut and a checker.
+    fn take<G: CaseGate>(
+        &mut self,
+        alloc: Global,
+        gate: &G,
+        search: &mut Search<'_>,
+        cut: &Cut<'_>,
+        context: Context,
+        checker: &Checker<'_>,
+        work: &Work<'_>,
+        job: &Job<'_>,
+        place: usize,
+        most: u32,
+    ) -> Result<(), AllocError>
+        requires cut { cut.now ≡ cut_in work.now job.now.cut }
+        requires checker { slice_get work.now.checkers.now job.now.program ≡ Some checker.now }
+        requires context { context ≡ context_at cut.now.log cut.now.cut }
+        requires fit { IsFit checker.now context }
+        requires search { IsSearchOf work.now.asked cut.now search.old }
+        requires answers { All (IsAnswer work.now) self.old.answers.items }
+        ensures search { IsSearchOf work.now.asked cut.now search.new }
+        ensures answers { All (IsAnswer work.now) self.new.answers.items }
+    {
+        let answer = answer_of(
+            alloc, gate, search, cut, context, checker, work, job, place, most,
+        )?;
+        self.put(work, answer)
+    }
+
     /// Takes open pieces of one cut and checker, the first of them at hand, and answers the place of the next.
+    fn take_each<G: CaseGate>(
+        &mut self,
+        alloc: Global,
+        gate: &G,
+        search: &mut Search<'_>,
+        cut: &Cut<'_>,
+        context: Context,
+        checker: &Checker<'_>,
+        work: &Work<'_>,
+        pile: &Pile<'_>,
+        place: usize,
+        first: &Job<'_>,
+    ) -> Result<usize, AllocError>
+        requires cut { cut.now ≡ cut_in work.now first.now.cut }
+        requires checker { slice_get work.now.checkers.now first.now.program ≡ Some checker.now }
+        requires context { context ≡ context_at cut.now.log cut.now.cut }
+        requires fit { IsFit checker.now context }
+        requires search { IsSearchOf work.now.asked cut.now search.old }
+        requires answers { All (IsAnswer work.now) self.old.answers.items }
+        ensures { All (IsAnswer work.now) self.new.answers.items }
+    {
+        let none = usize::MAX;
+        let mut place = place;
+        for _turn in 0..pile.jobs.len() {
+            let Some(job) = pile.jobs.get(place) else {
+                return Ok(none);
+            };
+            if job.cut != first.cut || job.program != first.program {
+                return Ok(place);
+            }
+            self.take(
+                alloc, gate, search, cut, context, checker, work, job, place, pile.most,
+            )?;
+            if self.leaves >= ROUND {
+                return Ok(none);
+            }
+            place = pile.draw();
+        }
+        Ok(none)
+    }
+
+    /// The same, of a cut of the log and a checker that is there.
+    fn take_of<G: CaseGate>(
+        &mut self,
+        alloc: Global,
+        gate: &G,
+        checker: &Checker<'_>,
+        work: &Work<'_>,
+        pile: &Pile<'_>,
+        place: usize,
+        first: &Job<'_>,
+    ) -> Result<usize, AllocError>
+        requires device { AreFor work.now.log.now.sectors work.now.checkers.now }
+        requires cut { first.now.cut ≤ length work.now.log.now.entries }
+        requires checker { slice_get work.now.checkers.now first.now.program ≡ Some checker.now }
+        requires answers { All (IsAnswer work.now) self.old.answers.items }
+        ensures { All (IsAnswer work.now) self.new.answers.items }
+    {
+        let cut = Cut::new(alloc, work.log, work.way, first.cut)?;
+        let context = work.context(first.cut);
+        let asked = work.asked;
+        let mut search = Search::new(alloc, &cut, asked.tears, asked.torn, asked.lost)?;
+        self.take_each(
+            alloc,
+            gate,
+            &mut search,
+            &cut,
+            context,
+            checker,
+            work,
+            pile,
+            place,
+            first,
+        )
+    }
+
+    /// The same; no place where there is no such cut or no such checker.
     fn take_at<G: CaseGate>(
         &mut self,
         alloc: Global,
@@ -160,44 +266,13 @@ impl Hand {
         requires answers { All (IsAnswer work.now) self.old.answers.items }
         ensures { All (IsAnswer work.now) self.new.answers.items }
     {
-        let none = usize::MAX;
         let Some(checker) = work.checkers.get(first.program) else {
-            return Ok(none);
+            return Ok(usize::MAX);
         };
         if first.cut as usize > work.log.entries().len() {
-            return Ok(none);
+            return Ok(usize::MAX);
         }
-        let cut = Cut::new(alloc, work.log, work.way, first.cut)?;
-        let context = work.context(first.cut);
-        let asked = work.asked;
-        let mut search = Search::new(alloc, &cut, asked.tears, asked.torn, asked.lost)?;
-        let mut place = place;
-        for _turn in 0..pile.jobs.len() {
-            let Some(job) = pile.jobs.get(place) else {
-                return Ok(none);
-            };
-            if job.cut != first.cut || job.program != first.program {
-                return Ok(place);
-            }
-            let answer = answer_of(
-                alloc,
-                gate,
-                &mut search,
-                &cut,
-                context,
-                checker,
-                work,
-                job,
-                place,
-                pile.most,
-            )?;
-            self.put(work, answer)?;
-            if self.leaves >= ROUND {
-                return Ok(none);
-            }
-            place = pile.draw();
-        }
-        Ok(none)
+        self.take_of(alloc, gate, checker, work, pile, place, first)
     }
 }
 
@@ -260,10 +335,10 @@ fn places_of(alloc: Global, count: usize) -> Result<Vec<Option<Answer>>, AllocEr
 }
 
 /// Puts an answer in its place.
-fn put_answer(work: &Work<'_>, places: &mut [Option<Answer>], answer: Answer)
-    requires places { AreAnswers work.now places.old }
+fn put_answer(work: &Work<'_>, places: &mut Vec<Option<Answer>>, answer: Answer)
+    requires places { AreAnswers work.now places.old.items }
     requires answer { IsAnswer work.now answer }
-    ensures { AreAnswers work.now places.new }
+    ensures { AreAnswers work.now places.new.items }
 {
     let _work = work.asked;
     let count = places.len();
@@ -274,15 +349,30 @@ fn put_answer(work: &Work<'_>, places: &mut [Option<Answer>], answer: Answer)
 }
 
 /// Puts the answers of a worker in their places.
-fn put_each(work: &Work<'_>, places: &mut [Option<Answer>], answers: Vec<Answer>)
-    requires places { AreAnswers work.now places.old }
+fn put_each(work: &Work<'_>, places: &mut Vec<Option<Answer>>, answers: Vec<Answer>)
+    requires places { AreAnswers work.now places.old.items }
     requires answers { All (IsAnswer work.now) answers.items }
-    ensures { AreAnswers work.now places.new }
+    ensures { AreAnswers work.now places.new.items }
 {
     let _work = work.asked;
     for answer in answers {
         put_answer(work, places, answer);
     }
+}
+
+/// Puts the answers of a worker in their places, if it didn't want memory.
+fn put_found(
+    work: &Work<'_>,
+    places: &mut Vec<Option<Answer>>,
+    found: Result<Vec<Answer>, AllocError>,
+) -> Result<(), AllocError>
+    requires places { AreAnswers work.now places.old.items }
+    requires found { IfOk found (λ answers. All (IsAnswer work.now) answers.items) }
+    ensures { AreAnswers work.now places.new.items }
+{
+    let _work = work.asked;
+    put_each(work, places, found?);
+    Ok(())
 }
 
 /// Puts the answers of all workers in their places.
@@ -297,7 +387,7 @@ fn put_answers(
 {
     let mut places = places_of(alloc, count)?;
     for one in all {
-        put_each(work, places.as_mut_slice(), one?);
+        put_found(work, &mut places, one)?;
     }
     Ok(places)
 }

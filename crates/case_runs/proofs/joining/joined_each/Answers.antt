@@ -1,9 +1,21 @@
-use Rattle.std.proofs.Common.{refl, length}
+use Rattle.std.proofs.Common.{List, slice_get, refl, length, ◌∙◌, ap, arith}
 use Rattle.std.proofs.lemmas.Option.{slice_get_read}
 use Rattle.std.proofs.lemmas.Result.{err_from_is_err_and}
+use Rattle.checker.specs.Checker.{CheckerValue}
 use Rattle.case_runs.specs.Shares.{cut_in}
 use Rattle.case_runs.proofs.Finding.{found_more, counted_one, stops_here}
 use Rattle.case_runs.proofs.joining.joined_each.Goals as goal
+
+pub joined_within-requires-clause-checker : goal.joined_within-requires-clause-checker
+joined_within-requires-clause-checker g c =
+    ap (λ (cs : List CheckerValue). slice_get cs c.loop-program.program) c.requires.checkers
+    ∙ slice_get_read c.args.checkers.now (length c.args.checkers.now) c.loop-program.program c.index-checkers-program.result refl c.loop-program-test.true c.index-checkers-program.is
+
+pub joined_within-requires-clause-few : goal.joined_within-requires-clause-few
+joined_within-requires-clause-few g c =
+    let counted = c.loop-program.invariant.1 in
+    let few = c.requires.few in
+    omega (arith, counted, few)
 
 pub loop-program-preserved : goal.loop-program-preserved
 loop-program-preserved g c = (
