@@ -47,6 +47,7 @@
 //! | `cure_of_cases(alloc, head, log, plan, asked, found)` | the cases as failures, and how the text of a cure begins and ends |
 //! | `is_any_failing(found)` | whether a program fails on some case |
 //! | `left_out(found)` | how many cases were left out |
+//! | `put_options`, `put_place`, `put_number`, `put_fates`, `put_window`, `put_counts`, `put_beyond`, `put_complete` | append one part of these texts, which `join` prints from what it read of a text |
 //!
 //! # The definitions
 //!
@@ -122,8 +123,9 @@ pub use first::write_first;
 pub use head::put_options;
 pub use known::Known;
 pub use laws::{case_is_shown, flush_takes_case_away, nothing_is_lost, window_is_told};
-pub use said::put_fates;
+pub use lines::{put_number, put_place};
+pub use said::{put_fates, put_window};
 pub use site::Site;
-pub use totals::{is_any_failing, left_out};
+pub use totals::{is_any_failing, left_out, put_beyond, put_complete, put_counts};
 pub use why::write_why;
 pub use writer::write_cases;

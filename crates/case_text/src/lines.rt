@@ -15,7 +15,7 @@ use std::alloc::{AllocError, Global};
 
 /// Appends a cut, with the epoch and how many marks stand before it.
 #[tactic(auto, unfolding(crate::specs::Text::place_text))]
-fn put_place(out: &mut String, cut: u32, epoch: u32, marks: u32) -> Result<(), AllocError>
+pub fn put_place(out: &mut String, cut: u64, epoch: u64, marks: u64) -> Result<(), AllocError>
     ensures { OnOk result (string_bytes out.new ≡ string_bytes out.old ++ place_text cut epoch marks) }
 {
     write!(out, "cut {cut} epoch {epoch} marks {marks}")
@@ -23,7 +23,7 @@ fn put_place(out: &mut String, cut: u32, epoch: u32, marks: u32) -> Result<(), A
 
 /// Appends a program, and a case by its number.
 #[tactic(auto, unfolding(crate::specs::Text::number_text))]
-fn put_number(out: &mut String, program: usize, number: usize) -> Result<(), AllocError>
+pub fn put_number(out: &mut String, program: u64, number: u64) -> Result<(), AllocError>
     ensures { OnOk result (string_bytes out.new ≡ string_bytes out.old ++ number_text program number) }
 {
     write!(out, " program {program} case {number} ")
@@ -40,8 +40,13 @@ pub(crate) fn put_case(
     ensures { OnOk result (string_bytes out.new ≡ string_bytes out.old ++ case_line site.now.at site.now.tears program (failing_value case.now)) }
 {
     known.read(site.tears(), site.parts(), case.sets.as_slice())?;
-    put_place(out, site.number(), site.epoch(), site.marks())?;
-    put_number(out, program, case.number)?;
+    put_place(
+        out,
+        u64::from(site.number()),
+        u64::from(site.epoch()),
+        u64::from(site.marks()),
+    )?;
+    put_number(out, program as u64, case.number as u64)?;
     put_outcome(out, &case.outcome)?;
     put_known(out, site.by(), known)?;
     put_window(out, site.window(known))?;

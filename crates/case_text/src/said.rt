@@ -124,7 +124,7 @@ pub(crate) fn put_known(out: &mut String, by: By, known: &Known) -> Result<(), A
 }
 
 /// Appends the window of a case.
-pub(crate) fn put_window(out: &mut String, window: Option<Window>) -> Result<(), AllocError>
+pub fn put_window(out: &mut String, window: Option<Window>) -> Result<(), AllocError>
     ensures { OnOk result (string_bytes out.new ≡ string_bytes out.old ++ window_text window) }
 {
     match window {

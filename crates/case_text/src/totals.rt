@@ -59,7 +59,7 @@ fn totals_of(found: &[CutFound]) -> Totals
 }
 
 /// Appends a word, where no case was left out.
-fn put_complete(out: &mut String, torn: u64, lost: u64) -> Result<(), AllocError>
+pub fn put_complete(out: &mut String, torn: u64, lost: u64) -> Result<(), AllocError>
     ensures { OnOk result (string_bytes out.new ≡ string_bytes out.old ++ complete_word torn lost) }
 {
     if torn == 0 && lost == 0 {
@@ -70,7 +70,7 @@ fn put_complete(out: &mut String, torn: u64, lost: u64) -> Result<(), AllocError
 
 /// Appends how many cuts and cases there are, and how many cases fail.
 #[tactic(auto, unfolding(crate::specs::Text::counts_text))]
-fn put_counts(out: &mut String, cuts: usize, cases: u64, failing: u64) -> Result<(), AllocError>
+pub fn put_counts(out: &mut String, cuts: u64, cases: u64, failing: u64) -> Result<(), AllocError>
     ensures { OnOk result (string_bytes out.new ≡ string_bytes out.old ++ counts_text cuts cases failing) }
 {
     write!(out, "cuts {cuts} cases {cases} failing {failing}")
@@ -78,7 +78,7 @@ fn put_counts(out: &mut String, cuts: usize, cases: u64, failing: u64) -> Result
 
 /// Appends how many cases were left out.
 #[tactic(auto, unfolding(crate::specs::Text::beyond_text))]
-fn put_beyond(out: &mut String, torn: u64, lost: u64) -> Result<(), AllocError>
+pub fn put_beyond(out: &mut String, torn: u64, lost: u64) -> Result<(), AllocError>
     ensures { OnOk result (string_bytes out.new ≡ string_bytes out.old ++ beyond_text torn lost) }
 {
     write!(out, " torn beyond {torn} lost beyond {lost}")
@@ -89,7 +89,7 @@ pub(crate) fn put_totals(out: &mut String, found: &[CutFound]) -> Result<(), All
     ensures { OnOk result (string_bytes out.new ≡ string_bytes out.old ++ totals_text found.now) }
 {
     let all = totals_of(found);
-    put_counts(out, found.len(), all.cases, all.failing)?;
+    put_counts(out, found.len() as u64, all.cases, all.failing)?;
     put_beyond(out, all.torn_beyond, all.lost_beyond)?;
     put_complete(out, all.torn_beyond, all.lost_beyond)?;
     write!(out, "\n")?;

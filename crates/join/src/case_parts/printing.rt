@@ -2,34 +2,16 @@
 
 ghost use Rattle.std.specs.Prelude.{◌≡◌, ◌++◌, ◌↔◌, IfOk, IsTrue, OnOk, map, string_bytes};
 ghost use Rattle.report.specs.ChoiceText.{part_text};
-ghost use Rattle.case_text.specs.Text.{place_text, number_text, window_text};
 ghost use Rattle.join.specs.CaseTexts.{among_text, front_text, mixed_text, next_mixed, next_part, parts_text, said_text, told_body};
 ghost use Rattle.join.specs.CaseReading.{mixed_value};
 
 use crate::case_parts::front::CaseFront;
 use crate::case_parts::names::{Mixed, PartName};
 use crate::case_parts::said::CaseSaid;
-use case_text::put_fates;
+use case_text::{put_fates, put_number, put_place, put_window};
 use epochs::By;
-use losses::flushes::Window;
 use report::choice_text::{put_names, put_part};
 use std::alloc::{AllocError, Global};
-
-/// Appends a cut, with the epoch and how many marks stand before it.
-#[tactic(auto, unfolding(case_text::specs::Text::place_text))]
-fn put_place(out: &mut String, cut: u64, epoch: u64, marks: u64) -> Result<(), AllocError>
-    ensures { OnOk result (string_bytes out.new ≡ string_bytes out.old ++ place_text cut epoch marks) }
-{
-    write!(out, "cut {cut} epoch {epoch} marks {marks}")
-}
-
-/// Appends a program, and a case by its number.
-#[tactic(auto, unfolding(case_text::specs::Text::number_text))]
-fn put_number(out: &mut String, program: u64, number: u64) -> Result<(), AllocError>
-    ensures { OnOk result (string_bytes out.new ≡ string_bytes out.old ++ number_text program number) }
-{
-    write!(out, " program {program} case {number} ")
-}
 
 /// Appends the words with which a line begins.
 #[tactic(auto, unfolding(crate::specs::CaseTexts::front_text))]
@@ -112,16 +94,6 @@ fn put_said(out: &mut String, by: By, said: &CaseSaid<'_>) -> Result<(), AllocEr
     put_parts(out, by, said.kept.as_slice())?;
     put_among(out, by, said.mixed.as_slice())?;
     write!(out, " free {}", said.free)
-}
-
-/// Appends the window of a case.
-fn put_window(out: &mut String, window: Option<Window>) -> Result<(), AllocError>
-    ensures { OnOk result (string_bytes out.new ≡ string_bytes out.old ++ window_text window) }
-{
-    match window {
-        Some(window) => write!(out, " flush {}..{}", window.start, window.end),
-        None => write!(out, " flush none"),
-    }
 }
 
 /// Appends the line of a case without its newline.

@@ -1,13 +1,13 @@
 //! The last line of a text of cases.
 
 ghost use Rattle.std.specs.Prelude.{◌≡◌, ◌++◌, ◌↔◌, ◌+◌, ◌<◌, ◌≤◌, ◌^◌, IfOk, IsTrue, OnOk, string_bytes};
-ghost use Rattle.case_text.specs.Text.{beyond_text, complete_word, counts_text};
 ghost use Rattle.join.specs.CaseTexts.{are_totals_of_run, first_of, last_of, totals_line};
 ghost use Rattle.join.specs.CaseReading.{ReadsSecond, ReadsTotals};
 ghost use Rattle.join.specs.Heads.{IsPrintedHead};
 
 use crate::case_parts::judging::MOST_CASES;
 use crate::words::{cut, next_word, number};
+use case_text::{put_beyond, put_complete, put_counts};
 use report::Head;
 use std::alloc::{AllocError, Global};
 
@@ -51,32 +51,6 @@ pub(crate) fn totals_said(text: &str) -> CaseTotals
         torn: number(torn),
         lost: number(lost),
     }
-}
-
-/// Appends how many cuts and cases there are, and how many cases fail.
-#[tactic(auto, unfolding(case_text::specs::Text::counts_text))]
-fn put_counts(out: &mut String, cuts: u64, cases: u64, failing: u64) -> Result<(), AllocError>
-    ensures { OnOk result (string_bytes out.new ≡ string_bytes out.old ++ counts_text cuts cases failing) }
-{
-    write!(out, "cuts {cuts} cases {cases} failing {failing}")
-}
-
-/// Appends how many cases were left out.
-#[tactic(auto, unfolding(case_text::specs::Text::beyond_text))]
-fn put_beyond(out: &mut String, torn: u64, lost: u64) -> Result<(), AllocError>
-    ensures { OnOk result (string_bytes out.new ≡ string_bytes out.old ++ beyond_text torn lost) }
-{
-    write!(out, " torn beyond {torn} lost beyond {lost}")
-}
-
-/// Appends a word, where no case was left out.
-fn put_complete(out: &mut String, torn: u64, lost: u64) -> Result<(), AllocError>
-    ensures { OnOk result (string_bytes out.new ≡ string_bytes out.old ++ complete_word torn lost) }
-{
-    if torn == 0 && lost == 0 {
-        write!(out, " complete")?;
-    }
-    Ok(())
 }
 
 /// Appends the last line.
