@@ -3,13 +3,19 @@
 
     python3 tests/native.py [--compiler NAME].. [--no-guards] [--images N] [--only WORD] [PROGRAM]
 
-PROGRAM is as in run.py. Each checker of examples/, as its stored bytes, and with --compiler each of tests/plain/ as
-examples/cc/crashbpf-cc makes it with that compiler, judges N images (1,000), and so does what `cc` makes of the same source
-with the native header. Answers and codes have to be the same. Those of tests/rows/checkers.py judge the devices of that table
-too, and have to answer as it says. With --no-guards the tool takes of tests/plain only what is accepted without guards.
+PROGRAM is as in run.py. Each checker of examples/, as its stored bytes, and with --compiler each of tests/plain/ and those of whole
+formats in examples/checkers as examples/cc/crashbpf-cc makes it with that compiler, judges N images (1,000), and so does what `cc`
+makes of the same source with the native header. Answers and codes have to be the same. Those of tests/rows/checkers.py judge the
+devices of that table too, and have to answer as it says. With --no-guards the tool takes of tests/plain only what is accepted
+without guards, and those of whole formats aren't tried.
+
+    python3 tests/native.py --compiler clang --compiler bpf-gcc --images 300 --only whole
+
+compares those of whole formats alone.
 
 The images are drawn at random, but not blindly: each is one that stands already with some changes, in which numbers and
-texts of the source are put where fields stand mostly, and one that gave another answer is kept to draw more from. Where
+texts of the source are put where fields stand mostly, and one that gave another answer is kept to draw more from. Those of a
+whole format begin with what its logs write, at several places of each. Where
 the turns of a plain loop are spent (answer 1000000), the native build, whose loops have no bound, is asked nothing. Where
 a run strays, or indexes past the end of a table (answer 1000001), the native build has to read or write outside too:
 AddressSanitizer says so, for the first 25 such images of a checker.
@@ -30,7 +36,7 @@ from pathlib import Path
 sys.dont_write_bytecode = True
 
 from notation import SECTOR, TOP, F, M, S, log
-from rows import checkers
+from rows import checkers, whole_formats
 
 CC = TOP / "examples/cc/crashbpf-cc"
 NATIVE = TOP / "examples/native/checker.h"
@@ -44,6 +50,8 @@ ROUND, LOG = 50, 250
 SECONDS = 120
 # How many answers of a checker are told.
 TOLD = 12
+# At how many places of each log of a whole format an image is taken.
+PLACES = 6
 
 
 @dataclass
@@ -55,9 +63,12 @@ class Checker:
     stored: object = None
     devices: list = field(default_factory=list)
     options: list = field(default_factory=list)
+    sectors: int = SECTORS
+    # With what its images begin, if it is one of a whole format.
+    seeds: list = field(default_factory=list)
 
     def name(self):
-        return f"{self.source.parent.name}/{self.source.stem}" + (f" {self.function}" if self.function != "check" else "")
+        return "whole " * bool(self.seeds) + f"{self.source.parent.name}/{self.source.stem}" + (f" {self.function}" if self.function != "check" else "")
 
 
 def stored():
@@ -71,6 +82,25 @@ def stored():
         yield Checker(refused, f"{name}_cured", path, checkers.CURED_DEVICES.get(name, []))
 
 
+def whole():
+    for name, it in whole_formats.FORMATS.items():
+        path = TOP / f"examples/checkers/{name}.c"
+        seeds = [image for which in it.runs for image in images_of(whole_formats.run_of(name, which))]
+        yield Checker(path, "check", path.with_suffix(".bpf"), options=["--guards"], sectors=it.sectors, seeds=seeds)
+
+
+def images_of(run):
+    """What the device holds at some places of a run, where all has arrived that was written before."""
+    content = bytearray(run.base.ljust(SECTOR * run.sectors, b"\0"))
+    first = run.first or 0
+    places = {first + it * (len(run.entries) - first) // (PLACES - 1) for it in range(PLACES)}
+    for number, it in enumerate([*run.entries, None]):
+        if number in places:
+            yield bytes(content)
+        if it:
+            content[SECTOR * it.sector : SECTOR * it.sector + len(it.data)] = it.data
+
+
 def plain():
     for path in sorted((TOP / "tests/plain").glob("*/*.c")):
         yield Checker(path)
@@ -79,19 +109,24 @@ def plain():
 class Images:
     """Draws images for a source."""
 
-    def __init__(self, text, seeds, rng):
-        self.rng = rng
+    def __init__(self, checker, rng):
+        self.rng, self.count = rng, checker.sectors
+        text = checker.source.read_text()
         text = re.sub(r"/\*.*?\*/|//[^\n]*", "", text, flags=re.S)
         self.numbers = sorted({int(it, 0) for it in re.findall(r"\b(?:0x[0-9a-fA-F]+|[1-9][0-9]*|0)(?=[uUlL]*\b)", text)})
         self.texts = [it.encode().decode("unicode_escape").encode("latin-1") for it in re.findall(r'"([^"\n]+)"', text)]
         self.texts = [it for it in self.texts if not it.endswith(b".h")]
-        self.sectors = [it for it in self.numbers if it < SECTORS] or [0]
-        self.pool = {"zeros": bytes(SECTOR * SECTORS), **{f"seed {i}": it for i, it in enumerate(seeds)}}
+        self.sectors = [it for it in self.numbers if it < self.count] or [0]
+        seeds = checker.seeds or [bytes(SECTOR * SECTORS), *(checkers.device(it[0]) for it in checker.devices)]
+        self.pool = {f"seed {i}": it for i, it in enumerate(seeds)}
+        # Of a whole format most sectors are zeros.
+        self.filled = sorted({at for it in checker.seeds for at in range(self.count) if any(it[SECTOR * at : SECTOR * at + SECTOR])})
 
     def place(self):
         rng = self.rng
-        likely = [0, 0, 0, 0, 1, 1, 1, 2, 3, SECTORS - 1, SECTORS // 2, SECTORS // 2 + 1]
-        sector = rng.choice([*likely, rng.randrange(SECTORS), rng.randrange(12), rng.choice(self.sectors)])
+        likely = [0, 0, 0, 0, 1, 1, 1, 2, 3, self.count - 1, self.count // 2, self.count // 2 + 1]
+        likely += rng.choices(self.filled, k=32) if self.filled else []
+        sector = rng.choice([*likely, rng.randrange(self.count), rng.randrange(12), rng.choice(self.sectors)])
         offset = rng.choice([0, 0, 4, 8, rng.randrange(0, 32, 4), rng.randrange(0, 64, 8), rng.randrange(0, 504, 2), 504, 508])
         return sector * SECTOR + min(offset, SECTOR - 8)
 
@@ -118,7 +153,7 @@ class Images:
                 number = int.from_bytes(content[at : at + size], "little") + rng.choice([1, -1])
                 content[at : at + size] = (number & (1 << 8 * size) - 1).to_bytes(size, "little")
             elif kind == 7:
-                one, other = at // SECTOR * SECTOR, rng.randrange(SECTORS) * SECTOR
+                one, other = at // SECTOR * SECTOR, rng.randrange(self.count) * SECTOR
                 content[other : other + SECTOR] = content[one : one + SECTOR]
             elif kind == 8:
                 start = at // SECTOR * SECTOR
@@ -174,10 +209,10 @@ def native(checker, folder, *options):
     return judge
 
 
-def judged(program, options, entries, cuts, folder):
-    """What the program `p` of the folder answers on the images of a log at those cuts, run with these options."""
+def judged(program, checker, entries, cuts, folder):
+    """What the program `p` of the folder answers on the images of a log at those cuts."""
     (folder / "log").write_bytes(log(entries))
-    words = [program, "explore", "log", "p", "--sectors", str(SECTORS), "--cuts", "flush", "--bound", "0", *options]
+    words = [program, "explore", "log", "p", "--sectors", str(checker.sectors), "--cuts", "flush", "--bound", "0", *checker.options]
     done = subprocess.run(words, capture_output=True, text=True, cwd=folder)
     if done.returncode == 2:
         return [(done.stderr.split("\n")[0], "")] * len(cuts)
@@ -189,7 +224,7 @@ def judged(program, options, entries, cuts, folder):
 
 def logged(images, rng):
     """A log in which each image stands in front of a flush: what it has otherwise than the one before is written there."""
-    entries, cuts, marks, old = [], [], 0, bytes(SECTOR * SECTORS)
+    entries, cuts, marks, old = [], [], 0, bytes(len(images[0]))
     for epoch, content in enumerate(images):
         if rng.random() < 0.03:
             entries.append(M("mark"))
@@ -215,17 +250,18 @@ def compare(program, checker, code, count, folder):
     rng = random.Random(f"{checker.name()} 1")
     judge = native(checker, folder)
     strays = native(checker, folder, "-fsanitize=address", "-fno-omit-frame-pointer")
-    images = Images(checker.source.read_text(), [checkers.device(it[0]) for it in checker.devices], rng)
+    images = Images(checker, rng)
+    at_once = ROUND if checker.seeds else LOG
     answers, wrong = Counter(), []
     (folder / "p").write_bytes(code)
-    for start in range(0, count, LOG):
+    for start in range(0, count, at_once):
         drawn = []
-        for _ in range(start, min(count, start + LOG), ROUND):
+        for _ in range(start, min(count, start + at_once), ROUND):
             some = images.draw(ROUND)
             images.keep(some, judge([Cut(it, 0, 0, 0) for it in some]))
             drawn += some
         entries, cuts = logged(drawn, rng)
-        for cut, found, wanted in zip(cuts, judged(program, checker.options, entries, cuts, folder), judge(cuts)):
+        for cut, found, wanted in zip(cuts, judged(program, checker, entries, cuts, folder), judge(cuts)):
             answers[found[0]] += 1
             if found[0] in (OUTSIDE, STRAY) and answers[found[0]] <= STRAYS and strays([cut]) != [STRAYED]:
                 wrong.append(f"{checker.name()}: the program answers {found}, and the native build reads nothing outside")
@@ -248,7 +284,7 @@ def compiled(checker, compiler, folder, program, words):
     """The program that crashbpf-cc makes with these words, or what it says in its place; the checker learns how it is run."""
     out = folder / "compiled.bpf"
     path = os.pathsep.join([str(program.parent), os.environ["PATH"]])
-    words = [CC, checker.source, checker.function, out, "--sectors", str(SECTORS), "--compiler", compiler, "--timeout", "600", *words]
+    words = [CC, checker.source, checker.function, out, "--sectors", str(checker.sectors), "--compiler", compiler, "--timeout", "600", *words]
     done = subprocess.run(words, capture_output=True, text=True, env={**os.environ, "PATH": path})
     if done.returncode == 0:
         checker.options = ["--guards"] * ("explore needs --guards" in done.stderr)
@@ -260,13 +296,13 @@ def compiled(checker, compiler, folder, program, words):
 
 def jobs(asked, program, folder):
     """Each checker that is compared, and its program."""
-    for checker in stored():
+    for checker in [*stored(), *whole()]:
         if asked.only in checker.name():
             yield checker, checker.stored.read_bytes()
     for compiler in asked.compiler:
         count = Counter()
-        for checker in plain():
-            if asked.only not in checker.name():
+        for checker in [*plain(), *whole()]:
+            if asked.only not in checker.name() or (checker.seeds and asked.no_guards):
                 continue
             code, said = compiled(checker, compiler, folder, program, ["--no-guards"] * asked.no_guards)
             group = checker.source.parent.name
