@@ -13,6 +13,8 @@ FUNCTION, LOCAL = 2, 0
 LDDW, CALL, EXIT, JA, JA32 = 0x18, 0x85, 0x95, 0x05, 0x06
 JEQ, JNE = 0x15, 0x55
 AGAIN = 3
+# How deep cycles are told apart: the others are found once these have turns.
+MOST_NESTED = 64
 
 
 class Refusal(Exception):
@@ -239,10 +241,14 @@ def edges_of(slots):
 
 
 def cycles(slots):
-    """The sets of slots that lie on cycles without a turn, each of slots that reach each other (Tarjan)."""
-    edges = edges_of(slots)
+    """The sets of slots that lie on cycles without a turn, each of slots that reach each other."""
+    return parts_of(edges_of(slots))
+
+
+def parts_of(edges):
+    """The sets of slots that reach each other by these edges (Tarjan)."""
     number, low, stack, on_stack, found = {}, {}, [], set(), []
-    for start in slots:
+    for start in edges:
         if start in number:
             continue
         walk = [(start, iter(edges[start]))]
@@ -271,3 +277,31 @@ def cycles(slots):
                     if len(part) > 1 or at in edges[at]:
                         found.append(part)
     return found
+
+
+@dataclass
+class Nest:
+    """Slots that reach each other by these edges, and the nests among them that are left without the slot by which they are entered, if
+    that is one."""
+
+    edges: dict
+    heads: set
+    inner: list
+
+    def is_left(self):
+        """Whether there is a cycle through its head that enters none of the inner ones."""
+        inside = {it for nest in self.inner for it in nest.heads}
+        left = {at: [it for it in to if it not in inside] for at, to in self.edges.items() if at not in inside}
+        return any(it & self.heads for it in parts_of(left))
+
+
+def nests_of(edges, depth=0):
+    """The cycles by these edges, within each other, up to a depth."""
+    return [nest_of(it, edges, depth) for it in parts_of(edges)]
+
+
+def nest_of(part, edges, depth):
+    own = {at: [it for it in edges[at] if it in part] for at in part}
+    heads = {it for at, to in edges.items() if at not in part for it in to if it in part} or {min(part)}
+    left = {at: [it for it in to if it not in heads] for at, to in own.items()}
+    return Nest(own, heads, nests_of(left, depth + 1) if len(heads) == 1 and depth < MOST_NESTED else [])

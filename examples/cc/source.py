@@ -254,6 +254,32 @@ class Source:
         yield self.tokens[first].start, self.tokens[first].start, f"(({{ {keep} 1; }}) && ("
         yield self.tokens[end].start, self.tokens[end].start, "))"
 
+    def words(self, tokens):
+        """The words of these tokens, and of the functions that they name, and these name."""
+        found = {it.text for it in self.tokens[slice(*tokens)]}
+        left = list(self.functions)
+        while named := [it for it in left if it.name in found]:
+            left = [it for it in left if it.name not in found]
+            found |= {token.text for it in named for token in self.tokens[it.body : it.end]}
+        return found
+
+    def apart(self, loops):
+        """The loops in groups in which none stands in another, nor in a function that another calls."""
+        words = [self.words(it.tokens) for it in loops]
+        groups = []
+        for at, loop in enumerate(loops):
+            for group in groups:
+                if not any(self.has(loops[it], words[it], loop) or self.has(loop, words[at], loops[it]) for it in group):
+                    group.append(at)
+                    break
+            else:
+                groups.append([at])
+        return [[loops[at] for at in group] for group in groups]
+
+    def has(self, outer, words, inner):
+        """Whether a loop, of these words, has another one."""
+        return inner.function in words or (outer.tokens[0] < inner.tokens[0] and inner.tokens[1] <= outer.tokens[1])
+
     def variables(self, loop):
         """The names in the condition that the loop changes."""
         inside = [it.text for it in self.tokens[loop.tokens[0] : loop.tokens[1]]]
