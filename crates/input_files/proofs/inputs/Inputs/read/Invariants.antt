@@ -4,5 +4,5 @@ use Rattle.input_files.proofs.inputs.Inputs.read.Given as goal
 
 abbrev pub invariant-loop-name : goal.invariant-loop-name
 invariant-loop-name g l =
-    AreRead l.command l.size.limits (IsRead g.S.Source.named g.S.File.Read.remaining) l.left (map string_bytes (take l.name-index l.names)) l.inputs.files l.inputs.lengths
+    AreRead l.command l.size.limits (IsRead g.S.FileSource.named g.S.File.Read.remaining) l.left (map string_bytes (take l.name-index l.names)) l.inputs.files l.inputs.lengths
     × (length l.inputs.lengths ≡ l.name-index)
