@@ -157,6 +157,8 @@ def rename_antt(path, text, crate, name, new):
     """In a file of specs or proofs: where it imports the declared type, or a module below it."""
     brings = re.search(rf"use Rattle\.{crate}\.specs\.declared\.(?:\w+\.)*{name}\.\{{[^}}]*\b{name}\b", text)
     out = re.sub(rf"(Rattle\.{crate}\.(?:specs|proofs)\.(?:[\w]+\.)*){name}(?=[.])", rf"\1{new}", text)
+    # a trait of a generic function, as in `g.S.NAME`
+    out = re.sub(rf"(?<=\bg\.)(\w+\.){name}(?=[.])", rf"\1{new}", out) if re.search(rf"\bproofs\.[\w.]*Goals|Given", out) and f"crates/{crate}/" in str(path) else out
     if brings:
         lines = []
         for line in out.splitlines(keepends=True):
