@@ -21,7 +21,7 @@ use Rattle.request.specs.Extents.{first_meant, end_meant}
 use Rattle.runs.specs.Judged.{IsJudged}
 use Rattle.runs.specs.Explore.{subject_of, head_of, images_text, report_of}
 use Rattle.runs.specs.Why.{with_first, Tells}
-use Rattle.runs.specs.CureFindings.{AreFound}
+use Rattle.runs.specs.Found.{AreFound}
 
 same_findings : (first : Bool) (images : ℕ) (ls ms : List FailingLine) → (first ≡ false → ls ≡ ms) → first_lines ls ≡ first_lines ms
     → findings_text first images ls ≡ findings_text first images ms

@@ -6,7 +6,7 @@ ghost use Rattle.base.specs.Refusals.{memory_refusal};
 ghost use Rattle.checker.specs.Checker.{AreFor};
 ghost use Rattle.runs.specs.Why.{starts_of};
 ghost use Rattle.runs.specs.Tasks.{lines_of};
-ghost use Rattle.runs.specs.CureFindings.{AreFound};
+ghost use Rattle.runs.specs.Found.{AreFound};
 
 use crate::task::Task;
 use base::refusal::Refusal;

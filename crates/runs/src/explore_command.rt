@@ -17,7 +17,7 @@ ghost use Rattle.runs.specs.Why.{with_first, first_asked, IsExplained, IsPaged};
 ghost use Rattle.runs.specs.Blind.{is_noticed, FindsBlind};
 ghost use Rattle.runs.specs.Cured.{IsAnswered};
 ghost use Rattle.runs.specs.Tasks.{lines_of, telling_in, TellsTask};
-ghost use Rattle.runs.specs.CureFindings.{AreFound};
+ghost use Rattle.runs.specs.Found.{AreFound};
 ghost use Rattle.request.specs.Fewer.{FindsFewer};
 ghost use Rattle.request.specs.Promises.{FindsPromises};
 ghost use Rattle.runs.specs.Finds.{FindsNext, FindsUnreached, IsBreachOf, IsBreachIn, FindsBreach, FindsAll};

@@ -3,7 +3,7 @@ use Rattle.std.proofs.lemmas.Result.{err_from_is_err_and}
 use Rattle.request.specs.Source.{no_plan_memory}
 use Rattle.workers.specs.Failing.{failing_lines}
 use Rattle.runs.specs.Explore.{subject_of}
-use Rattle.runs.specs.CureFindings.{AreFound}
+use Rattle.runs.specs.Found.{AreFound}
 use Rattle.runs.proofs.Findings.{fails_of_found}
 use Rattle.runs.proofs.Explained.{starts_made}
 use Rattle.runs.proofs.explore_command.judge_task.Goals as goal
