@@ -130,7 +130,7 @@ def rename_rt(path, text, crate, name, new, own, exporters):
             out = re.sub(rf"^(\s*pub(?:\(crate\))? use (?!crate)[a-z_]+(?:::[a-z_]+)*::(?:\{{[^}}]*)?)\b{name}\b", lambda m: m[1] + new, out, flags=re.M)
             out = re.sub(rf"(crate(?:::[a-z_]+)*::){name}\b", rf"\1{new}", out)
         # ghost uses of its own declared types
-        out = re.sub(rf"(Rattle\.{crate}\.(?:specs|proofs)\.(?:[\w]+\.)*){name}(?=[.])", rf"\1{new}", out)
+        out = re.sub(rf"(Rattle\.{crate}\.(?:specs\.declared|proofs)\.(?:[\w]+\.)*){name}(?=[.])", rf"\1{new}", out)
         return out
     brings = [(p, a) for p, a in expand_use(text) if p.split("::")[0] in {crate, *exporters} and p.split("::")[-1] == name]
     if brings:
@@ -149,14 +149,14 @@ def rename_rt(path, text, crate, name, new, own, exporters):
                     lines.append(replaced(line, name, new, state))
             out = "".join(lines)
     out = re.sub(rf"\b({crate}(?:::[a-z_]+)*::){name}\b", rf"\1{new}", out)
-    out = re.sub(rf"(Rattle\.{crate}\.(?:specs|proofs)\.(?:[\w]+\.)*){name}(?=[.])", rf"\1{new}", out)
+    out = re.sub(rf"(Rattle\.{crate}\.(?:specs\.declared|proofs)\.(?:[\w]+\.)*){name}(?=[.])", rf"\1{new}", out)
     return out
 
 
 def rename_antt(path, text, crate, name, new):
     """In a file of specs or proofs: where it imports the declared type, or a module below it."""
     brings = re.search(rf"use Rattle\.{crate}\.specs\.declared\.(?:\w+\.)*{name}\.\{{[^}}]*\b{name}\b", text)
-    out = re.sub(rf"(Rattle\.{crate}\.(?:specs|proofs)\.(?:[\w]+\.)*){name}(?=[.])", rf"\1{new}", text)
+    out = re.sub(rf"(Rattle\.{crate}\.(?:specs\.declared|proofs)\.(?:[\w]+\.)*){name}(?=[.])", rf"\1{new}", text)
     # a trait of a generic function, as in `g.S.NAME`
     out = re.sub(rf"(?<=\bg\.)(\w+\.){name}(?=[.])", rf"\1{new}", out) if re.search(rf"\bproofs\.[\w.]*Goals|Given", out) and f"crates/{crate}/" in str(path) else out
     if brings:
