@@ -55,7 +55,7 @@
 //! # Example
 //!
 //! ```
-//! use crash_page::{Judge, Run, program_failures, put_page};
+//! use crash_page::{PageJudge, PageRun, program_failures, put_page};
 //! use crash_text::Numbering;
 //! use epochs::{By, Cuts};
 //! use losses::cure::Failure;
@@ -63,9 +63,9 @@
 //!
 //! // `starts` and `history` are those of `plan`, which has all cuts of `log`; the program fails on image 104 alone
 //! let numbering = Numbering { plan: &plan, log: &log, cuts: Cuts::ALL, by: By::Sector, bound: 2, tears: true };
-//! let run = Run { starts: &starts, history: &history, numbering };
+//! let run = PageRun { starts: &starts, history: &history, numbering };
 //! let outcomes = Vec::from_slice(alloc, &["answer 1 codes 1"])?;
-//! let judge = Judge::Checker(ProgramHead { slots: 39, limit: 87, verified: true, guards: None });
+//! let judge = PageJudge::Checker(ProgramHead { slots: 39, limit: 87, verified: true, guards: None });
 //! let failures = [Failure { program: 0, window: None }];
 //! let program = program_failures(alloc, &run, &failures, 0, judge, &[104], outcomes)?;
 //! let mut page = String::new(alloc);
