@@ -1,7 +1,8 @@
 #!/usr/bin/env python3
 """The table by code: instructions a step and time a step of a loop of each code alone, of random loops, and of DPDK beside them.
 
-    python3 bench/codes.py PROGRAM [--dpdk OTHER] [--way WAY] [--before BEFORE] [--loops N] [--seed N] [--to FILE] [--time]
+    python3 bench/codes.py PROGRAM [--dpdk OTHER] [--way WAY] [--before BEFORE] [--loops N] [--seed N] [--to FILE]
+                           [--time] [--rounds N]
 
 PROGRAM is the program of bench/crate (`codes` of its words), or any that takes words as it does: WAY FILE RUNS .., and prints
 WAY FILE NANOSECONDS ANSWER for each. WAY is `plain` (a run without checks that keeps no footprint), `noted` (with a
@@ -9,7 +10,7 @@ footprint, the default, as `explore` runs), or `guarded`. OTHER is bench/codes.c
 program as PROGRAM, whose counts stand beside its. Each row is a loop of 32 copies of one code, in turn on four registers, which
 the turn sets anew. What the rest of a turn takes, measured by a loop of nothing else, is taken off. Counts are instructions of
 the processor by `valgrind --tool=callgrind`, of two lengths of each loop, and hang on nothing else that the machine does. Times,
-with --time, are the least of five rounds, and do.
+with --time, do: they are the least of N rounds (25), in each of which the programs run one after the other.
 
 Last come ten checkers of examples/, each on a device that passes, with the sectors of FILE.device: a whole run, its start and
 end too, by the steps that it makes.
@@ -222,19 +223,23 @@ def counts(program, rows, way, folder, is_old):
     return [found.get(at) for at in range(len(rows))]
 
 
-def times(words, rows, way, folder, is_old):
-    """Nanoseconds a step of each row, and its answer; None for what DPDK lacks, where only its rows are run."""
-    ran = [at for at, row in enumerate(rows) if row.is_old or not is_old]
-    files = [str(folder / f"{at}.time") for at in (0, *(at + 1 for at in ran))]
-    runs = [1, *(rows[at].runs for at in ran)]
-    best = [(float("inf"), "")] * len(files)
-    for _round in range(5):
-        best = [min(old, new) for old, new in zip(best, run(words, files, way, runs))]
-    turn = best[0][0] / TIMED
-    found = {}
-    for at, (time, answer) in zip(ran, best[1:]):
-        found[at] = rows[at].cost(time / (TIMED if rows[at].sectors is None else rows[at].runs), turn), answer
-    return [found.get(at, (None, None)) for at in range(len(rows))]
+def times(programs, rows, way, folder, rounds):
+    """For each of the programs (words, is_old): nanoseconds a step of each row and its answer, the least of all rounds; None for
+    what DPDK lacks, where only its rows are run. In each round one program runs after the other."""
+    asked = []
+    for words, is_old in programs:
+        ran = [at for at, row in enumerate(rows) if row.is_old or not is_old]
+        asked.append((words, ran, [str(folder / f"{at}.time") for at in (0, *(at + 1 for at in ran))]))
+    best = [[(float("inf"), "")] * len(files) for _, _, files in asked]
+    for _round in range(rounds):
+        for at, (words, ran, files) in enumerate(asked):
+            now = run(words, files, way, [1, *(rows[it].runs for it in ran)])
+            best[at] = [min(old, new) for old, new in zip(best[at], now)]
+    for (_, ran, _), (nothing, *least) in zip(asked, best):
+        found = {}
+        for at, (time, answer) in zip(ran, least):
+            found[at] = rows[at].cost(time / (TIMED if rows[at].sectors is None else rows[at].runs), nothing[0] / TIMED), answer
+        yield [found.get(at, (None, None)) for at in range(len(rows))]
 
 
 def mean(numbers):
@@ -269,6 +274,7 @@ def main():
     words.add_argument("--seed", type=int, default=1)
     words.add_argument("--to")
     words.add_argument("--time", action="store_true")
+    words.add_argument("--rounds", type=int, default=25)
     given = words.parse_args()
     known = [*arithmetic(), *jumps(), *accesses()]
     codes, loops = [by_code(*it) for it in [*known, *calls()]], list(drawn(known, given.loops, given.seed))
@@ -283,9 +289,10 @@ def main():
                 columns[name] = counts(path, rows, given.way, folder, path == given.dpdk)
         if given.time:
             alone = ALONE if subprocess.run([*ALONE, "true"], stderr=subprocess.DEVNULL).returncode == 0 else []
-            for name, path in ("ns", given.program), ("ns before", given.before), ("ns DPDK", given.dpdk):
-                if path:
-                    columns[name], answers[name] = zip(*times([*alone, path], rows, given.way, folder, path == given.dpdk))
+            named = [it for it in (("ns", given.program), ("ns before", given.before), ("ns DPDK", given.dpdk)) if it[1]]
+            found = times([([*alone, path], path == given.dpdk) for _, path in named], rows, given.way, folder, given.rounds)
+            for (name, _), column in zip(named, found):
+                columns[name], answers[name] = zip(*column)
     text = "\n".join([*lines(rows, columns), ""])
     for name, it in columns.items():
         some = lambda part: mean([max(x, 0.01) for x in part if x is not None])

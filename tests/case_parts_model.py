@@ -118,7 +118,7 @@ def read_options(line):
     sectors, entries = int(found["sectors"]), int(found["entries"])
     flushes = list(map(int, found["flush"].split(","))) if found["flush"] else []
     first, last = int(found["from"] or 0), int(found["to"] or entries)
-    right = 1 <= sectors <= 1 << 20 and entries <= 1 << 16 and below(64, found["base"]) and (found["most"] is None or 1 <= int(found["most"]) <= 64)
+    right = 1 <= sectors <= 1 << 25 and entries <= 1 << 16 and below(64, found["base"]) and (found["most"] is None or 1 <= int(found["most"]) <= 64)
     return found if right and first <= last <= entries and len(flushes) <= 64 and all(it < entries for it in flushes) else None
 
 

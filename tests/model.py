@@ -481,6 +481,11 @@ def last_line(run, what, flag, cut):
     return f"last {what}: {entry_line(run, found[-1]) if found else 'none'}"
 
 
+def covered(run):
+    """The sectors that an entry covers, rising: in all others two images are the same."""
+    return sorted({number for entry in run.entries for number in range(entry.sector, entry.sector + entry.count)})
+
+
 def shown_lines(run, image):
     cut, whole = image.cut, Image(image.number, image.cut, (), run)
     yield (
@@ -495,7 +500,7 @@ def shown_lines(run, image):
     yield from (f"before the cut: {entry_line(run, number)}" for number in range(max(cut - 4, 0), cut))
     yield last_line(run, "flush", FLUSH, cut)
     yield last_line(run, "mark", MARK, cut)
-    for number in range(run.sectors):
+    for number in covered(run):
         yield from sector_lines(number, whole.sector(number), image.sector(number))
 
 

@@ -269,7 +269,7 @@ def read_head(lines):
     sectors, entries, bound = map(int, options.group(1, 2, 3))
     flushes = list(map(int, options["flush"].split(","))) if options["flush"] else []
     start, end = int(options["from"] or 0), int(options["to"] or entries)
-    right = 1 <= sectors <= 1 << 20 and entries <= 1 << 16 and bound <= 3 and below(64, options["base"])
+    right = 1 <= sectors <= 1 << 25 and entries <= 1 << 16 and bound <= 3 and below(64, options["base"])
     cuts = start <= end <= entries and len(flushes) <= 64 and all(it < entries for it in flushes)
     programs = list(takewhile(lambda line: line.startswith("program "), lines[1:]))
     if not (right and cuts and 1 <= len(programs) <= 8 and all(is_program(it, number) for number, it in enumerate(programs))):

@@ -62,7 +62,7 @@ LINKS = {"within": "inner/deep", "inner/up": "../data", "around": "../at/data", 
 HOLES = {
     "huge": (b"", 1 << 40),
     "endless.log": (super_block(2**64 - 1), 1 << 30),
-    "long.log": (super_block(2) + header() + header(count=400_000), 1 << 30),
+    "long.log": (super_block(2) + header() + header(count=2_097_150), 1 << 31),
 }
 
 # The name, the trace, and the entries of its log.
@@ -225,21 +225,21 @@ def refused(folder, trace, said, *options):
 def large(folder):
     """Traces of more than a log and its device may have without --large."""
     traces = {
-        "write 1048575 1 fill 7\n": [W(1048575, 1, 7)],
+        "write 33554431 1 fill 7\n": [W(33554431, 1, 7)],
         "write 0 131073 fill 1\n": [W(0, 131073, 1)],
-        "discard 0 262144\nmark all\n": [D(0, 262144), M("all")],
+        "discard 0 2097152\nmark all\n": [D(0, 2097152), M("all")],
     }
     for trace, entries in traces.items():
         Path(folder, "trace").write_text(trace)
         done = run(folder, "trace", "made.log", "--large")
         good = not (done.returncode or done.stderr) and Path(folder, "made.log").read_bytes() == log(entries)
         yield None if good else f"{trace}: status {done.returncode}, {done.stderr.decode()}, or another log"
-    Path(folder, "trace").write_text("write 1048575 2 fill 1\n")
+    Path(folder, "trace").write_text("write 33554431 2 fill 1\n")
     done = run(folder, "trace", "made.log", "--large")
-    said = "trace_log: trace:1: it ends at sector 1048577, and the device has 1048576\n"
+    said = "trace_log: trace:1: it ends at sector 33554433, and the device has 33554432\n"
     yield None if done.returncode == 2 and done.stderr.decode() == said else f"past the largest device: '{done.stderr.decode()}'"
-    yield refused(folder, "write 0 262145 data huge", "1: a log has at most 262144 sectors written or discarded", "--large")
-    yield refused(folder, "log long.log 0 1\nlog long.log", "2: entry 1 of the log ends after byte 201326592, and no more of a log is read", "--large")
+    yield refused(folder, "discard 0 2097153", "1: a log has at most 2097152 sectors written or discarded", "--large")
+    yield refused(folder, "log long.log 0 1\nlog long.log", "2: entry 1 of the log ends after byte 1073741824, and no more of a log is read", "--large")
 
 
 def others(folder):
@@ -259,8 +259,8 @@ def others(folder):
         (["trace", "x" * 300], f"trace_log: {'x' * 300}: it can't be written: File name too long\n"),
         (["trace", "made.log", "--sectors", "0"], "a device has 1 to 16384 sectors\n"),
         (["trace", "made.log", "--sectors", "16385"], "a device has 1 to 16384 sectors\n"),
-        (["trace", "made.log", "--sectors", "0", "--large"], "a device has 1 to 1048576 sectors\n"),
-        (["trace", "made.log", "--sectors", "1048577", "--large"], "a device has 1 to 1048576 sectors\n"),
+        (["trace", "made.log", "--sectors", "0", "--large"], "a device has 1 to 33554432 sectors\n"),
+        (["trace", "made.log", "--sectors", "33554433", "--large"], "a device has 1 to 33554432 sectors\n"),
         (["trace", "made.log", "--sectors", "1_0"], "no number: 1_0\n"),
         (["trace", "made.log", "--sectors", "9" * 5000], f"no number: {'9' * 5000}\n"),
         (["trace", "made.log", "--out"], "unrecognized arguments: --out\n"),
@@ -368,7 +368,7 @@ def fuzzed(folder, seed, count):
             for _ in range(source.randrange(4)):
                 at = source.randrange(len(trace) + 1)
                 trace[at : at + source.randrange(3)] = source.choice([b"", b"\0", b"\n", b" ", b"9", b"\xff", b"/", b"flush\n"])
-        made = trace_log.Log(folder, 4, 1 << 20, source.random() < 0.5)
+        made = trace_log.Log(folder, 4, trace_log.Limits(4, 1 << 20, 262144, 192 << 20), source.random() < 0.5)
         try:
             trace_log.made_of(io.BytesIO(trace), made)
             if not is_log(b"".join(made.made()), 4):

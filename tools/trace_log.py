@@ -4,7 +4,7 @@
     tools/trace_log.py TRACE LOG [--sectors N] [--large] [--outside]
 
 TRACE is a text in UTF-8, LOG the file that is written, in the format of docs/LOG-FORMAT.md. N is the size of the device in
-sectors of 512 bytes, 1 to 16,384, with --large to 1,048,576, and the most where it isn't given. `-` is standard input, or
+sectors of 512 bytes, 1 to 16,384, with --large to 33,554,432, and the most where it isn't given. `-` is standard input, or
 standard output.
 
 Lines, their words separated by spaces. Numbers are decimal, or hexadecimal after 0x:
@@ -23,13 +23,14 @@ Lines, their words separated by spaces. Numbers are decimal, or hexadecimal afte
 data. Blank lines, and lines that begin with #, say nothing. FILE has no space in its name, and is seen from the folder of
 the trace (of standard input: from the folder at hand). It lies in that folder or below it, unless --outside is given: its
 name isn't absolute, and neither `..` nor a symbolic link leads out. Files are regular ones, and no more of them is read
-than the log has; of a log that is taken in, the headers up to END too, and nothing after 192 MiB. LOG is a new file or a
+than the log has; of a log that is taken in, the headers up to END too, and nothing after 192 MiB, with
+--large 1 GiB. LOG is a new file or a
 regular one, and gets its name when it is whole.
 
 A trace that can't be made a log is refused: a line on standard error, `trace_log: TRACE:LINE: what is wrong`, the status
 2, and LOG isn't touched. Refused are what isn't a line of the table, numbers that are none, sectors that the device
 doesn't have, files that can't be read or have fewer bytes than a line takes, and what passes a limit of a log: 65,536
-entries, 262,144 sectors written or discarded in all, 64 MiB, with --large 192 MiB. So is a line of more than 8,192 bytes, and
+entries, 262,144 sectors written or discarded in all, 64 MiB, with --large 2,097,152 and 1 GiB. So is a line of more than 8,192 bytes, and
 a trace of more than 64 MiB or 1,048,576 lines. The text of a log that is taken in is read as docs/LOG-FORMAT.md says, and its
 refusals have its entry in them.
 """
@@ -48,12 +49,10 @@ from pathlib import Path
 
 SECTOR = 512
 ENTRIES = 65_536
-UNITS = 262_144
 MARK_LENGTH = 480
 MAGIC = 0x6A736677736872
-# How much of a log that is taken in is read, as of a raw log; how long a trace may be, how many lines it may have, and how long
+# How long a trace may be, how many lines it may have, and how long
 # one may be; how many files are open at once.
-TAKEN = 192 << 20
 TRACE = 64 << 20
 LINES = 1_048_576
 LINE = 8192
@@ -65,14 +64,17 @@ FLAGS = {"fua": FUA, "flush": FLUSH}
 
 @dataclass(frozen=True)
 class Limits:
-    """How many sectors a device has at most, and how many bytes a log."""
+    """How many sectors a device has at most, how many bytes and units a log, and how much of a log that is taken in is read, as of a
+    raw log."""
 
     sectors: int
     length: int
+    units: int
+    taken: int
 
 
-USUAL = Limits(16_384, 64 << 20)
-LARGE = Limits(1_048_576, 192 << 20)
+USUAL = Limits(16_384, 64 << 20, 262_144, 192 << 20)
+LARGE = Limits(33_554_432, 1 << 30, 2_097_152, 1 << 30)
 
 
 class Refused(Exception):
@@ -183,7 +185,7 @@ class Source:
                 raise Refused(f"the log's {name} is {value}, and not {wanted}")
         return entries
 
-    def entry(self, number, sectors):
+    def entry(self, number, sectors, taken):
         """The number of the units of an entry of this log, and where it begins and ends. Those before it were asked for."""
         start = self.starts[number]
         if start + SECTOR > self.length:
@@ -195,8 +197,8 @@ class Source:
         end = start + SECTOR * (1 if flags & (DISCARD | MARK) else 1 + count)
         if end > self.length:
             raise Refused(f"the data of entry {number} of the log isn't there")
-        if end > TAKEN:
-            raise Refused(f"entry {number} of the log ends after byte {TAKEN}, and no more of a log is read")
+        if end > taken:
+            raise Refused(f"entry {number} of the log ends after byte {taken}, and no more of a log is read")
         if number + 1 == len(self.starts):
             self.starts.append(end)
         return count, start, end
@@ -217,8 +219,8 @@ class Log:
         self.length += length
         for name, value, limit in (
             ("entries", self.count, ENTRIES),
-            ("sectors written or discarded", self.units, UNITS),
-            ("bytes", self.length, self.most),
+            ("sectors written or discarded", self.units, self.most.units),
+            ("bytes", self.length, self.most.length),
         ):
             if value > limit:
                 raise Refused(f"a log has at most {limit} {name}")
@@ -303,7 +305,7 @@ class Log:
         if not first <= end <= entries:
             raise Refused(f"{words[0]} has {entries} entries, so none from {first} up to {end}")
         for entry in range(min(first, len(source.starts) - 1), end):
-            units, start, stop = source.entry(entry, self.sectors)
+            units, start, stop = source.entry(entry, self.sectors, self.most.taken)
             if entry >= first:
                 self.room(units, stop - start)
                 self.parts.append(source.piece(start, stop))
@@ -358,8 +360,8 @@ def made_of(stream, log):
         raise Refused(f"{place}: {refused}") from None
 
 
-def made(text, folder=Path(), sectors=USUAL.sectors, most=USUAL.length):
-    """The log of a trace, of at most that many bytes. Raises Refused, which begins with the number of the line."""
+def made(text, folder=Path(), sectors=USUAL.sectors, most=USUAL):
+    """The log of a trace, within these limits. Raises Refused, which begins with the number of the line."""
     log = Log(folder, sectors, most, False)
     made_of(io.BytesIO(text.encode()), log)
     return b"".join(log.made())
@@ -462,7 +464,7 @@ def main():
     if not 1 <= sectors <= limits.sectors:
         parser.error(f"a device has 1 to {limits.sectors} sectors")
     folder = "." if words.trace == "-" else os.path.dirname(words.trace) or "."
-    log = Log(folder, sectors, limits.length, words.outside)
+    log = Log(folder, sectors, limits, words.outside)
     return done(words.trace, "read", lambda: made_of(opened_trace(words.trace), log)) or done(
         words.log, "written", lambda: write_log(words.log, log.made())
     )

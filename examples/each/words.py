@@ -13,7 +13,7 @@ OF_LOG = ("--sectors", "--flush", "--large")
 # The options of this program.
 OWN_VALUED = {"-j": "runners", "--keep": "keep", "--timeout": "seconds"}
 OWN_FLAGS = {"--first": "first", "--resume": "resume", "--read-only": "read_only"}
-MOST_RUNNERS, MOST_SECONDS, MOST_SECTORS = 64, 86400, 1048576
+MOST_RUNNERS, MOST_SECONDS, MOST_SECTORS = 64, 86400, 33554432
 NUMBER, DECIMAL = re.compile(r"0|[1-9]\d{0,18}", re.A), re.compile(r"\d{1,9}(\.\d{1,9})?", re.A)
 
 

@@ -124,7 +124,7 @@ def record(folder, base, sectors, words, environment):
     large = sectors > trace_log.USUAL.sectors
     limits = trace_log.LARGE if large else trace_log.USUAL
     try:
-        log = trace_log.made(text, Path(folder), sectors, limits.length)
+        log = trace_log.made(text, Path(folder), sectors, limits)
     except trace_log.Refused as refused:
         raise Refused(f"trace:{refused}") from None
     if last_image(log, before) != Path(folder, DISK).read_bytes():

@@ -70,9 +70,9 @@ def log_of(entries, firsts, sectors):
         units += it.count
         length += SECTOR * (1 + it.count)
     most = limits_of(sectors)
-    if length > most.length:
+    if length > most.length or units > most.units:
         most = trace_log.LARGE
-    counts = (("entries", len(entries), trace_log.ENTRIES), ("sectors written", units, trace_log.UNITS), ("bytes", length, most.length))
+    counts = (("entries", len(entries), trace_log.ENTRIES), ("sectors written", units, most.units), ("bytes", length, most.length))
     for what, value, limit in counts:
         if value > limit:
             raise Refused(f"the log has {value} {what}, and a log has at most {limit}: record less")

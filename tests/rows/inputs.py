@@ -18,7 +18,7 @@ from rows.raw_logs import raw
 MIB = 1 << 20
 
 # The most bytes of a log, with --large too, of a program, of an assembly text, of all parts together, and of an image.
-MOST_LOG, MOST_LARGE_LOG, MOST_PROGRAM, MOST_TEXT, MOST_PARTS, MOST_IMAGE = 64 * MIB, 192 * MIB, 8 * 4096, 16 * MIB, 1024 * MIB, 8 * MIB
+MOST_LOG, MOST_LARGE_LOG, MOST_RAW, MOST_PROGRAM, MOST_TEXT, MOST_PARTS, MOST_IMAGE = 64 * MIB, 1024 * MIB, 192 * MIB, 8 * 4096, 16 * MIB, 1024 * MIB, 8 * MIB
 
 # A log over what the device held, all of whose bytes count; and what each command on a log answers of it.
 RUN = Run([W(0, 1, 0xAA), F, W(1, 2, 0xBB), W(3, 1, 0xCC)], 4, base=noise("inputs", 4))
@@ -137,9 +137,9 @@ AS_LOG = [
     ]
 ]
 AS_LOG += [
-    answered(large(ANSWERS["log"]), "192 MiB, large,", "log", filled(log(RUN.recorded), MOST_LARGE_LOG)),
-    no_answer(large(ANSWERS["log"]), "192 MiB and a byte, large,", "log", filled(log(RUN.recorded), MOST_LARGE_LOG + 1), "refused 10 at 0"),
-    no_answer(large(ANSWERS["explore"]), "192 MiB and a byte, large,", "log", filled(log(RUN.recorded), MOST_LARGE_LOG + 1), "refused 10 at 0"),
+    answered(large(ANSWERS["log"]), "1 GiB, large,", "log", filled(log(RUN.recorded), MOST_LARGE_LOG)),
+    no_answer(large(ANSWERS["log"]), "1 GiB and a byte, large,", "log", filled(log(RUN.recorded), MOST_LARGE_LOG + 1), "refused 10 at 0"),
+    no_answer(large(ANSWERS["explore"]), "1 GiB and a byte, large,", "log", filled(log(RUN.recorded), MOST_LARGE_LOG + 1), "refused 10 at 0"),
 ]
 
 
@@ -286,7 +286,7 @@ NO_RAW = {it: error for it, error in NO_LOG.items() if it != "a raw log"}
 AS_RAW = [
     *unreadable(IMPORT, "raw", "refused 14 at 0"),
     *of_kinds(IMPORT, "raw", NO_RAW),
-    *(answered(IMPORT, f"{it} bytes", "raw", filled(RAW, it)) for it in [MOST_LARGE_LOG - 1, MOST_LARGE_LOG, MOST_LARGE_LOG + 1]),
+    *(answered(IMPORT, f"{it} bytes", "raw", filled(RAW, it)) for it in [MOST_RAW - 1, MOST_RAW, MOST_RAW + 1]),
     no_answer(IMPORT, "a byte too few", "raw", RAW[:-1], "refused 5 at 0"),
 ]
 

@@ -1,5 +1,6 @@
 """Large devices and logs, which `--large` allows: on both sides of their limits, and the same answers as without it on small ones."""
 from dataclasses import replace
+from math import comb
 
 from model import Checker, Run, entry_line, explored, mix, shown
 from notation import SECTOR, D, F, Hole, Long, M, Row, S, W, explore, files, lines, log, program, refused, verified
@@ -9,9 +10,9 @@ from rows.notes import FEWER, GOOD, PAST, noted
 from rows.refusals import SECTORS_AS_INDEX
 
 # The largest device, and the largest without `--large`.
-MOST, USUAL = 1 << 20, 1 << 14
+MOST, USUAL = 1 << 25, 1 << 14
 
-# Sectors at the ends of the pages in which the product keeps what is written, at the ends of both devices, and after them.
+# Sectors of which neighbours are written, at the ends of both devices, in between, and after them.
 PLACES = [0, 1, 62, 63, 64, 65, 127, 128, USUAL - 1, USUAL, USUAL + 1, MOST // 2, MOST - 65, MOST - 64, MOST - 1, MOST]
 
 # Answers the sum of the mixes of these sectors.
@@ -46,6 +47,9 @@ RUNS = [
     Run(ENTRIES, MOST, "mark", 1, True, "write"),
 ]
 
+# Writes about byte 2^32 of a device, and of its last sectors.
+ENDS = Run([S((1 << 23) - 1, noise("4 GiB", 2)), S(MOST - 2, noise("16 GiB", 2))], MOST, "all", 1)
+
 # What stood on a device before, which is larger than any without `--large`.
 BASED = Run([S(USUAL - 1, noise("over", 2)), D(USUAL + 6, 1)], USUAL + 8, bound=1, tears=True, base=noise("held", USUAL + 7))
 
@@ -77,7 +81,7 @@ def in_words(run, number):
     row = Row(
         f"large: show {number} {run.options()}", f"show log {number} {run.options()} --large", files(run.recorded), Long(lambda: shown(run, image))
     )
-    return replace(row, files={**row.files, "base": run.base})
+    return replace(row, files={**row.files, "base": run.base}) if run.base else row
 
 
 def whole(run, number):
@@ -107,35 +111,69 @@ LOGS = [
         1,
     ),
     refused("large: a log of 128 MiB, without --large", "images log --sectors 16384", files(LONG_LOG), "refused 10 at 0"),
-    refused("large: 192 MiB of zeros", "images log --sectors 4 --large", {"log": Hole(192 << 20)}, "refused 2 at 0"),
+    refused("large: 1 GiB of zeros", "images log --sectors 4 --large", {"log": Hole(1 << 30)}, "refused 2 at 0"),
     noted(
         "large: a byte more",
         "images log --sectors 4 --large",
-        {"log": Hole((192 << 20) + 1)},
+        {"log": Hole((1 << 30) + 1)},
         "refused 10 at 0",
-        "with --large a log has at most 201326592 bytes, 65536 entries, and 262144 sectors written or discarded (docs/LOG-FORMAT.md, Limits)",
-        FEWER.replace("64 MiB", "192 MiB"),
+        "with --large a log has at most 1073741824 bytes, 65536 entries, and 2097152 sectors written or discarded (docs/LOG-FORMAT.md, Limits)",
+        FEWER.replace("64 MiB", "1 GiB"),
     ),
     refused("large: 64 MiB of zeros and a byte, without --large", "images log --sectors 4", {"log": Hole((64 << 20) + 1)}, "refused 10 at 0"),
     refused("large: 64 MiB of zeros and a byte", "images log --sectors 4 --large", {"log": Hole((64 << 20) + 1)}, "refused 2 at 0"),
-    refused("large: a unit too many", f"images log --sectors {MOST} --large", files([D(0, 1 << 18), D(0, 1)]), "refused 10 at 1"),
+    refused("large: a unit too many", f"images log --sectors {MOST} --large", files([D(0, 1 << 21), D(0, 1)]), "refused 10 at 1"),
 ]
 
+# How many sectors are lost or torn at most in one image, and how many images a run may have of which parts are judged.
+BOUND, WIDE = 3, 2**63 - 1
+
+
+def ways(sectors):
+    """How many images a cut has at which that many sectors are on their way, with tears."""
+    return sum(comb(sectors, lost) * 15**lost for lost in range(BOUND + 1))
+
+
+def past(counts, most):
+    """The cut with which there are more images than that, where cut i has so many sectors on their way."""
+    total = 0
+    for cut, sectors in enumerate(counts):
+        total += ways(sectors)
+        if total > most:
+            return cut
+    raise ValueError("there are no more")
+
+
+def uncounted(sizes):
+    """Refusals of a log of discards of these sizes, one after the other, whose counts pass words of 64 bits."""
+    counts = [sum(sizes[:it]) for it in range(len(sizes) + 1)]
+    options = f"--sectors {MOST} --large --bound {BOUND} --tears"
+    content = {**files([D(0, it) for it in sizes]), "p": GOOD}
+    for words, most in (("images log", 2**24), ("images log --images", WIDE), ("explore log p", 2**24), ("explore log p --images 0..1", WIDE)):
+        yield refused(f"large: {words}, of discards of {sizes}", f"{words} {options}", content, f"refused 12 at {past(counts, most)}")
+    first, most = past(counts, 2**24), past(counts, WIDE)
+    yield refused(f"large: an image, of discards of {sizes}", f"image log 0 {options}", content, f"refused 12 at {first}")
+    yield refused(f"large: an image by number, of discards of {sizes}", f"image log 0 {options} --images", content, f"refused 12 at {most}")
+
+
+# 320,087 sectors are the fewest whose count passes 2^64. Of 1,337,746 the count less whole 2^64 is the least, 56,882,055,229,848.
+COUNTS = [row for it in ([1 << 21], [320087], [320086, 1], [1337746], [9, 20, 30, 1337687], [250000, 4000, 1843152]) for row in uncounted(it)]
+
 DEVICES = [
-    noted("large: no sectors", "images log --sectors 0 --large", {}, "refused 13 at 1", "with --large --sectors is 1 to 1048576"),
+    noted("large: no sectors", "images log --sectors 0 --large", {}, "refused 13 at 1", "with --large --sectors is 1 to 33554432"),
     noted(
         "large: too many sectors",
         f"images log --sectors {MOST + 1} --large",
         files(ENTRIES),
         "refused 13 at 1",
-        "with --large --sectors is 1 to 1048576",
+        "with --large --sectors is 1 to 33554432",
     ),
     noted(
         "large: too many sectors without --large",
         f"images log --sectors {USUAL + 1}",
         files(ENTRIES),
         "refused 13 at 1",
-        "--sectors is 1 to 16384, with --large to 1048576",
+        "--sectors is 1 to 16384, with --large to 33554432",
     ),
     noted(
         "large: no device holds it",
@@ -143,7 +181,7 @@ DEVICES = [
         files([W(MOST - 1, 2, 1)]),
         "refused 9 at 0",
         PAST,
-        "no device of at most 1048576 sectors holds this log",
+        "no device of at most 33554432 sectors holds this log",
     ),
     noted(
         "large: the largest device is needed",
@@ -176,7 +214,7 @@ VERIFIED = [
 
 # Answers the last byte of the last sector, whose number it is told of.
 LAST_BYTE = program("ldxdw r1, [r1+0]; sub64 r1, 1; call 1; jne r0, 0, +2; mov64 r0, 0; exit; ldxb r0, [r0+511]; exit")
-AN_IMAGE = "with --large an image has 1 to 1048576 whole sectors of 512 bytes (docs/COMMANDS.md, Commands)"
+AN_IMAGE = "with --large an image has 1 to 33554432 whole sectors of 512 bytes (docs/COMMANDS.md, Commands)"
 
 
 def checked(name, image, sectors, answer):
@@ -205,8 +243,7 @@ TRIED = [
     checked("a sector", bytes(SECTOR - 1) + b"\x07", 1, 7),
     checked("the largest image without it", Hole(USUAL * SECTOR - 1, b"\x07"), USUAL, 7),
     checked("a sector more", Hole((USUAL + 1) * SECTOR - 1, b"\x07"), USUAL + 1, 7),
-    checked("the largest image", Hole(MOST * SECTOR - 1, b"\x07"), MOST, 7),
-    no_image("an image that is too large", (MOST + 1) * SECTOR, "it has more than 536870912 bytes"),
+    checked("an image of 512 MiB and a sector", Hole((1 << 29) + SECTOR - 1, b"\x07"), (1 << 20) + 1, 7),
     no_image("an image that is cut within a sector", USUAL * SECTOR + 3, "it has 8388611 bytes"),
     no_image("an empty image", 0, "it has 0 bytes"),
     Row(
@@ -225,9 +262,11 @@ ROWS = [
     *(surveyed(run) for run in RUNS),
     listed(RUNS[0]),
     *(in_words(BASED, number) for number in (0, 3, 20)),
+    *(in_words(ENDS, number) for number in (0, 2, 5, 8)),
     *(whole(BASED, number) for number in (1, 17)),
     *LOGS,
     *DEVICES,
+    *COUNTS,
     *VERIFIED,
     *TRIED,
 ]

@@ -110,7 +110,7 @@ LOGS = [
         "entry 0 epoch 0 write sector 16383 count 1",
         "--sectors 16384 is the least that holds this log",
     ),
-    bad_log("no device holds it", [W(16383, 2, 1)], "refused 9 at 0", PAST, "no device of at most 16384 sectors holds this log; with --large one may have 1048576"),
+    bad_log("no device holds it", [W(16383, 2, 1)], "refused 9 at 0", PAST, "no device of at most 16384 sectors holds this log; with --large one may have 33554432"),
     bad_log("a device that is too small, and another fault", [W(4, 1, 1), Entry(flags=32)], "refused 9 at 0", PAST),
     bad_log("too many entries", super_block(65537), "refused 10 at 0", LIMIT, FEWER),
     bad_log("too many sectors", [D(0, 16384)] * 17, "refused 10 at 16", LIMIT, FEWER, sectors=16384),
@@ -216,7 +216,7 @@ IMAGES = [
 # Options, numbers and files
 
 OPTIONS = [
-    noted("sectors", "images log --sectors 0", {}, "refused 13 at 1", "--sectors is 1 to 16384, with --large to 1048576"),
+    noted("sectors", "images log --sectors 0", {}, "refused 13 at 1", "--sectors is 1 to 16384, with --large to 33554432"),
     noted("base", "images log --sectors 1 --base base", {"log": log([]), "base": bytes(513)}, "refused 13 at 14", "the file of --base has no more bytes than the device: --sectors is at least a 512th of its bytes"),
     noted("bound", "images log --sectors 4 --bound 4", {}, "refused 13 at 2", "--bound is 0 to 3"),
     noted("workers", "explore log p0 --sectors 4 --workers 65", {}, "refused 13 at 3", "--workers is 1 to 64"),

@@ -127,28 +127,36 @@ LIMITS = [
     Row("import: a sector less", "import raw", {"raw": of_zeros(MOST, 192 * MIB - 1)}, status=2, error=f"refused 5 at {MOST - 1}"),
 ]
 
-# Within the limits of --large: a device of 131,072 sectors of 4,096 bytes, and a log of more than 64 MiB.
-BEYOND = raw(LARGE, [(2048, 1, 0, content(1)), (131071, 1, FLUSH, content(1, 5)), (131000, 72, DISCARD, b"")])
+# Within the limits of --large: a device of 4,194,304 sectors of 4,096 bytes, and a log of more than 64 MiB.
+BEYOND = raw(LARGE, [(2048, 1, 0, content(1)), (4194303, 1, FLUSH, content(1, 5)), (4194000, 304, DISCARD, b"")])
 LONG = [(0, 2048, 0, bytes(8 * MIB))] * 8
 WITHIN = [
-    Row("import: on a large device", "import raw --large", {"raw": BEYOND}, small([(2048, 1, 0, content(1)), (131071, 1, FLUSH, content(1, 5)), (131000, 72, DISCARD, b"")])),
+    Row("import: on a large device", "import raw --large", {"raw": BEYOND}, small([(2048, 1, 0, content(1)), (4194303, 1, FLUSH, content(1, 5)), (4194000, 304, DISCARD, b"")])),
     refused("import: on a large device, without --large", "import raw", {"raw": BEYOND}, "refused 9 at 0"),
-    refused("import: after a large device", "import raw --large", {"raw": raw(LARGE, [(131071, 2, DISCARD, b"")])}, "refused 9 at 0"),
+    refused("import: after a large device", "import raw --large", {"raw": raw(LARGE, [(4194303, 2, DISCARD, b"")])}, "refused 9 at 0"),
     Row("import: a long log", "import raw --large", {"raw": Long(lambda: raw(LARGE, LONG))}, Long(lambda: small(LONG))),
     refused("import: a long log, without --large", "import raw", {"raw": Long(lambda: raw(LARGE, LONG))}, "refused 10 at 7"),
     Row("import: with --large as without", "import raw --large", {"raw": raw(LARGE, ALL)}, small(ALL)),
-    refused("import: units, with --large", "import raw --large", {"raw": raw(LARGE, [(0, 32768, DISCARD, b""), (0, 1, DISCARD, b"")])}, "refused 10 at 1"),
+    refused("import: units, with --large", "import raw --large", {"raw": raw(LARGE, [(0, 262144, DISCARD, b""), (0, 1, DISCARD, b"")])}, "refused 10 at 1"),
     Row(
-        "import: a sector more, with --large",
+        "import: more than 192 MiB, with --large",
         "import raw --large",
         {"raw": of_zeros(MOST + 1, 192 * MIB + LARGE)},
+        Long(lambda: raw(SECTOR, [], count=MOST + 1) + bytes(SECTOR * (MOST + 1))),
+    ),
+    Row(
+        "import: more than 1 GiB comes out",
+        "import raw --large",
+        {"raw": raw(LARGE, [(0, 262144, 0, b"")])},
         status=2,
-        error=f"refused 10 at {MOST}",
+        error="refused 10 at 0",
         notes=[
-            "with --large a log has at most 201326592 bytes, 65536 entries, and 262144 sectors written or discarded (docs/LOG-FORMAT.md, Limits)",
+            "with --large a log has at most 1073741824 bytes, 65536 entries, and 2097152 sectors written or discarded (docs/LOG-FORMAT.md, Limits)",
             "record less at once; make file systems without discards",
         ],
     ),
+    refused("import: more than 1 GiB is needed", "import raw --large", {"raw": raw(LARGE, [(0, 0, 0, b"")] * 9 + [(0, 262135, 0, b"")])}, "refused 10 at 9"),
+    refused("import: 1 GiB is needed, cut", "import raw --large", {"raw": raw(LARGE, [(0, 0, 0, b"")] * 9 + [(0, 262133, 0, b"")])}, "refused 5 at 9"),
 ]
 
 # The last image: what the entries do to a device of sectors of 4,096 bytes, one after the other.

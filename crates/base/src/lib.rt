@@ -30,7 +30,8 @@
 //!
 //! The contract of `Limits`:
 //!
-//! Both calls give the number of their limits (`byte_limit`, `sector_limit`), which is no more than the larger one.
+//! Each call gives the number of its limits (`byte_limit`, `unit_limit`, `raw_limit`, `sector_limit`), which is no more than the
+//! larger one.
 //!
 //! # Example
 //!

@@ -1,7 +1,7 @@
 -- Instructions with their distances, one more at a time.
 use Rattle.std.proofs.Common.{◌≡◌, ℕ, zero, suc, ◌+◌, ◌<◌, ◌≤◌, List, [], ◌∷◌, ◌++◌, length, get_or, drop, map, Option, None, Some, refl, sym, ap, ◌∙◌, arith, append_assoc, add-one}
 use Rattle.std.proofs.lemmas.List.{append-nil, length-map}
-use Rattle.bpf_asm.specs.declared.outline.Wanted.{Wanted}
+use Rattle.bpf_asm.specs.declared.outline.WantedLabel.{WantedLabel}
 use Rattle.std.proofs.Math.Seq.{drop-length}
 use Rattle.bpf_isa.specs.declared.instr.Instr.{Instr}
 use Rattle.bpf_asm.specs.declared.outline.Outline as code
@@ -84,7 +84,7 @@ get_or-map (x ∷ xs) f zero d = refl
 get_or-map (x ∷ xs) f (suc i) d = get_or-map xs f i d
 
 -- the draft at this place
-pub draft_at : (o : code.Outline) (said : List Statement) (i : ℕ) (d : Instr) (w : Wanted) → IsOutline o said → i < length o.instrs.items → d ≡ get_or o.instrs.items i d → w ≡ get_or o.wanted.items i w
+pub draft_at : (o : code.Outline) (said : List Statement) (i : ℕ) (d : Instr) (w : WantedLabel) → IsOutline o said → i < length o.instrs.items → d ≡ get_or o.instrs.items i d → w ≡ get_or o.wanted.items i w
     → drop i (drafts_of said) ≡ record { instr = d; label = name_value w.label } ∷ drop (i + 1) (drafts_of said)
 draft_at o said i d w h there e f =
     let long = as_long o said h in
@@ -95,7 +95,7 @@ draft_at o said i d w h there e f =
     let named = h.named in
     let d_is : d ≡ get_or (map (λ d. d.instr) (drafts_of said)) i d = e ∙ ap (λ (x : List Instr). get_or x i d) plain in
     let label_is : name_value w.label ≡ get_or (map (λ w. name_value w.label) o.wanted.items) i (name_value w.label) =
-    ap (λ (x : Wanted). name_value x.label) f ∙ sym (get_or-map o.wanted.items (λ w. name_value w.label) i w) in
+    ap (λ (x : WantedLabel). name_value x.label) f ∙ sym (get_or-map o.wanted.items (λ w. name_value w.label) i w) in
     draft_there (drafts_of said) i d (name_value w.label) (omega arith) d_is (label_is ∙ ap (λ (x : List (Option (List ℕ))). get_or x i (name_value w.label)) named)
 
 -- the slot is that of a program

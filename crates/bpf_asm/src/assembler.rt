@@ -8,7 +8,7 @@ ghost use Rattle.bpf_asm.specs.Says.{Says, SaysNone, SaysNothing, aim, away, ins
 ghost use Rattle.bpf_asm.specs.Outlines.{Stands, IsPlaced, IsUnplaced, LabelsFit};
 
 use crate::fault::{AsmCause, AsmFault, of_code};
-use crate::outline::{Outline, Wanted, read_outline};
+use crate::outline::{Outline, WantedLabel, read_outline};
 use bpf_isa::instr::Instr;
 use bpf_isa::program::Program;
 use indexmap::IndexMap;

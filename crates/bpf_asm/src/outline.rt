@@ -16,7 +16,7 @@ use std::alloc::Global;
 
 /// The label that is to tell the distance of an instruction, and the line of the instruction.
 #[derive(Clone, Copy)]
-pub(crate) struct Wanted<'t> {
+pub(crate) struct WantedLabel<'t> {
     pub label: Option<&'t [u8]>,
     pub line: u64,
 }
@@ -27,7 +27,7 @@ pub(crate) struct Wanted<'t> {
 pub(crate) struct Outline<'t> {
     pub labels: IndexMap<&'t [u8], usize>,
     pub instrs: Vec<Instr>,
-    pub wanted: Vec<Wanted<'t>>,
+    pub wanted: Vec<WantedLabel<'t>>,
     /// The slots that the instructions take.
     pub slots: usize,
 }
@@ -68,7 +68,7 @@ impl<'t> Outline<'t> {
             });
         }
         self.instrs.extend_from_slice(&[instr])?;
-        self.wanted.push(Wanted { label, line })?;
+        self.wanted.push(WantedLabel { label, line })?;
         self.slots += more;
         Ok(())
     }

@@ -3,8 +3,8 @@ use Rattle.std.proofs.Common.{◌≡◌, ℕ, ◌+◌, ◌*◌, ◌/◌, ◌%◌
 use Rattle.std.proofs.lemmas.Bool.{lt-ltb}
 use Rattle.base.specs.Check.{first_failing}
 use Rattle.bpf_isa.specs.declared.fields.Fields.{Fields}
-use Rattle.bpf_isa.specs.declared.form.Form.{Form}
-use Rattle.bpf_isa.specs.declared.form.Form.TheVariants as form
+use Rattle.bpf_isa.specs.declared.form.OpcodeForm.{OpcodeForm}
+use Rattle.bpf_isa.specs.declared.form.OpcodeForm.TheVariants as form
 use Rattle.bpf_isa.specs.declared.instr.Instr.{Instr}
 use Rattle.bpf_isa.specs.declared.instr.Instr.TheVariants as instr
 use Rattle.bpf_isa.specs.declared.instr.Source.TheVariants as source
@@ -96,7 +96,7 @@ condition_told w register cond.Eq = refl
 condition_told w register _ = refl
 
 -- the opcode of each form tells that form
-pub told : (f : Form) → form_of (opcode_of f) ≡ Some (as_told f)
+pub told : (f : OpcodeForm) → form_of (opcode_of f) ≡ Some (as_told f)
 unfolding form_of opcode_of arithmetic_form jump_form memory_form operator_of condition_of size_of signed_size_of
 told (form.Arithmetic w o register) = alu_told w (operator_code o) register ∙ operator_told w register o
 told (form.Branch w c register) = jmp_told w (condition_code c) register ∙ condition_told w register c

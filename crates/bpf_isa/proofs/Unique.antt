@@ -7,8 +7,8 @@ use Rattle.std.proofs.lemmas.Bool.{lt-ltb, cases_lt}
 use Rattle.std.proofs.lemmas.Grind.{flat_map-append}
 use Rattle.std.proofs.Math.Facts.{to_z-of_z, Fits-of_z}
 use Rattle.bpf_isa.specs.declared.fields.Fields.{Fields}
-use Rattle.bpf_isa.specs.declared.form.Form.{Form}
-use Rattle.bpf_isa.specs.declared.form.Form.TheVariants as form
+use Rattle.bpf_isa.specs.declared.form.OpcodeForm.{OpcodeForm}
+use Rattle.bpf_isa.specs.declared.form.OpcodeForm.TheVariants as form
 use Rattle.bpf_isa.specs.declared.instr.Instr.{Instr}
 use Rattle.bpf_isa.specs.declared.instr.Instr.TheVariants as instr
 use Rattle.bpf_isa.specs.declared.instr.Source.TheVariants as source
@@ -101,7 +101,7 @@ with_register w op.Mov s =
     else instr.SignExtend (extension_with w s.offset) s.dst s.src
 with_register w o s = instr.Arithmetic w (with_offset o s.offset) s.dst (source.Register s.src)
 
-read : Form → Fields → Fields → Instr
+read : OpcodeForm → Fields → Fields → Instr
 read (form.Arithmetic w o false) s t = instr.Arithmetic w (with_offset o s.offset) s.dst (source.Immediate (cast_signed w32 s.immediate))
 read (form.Arithmetic w o true) s t = with_register w o s
 read (form.Negate w) s t = instr.Negate w s.dst

@@ -5,8 +5,8 @@ use Rattle.base.specs.Check.{Check, check}
 use Rattle.base.specs.declared.causes.CodeCause.{CodeCause}
 use Rattle.base.specs.declared.causes.CodeCause.TheVariants as cause
 use Rattle.bpf_isa.specs.declared.fields.Fields.{Fields}
-use Rattle.bpf_isa.specs.declared.form.Form.{Form}
-use Rattle.bpf_isa.specs.declared.form.Form.TheVariants as form
+use Rattle.bpf_isa.specs.declared.form.OpcodeForm.{OpcodeForm}
+use Rattle.bpf_isa.specs.declared.form.OpcodeForm.TheVariants as form
 use Rattle.bpf_isa.specs.declared.instr.Width.{Width}
 use Rattle.bpf_isa.specs.declared.instr.Width.TheVariants as width
 use Rattle.bpf_isa.specs.declared.instr.Operator.{Operator}
@@ -61,7 +61,7 @@ abbrev pub constant_kinds : List ℕ
 constant_kinds = 0 ∷ []
 
 -- the fields of each form
-unfoldable pub layout_of : Form → Layout
+unfoldable pub layout_of : OpcodeForm → Layout
 layout_of (form.Arithmetic w o false) = layout Named Unused (Only (offsets_of o)) Any
 layout_of (form.Arithmetic w o true) = layout Named Named (Only (register_offsets w o)) zero_only
 layout_of (form.Negate w) = layout Named Unused zero_only zero_only
@@ -101,12 +101,12 @@ abbrev pub is_second : Option Fields → Bool
 is_second None = false
 is_second (Some s) = (s.opcode == 0) && (s.dst == 0) && (s.src == 0) && (s.offset == 0)
 
-abbrev pub has_its_second : Form → Option Fields → Bool
+abbrev pub has_its_second : OpcodeForm → Option Fields → Bool
 has_its_second form.LoadImmediate next = is_second next
 has_its_second _ next = true
 
 -- the tests of the fields of a slot, where the next slot has the fields `next`
-unfoldable pub checks : Form → Fields → Option Fields → List (Check CodeCause)
+unfoldable pub checks : OpcodeForm → Fields → Option Fields → List (Check CodeCause)
 checks f s next =
     let l = layout_of f in
     check cause.Register (is_known l.dst s.dst && is_known l.src s.src)
@@ -115,6 +115,6 @@ checks f s next =
     ∷ []
 
 -- the tests of a slot
-abbrev pub slot_checks : Option Form → Fields → Option Fields → List (Check CodeCause)
+abbrev pub slot_checks : Option OpcodeForm → Fields → Option Fields → List (Check CodeCause)
 slot_checks None s next = check cause.Opcode false ∷ []
 slot_checks (Some f) s next = checks f s next

@@ -1,7 +1,7 @@
 -- The form of an instruction, and that the table of opcodes tells it (RFC 9669, sections 3 to 5).
 use Rattle.std.specs.Prelude.{◌≡◌, ℕ, ◌<◌, true, false, Some}
-use Rattle.bpf_isa.specs.declared.form.Form.{Form}
-use Rattle.bpf_isa.specs.declared.form.Form.TheVariants as form
+use Rattle.bpf_isa.specs.declared.form.OpcodeForm.{OpcodeForm}
+use Rattle.bpf_isa.specs.declared.form.OpcodeForm.TheVariants as form
 use Rattle.bpf_isa.specs.declared.instr.Instr.{Instr}
 use Rattle.bpf_isa.specs.declared.instr.Instr.TheVariants as instr
 use Rattle.bpf_isa.specs.declared.instr.Source.TheVariants as source
@@ -16,12 +16,12 @@ unsigned_form op.SignedDiv = op.Div
 unsigned_form op.SignedMod = op.Mod
 unsigned_form o = o
 
-abbrev pub as_told : Form → Form
+abbrev pub as_told : OpcodeForm → OpcodeForm
 as_told (form.Arithmetic w o register) = form.Arithmetic w (unsigned_form o) register
 as_told f = f
 
 -- the form that the opcode of an instruction tells
-abbrev pub shape : Instr → Form
+abbrev pub shape : Instr → OpcodeForm
 shape (instr.Arithmetic w o dst (source.Immediate n)) = form.Arithmetic w (unsigned_form o) false
 shape (instr.Arithmetic w o dst (source.Register src)) = form.Arithmetic w (unsigned_form o) true
 shape (instr.Negate w dst) = form.Negate w
@@ -42,5 +42,5 @@ shape (instr.LoadImmediate dst value) = form.LoadImmediate
 
 -- the table is one: the opcode of each form tells that form, and what an opcode tells has that opcode
 pub record IsOneTable : Type 0 where
-  pub told : (f : Form) → form_of (opcode_of f) ≡ Some (as_told f)
-  pub has : (n : ℕ) (f : Form) → n < 256 → form_of n ≡ Some f → opcode_of f ≡ n
+  pub told : (f : OpcodeForm) → form_of (opcode_of f) ≡ Some (as_told f)
+  pub has : (n : ℕ) (f : OpcodeForm) → n < 256 → form_of n ≡ Some f → opcode_of f ≡ n

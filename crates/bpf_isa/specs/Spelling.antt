@@ -2,7 +2,7 @@
 use Rattle.std.specs.Prelude.{ℕ, ◌/◌, ◌%◌, ◌^◌, ◌<◌, ℤ, true, false, List, [], ◌∷◌}
 use Rattle.std.specs.Int.{cast_unsigned, w16, w32}
 use Rattle.std.specs.Int.RustNames.{FitsSigned}
-use Rattle.bpf_isa.specs.declared.form.Form.TheVariants as form
+use Rattle.bpf_isa.specs.declared.form.OpcodeForm.TheVariants as form
 use Rattle.bpf_isa.specs.declared.fields.Fields.{Fields}
 use Rattle.bpf_isa.specs.declared.instr.Instr.{Instr}
 use Rattle.bpf_isa.specs.declared.instr.Instr.TheVariants as instr

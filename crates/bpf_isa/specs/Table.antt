@@ -1,8 +1,8 @@
 -- The opcodes (RFC 9669, sections 3 to 5; docs/MACHINE.md, Encoding).
 use Rattle.std.specs.Prelude.{ℕ, ◌+◌, ◌*◌, ◌/◌, ◌%◌, ◌==◌, Bool, true, false, if◌then◌else◌, List, [], ◌∷◌, Option, None, Some, option_map}
 use Rattle.std.specs.Option.{option_map_or}
-use Rattle.bpf_isa.specs.declared.form.Form.{Form}
-use Rattle.bpf_isa.specs.declared.form.Form.TheVariants as form
+use Rattle.bpf_isa.specs.declared.form.OpcodeForm.{OpcodeForm}
+use Rattle.bpf_isa.specs.declared.form.OpcodeForm.TheVariants as form
 use Rattle.bpf_isa.specs.declared.instr.Width.{Width}
 use Rattle.bpf_isa.specs.declared.instr.Width.TheVariants as width
 use Rattle.bpf_isa.specs.declared.instr.Operator.{Operator}
@@ -78,21 +78,21 @@ unfoldable pub signed_size_of : ℕ → Option SignedSize
 signed_size_of n = first_with signed_size_code n (signed.Word ∷ signed.Half ∷ signed.Byte ∷ [])
 
 -- the byte swaps: class ALU with both source bits, class ALU64 with source bit 0
-abbrev pub order_form : Width → Bool → Option Form
+abbrev pub order_form : Width → Bool → Option OpcodeForm
 order_form width.W32 false = Some (form.ByteOrder order.Little)
 order_form width.W32 true = Some (form.ByteOrder order.Big)
 order_form width.W64 false = Some (form.ByteOrder order.Swap)
 order_form width.W64 true = None
 
 -- classes ALU and ALU64: the width, the code, whether the source is a register
-unfoldable pub arithmetic_form : Width → ℕ → Bool → Option Form
+unfoldable pub arithmetic_form : Width → ℕ → Bool → Option OpcodeForm
 arithmetic_form w code register =
     if code == 8 then (if register then None else Some (form.Negate w))
     else if code == 13 then order_form w register
     else option_map (λ o. form.Arithmetic w o register) (operator_of code)
 
 -- the jumps that are no branches: class JMP with JA, CALL, EXIT, class JMP32 with JA
-abbrev pub other_jump : Width → ℕ → Option Form
+abbrev pub other_jump : Width → ℕ → Option OpcodeForm
 other_jump width.W64 code =
     if code == 0 then Some form.Jump
     else if code == 8 then Some form.Call
@@ -101,19 +101,19 @@ other_jump width.W64 code =
 other_jump width.W32 code = if code == 0 then Some form.LongJump else None
 
 -- classes JMP (64 bits) and JMP32
-unfoldable pub jump_form : Width → ℕ → Bool → Option Form
+unfoldable pub jump_form : Width → ℕ → Bool → Option OpcodeForm
 jump_form w code register =
     option_map_or (λ c. Some (form.Branch w c register)) (condition_of code) (if register then None else other_jump w code)
 
 -- classes LDX, ST and STX, mode MEM
-abbrev pub move_form : ℕ → ℕ → Option Form
+abbrev pub move_form : ℕ → ℕ → Option OpcodeForm
 move_form class size =
     if class == 1 then option_map form.Load (size_of size)
     else if class == 2 then option_map form.StoreImmediate (size_of size)
     else option_map form.Store (size_of size)
 
 -- classes LD, LDX, ST and STX: the class, the mode (IMM 0, MEM 3, MEMSX 4), the code of the size
-unfoldable pub memory_form : ℕ → ℕ → ℕ → Option Form
+unfoldable pub memory_form : ℕ → ℕ → ℕ → Option OpcodeForm
 memory_form class mode size =
     if class == 0 then (if mode == 0 then (if size == 3 then Some form.LoadImmediate else None) else None)
     else if mode == 3 then move_form class size
@@ -121,7 +121,7 @@ memory_form class mode size =
     else None
 
 -- what an opcode says: the class is its low three bits, the source its bit 3, the code its high four bits
-unfoldable pub form_of : ℕ → Option Form
+unfoldable pub form_of : ℕ → Option OpcodeForm
 form_of n =
     if n % 8 == 7 then arithmetic_form width.W64 (n / 16) (n / 8 % 2 == 1)
     else if n % 8 == 4 then arithmetic_form width.W32 (n / 16) (n / 8 % 2 == 1)
@@ -149,7 +149,7 @@ order_opcode order.Little = 0xd4
 order_opcode order.Big = 0xdc
 order_opcode order.Swap = 0xd7
 
-unfoldable pub opcode_of : Form → ℕ
+unfoldable pub opcode_of : OpcodeForm → ℕ
 opcode_of (form.Arithmetic w o register) = 16 * operator_code o + source_bit register + alu_class w
 opcode_of (form.Negate w) = 0x80 + alu_class w
 opcode_of (form.ByteOrder o) = order_opcode o

@@ -8,7 +8,7 @@ use crate::instr::{Condition, Operator, Order, SignedSize, Size, Width};
 /// What the opcode byte says: the form of the instruction and whether its source is a register.
 /// Signed division and modulo share the opcode of the unsigned ones, and are not met here.
 #[derive(Clone, Copy)]
-pub enum Form {
+pub enum OpcodeForm {
     Arithmetic {
         width: Width,
         operator: Operator,
@@ -89,19 +89,19 @@ fn condition(code: u8) -> Option<Condition>
 
 /// The form of an arithmetic opcode.
 #[tactic(auto, unfolding(crate::specs::Table::arithmetic_form))]
-fn arithmetic(width: Width, code: u8, register: bool) -> Option<Form>
+fn arithmetic(width: Width, code: u8, register: bool) -> Option<OpcodeForm>
     ensures { result ≡ arithmetic_form width code register }
 {
     match (code, width, register) {
-        (8, _, false) => Some(Form::Negate { width }),
+        (8, _, false) => Some(OpcodeForm::Negate { width }),
         (8, _, true) => None,
-        (13, Width::W32, false) => Some(Form::ByteOrder {
+        (13, Width::W32, false) => Some(OpcodeForm::ByteOrder {
             order: Order::Little,
         }),
-        (13, Width::W32, true) => Some(Form::ByteOrder { order: Order::Big }),
-        (13, Width::W64, false) => Some(Form::ByteOrder { order: Order::Swap }),
+        (13, Width::W32, true) => Some(OpcodeForm::ByteOrder { order: Order::Big }),
+        (13, Width::W64, false) => Some(OpcodeForm::ByteOrder { order: Order::Swap }),
         (13, Width::W64, true) => None,
-        _ => Some(Form::Arithmetic {
+        _ => Some(OpcodeForm::Arithmetic {
             width,
             operator: operator(code)?,
             register,
@@ -111,11 +111,11 @@ fn arithmetic(width: Width, code: u8, register: bool) -> Option<Form>
 
 /// The form of an opcode of class JMP (64 bits) or JMP32.
 #[tactic(auto, unfolding(crate::specs::Table::jump_form))]
-fn jump(width: Width, code: u8, register: bool) -> Option<Form>
+fn jump(width: Width, code: u8, register: bool) -> Option<OpcodeForm>
     ensures { result ≡ jump_form width code register }
 {
     match condition(code) {
-        Some(condition) => Some(Form::Branch {
+        Some(condition) => Some(OpcodeForm::Branch {
             width,
             condition,
             register,
@@ -126,14 +126,14 @@ fn jump(width: Width, code: u8, register: bool) -> Option<Form>
 }
 
 /// The form of a jump that is no branch.
-fn other_jump(width: Width, code: u8) -> Option<Form>
+fn other_jump(width: Width, code: u8) -> Option<OpcodeForm>
     ensures { result ≡ other_jump width code }
 {
     match (width, code) {
-        (Width::W64, 0) => Some(Form::Jump),
-        (Width::W64, 8) => Some(Form::Call),
-        (Width::W64, 9) => Some(Form::Exit),
-        (Width::W32, 0) => Some(Form::LongJump),
+        (Width::W64, 0) => Some(OpcodeForm::Jump),
+        (Width::W64, 8) => Some(OpcodeForm::Call),
+        (Width::W64, 9) => Some(OpcodeForm::Exit),
+        (Width::W32, 0) => Some(OpcodeForm::LongJump),
         _ => None,
     }
 }
@@ -167,16 +167,16 @@ fn signed_size(code: u8) -> Option<SignedSize>
 
 /// The form of a load, a store or a load of an immediate.
 #[tactic(auto, unfolding(crate::specs::Table::memory_form))]
-fn memory(class: u8, mode: u8, code: u8) -> Option<Form>
+fn memory(class: u8, mode: u8, code: u8) -> Option<OpcodeForm>
     ensures { result ≡ memory_form class mode code }
 {
     match (class, mode) {
-        (0, 0) if code == 3 => Some(Form::LoadImmediate),
+        (0, 0) if code == 3 => Some(OpcodeForm::LoadImmediate),
         (0, _) => None,
-        (1, 3) => Some(Form::Load { size: size(code)? }),
-        (2, 3) => Some(Form::StoreImmediate { size: size(code)? }),
-        (_, 3) => Some(Form::Store { size: size(code)? }),
-        (1, 4) => Some(Form::LoadSigned {
+        (1, 3) => Some(OpcodeForm::Load { size: size(code)? }),
+        (2, 3) => Some(OpcodeForm::StoreImmediate { size: size(code)? }),
+        (_, 3) => Some(OpcodeForm::Store { size: size(code)? }),
+        (1, 4) => Some(OpcodeForm::LoadSigned {
             size: signed_size(code)?,
         }),
         _ => None,
@@ -185,7 +185,7 @@ fn memory(class: u8, mode: u8, code: u8) -> Option<Form>
 
 /// The form that this opcode tells.
 #[tactic(auto, unfolding(crate::specs::Table::form_of))]
-fn told_form(opcode: u8) -> Option<Form>
+fn told_form(opcode: u8) -> Option<OpcodeForm>
     ensures { result ≡ form_of opcode }
 {
     let register = opcode / 8 % 2 == 1;
@@ -200,7 +200,7 @@ fn told_form(opcode: u8) -> Option<Form>
 
 /// The form that this opcode tells, if the standard has the opcode.
 #[tactic(auto, using(crate::proofs::Table::known))]
-pub fn known_form(opcode: u8) -> Option<Form>
+pub fn known_form(opcode: u8) -> Option<OpcodeForm>
     ensures exact { result ≡ form_of opcode }
     ensures sound { IfSome result (λ f. opcode_of f ≡ opcode) }
 {

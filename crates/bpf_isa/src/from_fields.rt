@@ -12,11 +12,11 @@ ghost use Rattle.bpf_isa.specs.Spelling.{operator_offset, extension_width, exten
 ghost use Rattle.bpf_isa.specs.Faults.{checks, slot_checks, offsets_of, move_offsets, is_one_of, is_second};
 ghost use Rattle.bpf_isa.specs.Decoding.{refusal, IsSpelled};
 ghost use Rattle.bpf_isa.specs.declared.fields.Fields.{Fields};
-ghost use Rattle.bpf_isa.specs.declared.form.Form.TheVariants as form;
+ghost use Rattle.bpf_isa.specs.declared.form.OpcodeForm.TheVariants as form;
 ghost use Rattle.bpf_isa.specs.declared.instr.Operator.TheVariants as op;
 
 use crate::fields::Fields;
-use crate::form::{Form, known_form};
+use crate::form::{OpcodeForm, known_form};
 use crate::instr::{
     Condition, Instr, Operator, Order, OrderSize, SignExtension, SignedSize, Size, Source, Width,
 };
@@ -402,48 +402,48 @@ fn load_immediate(slot: Fields, next: Option<Fields>) -> Result<Instr, CodeCause
 
 /// The instruction of a form that the opcode tells.
 #[tactic(auto)]
-fn read_form(form: Form, slot: Fields, next: Option<Fields>) -> Result<Instr, CodeCause>
+fn read_form(form: OpcodeForm, slot: Fields, next: Option<Fields>) -> Result<Instr, CodeCause>
     requires { opcode_of form ≡ slot.opcode }
     ensures exact { first_failing (checks form slot next) ≡ refusal result }
     ensures read { IfOk result (λ i. IsSpelled slot next i) }
 {
     match form {
-        Form::Arithmetic {
+        OpcodeForm::Arithmetic {
             width,
             operator,
             register: false,
         } => arithmetic_immediate(width, operator, slot),
-        Form::Arithmetic {
+        OpcodeForm::Arithmetic {
             width,
             operator: Operator::Mov,
             register: true,
         } => move_register(width, slot),
-        Form::Arithmetic {
+        OpcodeForm::Arithmetic {
             width,
             operator,
             register: true,
         } => arithmetic_register(width, operator, slot),
-        Form::Negate { width } => negate(width, slot),
-        Form::ByteOrder { order } => byte_order(order, slot),
-        Form::Jump => jump(slot),
-        Form::LongJump => long_jump(slot),
-        Form::Branch {
+        OpcodeForm::Negate { width } => negate(width, slot),
+        OpcodeForm::ByteOrder { order } => byte_order(order, slot),
+        OpcodeForm::Jump => jump(slot),
+        OpcodeForm::LongJump => long_jump(slot),
+        OpcodeForm::Branch {
             width,
             condition,
             register: false,
         } => branch_immediate(width, condition, slot),
-        Form::Branch {
+        OpcodeForm::Branch {
             width,
             condition,
             register: true,
         } => branch_register(width, condition, slot),
-        Form::Call => call(slot),
-        Form::Exit => exit(slot),
-        Form::Load { size } => load(size, slot),
-        Form::LoadSigned { size } => load_signed(size, slot),
-        Form::StoreImmediate { size } => store_immediate(size, slot),
-        Form::Store { size } => store(size, slot),
-        Form::LoadImmediate => load_immediate(slot, next),
+        OpcodeForm::Call => call(slot),
+        OpcodeForm::Exit => exit(slot),
+        OpcodeForm::Load { size } => load(size, slot),
+        OpcodeForm::LoadSigned { size } => load_signed(size, slot),
+        OpcodeForm::StoreImmediate { size } => store_immediate(size, slot),
+        OpcodeForm::Store { size } => store(size, slot),
+        OpcodeForm::LoadImmediate => load_immediate(slot, next),
     }
 }
 

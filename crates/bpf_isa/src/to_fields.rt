@@ -5,11 +5,11 @@ ghost use Rattle.bpf_isa.specs.Table.{opcode_of, operator_code, condition_code, 
 ghost use Rattle.bpf_isa.specs.Fields.{fields, field_bytes};
 ghost use Rattle.bpf_isa.specs.Spelling.{fields_of, second_of, operator_offset, extension_width, extension_offset, order_immediate, bits16, bits32};
 ghost use Rattle.bpf_isa.specs.Program.{spelling, slot_bytes};
-ghost use Rattle.bpf_isa.specs.declared.form.Form.TheVariants as known;
+ghost use Rattle.bpf_isa.specs.declared.form.OpcodeForm.TheVariants as known;
 ghost use Rattle.bpf_isa.specs.declared.instr.Instr.TheVariants as instruction;
 
 use crate::fields::{Fields, put_fields};
-use crate::form::Form;
+use crate::form::OpcodeForm;
 use crate::instr::{
     Condition, Instr, Operator, Order, OrderSize, SignExtension, SignedSize, Size, Source, Width,
 };
@@ -125,31 +125,31 @@ fn swap_opcode(order: Order) -> u8
 
 /// The opcode of a form.
 #[tactic(auto, unfolding(crate::specs::Table::opcode_of))]
-fn opcode(form: Form) -> u8
+fn opcode(form: OpcodeForm) -> u8
     ensures { result ≡ opcode_of form }
 {
     match form {
-        Form::Arithmetic {
+        OpcodeForm::Arithmetic {
             width,
             operator,
             register,
         } => 16 * operator_bits(operator) + register_bit(register) + arithmetic_class(width),
-        Form::Negate { width } => 0x80 + arithmetic_class(width),
-        Form::ByteOrder { order } => swap_opcode(order),
-        Form::Jump => 0x05,
-        Form::LongJump => 0x06,
-        Form::Branch {
+        OpcodeForm::Negate { width } => 0x80 + arithmetic_class(width),
+        OpcodeForm::ByteOrder { order } => swap_opcode(order),
+        OpcodeForm::Jump => 0x05,
+        OpcodeForm::LongJump => 0x06,
+        OpcodeForm::Branch {
             width,
             condition,
             register,
         } => 16 * condition_bits(condition) + register_bit(register) + branch_class(width),
-        Form::Call => 0x85,
-        Form::Exit => 0x95,
-        Form::Load { size } => 0x61 + 8 * size_bits(size),
-        Form::LoadSigned { size } => 0x81 + 8 * signed_size_bits(size),
-        Form::StoreImmediate { size } => 0x62 + 8 * size_bits(size),
-        Form::Store { size } => 0x63 + 8 * size_bits(size),
-        Form::LoadImmediate => 0x18,
+        OpcodeForm::Call => 0x85,
+        OpcodeForm::Exit => 0x95,
+        OpcodeForm::Load { size } => 0x61 + 8 * size_bits(size),
+        OpcodeForm::LoadSigned { size } => 0x81 + 8 * signed_size_bits(size),
+        OpcodeForm::StoreImmediate { size } => 0x62 + 8 * size_bits(size),
+        OpcodeForm::Store { size } => 0x63 + 8 * size_bits(size),
+        OpcodeForm::LoadImmediate => 0x18,
     }
 }
 
@@ -229,7 +229,7 @@ fn is_register(source: &Source) -> bool
 
 /// The form of an instruction, which tells its opcode.
 #[tactic(auto, unfolding(crate::specs::Spelling::fields_of))]
-fn form(instr: &Instr) -> Form
+fn form(instr: &Instr) -> OpcodeForm
     ensures { opcode_of result ≡ (fields_of instr.now).opcode }
 {
     match instr {
@@ -238,37 +238,37 @@ fn form(instr: &Instr) -> Form
             operator,
             source,
             ..
-        } => Form::Arithmetic {
+        } => OpcodeForm::Arithmetic {
             width: *width,
             operator: *operator,
             register: is_register(source),
         },
-        Instr::Negate { width, .. } => Form::Negate { width: *width },
-        Instr::SignExtend { extension, .. } => Form::Arithmetic {
+        Instr::Negate { width, .. } => OpcodeForm::Negate { width: *width },
+        Instr::SignExtend { extension, .. } => OpcodeForm::Arithmetic {
             width: extension.width(),
             operator: Operator::Mov,
             register: true,
         },
-        Instr::ByteOrder { order, .. } => Form::ByteOrder { order: *order },
-        Instr::Jump { .. } => Form::Jump,
-        Instr::LongJump { .. } => Form::LongJump,
+        Instr::ByteOrder { order, .. } => OpcodeForm::ByteOrder { order: *order },
+        Instr::Jump { .. } => OpcodeForm::Jump,
+        Instr::LongJump { .. } => OpcodeForm::LongJump,
         Instr::Branch {
             width,
             condition,
             source,
             ..
-        } => Form::Branch {
+        } => OpcodeForm::Branch {
             width: *width,
             condition: *condition,
             register: is_register(source),
         },
-        Instr::CallHelper { .. } | Instr::CallLocal { .. } => Form::Call,
-        Instr::Exit => Form::Exit,
-        Instr::Load { size, .. } => Form::Load { size: *size },
-        Instr::LoadSigned { size, .. } => Form::LoadSigned { size: *size },
-        Instr::StoreImmediate { size, .. } => Form::StoreImmediate { size: *size },
-        Instr::Store { size, .. } => Form::Store { size: *size },
-        Instr::LoadImmediate { .. } => Form::LoadImmediate,
+        Instr::CallHelper { .. } | Instr::CallLocal { .. } => OpcodeForm::Call,
+        Instr::Exit => OpcodeForm::Exit,
+        Instr::Load { size, .. } => OpcodeForm::Load { size: *size },
+        Instr::LoadSigned { size, .. } => OpcodeForm::LoadSigned { size: *size },
+        Instr::StoreImmediate { size, .. } => OpcodeForm::StoreImmediate { size: *size },
+        Instr::Store { size, .. } => OpcodeForm::Store { size: *size },
+        Instr::LoadImmediate { .. } => OpcodeForm::LoadImmediate,
     }
 }
 

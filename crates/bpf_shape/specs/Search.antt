@@ -3,8 +3,8 @@ use Rattle.std.specs.Prelude.{ℕ, ◌+◌, ◌≡◌, ◌<◌, ◌≤◌, ◌*�
 use Rattle.std.specs.List.{count_by}
 use Rattle.bpf_isa.specs.declared.instr.Instr.{Instr}
 use Rattle.bpf_shape.specs.declared.edges.Edges.{Edges}
-use Rattle.bpf_shape.specs.declared.search.Kind.{Kind}
-use Rattle.bpf_shape.specs.declared.search.Kind.TheVariants as kind
+use Rattle.bpf_shape.specs.declared.search.EdgeKind.{EdgeKind}
+use Rattle.bpf_shape.specs.declared.search.EdgeKind.TheVariants as kind
 use Rattle.bpf_shape.specs.Edges.{edges, control}
 use Rattle.bpf_shape.specs.Calls.{callee}
 use Rattle.bpf_shape.specs.Again.{plain}
@@ -61,7 +61,7 @@ unfoldable pub entering : List (Option Instr) → ℕ → Edges
 entering program slot = with_entry (callee program slot) (control program slot)
 
 -- the edges that a search follows
-abbrev pub search_edges : Kind → List (Option Instr) → ℕ → Edges
+abbrev pub search_edges : EdgeKind → List (Option Instr) → ℕ → Edges
 search_edges kind.All program = control program
 search_edges kind.Plain program = plain program
 search_edges kind.Entering program = entering program

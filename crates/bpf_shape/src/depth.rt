@@ -12,7 +12,7 @@ ghost use Rattle.base.specs.declared.causes.VerifierCause.TheVariants as cause;
 
 use crate::calls::callee;
 use crate::fault::Fault;
-use crate::search::{Kind, reach_of_entries, reached_from};
+use crate::search::{EdgeKind, reach_of_entries, reached_from};
 use base::causes::VerifierCause;
 use bpf_isa::program::Program;
 use std::alloc::{AllocError, Global};
@@ -25,7 +25,7 @@ fn deep_slots(alloc: Global, program: &Program) -> Result<Vec<bool>, AllocError>
     requires program { IsProgram program.now }
     ensures { IfOk result (λ deep. AreDeep program.now deep.items) }
 {
-    let outer = reached_from(alloc, program, Kind::All, 0)?;
+    let outer = reached_from(alloc, program, EdgeKind::All, 0)?;
     let first = reach_of_entries(alloc, program, &outer)?;
     let second = reach_of_entries(alloc, program, &first)?;
     let deep = reach_of_entries(alloc, program, &second)?;
@@ -51,7 +51,7 @@ fn is_refused(
             if deep[slot] {
                 return Ok(true);
             }
-            let marks = reached_from(alloc, program, Kind::Entering, entry)?;
+            let marks = reached_from(alloc, program, EdgeKind::Entering, entry)?;
             Ok(marks[slot])
         }
         None => Ok(false),

@@ -14,7 +14,7 @@ use std::alloc::{AllocError, Global};
 
 /// Which edges a search follows.
 #[derive(Clone, Copy)]
-pub(crate) enum Kind {
+pub(crate) enum EdgeKind {
     /// The control edges.
     All,
     /// The control edges without again edges.
@@ -39,13 +39,13 @@ fn entering(program: &Program, slot: usize) -> Edges
 }
 
 /// The edges of a slot of that kind.
-fn edges_by(program: &Program, kind: Kind, slot: usize) -> Edges
+fn edges_by(program: &Program, kind: EdgeKind, slot: usize) -> Edges
     ensures { result ≡ search_edges kind program.now slot }
 {
     match kind {
-        Kind::All => control(program, slot),
-        Kind::Plain => plain(program, slot),
-        Kind::Entering => entering(program, slot),
+        EdgeKind::All => control(program, slot),
+        EdgeKind::Plain => plain(program, slot),
+        EdgeKind::Entering => entering(program, slot),
     }
 }
 
@@ -82,7 +82,7 @@ fn meet(marks: &mut Vec<bool>, waiting: &mut Vec<usize>, edges: Edges) -> Result
 /// Marks what is reached along edges of that kind from the marked slots, all of which wait.
 fn spread(
     program: &Program,
-    kind: Kind,
+    kind: EdgeKind,
     marks: &mut Vec<bool>,
     waiting: &mut Vec<usize>,
 ) -> Result<(), AllocError>
@@ -100,7 +100,7 @@ fn spread(
 pub(crate) fn reach_of_edges(
     alloc: Global,
     program: &Program,
-    kind: Kind,
+    kind: EdgeKind,
     from: Edges,
 ) -> Result<Vec<bool>, AllocError>
     requires edges { EdgesFit (search_edges kind program.now) (length program.now) }
@@ -119,7 +119,7 @@ pub(crate) fn reach_of_edges(
 pub(crate) fn reached_from(
     alloc: Global,
     program: &Program,
-    kind: Kind,
+    kind: EdgeKind,
     slot: usize,
 ) -> Result<Vec<bool>, AllocError>
     requires edges { EdgesFit (search_edges kind program.now) (length program.now) }
@@ -167,6 +167,6 @@ pub(crate) fn reach_of_entries(
     for slot in 0..program.slots() {
         enter(program, outer, &mut marks, &mut waiting, slot)?;
     }
-    spread(program, Kind::All, &mut marks, &mut waiting)?;
+    spread(program, EdgeKind::All, &mut marks, &mut waiting)?;
     Ok(marks)
 }

@@ -17,7 +17,7 @@ use crate::again::{heads, plain, turns};
 use crate::depth::keep_calls;
 use crate::fault::Fault;
 use crate::rules::keep_all;
-use crate::search::{Kind, reach_of_edges};
+use crate::search::{EdgeKind, reach_of_edges};
 use crate::value::Shape;
 use crate::weights::{followed_lengths, greatest_from, plain_lengths};
 use base::causes::VerifierCause;
@@ -42,7 +42,7 @@ fn is_on_cycle(
     if lengths[slot].is_some() {
         return Ok(false);
     }
-    let marks = reach_of_edges(alloc, program, Kind::Plain, plain(program, slot))?;
+    let marks = reach_of_edges(alloc, program, EdgeKind::Plain, plain(program, slot))?;
     Ok(marks[slot])
 }
 

@@ -12,7 +12,7 @@ ghost use Rattle.bpf_shape.specs.Lengths.{length_of, marked_length, IsGreatest, 
 
 use crate::calls::{callee, has_calls};
 use crate::lengths::path_lengths;
-use crate::search::{Kind, reached_from};
+use crate::search::{EdgeKind, reached_from};
 use bpf_isa::program::Program;
 use std::alloc::{AllocError, Global};
 
@@ -59,7 +59,7 @@ pub(crate) fn greatest_from(
     requires lengths { length lengths.now.items ≡ length program.now }
     ensures { IfOk result (λ k. IsGreatestFrom program.now lengths.now.items entry k) }
 {
-    let marks = reached_from(alloc, program, Kind::All, entry)?;
+    let marks = reached_from(alloc, program, EdgeKind::All, entry)?;
     Ok(greatest(lengths, &marks))
 }
 

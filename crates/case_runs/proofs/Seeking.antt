@@ -15,10 +15,10 @@ use Rattle.cases.specs.Trees.{Program, ending_of}
 use Rattle.cases.specs.Search.{Asked, subject_of, SearchValue, case_in, SameSearch, Went, LeafValue, Ran, FoundCases, BegunCases}
 use Rattle.cases.proofs.Runs.{ran_start, ran_more, ran_end, found_all, begun_all}
 use Rattle.case_runs.specs.declared.found.Losses.{Losses}
-use Rattle.case_runs.specs.declared.found.Found.{Found}
+use Rattle.case_runs.specs.declared.found.FoundCases.{FoundCases}
 use Rattle.case_runs.specs.declared.found.CutFound.{CutFound}
-use Rattle.case_runs.specs.declared.found.CasesFault.{CasesFault}
-use Rattle.case_runs.specs.declared.found.CasesFault.TheVariants as fault
+use Rattle.case_runs.specs.declared.found.SearchFault.{SearchFault}
+use Rattle.case_runs.specs.declared.found.SearchFault.TheVariants as fault
 use Rattle.case_runs.specs.declared.first.FirstCase.{FirstCase}
 use Rattle.case_runs.specs.declared.first.Next.{Next}
 use Rattle.case_runs.specs.declared.first.Next.TheVariants as next
@@ -163,7 +163,7 @@ passes_most checker context was old now new n is begins same so ends =
     }
 
 -- no leaf more: all pass
-pub all_pass : (checker : CheckerValue) (context : Context) (was : Program) (old now new : SearchValue) (n left : ℕ) (it : Found) → context ≡ context_at old.asked.at.log old.asked.at.cut
+pub all_pass : (checker : CheckerValue) (context : Context) (was : Program) (old now new : SearchValue) (n left : ℕ) (it : FoundCases) → context ≡ context_at old.asked.at.log old.asked.at.cut
     → BeginsAt old → was ≡ program_of checker context → PassedSo (program_of checker context) old now n → n ≤ left → Went (subject_of now.asked was) now new false → IsPassing new n it
     → IsFoundAt (losses_in old) old.asked.at checker it × (it.failing.items ≡ []) × (it.cases ≤ left)
 all_pass checker context was old now new n left it is begins same so few went passing =
@@ -192,7 +192,7 @@ met_of asked at checker own v left m same tears is met =
     (subst (λ (b : Bool). MeetsOne (record { tears = b; torn = asked.torn; lost = asked.lost }) at own left m) tears
     (subst (λ (a : Asked). MeetsOne (record { tears = v.tears; torn = a.torn; lost = a.lost }) a.at own left m) same met))
 
-pub ends_of : (asked : Losses) (at : CutValue) (checker own : CheckerValue) (v : SearchValue) (left : ℕ) (why : CasesFault) → v.asked ≡ record { at = at; torn = asked.torn; lost = asked.lost }
+pub ends_of : (asked : Losses) (at : CutValue) (checker own : CheckerValue) (v : SearchValue) (left : ℕ) (why : SearchFault) → v.asked ≡ record { at = at; torn = asked.torn; lost = asked.lost }
     → v.tears ≡ asked.tears → own ≡ checker → EndsAtOne (losses_in v) v.asked.at own left why → EndsAtOne asked at checker left why
 ends_of asked at checker own v left why same tears is ends =
     subst (λ (c : CheckerValue). EndsAtOne asked at c left why) is
@@ -201,19 +201,19 @@ ends_of asked at checker own v left why same tears is ends =
 
 -- with each checker, and at each cut
 
-pub none_more : (found now : List Found) (f : Found) → NoneFailsAt found → f.failing.items ≡ [] → now ≡ found ++ f ∷ [] → NoneFailsAt now
-none_more found now f none own put = subst NoneFailsAt (sym put) (All-push (λ (g : Found). g.failing.items ≡ []) found f none own)
+pub none_more : (found now : List FoundCases) (f : FoundCases) → NoneFailsAt found → f.failing.items ≡ [] → now ≡ found ++ f ∷ [] → NoneFailsAt now
+none_more found now f none own put = subst NoneFailsAt (sym put) (All-push (λ (g : FoundCases). g.failing.items ≡ []) found f none own)
 
 pub none_at_all : (found now : List CutFound) (c : CutFound) → NoneFails found → NoneFailsAt c.programs.items → now ≡ found ++ c ∷ [] → NoneFails now
 none_at_all found now c none own put = subst NoneFails (sym put) (All-push (λ (d : CutFound). NoneFailsAt d.programs.items) found c none own)
 
-pub ends_here : (asked : Losses) (at : CutValue) (checkers : List CheckerValue) (n first left : ℕ) (found : List Found) (c : CheckerValue) (why : CasesFault) → AreFirstAt asked at checkers n found
+pub ends_here : (asked : Losses) (at : CutValue) (checkers : List CheckerValue) (n first left : ℕ) (found : List FoundCases) (c : CheckerValue) (why : SearchFault) → AreFirstAt asked at checkers n found
     → NoneFailsAt found → slice_get checkers n ≡ Some c → first ≡ left + cases_at found → EndsAtOne asked at c left why → EndsAt asked at checkers first why
 ends_here asked at checkers n first left found c fault.Memory so none there counted stop = tt
 ends_here asked at checkers n first left found c (fault.TooMany cut) so none there counted stop =
     (stop.0, record { number = n; before = found; are = so; none = none; checker = c; own = there; rest = left; counted = counted; past = stop.1 })
 
-pub ends_there : (asked : Losses) (log : LogValue) (way : By) (cuts : List ℕ) (checkers : List CheckerValue) (n k left : ℕ) (found : List CutFound) (why : CasesFault)
+pub ends_there : (asked : Losses) (log : LogValue) (way : By) (cuts : List ℕ) (checkers : List CheckerValue) (n k left : ℕ) (found : List CutFound) (why : SearchFault)
     → AreFirstIn asked log way cuts checkers n found → NoneFails found → slice_get cuts n ≡ Some k → most_cases ≡ left + cases_in found
     → EndsAt asked (record { log = log; way = way; cut = k }) checkers left why → EndsIn asked log way cuts checkers why
 ends_there asked log way cuts checkers n k left found fault.Memory so none there counted stop = tt

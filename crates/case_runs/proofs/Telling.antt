@@ -4,7 +4,7 @@ use Rattle.std.proofs.lemmas.List.{append_assoc}
 use Rattle.helpers.specs.declared.device.Context.{Context}
 use Rattle.checker.specs.Checker.{CheckerValue}
 use Rattle.cases.specs.Search.{LeafValue}
-use Rattle.case_runs.specs.declared.leaves.Told.{Told}
+use Rattle.case_runs.specs.declared.leaves.ToldLeaf.{ToldLeaf}
 use Rattle.case_runs.specs.Leaves.{FailingValue, leaf_of, failing_if, failing_from, IsJudge}
 
 append_none : {A : Type 0} (xs : List A) → xs ++ [] ≡ xs
@@ -21,11 +21,11 @@ failing_push n (first ∷ leaves) leaf =
     regroup : (xs ys zs : List FailingValue) → xs ++ (ys ++ zs) ≡ (xs ++ ys) ++ zs
     regroup xs ys zs = simp append_assoc
 
-same_length : (told : List Told) → length (map leaf_of told) ≡ length told
+same_length : (told : List ToldLeaf) → length (map leaf_of told) ≡ length told
 same_length [] = refl
 same_length (t ∷ told) = ap suc (same_length told)
 
-pub told_one : (checker : CheckerValue) (memory : Bool) (context : Context) (told : List Told) (old now : List FailingValue) (leaves : List LeafValue) (leaf : LeafValue)
+pub told_one : (checker : CheckerValue) (memory : Bool) (context : Context) (told : List ToldLeaf) (old now : List FailingValue) (leaves : List LeafValue) (leaf : LeafValue)
     → IsJudge checker memory context (map leaf_of told) old → leaves ≡ map leaf_of told ++ leaf ∷ [] → now ≡ old ++ failing_if (length told) leaf → IsJudge checker memory context leaves now
 told_one checker memory context told old now leaves leaf so is added = record {
   fit = so.fit;

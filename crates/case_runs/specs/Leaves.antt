@@ -7,7 +7,7 @@ use Rattle.report.specs.Line.{fails}
 use Rattle.checker.specs.Checker.{CheckerValue, IsFor}
 use Rattle.checker.specs.Memory.{IsServed}
 use Rattle.cases.specs.Search.{LeafValue}
-use Rattle.case_runs.specs.declared.leaves.Told.{Told}
+use Rattle.case_runs.specs.declared.leaves.ToldLeaf.{ToldLeaf}
 use Rattle.case_runs.specs.declared.leaves.FailingCase.{FailingCase}
 
 -- a leaf that fails: its number among the leaves, what the program ends in there, and a set for each part at risk
@@ -20,7 +20,7 @@ abbrev pub failing_value : FailingCase → FailingValue
 failing_value f = record { number = f.number; ending = ending_of f.outcome; sets = f.sets.items }
 
 -- a leaf as it was told
-abbrev pub leaf_of : Told → LeafValue
+abbrev pub leaf_of : ToldLeaf → LeafValue
 leaf_of t = record { sets = t.sets.value.items; ending = ending_of t.outcome.value }
 
 -- leaf n, if it fails

@@ -8,7 +8,7 @@ ghost use Rattle.case_runs.specs.Judges.{program_of};
 ghost use Rattle.case_runs.specs.Leaves.{IsFit, failing_value, failing_if};
 ghost use Rattle.case_runs.specs.First.{losses_in, BeginsAt, IsMetAt, GoesTo, IsPassing, EndsWith, MeetsOne, TakesOne, MeetsAt, TakesAt, IsSought, EndsAtOne, EndsAt, EndsIn};
 
-use crate::found::{CasesFault, CutFound, Found, Losses, MOST_CASES};
+use crate::found::{CutFound, FoundCases, Losses, MOST_CASES, SearchFault};
 use crate::gate::{CaseGate, Watched};
 use crate::judge::CaseJudge;
 use crate::leaves::{FailingCase, put_failing};
@@ -43,7 +43,7 @@ pub enum Sought {
 #[derive(Drop)]
 pub(crate) enum Met {
     /// All leaves pass.
-    Passing(Found),
+    Passing(FoundCases),
     /// The first one that fails.
     Failing(FailingCase),
 }
@@ -83,10 +83,10 @@ fn failing_leaf(
 }
 
 /// What was found where all leaves pass.
-fn passing(alloc: Global, search: &Search<'_>, cases: u32) -> Found
+fn passing(alloc: Global, search: &Search<'_>, cases: u32) -> FoundCases
     ensures { IsPassing search.now cases result }
 {
-    Found {
+    FoundCases {
         cases: cases as usize,
         torn_beyond: search.torn_beyond(),
         lost_beyond: search.lost_beyond(),
@@ -128,7 +128,7 @@ fn all_passing<G: CaseGate>(
     search: &mut Search<'_>,
     judge: &mut Watched<'_, '_, '_, G>,
     count: u32,
-) -> Result<Option<Found>, AllocError>
+) -> Result<Option<FoundCases>, AllocError>
     ensures { IfOk result (EndsWith (program_of judge.old.checker judge.old.context) search.old search.new count) }
 {
     if search.next(judge)? {
@@ -144,7 +144,7 @@ fn seek_from<G: CaseGate>(
     search: &mut Search<'_>,
     judge: &mut Watched<'_, '_, '_, G>,
     left: u32,
-) -> Result<Met, CasesFault>
+) -> Result<Met, SearchFault>
     requires context { judge.old.context ≡ context_at search.old.asked.at.log search.old.asked.at.cut }
     requires begins { BeginsAt search.old }
     ensures met { IfOk result (MeetsOne (losses_in search.old) search.old.asked.at judge.old.checker left) }
@@ -159,7 +159,7 @@ fn seek_from<G: CaseGate>(
     }
     match all_passing(alloc, search, judge, left)? {
         Some(found) => Ok(Met::Passing(found)),
-        None => Err(CasesFault::TooMany(search.cut().number())),
+        None => Err(SearchFault::TooMany(search.cut().number())),
     }
 }
 
@@ -172,7 +172,7 @@ fn seek_one<G: CaseGate>(
     checker: &Checker<'_>,
     asked: Losses,
     left: u32,
-) -> Result<Met, CasesFault>
+) -> Result<Met, SearchFault>
     requires context { context ≡ context_at cut.now.log cut.now.cut }
     requires fit { IsFit checker.now context }
     ensures met { IfOk result (MeetsOne asked cut.now checker.now left) }
@@ -192,7 +192,7 @@ fn seek_within<G: CaseGate>(
     checker: &Checker<'_>,
     asked: Losses,
     left: &mut u32,
-) -> Result<Met, CasesFault>
+) -> Result<Met, SearchFault>
     requires context { context ≡ context_at cut.now.log cut.now.cut }
     requires fit { IsFit checker.now context }
     ensures met { IfOk result (MeetsOne asked cut.now checker.now left.old) }
@@ -215,7 +215,7 @@ fn seek_each<G: CaseGate>(
     checkers: &[Checker<'_>],
     asked: Losses,
     left: &mut u32,
-) -> Result<MetAt, CasesFault>
+) -> Result<MetAt, SearchFault>
     requires context { context ≡ context_at cut.now.log cut.now.cut }
     requires small { (context.epoch ≤ 65536) × (context.marks ≤ 65536) }
     requires device { AreFor cut.now.log.sectors checkers.now }
@@ -254,7 +254,7 @@ fn seek_in<G: CaseGate>(
     checkers: &[Checker<'_>],
     asked: Losses,
     left: &mut u32,
-) -> Result<MetAt, CasesFault>
+) -> Result<MetAt, SearchFault>
     requires plan { plan.now.log ≡ log.now }
     requires cut { number ≤ length log.now.entries }
     requires device { AreFor log.now.sectors checkers.now }
@@ -286,7 +286,7 @@ pub fn find_first<G: CaseGate>(
     cuts: &[u32],
     checkers: &[Checker<'_>],
     asked: Losses,
-) -> Result<Sought, CasesFault>
+) -> Result<Sought, SearchFault>
     requires plan { plan.now.log ≡ log.now }
     requires cuts { All (λ cut. cut ≤ length log.now.entries) cuts.now }
     requires device { AreFor log.now.sectors checkers.now }

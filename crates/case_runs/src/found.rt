@@ -4,14 +4,14 @@ ghost use Rattle.std.specs.Prelude.{◌≡◌, ◌+◌, ◌≤◌, length, All, 
 ghost use Rattle.images.specs.Views.{context_at};
 ghost use Rattle.checker.specs.Checker.{AreFor};
 ghost use Rattle.case_runs.specs.Leaves.{IsFit};
-ghost use Rattle.case_runs.specs.Found.{IsFoundAt, IsBegunAt, AreFoundAt, AreFoundIn, cases_at, cases_in, most_cases, StopsAtOne, StopsAt, StopsIn};
+ghost use Rattle.case_runs.specs.FoundCases.{IsFoundAt, IsBegunAt, AreFoundAt, AreFoundIn, cases_at, cases_in, most_cases, StopsAtOne, StopsAt, StopsIn};
 
 use crate::gate::{CaseGate, Watched};
 use crate::joining::joined;
 use crate::judge::CaseJudge;
 use crate::leaves::FailingCase;
 use crate::rounds::explored;
-use crate::work::Work;
+use crate::work::CaseWork;
 use cases::{Cut, find_cases};
 use checker::Checker;
 use epochs::{By, Plan};
@@ -33,7 +33,7 @@ pub struct Losses {
 
 /// What was found at a cut with a checker.
 #[derive(Drop)]
-pub struct Found {
+pub struct FoundCases {
     /// How many leaves there are.
     pub cases: usize,
     /// How many cases were left out, since more parts are torn than is asked.
@@ -48,35 +48,35 @@ pub struct Found {
 #[derive(Drop)]
 pub struct CutFound {
     pub cut: u32,
-    pub programs: Vec<Found>,
+    pub programs: Vec<FoundCases>,
 }
 
 /// Why the cases weren't found.
 #[derive(Clone, Copy, Debug)]
-pub enum CasesFault {
+pub enum SearchFault {
     /// Memory was refused.
     Memory,
     /// With the cases of this cut they were more than `MOST_CASES`.
     TooMany(u32),
 }
 
-impl From<AllocError> for CasesFault {
-    ghost use Rattle.case_runs.specs.declared.found.CasesFault.TheVariants.{Memory};
+impl From<AllocError> for SearchFault {
+    ghost use Rattle.case_runs.specs.declared.found.SearchFault.TheVariants.{Memory};
 
     ghost from_gives = { λ _ e. e ≡ Memory };
 
-    fn from(_error: AllocError) -> CasesFault {
-        CasesFault::Memory
+    fn from(_error: AllocError) -> SearchFault {
+        SearchFault::Memory
     }
 }
 
-impl<T: Drop> From<AllocFailed<T>> for CasesFault {
-    ghost use Rattle.case_runs.specs.declared.found.CasesFault.TheVariants.{Memory};
+impl<T: Drop> From<AllocFailed<T>> for SearchFault {
+    ghost use Rattle.case_runs.specs.declared.found.SearchFault.TheVariants.{Memory};
 
     ghost from_gives = { λ _ e. e ≡ Memory };
 
-    fn from(_error: AllocFailed<T>) -> CasesFault {
-        CasesFault::Memory
+    fn from(_error: AllocFailed<T>) -> SearchFault {
+        SearchFault::Memory
     }
 }
 
@@ -89,7 +89,7 @@ fn find_at<G: CaseGate>(
     checker: &Checker<'_>,
     asked: Losses,
     most: u32,
-) -> Result<Option<Found>, AllocError>
+) -> Result<Option<FoundCases>, AllocError>
     requires context { context ≡ context_at cut.now.log cut.now.cut }
     requires fit { IsFit checker.now context }
     ensures { IfOk result (λ found. MatchOption found (IsBegunAt asked cut.now checker.now most) (IsFoundAt asked cut.now checker.now)) }
@@ -108,7 +108,7 @@ fn find_at<G: CaseGate>(
         return Ok(None);
     };
     let cases = judge.judge().cases();
-    Ok(Some(Found {
+    Ok(Some(FoundCases {
         cases,
         torn_beyond: beyond.torn,
         lost_beyond: beyond.lost,
@@ -125,7 +125,7 @@ fn find_within<G: CaseGate>(
     checker: &Checker<'_>,
     asked: Losses,
     left: &mut u32,
-) -> Result<Found, CasesFault>
+) -> Result<FoundCases, SearchFault>
     requires context { context ≡ context_at cut.now.log cut.now.cut }
     requires fit { IsFit checker.now context }
     requires few { left.old ≤ most_cases }
@@ -135,10 +135,10 @@ fn find_within<G: CaseGate>(
 {
     let number = cut.number();
     let Some(found) = find_at(alloc, gate, cut, context, checker, asked, *left + 1)? else {
-        return Err(CasesFault::TooMany(number));
+        return Err(SearchFault::TooMany(number));
     };
     if found.cases > *left as usize {
-        return Err(CasesFault::TooMany(number));
+        return Err(SearchFault::TooMany(number));
     }
     *left -= found.cases as u32;
     Ok(found)
@@ -153,7 +153,7 @@ fn find_each<G: CaseGate>(
     checkers: &[Checker<'_>],
     asked: Losses,
     left: &mut u32,
-) -> Result<Vec<Found>, CasesFault>
+) -> Result<Vec<FoundCases>, SearchFault>
     requires context { context ≡ context_at cut.now.log cut.now.cut }
     requires small { (context.epoch ≤ 65536) × (context.marks ≤ 65536) }
     requires device { AreFor cut.now.log.sectors checkers.now }
@@ -180,7 +180,7 @@ fn find_in<G: CaseGate>(
     checkers: &[Checker<'_>],
     asked: Losses,
     left: &mut u32,
-) -> Result<CutFound, CasesFault>
+) -> Result<CutFound, SearchFault>
     requires plan { plan.now.log ≡ log.now }
     requires cut { number ≤ length log.now.entries }
     requires device { AreFor log.now.sectors checkers.now }
@@ -213,7 +213,7 @@ fn find_alone<G: CaseGate>(
     cuts: &[u32],
     checkers: &[Checker<'_>],
     asked: Losses,
-) -> Result<Vec<CutFound>, CasesFault>
+) -> Result<Vec<CutFound>, SearchFault>
     requires plan { plan.now.log ≡ log.now }
     requires cuts { All (λ cut. cut ≤ length log.now.entries) cuts.now }
     requires device { AreFor log.now.sectors checkers.now }
@@ -236,10 +236,10 @@ fn find_shared<G: CaseGate + Sync, R: Threads + Sync>(
     rt: &R,
     alloc: Global,
     gate: &G,
-    work: &Work<'_>,
+    work: &CaseWork<'_>,
     cuts: &[u32],
     workers: usize,
-) -> Result<Vec<CutFound>, CasesFault>
+) -> Result<Vec<CutFound>, SearchFault>
     requires device { AreFor work.now.log.now.sectors work.now.checkers.now }
     requires cuts { All (λ cut. cut ≤ length work.now.log.now.entries) cuts.now }
     ensures found { IfOk result (λ found. AreFoundIn work.now.asked work.now.log.now work.now.way cuts.now work.now.checkers.now found.items) }
@@ -268,7 +268,7 @@ pub fn find_failing<G: CaseGate + Sync, R: Threads + Sync>(
     checkers: &[Checker<'_>],
     asked: Losses,
     workers: u32,
-) -> Result<Vec<CutFound>, CasesFault>
+) -> Result<Vec<CutFound>, SearchFault>
     requires plan { plan.now.log ≡ log.now }
     requires cuts { All (λ cut. cut ≤ length log.now.entries) cuts.now }
     requires device { AreFor log.now.sectors checkers.now }
@@ -279,7 +279,7 @@ pub fn find_failing<G: CaseGate + Sync, R: Threads + Sync>(
     if workers < 2 {
         return find_alone(alloc, gate, plan, log, way, cuts, checkers, asked);
     }
-    let work = Work {
+    let work = CaseWork {
         plan,
         log,
         way,

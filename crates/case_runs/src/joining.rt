@@ -3,26 +3,26 @@
 ghost use Rattle.std.specs.Prelude.{◌≡◌, ◌≤◌, ◌<◌, ◌+◌, ◌^◌, ◌++◌, ◌∷◌, [], length, map, slice_get, Some, All, IfOk, IfErr, OnOk};
 ghost use Rattle.checker.specs.Checker.{AreFor};
 ghost use Rattle.case_runs.specs.Leaves.{failing_value};
-ghost use Rattle.case_runs.specs.Found.{IsFoundAt, AreFoundAt, AreFoundIn, cases_at, cases_in, most_cases, StopsAtOne, StopsAt, StopsIn};
+ghost use Rattle.case_runs.specs.FoundCases.{IsFoundAt, AreFoundAt, AreFoundIn, cases_at, cases_in, most_cases, StopsAtOne, StopsAt, StopsIn};
 ghost use Rattle.case_runs.specs.Pieces.{subject_in, start_case, IsStart, StartsSo, IsStep, RanFrom, later, JoinsSo};
 ghost use Rattle.case_runs.specs.Shares.{cut_in, AreAllOf, IsBegun};
 
-use crate::found::{CasesFault, CutFound, Found, MOST_CASES};
+use crate::found::{CutFound, FoundCases, MOST_CASES, SearchFault};
 use crate::gate::CaseGate;
 use crate::leaves::FailingCase;
-use crate::pieces::{Begun, Piece, Ran, Start, run_start};
+use crate::pieces::{Begun, Ran, Start, Subtree, run_start};
 use crate::rounds::whole_piece;
-use crate::work::Work;
+use crate::work::CaseWork;
 use cases::{Cut, Search};
 use checker::Checker;
 use std::alloc::{AllocError, Global};
 
 /// Nothing was found yet.
-fn nothing(alloc: Global) -> Found
+fn nothing(alloc: Global) -> FoundCases
     ensures counts { (result.cases ≡ 0) × (result.torn_beyond ≡ 0) × (result.lost_beyond ≡ 0) }
     ensures failing { result.failing.items ≡ [] }
 {
-    Found {
+    FoundCases {
         cases: 0,
         torn_beyond: 0,
         lost_beyond: 0,
@@ -55,7 +55,7 @@ fn put_after(
 }
 
 /// Puts together what was found and what was found after it, if these have no more than `left` leaves.
-fn put_found(found: &mut Found, more: Found, left: u32) -> Result<bool, AllocError>
+fn put_found(found: &mut FoundCases, more: FoundCases, left: u32) -> Result<bool, AllocError>
     requires { All (λ f. f.number < more.cases) more.failing.items }
     ensures { IfOk result (JoinsSo found.old more left found.new) }
 {
@@ -74,7 +74,7 @@ fn put_found(found: &mut Found, more: Found, left: u32) -> Result<bool, AllocErr
 fn ran_below<G: CaseGate>(
     alloc: Global,
     gate: &G,
-    work: &Work<'_>,
+    work: &CaseWork<'_>,
     number: u32,
     program: usize,
     checker: &Checker<'_>,
@@ -108,13 +108,13 @@ fn ran_below<G: CaseGate>(
 fn found_of<G: CaseGate>(
     alloc: Global,
     gate: &G,
-    work: &Work<'_>,
+    work: &CaseWork<'_>,
     number: u32,
     program: usize,
     checker: &Checker<'_>,
-    piece: Piece,
+    piece: Subtree,
     most: u32,
-) -> Result<Found, AllocError>
+) -> Result<FoundCases, AllocError>
     requires device { AreFor work.now.log.now.sectors work.now.checkers.now }
     requires cut { number ≤ length work.now.log.now.entries }
     requires checker { slice_get work.now.checkers.now program ≡ Some checker.now }
@@ -122,8 +122,8 @@ fn found_of<G: CaseGate>(
     ensures { IfOk result (λ found. IsStep (subject_in work.now.asked (cut_in work.now number) checker.now) work.now.asked.tears (cut_in work.now number) piece found most) }
 {
     match piece {
-        Piece::Told(found) => Ok(found),
-        Piece::Open(start) => {
+        Subtree::Told(found) => Ok(found),
+        Subtree::Open(start) => {
             let ran = ran_below(alloc, gate, work, number, program, checker, &start, most)?;
             Ok(ran.found)
         }
@@ -134,13 +134,13 @@ fn found_of<G: CaseGate>(
 fn joined_at<G: CaseGate>(
     alloc: Global,
     gate: &G,
-    work: &Work<'_>,
+    work: &CaseWork<'_>,
     number: u32,
     program: usize,
     checker: &Checker<'_>,
-    pieces: Vec<Piece>,
+    pieces: Vec<Subtree>,
     left: u32,
-) -> Result<Found, CasesFault>
+) -> Result<FoundCases, SearchFault>
     requires device { AreFor work.now.log.now.sectors work.now.checkers.now }
     requires cut { number ≤ length work.now.log.now.entries }
     requires checker { slice_get work.now.checkers.now program ≡ Some checker.now }
@@ -155,7 +155,7 @@ fn joined_at<G: CaseGate>(
         let most = left + 1 - found.cases as u32;
         let more = found_of(alloc, gate, work, number, program, checker, piece, most)?;
         if !put_found(&mut found, more, left)? {
-            return Err(CasesFault::TooMany(number));
+            return Err(SearchFault::TooMany(number));
         }
     }
     Ok(found)
@@ -165,13 +165,13 @@ fn joined_at<G: CaseGate>(
 fn joined_within<G: CaseGate>(
     alloc: Global,
     gate: &G,
-    work: &Work<'_>,
+    work: &CaseWork<'_>,
     number: u32,
     program: usize,
     checker: &Checker<'_>,
-    pieces: Vec<Piece>,
+    pieces: Vec<Subtree>,
     left: &mut u32,
-) -> Result<Found, CasesFault>
+) -> Result<FoundCases, SearchFault>
     requires device { AreFor work.now.log.now.sectors work.now.checkers.now }
     requires cut { number ≤ length work.now.log.now.entries }
     requires checker { slice_get work.now.checkers.now program ≡ Some checker.now }
@@ -189,11 +189,11 @@ fn joined_within<G: CaseGate>(
 /// The pieces of a cut and a checker: what was begun, if it is the last of these, or all choices.
 fn pieces_at(
     alloc: Global,
-    work: &Work<'_>,
+    work: &CaseWork<'_>,
     begun: &mut Vec<Begun>,
     number: u32,
     program: usize,
-) -> Result<Vec<Piece>, AllocError>
+) -> Result<Vec<Subtree>, AllocError>
     requires { All (IsBegun work.now) begun.old.items }
     ensures begun { All (IsBegun work.now) begun.new.items }
     ensures pieces { IfOk result (λ pieces. AreAllOf work.now number program pieces.items) }
@@ -210,12 +210,12 @@ fn pieces_at(
 fn joined_each<G: CaseGate>(
     alloc: Global,
     gate: &G,
-    work: &Work<'_>,
+    work: &CaseWork<'_>,
     checkers: &[Checker<'_>],
     number: u32,
     begun: &mut Vec<Begun>,
     left: &mut u32,
-) -> Result<Vec<Found>, CasesFault>
+) -> Result<Vec<FoundCases>, SearchFault>
     requires checkers { work.now.checkers.now ≡ checkers.now }
     requires device { AreFor work.now.log.now.sectors work.now.checkers.now }
     requires cut { number ≤ length work.now.log.now.entries }
@@ -235,7 +235,7 @@ fn joined_each<G: CaseGate>(
 }
 
 /// The same, the last one first.
-fn reversed(alloc: Global, work: &Work<'_>, begun: Vec<Begun>) -> Result<Vec<Begun>, AllocError>
+fn reversed(alloc: Global, work: &CaseWork<'_>, begun: Vec<Begun>) -> Result<Vec<Begun>, AllocError>
     requires { All (IsBegun work.now) begun.items }
     ensures { IfOk result (λ turned. All (IsBegun work.now) turned.items) }
 {
@@ -252,10 +252,10 @@ fn reversed(alloc: Global, work: &Work<'_>, begun: Vec<Begun>) -> Result<Vec<Beg
 pub(crate) fn joined<G: CaseGate>(
     alloc: Global,
     gate: &G,
-    work: &Work<'_>,
+    work: &CaseWork<'_>,
     cuts: &[u32],
     begun: Vec<Begun>,
-) -> Result<Vec<CutFound>, CasesFault>
+) -> Result<Vec<CutFound>, SearchFault>
     requires device { AreFor work.now.log.now.sectors work.now.checkers.now }
     requires cuts { All (λ cut. cut ≤ length work.now.log.now.entries) cuts.now }
     requires begun { All (IsBegun work.now) begun.items }

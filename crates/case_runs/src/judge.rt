@@ -5,7 +5,7 @@ ghost use Rattle.interp.specs.Ending.{ending_of};
 ghost use Rattle.case_runs.specs.Leaves.{failing_value, failing_from, IsFit};
 
 use crate::image::Formed;
-use crate::leaves::{FailingCase, Told, put_leaf};
+use crate::leaves::{FailingCase, ToldLeaf, put_leaf};
 use crate::runs::{Looked, run_on, split_looked};
 use cases::{Cut, Judge, KnownRows, Parted};
 use checker::{Checker, RunMemory};
@@ -30,7 +30,7 @@ pub struct CaseJudge<'c, 'p> {
     formed: Vec<Formed>,
     /// A place for the sets of a leaf.
     place: Vec<u16>,
-    told: Vec<Told>,
+    told: Vec<ToldLeaf>,
     failing: Vec<FailingCase>,
 }
 

@@ -23,7 +23,7 @@ pub struct FailingCase {
 
 /// A leaf of which a judge was told, for contracts alone: it takes no room.
 #[derive(Drop)]
-pub(crate) struct Told {
+pub(crate) struct ToldLeaf {
     pub(crate) sets: Snapshot<Vec<u16>>,
     pub(crate) outcome: Snapshot<Outcome>,
 }
@@ -71,7 +71,7 @@ pub(crate) fn put_failing(
 
 /// Appends a leaf to what was told. The vector is a place for its sets.
 fn put_told(
-    told: &mut Vec<Told>,
+    told: &mut Vec<ToldLeaf>,
     place: &mut Vec<u16>,
     outcome: &Outcome,
     sets: &[u16],
@@ -80,7 +80,7 @@ fn put_told(
 {
     place.clear();
     place.extend_from_slice(sets)?;
-    told.push(Told {
+    told.push(ToldLeaf {
         sets: Snapshot::of(place),
         outcome: Snapshot::of(outcome),
     })?;
@@ -89,7 +89,7 @@ fn put_told(
 
 /// Appends a leaf to both lists.
 pub(crate) fn put_leaf(
-    told: &mut Vec<Told>,
+    told: &mut Vec<ToldLeaf>,
     place: &mut Vec<u16>,
     failing: &mut Vec<FailingCase>,
     outcome: &Outcome,

@@ -6,7 +6,7 @@ ghost use Rattle.cases.specs.Search.{pending};
 ghost use Rattle.case_runs.specs.Leaves.{IsFit};
 ghost use Rattle.case_runs.specs.Pieces.{IsSearchOf, IsStart, start_case, RanFrom, told_as, open_at};
 
-use crate::found::{Found, Losses};
+use crate::found::{FoundCases, Losses};
 use crate::gate::{CaseGate, Watched};
 use crate::judge::CaseJudge;
 use cases::{Cut, Search};
@@ -25,9 +25,9 @@ pub(crate) struct Start {
 
 /// A piece of the tree of a cut and a checker.
 #[derive(Drop)]
-pub(crate) enum Piece {
+pub(crate) enum Subtree {
     /// What was found there.
-    Told(Found),
+    Told(FoundCases),
     /// A case that is still to be explored.
     Open(Start),
 }
@@ -38,12 +38,12 @@ pub(crate) struct Begun {
     pub(crate) cut: u32,
     /// The number of the checker.
     pub(crate) program: usize,
-    pub(crate) pieces: Vec<Piece>,
+    pub(crate) pieces: Vec<Subtree>,
 }
 
 /// What came of an open piece.
 #[derive(Drop)]
-pub(crate) struct Answer {
+pub(crate) struct SubtreeAnswer {
     /// Which of the open pieces it is.
     pub(crate) place: usize,
     pub(crate) cut: u32,
@@ -53,13 +53,13 @@ pub(crate) struct Answer {
     /// How many leaves were found.
     pub(crate) leaves: usize,
     /// What takes its place.
-    pub(crate) pieces: Vec<Piece>,
+    pub(crate) pieces: Vec<Subtree>,
 }
 
 /// What a run found, and the cases that are still to be explored after it.
 #[derive(Drop)]
 pub(crate) struct Ran {
-    pub(crate) found: Found,
+    pub(crate) found: FoundCases,
     pub(crate) left: Vec<Vec<u16>>,
 }
 
@@ -151,7 +151,7 @@ fn run_from<G: CaseGate>(
 {
     let mut judge = Watched::new(CaseJudge::new(alloc, checker, context)?, gate);
     let _ended = search.run(&mut judge, most)?;
-    let found = Found {
+    let found = FoundCases {
         cases: judge.judge().cases(),
         torn_beyond: search.torn_beyond(),
         lost_beyond: search.lost_beyond(),
@@ -185,14 +185,14 @@ pub(crate) fn run_start<G: CaseGate>(
 }
 
 /// The pieces of what a run found, and of what is still to be explored after it.
-pub(crate) fn pieces_of(alloc: Global, ran: Ran) -> Result<Vec<Piece>, AllocError>
+pub(crate) fn pieces_of(alloc: Global, ran: Ran) -> Result<Vec<Subtree>, AllocError>
     ensures { IfOk result (λ pieces. pieces.items ≡ told_as ran.found ∷ map open_at ran.left.items) }
 {
     let Ran { found, left } = ran;
     let mut pieces = Vec::new(alloc);
-    pieces.push(Piece::Told(found))?;
+    pieces.push(Subtree::Told(found))?;
     for sets in left {
-        pieces.push(Piece::Open(Start { whole: false, sets }))?;
+        pieces.push(Subtree::Open(Start { whole: false, sets }))?;
     }
     Ok(pieces)
 }

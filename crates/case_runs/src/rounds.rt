@@ -2,20 +2,20 @@
 
 ghost use Rattle.std.specs.Prelude.{◌≡◌, ◌∷◌, ◌++◌, [], List, All, IfOk, OnOk, IfSome, IsTrue};
 ghost use Rattle.checker.specs.Checker.{AreFor};
-ghost use Rattle.case_runs.specs.declared.pieces.Piece.{Piece as PieceValue};
+ghost use Rattle.case_runs.specs.declared.pieces.Subtree.{Subtree as PieceValue};
 ghost use Rattle.case_runs.specs.Pieces.{told_as, open_as};
 ghost use Rattle.case_runs.specs.Shares.{IsAnswer, AreAnswers, IsBegun, AreAllOf, AreBelow, HaveSame};
 
-use crate::found::{Found, MOST_CASES};
+use crate::found::{FoundCases, MOST_CASES};
 use crate::gate::CaseGate;
-use crate::pieces::{Answer, Begun, Piece, Start, all_choices, are_same};
+use crate::pieces::{Begun, Start, Subtree, SubtreeAnswer, all_choices, are_same};
 use crate::sharing::answers;
-use crate::work::Work;
+use crate::work::CaseWork;
 use std::alloc::{AllocError, Global};
 use std::thread::Threads;
 
 /// Whether an answer is that of an open piece.
-fn is_of(answer: &Answer, cut: u32, program: usize, start: &Start) -> bool
+fn is_of(answer: &SubtreeAnswer, cut: u32, program: usize, start: &Start) -> bool
     ensures cut { IsTrue result → answer.now.cut ≡ cut }
     ensures program { IsTrue result → answer.now.program ≡ program }
     ensures whole { IsTrue result → answer.now.start.whole ≡ start.now.whole }
@@ -28,12 +28,12 @@ fn is_of(answer: &Answer, cut: u32, program: usize, start: &Start) -> bool
 /// What takes the place of an open piece: what the answer says, if it is that of the piece.
 fn with_answer(
     alloc: Global,
-    work: &Work<'_>,
+    work: &CaseWork<'_>,
     cut: u32,
     program: usize,
     start: Start,
-    answer: Option<Answer>,
-) -> Result<Vec<Piece>, AllocError>
+    answer: Option<SubtreeAnswer>,
+) -> Result<Vec<Subtree>, AllocError>
     requires { IfSome answer (IsAnswer work.now) }
     ensures { IfOk result (λ pieces. AreBelow work.now cut program start pieces.items) }
 {
@@ -44,12 +44,15 @@ fn with_answer(
         }
     }
     let mut pieces = Vec::new(alloc);
-    pieces.push(Piece::Open(start))?;
+    pieces.push(Subtree::Open(start))?;
     Ok(pieces)
 }
 
 /// Takes the next answer, if there is one.
-fn next_answer(work: &Work<'_>, places: &mut Vec<Option<Answer>>) -> Option<Answer>
+fn next_answer(
+    work: &CaseWork<'_>,
+    places: &mut Vec<Option<SubtreeAnswer>>,
+) -> Option<SubtreeAnswer>
     requires { AreAnswers work.now places.old.items }
     ensures places { AreAnswers work.now places.new.items }
     ensures answer { IfSome result (IsAnswer work.now) }
@@ -63,12 +66,12 @@ fn next_answer(work: &Work<'_>, places: &mut Vec<Option<Answer>>) -> Option<Answ
 
 /// Appends what takes the place of an open piece.
 fn put_below(
-    work: &Work<'_>,
-    out: &mut Vec<Piece>,
+    work: &CaseWork<'_>,
+    out: &mut Vec<Subtree>,
     cut: u32,
     program: usize,
     start: Start,
-    answer: Option<Answer>,
+    answer: Option<SubtreeAnswer>,
 ) -> Result<(), AllocError>
     requires { IfSome answer (IsAnswer work.now) }
     ensures same { (rest : List PieceValue) → OnOk result (HaveSame work.now cut program (out.old.items ++ (open_as start ∷ rest)) (out.new.items ++ rest)) }
@@ -80,36 +83,36 @@ fn put_below(
 
 /// Appends what was found.
 fn put_told(
-    work: &Work<'_>,
-    out: &mut Vec<Piece>,
+    work: &CaseWork<'_>,
+    out: &mut Vec<Subtree>,
     cut: u32,
     program: usize,
-    found: Found,
+    found: FoundCases,
 ) -> Result<(), AllocError>
     ensures same { (rest : List PieceValue) → OnOk result (HaveSame work.now cut program (out.old.items ++ (told_as found ∷ rest)) (out.new.items ++ rest)) }
 {
     let _way = work.way;
     let _of = (cut, program);
-    out.push(Piece::Told(found))?;
+    out.push(Subtree::Told(found))?;
     Ok(())
 }
 
 /// Appends a piece, or what takes its place.
 fn put_piece(
-    work: &Work<'_>,
-    out: &mut Vec<Piece>,
+    work: &CaseWork<'_>,
+    out: &mut Vec<Subtree>,
     cut: u32,
     program: usize,
-    piece: Piece,
-    places: &mut Vec<Option<Answer>>,
+    piece: Subtree,
+    places: &mut Vec<Option<SubtreeAnswer>>,
 ) -> Result<(), AllocError>
     requires { AreAnswers work.now places.old.items }
     ensures places { AreAnswers work.now places.new.items }
     ensures same { (rest : List PieceValue) → OnOk result (HaveSame work.now cut program (out.old.items ++ (piece ∷ rest)) (out.new.items ++ rest)) }
 {
     match piece {
-        Piece::Told(found) => put_told(work, out, cut, program, found),
-        Piece::Open(start) => {
+        Subtree::Told(found) => put_told(work, out, cut, program, found),
+        Subtree::Open(start) => {
             let answer = next_answer(work, places);
             put_below(work, out, cut, program, start, answer)
         }
@@ -117,10 +120,10 @@ fn put_piece(
 }
 
 /// Whether a piece is still to be explored.
-fn is_open(piece: &Piece) -> bool {
+fn is_open(piece: &Subtree) -> bool {
     match piece {
-        Piece::Told(_found) => false,
-        Piece::Open(_start) => true,
+        Subtree::Told(_found) => false,
+        Subtree::Open(_start) => true,
     }
 }
 
@@ -137,12 +140,12 @@ fn is_done(begun: &Begun) -> bool {
 /// Pieces, with the answers in their places.
 fn pieces_on(
     alloc: Global,
-    work: &Work<'_>,
+    work: &CaseWork<'_>,
     cut: u32,
     program: usize,
-    pieces: Vec<Piece>,
-    places: &mut Vec<Option<Answer>>,
-) -> Result<Vec<Piece>, AllocError>
+    pieces: Vec<Subtree>,
+    places: &mut Vec<Option<SubtreeAnswer>>,
+) -> Result<Vec<Subtree>, AllocError>
     requires places { AreAnswers work.now places.old.items }
     requires pieces { AreAllOf work.now cut program pieces.items }
     ensures places { AreAnswers work.now places.new.items }
@@ -158,9 +161,9 @@ fn pieces_on(
 /// What was begun, with the answers in their places.
 fn gone_on(
     alloc: Global,
-    work: &Work<'_>,
+    work: &CaseWork<'_>,
     begun: Begun,
-    places: &mut Vec<Option<Answer>>,
+    places: &mut Vec<Option<SubtreeAnswer>>,
 ) -> Result<Begun, AllocError>
     requires places { AreAnswers work.now places.old.items }
     requires begun { IsBegun work.now begun }
@@ -185,10 +188,10 @@ fn gone_on(
 
 /// Appends what was begun at a cut with a checker, with the answers in their places.
 fn put_gone_on(
-    work: &Work<'_>,
+    work: &CaseWork<'_>,
     out: &mut Vec<Begun>,
     begun: Begun,
-    places: &mut Vec<Option<Answer>>,
+    places: &mut Vec<Option<SubtreeAnswer>>,
 ) -> Result<(), AllocError>
     requires places { AreAnswers work.now places.old.items }
     requires begun { IsBegun work.now begun }
@@ -204,9 +207,9 @@ fn put_gone_on(
 /// All that was begun, with the answers in their places.
 fn all_gone_on(
     alloc: Global,
-    work: &Work<'_>,
+    work: &CaseWork<'_>,
     begun: Vec<Begun>,
-    places: Vec<Option<Answer>>,
+    places: Vec<Option<SubtreeAnswer>>,
 ) -> Result<Vec<Begun>, AllocError>
     requires places { AreAnswers work.now places.items }
     requires begun { All (IsBegun work.now) begun.items }
@@ -224,7 +227,7 @@ fn all_gone_on(
 fn leaves_at(begun: &Begun) -> usize {
     let mut leaves: usize = 0;
     for piece in begun.pieces.as_slice() {
-        if let Piece::Told(found) = piece {
+        if let Subtree::Told(found) = piece {
             leaves = leaves.saturating_add(found.cases);
         }
     }
@@ -243,7 +246,7 @@ fn is_wanted(begun: &[Begun]) -> bool {
 }
 
 /// A beginning at each cut with each checker.
-fn beginnings(alloc: Global, work: &Work<'_>, cuts: &[u32]) -> Result<Vec<Begun>, AllocError>
+fn beginnings(alloc: Global, work: &CaseWork<'_>, cuts: &[u32]) -> Result<Vec<Begun>, AllocError>
     ensures { IfOk result (λ begun. All (IsBegun work.now) begun.items) }
 {
     let mut out = Vec::new(alloc);
@@ -254,7 +257,7 @@ fn beginnings(alloc: Global, work: &Work<'_>, cuts: &[u32]) -> Result<Vec<Begun>
 }
 
 /// Appends a beginning at a cut with each checker.
-fn put_beginnings(out: &mut Vec<Begun>, work: &Work<'_>, cut: u32) -> Result<(), AllocError>
+fn put_beginnings(out: &mut Vec<Begun>, work: &CaseWork<'_>, cut: u32) -> Result<(), AllocError>
     requires { All (IsBegun work.now) out.old.items }
     ensures { All (IsBegun work.now) out.new.items }
 {
@@ -272,16 +275,16 @@ fn put_beginnings(out: &mut Vec<Begun>, work: &Work<'_>, cut: u32) -> Result<(),
 /// All choices of a cut, as a piece.
 pub(crate) fn whole_piece(
     alloc: Global,
-    work: &Work<'_>,
+    work: &CaseWork<'_>,
     cut: u32,
     program: usize,
-) -> Result<Vec<Piece>, AllocError>
+) -> Result<Vec<Subtree>, AllocError>
     ensures { IfOk result (λ pieces. AreAllOf work.now cut program pieces.items) }
 {
     let _way = work.way;
     let _of = (cut, program);
     let mut pieces = Vec::new(alloc);
-    pieces.push(Piece::Open(all_choices(alloc)))?;
+    pieces.push(Subtree::Open(all_choices(alloc)))?;
     Ok(pieces)
 }
 
@@ -290,7 +293,7 @@ pub(crate) fn explored<G: CaseGate + Sync, R: Threads + Sync>(
     rt: &R,
     alloc: Global,
     gate: &G,
-    work: &Work<'_>,
+    work: &CaseWork<'_>,
     cuts: &[u32],
     workers: usize,
 ) -> Result<Vec<Begun>, AllocError>

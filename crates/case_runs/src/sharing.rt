@@ -8,8 +8,10 @@ ghost use Rattle.case_runs.specs.Pieces.{IsSearchOf};
 ghost use Rattle.case_runs.specs.Shares.{cut_in, IsAnswer, AreAnswers};
 
 use crate::gate::CaseGate;
-use crate::pieces::{Answer, Begun, Piece, Start, copy_start, is_start, pieces_of, run_start};
-use crate::work::Work;
+use crate::pieces::{
+    Begun, Start, Subtree, SubtreeAnswer, copy_start, is_start, pieces_of, run_start,
+};
+use crate::work::CaseWork;
 use cases::{Cut, Search};
 use checker::Checker;
 use helpers::Context;
@@ -32,7 +34,7 @@ const ROUND: usize = 65_536;
 
 /// An open piece, as workers see it.
 #[derive(Clone, Copy)]
-struct Job<'s> {
+struct OpenSubtree<'s> {
     cut: u32,
     program: usize,
     start: &'s Start,
@@ -41,7 +43,7 @@ struct Job<'s> {
 /// The open pieces of a round, which its workers draw one by one.
 #[derive(Drop)]
 struct Pile<'s> {
-    jobs: Vec<Job<'s>>,
+    jobs: Vec<OpenSubtree<'s>>,
     next: AtomicUsize,
     /// After this number of leaves a piece is cut.
     most: u32,
@@ -49,16 +51,16 @@ struct Pile<'s> {
 
 /// What a worker has: its answers, and how many leaves they have.
 #[derive(Drop)]
-struct Hand {
-    answers: Vec<Answer>,
+struct WorkerAnswers {
+    answers: Vec<SubtreeAnswer>,
     leaves: usize,
 }
 
 /// Appends the open pieces of what was begun at a cut with a checker.
-fn put_jobs<'s>(jobs: &mut Vec<Job<'s>>, begun: &'s Begun) -> Result<(), AllocError> {
+fn put_jobs<'s>(jobs: &mut Vec<OpenSubtree<'s>>, begun: &'s Begun) -> Result<(), AllocError> {
     for piece in begun.pieces.as_slice() {
-        if let Piece::Open(start) = piece {
-            jobs.push(Job {
+        if let Subtree::Open(start) = piece {
+            jobs.push(OpenSubtree {
                 cut: begun.cut,
                 program: begun.program,
                 start,
@@ -101,11 +103,11 @@ fn answer_of<G: CaseGate>(
     cut: &Cut<'_>,
     context: Context,
     checker: &Checker<'_>,
-    work: &Work<'_>,
-    job: &Job<'_>,
+    work: &CaseWork<'_>,
+    job: &OpenSubtree<'_>,
     place: usize,
     most: u32,
-) -> Result<Option<Answer>, AllocError>
+) -> Result<Option<SubtreeAnswer>, AllocError>
     requires cut { cut.now ≡ cut_in work.now job.now.cut }
     requires checker { slice_get work.now.checkers.now job.now.program ≡ Some checker.now }
     requires context { context ≡ context_at cut.now.log cut.now.cut }
@@ -120,7 +122,7 @@ fn answer_of<G: CaseGate>(
     let ran = run_start(
         alloc, gate, search, cut, context, checker, work.asked, job.start, most,
     )?;
-    Ok(Some(Answer {
+    Ok(Some(SubtreeAnswer {
         place,
         cut: job.cut,
         program: job.program,
@@ -130,9 +132,9 @@ fn answer_of<G: CaseGate>(
     }))
 }
 
-impl Hand {
+impl WorkerAnswers {
     /// Takes an answer, if there is one.
-    fn put(&mut self, work: &Work<'_>, answer: Option<Answer>) -> Result<(), AllocError>
+    fn put(&mut self, work: &CaseWork<'_>, answer: Option<SubtreeAnswer>) -> Result<(), AllocError>
         requires answers { All (IsAnswer work.now) self.old.answers.items }
         requires answer { IfSome answer (IsAnswer work.now) }
         ensures { All (IsAnswer work.now) self.new.answers.items }
@@ -155,8 +157,8 @@ impl Hand {
         cut: &Cut<'_>,
         context: Context,
         checker: &Checker<'_>,
-        work: &Work<'_>,
-        job: &Job<'_>,
+        work: &CaseWork<'_>,
+        job: &OpenSubtree<'_>,
         place: usize,
         most: u32,
     ) -> Result<(), AllocError>
@@ -184,10 +186,10 @@ impl Hand {
         cut: &Cut<'_>,
         context: Context,
         checker: &Checker<'_>,
-        work: &Work<'_>,
+        work: &CaseWork<'_>,
         pile: &Pile<'_>,
         place: usize,
-        first: &Job<'_>,
+        first: &OpenSubtree<'_>,
     ) -> Result<usize, AllocError>
         requires cut { cut.now ≡ cut_in work.now first.now.cut }
         requires checker { slice_get work.now.checkers.now first.now.program ≡ Some checker.now }
@@ -223,10 +225,10 @@ impl Hand {
         alloc: Global,
         gate: &G,
         checker: &Checker<'_>,
-        work: &Work<'_>,
+        work: &CaseWork<'_>,
         pile: &Pile<'_>,
         place: usize,
-        first: &Job<'_>,
+        first: &OpenSubtree<'_>,
     ) -> Result<usize, AllocError>
         requires device { AreFor work.now.log.now.sectors work.now.checkers.now }
         requires cut { first.now.cut ≤ length work.now.log.now.entries }
@@ -257,10 +259,10 @@ impl Hand {
         &mut self,
         alloc: Global,
         gate: &G,
-        work: &Work<'_>,
+        work: &CaseWork<'_>,
         pile: &Pile<'_>,
         place: usize,
-        first: &Job<'_>,
+        first: &OpenSubtree<'_>,
     ) -> Result<usize, AllocError>
         requires device { AreFor work.now.log.now.sectors work.now.checkers.now }
         requires answers { All (IsAnswer work.now) self.old.answers.items }
@@ -280,13 +282,13 @@ impl Hand {
 fn answers_of<G: CaseGate>(
     alloc: Global,
     gate: &G,
-    work: &Work<'_>,
+    work: &CaseWork<'_>,
     pile: &Pile<'_>,
-) -> Result<Vec<Answer>, AllocError>
+) -> Result<Vec<SubtreeAnswer>, AllocError>
     requires device { AreFor work.now.log.now.sectors work.now.checkers.now }
     ensures { IfOk result (λ answers. All (IsAnswer work.now) answers.items) }
 {
-    let mut hand = Hand {
+    let mut hand = WorkerAnswers {
         answers: Vec::new(alloc),
         leaves: 0,
     };
@@ -305,10 +307,10 @@ fn all_answers<G: CaseGate + Sync, R: Threads + Sync>(
     rt: &R,
     alloc: Global,
     gate: &G,
-    work: &Work<'_>,
+    work: &CaseWork<'_>,
     pile: &Pile<'_>,
     workers: usize,
-) -> Result<Vec<Result<Vec<Answer>, AllocError>>, AllocError>
+) -> Result<Vec<Result<Vec<SubtreeAnswer>, AllocError>>, AllocError>
     requires device { AreFor work.now.log.now.sectors work.now.checkers.now }
     ensures { IfOk result (λ all. All (λ one. IfOk one (λ answers. All (IsAnswer work.now) answers.items)) all.items) }
 {
@@ -316,7 +318,7 @@ fn all_answers<G: CaseGate + Sync, R: Threads + Sync>(
         rt,
         alloc,
         workers,
-        &|_worker: usize| -> Result<Vec<Answer>, AllocError>
+        &|_worker: usize| -> Result<Vec<SubtreeAnswer>, AllocError>
             requires { AreFor work.now.log.now.sectors work.now.checkers.now }
             ensures { IfOk result (λ answers. All (IsAnswer work.entry.now) answers.items) }
         { answers_of(alloc, gate, work, pile) },
@@ -324,7 +326,7 @@ fn all_answers<G: CaseGate + Sync, R: Threads + Sync>(
 }
 
 /// A place for the answer of each open piece, the last one first.
-fn places_of(alloc: Global, count: usize) -> Result<Vec<Option<Answer>>, AllocError>
+fn places_of(alloc: Global, count: usize) -> Result<Vec<Option<SubtreeAnswer>>, AllocError>
     ensures { IfOk result (λ places. All (λ place. place ≡ None) places.items) }
 {
     let mut places = Vec::new(alloc);
@@ -335,7 +337,7 @@ fn places_of(alloc: Global, count: usize) -> Result<Vec<Option<Answer>>, AllocEr
 }
 
 /// Puts an answer in its place.
-fn put_answer(work: &Work<'_>, places: &mut Vec<Option<Answer>>, answer: Answer)
+fn put_answer(work: &CaseWork<'_>, places: &mut Vec<Option<SubtreeAnswer>>, answer: SubtreeAnswer)
     requires places { AreAnswers work.now places.old.items }
     requires answer { IsAnswer work.now answer }
     ensures { AreAnswers work.now places.new.items }
@@ -349,7 +351,11 @@ fn put_answer(work: &Work<'_>, places: &mut Vec<Option<Answer>>, answer: Answer)
 }
 
 /// Puts the answers of a worker in their places.
-fn put_each(work: &Work<'_>, places: &mut Vec<Option<Answer>>, answers: Vec<Answer>)
+fn put_each(
+    work: &CaseWork<'_>,
+    places: &mut Vec<Option<SubtreeAnswer>>,
+    answers: Vec<SubtreeAnswer>,
+)
     requires places { AreAnswers work.now places.old.items }
     requires answers { All (IsAnswer work.now) answers.items }
     ensures { AreAnswers work.now places.new.items }
@@ -362,9 +368,9 @@ fn put_each(work: &Work<'_>, places: &mut Vec<Option<Answer>>, answers: Vec<Answ
 
 /// Puts the answers of a worker in their places, if it didn't want memory.
 fn put_found(
-    work: &Work<'_>,
-    places: &mut Vec<Option<Answer>>,
-    found: Result<Vec<Answer>, AllocError>,
+    work: &CaseWork<'_>,
+    places: &mut Vec<Option<SubtreeAnswer>>,
+    found: Result<Vec<SubtreeAnswer>, AllocError>,
 ) -> Result<(), AllocError>
     requires places { AreAnswers work.now places.old.items }
     requires found { IfOk found (λ answers. All (IsAnswer work.now) answers.items) }
@@ -378,10 +384,10 @@ fn put_found(
 /// Puts the answers of all workers in their places.
 fn put_answers(
     alloc: Global,
-    work: &Work<'_>,
+    work: &CaseWork<'_>,
     count: usize,
-    all: Vec<Result<Vec<Answer>, AllocError>>,
-) -> Result<Vec<Option<Answer>>, AllocError>
+    all: Vec<Result<Vec<SubtreeAnswer>, AllocError>>,
+) -> Result<Vec<Option<SubtreeAnswer>>, AllocError>
     requires { All (λ one. IfOk one (λ answers. All (IsAnswer work.now) answers.items)) all.items }
     ensures { IfOk result (λ places. AreAnswers work.now places.items) }
 {
@@ -397,10 +403,10 @@ pub(crate) fn answers<G: CaseGate + Sync, R: Threads + Sync>(
     rt: &R,
     alloc: Global,
     gate: &G,
-    work: &Work<'_>,
+    work: &CaseWork<'_>,
     begun: &[Begun],
     workers: usize,
-) -> Result<Vec<Option<Answer>>, AllocError>
+) -> Result<Vec<Option<SubtreeAnswer>>, AllocError>
     requires device { AreFor work.now.log.now.sectors work.now.checkers.now }
     ensures { IfOk result (λ places. AreAnswers work.now places.items) }
 {

@@ -11,7 +11,7 @@ use logfmt::Log;
 
 /// A log with its plan, the checkers, and what is asked.
 #[derive(Clone, Copy)]
-pub(crate) struct Work<'x> {
+pub(crate) struct CaseWork<'x> {
     pub(crate) plan: &'x Plan<'x>,
     pub(crate) log: &'x Log,
     pub(crate) way: By,
@@ -20,7 +20,7 @@ pub(crate) struct Work<'x> {
     pub ghost plan_is: { plan.now.log ≡ log.now },
 }
 
-impl<'x> Work<'x> {
+impl<'x> CaseWork<'x> {
     /// The context of a cut.
     pub(crate) fn context(&self, number: u32) -> Context
         requires { number ≤ length self.now.log.now.entries }

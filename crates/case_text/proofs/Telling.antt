@@ -24,7 +24,7 @@ use Rattle.case_runs.specs.declared.found.CutFound.{CutFound}
 use Rattle.case_runs.specs.Leaves.{FailingValue, failing_value}
 use Rattle.case_text.specs.Known.{KnownValue, known_of}
 use Rattle.case_text.specs.Window.{last_staying, later, between, case_window}
-use Rattle.case_text.specs.declared.told.Told.{Told}
+use Rattle.case_text.specs.declared.told.ToldFailing.{ToldFailing}
 use Rattle.case_text.specs.Collected.{told_value, alike_told}
 use Rattle.case_text.specs.Causes.{cause_text}
 use Rattle.case_text.specs.Why.{ToldValue, tail_text, told_of, all_told, is_alike, first_line, also_if, group_with, group_at, groups_text, cut_line, told_text, cut_causes, all_failures, parts_bytes, why_bytes, TellsWhy}
@@ -42,57 +42,57 @@ told_is at tears torn f cut way parts sets known window cause tail cut_is way_is
     let ended : tail ≡ tail_text (ending_text f.ending) (case_window at (case_of tears (parts_of at) f.sets)) = tail_is ∙ ap (tail_text (ending_text f.ending)) held in
     λ i. record { number = f.number; window = held i; cause = because i; tail = ended i }
 
-map_take : (n : ℕ) (xs : List Told) → take n (map told_value xs) ≡ map told_value (take n xs)
+map_take : (n : ℕ) (xs : List ToldFailing) → take n (map told_value xs) ≡ map told_value (take n xs)
 map_take zero xs = refl
 map_take (suc n) [] = refl
 map_take (suc n) (x ∷ xs) = ap (λ ys. told_value x ∷ ys) (map_take n xs)
 
-map_drop : (n : ℕ) (xs : List Told) → drop n (map told_value xs) ≡ map told_value (drop n xs)
+map_drop : (n : ℕ) (xs : List ToldFailing) → drop n (map told_value xs) ≡ map told_value (drop n xs)
 map_drop zero xs = refl
 map_drop (suc n) [] = refl
 map_drop (suc n) (x ∷ xs) = map_drop n xs
 
-map_there : (n : ℕ) (xs : List Told) (x : Told) → slice_get xs n ≡ Some x → slice_get (map told_value xs) n ≡ Some (told_value x)
+map_there : (n : ℕ) (xs : List ToldFailing) (x : ToldFailing) → slice_get xs n ≡ Some x → slice_get (map told_value xs) n ≡ Some (told_value x)
 map_there n [] x at = absurd (let bad : None ≡ Some x = at in cc)
 map_there zero (y ∷ xs) x at = let same : y ≡ x = (let e : Some y ≡ Some x = at in cc) in ap (λ z. Some (told_value z)) same
 map_there (suc n) (y ∷ xs) x at = map_there n xs x at
 
 -- the group of the case at a place
-pub group_is : (told : List Told) (n : ℕ) (x : Told) → slice_get told n ≡ Some x
+pub group_is : (told : List ToldFailing) (n : ℕ) (x : ToldFailing) → slice_get told n ≡ Some x
     → group_at (map told_value told) n ≡ group_with (map told_value (take n told)) (told_value x) (map told_value (drop (n + 1) told))
 group_is told n x at =
     ap (λ o. option_map_or (λ (t : ToldValue). group_with (take n (map told_value told)) t (drop (n + 1) (map told_value told))) o []) (map_there n told x at)
     ∙ (λ i. group_with (map_take n told i) (told_value x) (map_drop (n + 1) told i))
 
-any_told : (x : Told) (xs : List Told) → list_any (alike_told x) xs ≡ list_any (is_alike (told_value x)) (map told_value xs)
+any_told : (x : ToldFailing) (xs : List ToldFailing) → list_any (alike_told x) xs ≡ list_any (is_alike (told_value x)) (map told_value xs)
 any_told x [] = refl
 any_told x (y ∷ xs) = ap (λ b. is_alike (told_value x) (told_value y) || b) (any_told x xs)
 
 -- none is alike from the end on, and from one place before those of which none is
-pub none_past : (x : Told) (told : List Told) → list_any (alike_told x) (drop (length told) told) ≡ false
+pub none_past : (x : ToldFailing) (told : List ToldFailing) → list_any (alike_told x) (drop (length told) told) ≡ false
 none_past x told = ap (list_any (alike_told x)) (drop_all (length told) told (omega arith))
 
-pub none_before : (x : Told) (told : List Told) (n m : ℕ) (y : Told) → m + 1 ≡ n → n ≤ length told → y ≡ get_or told m y → false ≡ alike_told x y
+pub none_before : (x : ToldFailing) (told : List ToldFailing) (n m : ℕ) (y : ToldFailing) → m + 1 ≡ n → n ≤ length told → y ≡ get_or told m y → false ≡ alike_told x y
     → list_any (alike_told x) (drop n told) ≡ false → list_any (alike_told x) (drop m told) ≡ false
 none_before x told n m y next within there apart none =
     let less : m < length told = omega (arith, next, within) in
-    ap (list_any (alike_told x)) (drop_more told m y less ∙ ap (λ (z : Told). z ∷ drop (m + 1) told) (sym there))
+    ap (list_any (alike_told x)) (drop_more told m y less ∙ ap (λ (z : ToldFailing). z ∷ drop (m + 1) told) (sym there))
     ∙ ap (λ k. alike_told x y || list_any (alike_told x) (drop k told)) next ∙ ap (λ v. v || list_any (alike_told x) (drop n told)) (sym apart) ∙ none
 
 -- the case at that place is, or none of all is
-pub some_before : (x : Told) (told : List Told) (n m : ℕ) (y : Told) → m + 1 ≡ n → n ≤ length told → y ≡ get_or told m y → true ≡ alike_told x y
+pub some_before : (x : ToldFailing) (told : List ToldFailing) (n m : ℕ) (y : ToldFailing) → m + 1 ≡ n → n ≤ length told → y ≡ get_or told m y → true ≡ alike_told x y
     → true ≡ list_any (alike_told x) told
 some_before x told n m y next within there alike =
     let less : m < length told = omega (arith, next, within) in
     sym (list_any_at (alike_told x) told m y less (ap (alike_told x) (sym there) ∙ sym alike))
 
-pub none_at_all : (x : Told) (told : List Told) (n : ℕ) → n ≤ 0 → list_any (alike_told x) (drop n told) ≡ false → false ≡ list_any (alike_told x) told
+pub none_at_all : (x : ToldFailing) (told : List ToldFailing) (n : ℕ) → n ≤ 0 → list_any (alike_told x) (drop n told) ≡ false → false ≡ list_any (alike_told x) told
 none_at_all x told n end none =
     let first : n ≡ 0 = omega (arith, end) in
     sym none ∙ ap (λ k. list_any (alike_told x) (drop k told)) first
 
 -- nothing, where one before it is alike
-pub no_group : (told : List Told) (n : ℕ) (x : Told) (old : List ℕ) → slice_get told n ≡ Some x → true ≡ list_any (alike_told x) (take n told)
+pub no_group : (told : List ToldFailing) (n : ℕ) (x : ToldFailing) (old : List ℕ) → slice_get told n ≡ Some x → true ≡ list_any (alike_told x) (take n told)
     → old ≡ old ++ group_at (map told_value told) n
 no_group told n x old at found =
     sym (append-nil old)
@@ -101,11 +101,11 @@ no_group told n x old at found =
     ∙ ap (λ v. if v then [] else first_line (told_value x) ++ flat_map (also_if (told_value x)) (map told_value (drop (n + 1) told))) (sym (any_told x (take n told)) ∙ sym found)))
 
 -- and else the case and those after it that are alike
-pub own_group : (told : List Told) (n : ℕ) (x : Told) (old first new : List ℕ) → slice_get told n ≡ Some x → false ≡ list_any (alike_told x) (take n told)
+pub own_group : (told : List ToldFailing) (n : ℕ) (x : ToldFailing) (old first new : List ℕ) → slice_get told n ≡ Some x → false ≡ list_any (alike_told x) (take n told)
     → first ≡ old ++ first_line (told_value x) → new ≡ first ++ flat_map (also_if (told_value x)) (map told_value (take (length told - (n + 1)) (drop (n + 1) told)))
     → new ≡ old ++ group_at (map told_value told) n
 own_group told n x old first new at found begins ends =
-    ends ∙ ap (λ (ts : List Told). first ++ flat_map (also_if (told_value x)) (map told_value ts)) (take_rest told (n + 1))
+    ends ∙ ap (λ (ts : List ToldFailing). first ++ flat_map (also_if (told_value x)) (map told_value ts)) (take_rest told (n + 1))
     ∙ ap (λ ys. ys ++ flat_map (also_if (told_value x)) (map told_value (drop (n + 1) told))) begins
     ∙ append_assoc old (first_line (told_value x)) (flat_map (also_if (told_value x)) (map told_value (drop (n + 1) told)))
     ∙ ap (λ ys. old ++ ys)
@@ -123,19 +123,19 @@ groups_next told n first before new was is =
     is ∙ ap (λ ys. ys ++ group_at told n) was ∙ append_assoc first (flat_map (group_at told) (range_with_len 0 n)) (group_at told n) ∙ ap (λ ys. first ++ ys) (sym more)
 
 -- those of all places
-pub groups_all : (told : List Told) (n : ℕ) (first new : List ℕ) → n ≡ length told → new ≡ first ++ flat_map (group_at (map told_value told)) (range_with_len 0 n)
+pub groups_all : (told : List ToldFailing) (n : ℕ) (first new : List ℕ) → n ≡ length told → new ≡ first ++ flat_map (group_at (map told_value told)) (range_with_len 0 n)
     → new ≡ first ++ groups_text (map told_value told)
 groups_all told n first new all is =
     is ∙ ap (λ m. first ++ flat_map (group_at (map told_value told)) (range_with_len 0 m)) (all ∙ sym (length-map told told_value))
 
 -- a program without failing cases
-pub no_told : (cut program : ℕ) (told : List Told) (old : List ℕ) → length told ≡ 0 → old ≡ old ++ told_text cut program (map told_value told)
+pub no_told : (cut program : ℕ) (told : List ToldFailing) (old : List ℕ) → length told ≡ 0 → old ≡ old ++ told_text cut program (map told_value told)
 unfolding told_text
 no_told cut program [] old none = sym (append-nil old)
 no_told cut program (t ∷ told) old none = absurd (omega (arith, none))
 
 -- one with some
-pub some_told : (cut program : ℕ) (told : List Told) (old line new : List ℕ) → 0 < length told → line ≡ old ++ cut_line cut program (length told)
+pub some_told : (cut program : ℕ) (told : List ToldFailing) (old line new : List ℕ) → 0 < length told → line ≡ old ++ cut_line cut program (length told)
     → new ≡ line ++ groups_text (map told_value told) → new ≡ old ++ told_text cut program (map told_value told)
 unfolding told_text
 some_told cut program [] old line new some begins ends = absurd (omega (arith, some))
@@ -150,7 +150,7 @@ some_told cut program (t ∷ told) old line new some begins ends =
     ∙ ap (λ (v : Bool). old ++ (if v then [] else cut_line cut program (length all) ++ groups_text all)) (sym apart)
 
 -- what is said of one case more
-pub told_next : (at : CutValue) (tears : Bool) (failing : List FailingCase) (n : ℕ) (f : FailingCase) (told more : List Told) (one : Told)
+pub told_next : (at : CutValue) (tears : Bool) (failing : List FailingCase) (n : ℕ) (f : FailingCase) (told more : List ToldFailing) (one : ToldFailing)
     → map told_value told ≡ all_told at tears (take n failing) → more ≡ told ++ one ∷ [] → told_value one ≡ told_of at tears (failing_value f)
     → f ≡ get_or failing n f → n < length failing → map told_value more ≡ all_told at tears (take (n + 1) failing)
 told_next at tears failing n f told more one was is said there less =

@@ -9,13 +9,13 @@ use Rattle.cases.specs.Choices.{departs}
 use Rattle.cases.specs.Sets.{fates_in}
 use Rattle.cases.specs.AtCut.{CutValue}
 use Rattle.case_text.specs.Window.{last_staying}
-use Rattle.case_text.specs.declared.known.Mixed.{Mixed}
-use Rattle.case_text.specs.declared.told.Told.{Told}
+use Rattle.case_text.specs.declared.known.MixedFates.{MixedFates}
+use Rattle.case_text.specs.declared.told.ToldFailing.{ToldFailing}
 use Rattle.case_text.specs.Why.{ToldValue, is_alike}
 use Rattle.case_text.specs.Known.{PartFates, KnownValue, is_kept, is_free, is_mixed, is_never_whole, is_never_gone}
 
 -- what a part with a set says
-abbrev pub mixed_value : Mixed → PartFates
+abbrev pub mixed_value : MixedFates → PartFates
 mixed_value m = record { part = m.part; fates = fates_in m.set }
 
 -- what is known with one more part, of which these fates are possible
@@ -42,9 +42,9 @@ pub record IsSite (s : SiteValue) (way : By) (epoch marks : ℕ) (staying : Opti
   pub staying_is : staying ≡ last_staying s.at
 
 -- what is said of a failing case
-abbrev pub told_value : Told → ToldValue
+abbrev pub told_value : ToldFailing → ToldValue
 told_value t = record { number = t.number; window = t.window; cause = string_bytes t.cause; tail = string_bytes t.tail }
 
 -- two failing cases have the same outcome and the same window
-abbrev pub alike_told : Told → Told → Bool
+abbrev pub alike_told : ToldFailing → ToldFailing → Bool
 alike_told one other = is_alike (told_value one) (told_value other)

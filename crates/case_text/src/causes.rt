@@ -4,7 +4,7 @@ ghost use Rattle.std.specs.Prelude.{◌≡◌, ◌++◌, ◌+◌, ◌<◌, ◌^�
 ghost use Rattle.case_text.specs.Causes.{if_lost, if_torn, lost_parts, torn_parts, lost_said, torn_said, and_said, gone_text, if_from, parts_from, kept_word, kept_said, while_text, nothing_text, if_at, parts_at, after_text, only_text, is_entry, left_text, uncured_text, cause_text};
 
 use crate::fates::is_gone;
-use crate::known::Known;
+use crate::known::KnownParts;
 use crate::said::put_parts;
 use choices::Departure;
 use epochs::{By, Part};
@@ -144,7 +144,7 @@ fn put_while(
     out: &mut String,
     alloc: Global,
     by: By,
-    known: &Known,
+    known: &KnownParts,
     window: Window,
 ) -> Result<(), AllocError>
     ensures { OnOk result (string_bytes out.new ≡ string_bytes out.old ++ while_text by known.now window) }
@@ -242,7 +242,7 @@ fn put_left(
     out: &mut String,
     alloc: Global,
     by: By,
-    known: &Known,
+    known: &KnownParts,
     entry: u32,
 ) -> Result<(), AllocError>
     ensures { OnOk result (string_bytes out.new ≡ string_bytes out.old ++ left_text by known.now entry) }
@@ -259,7 +259,7 @@ fn put_uncured(
     alloc: Global,
     by: By,
     cut: u32,
-    known: &Known,
+    known: &KnownParts,
     first: Option<u32>,
 ) -> Result<(), AllocError>
     ensures { OnOk result (string_bytes out.new ≡ string_bytes out.old ++ uncured_text by cut known.now first) }
@@ -276,7 +276,7 @@ pub(crate) fn put_cause(
     alloc: Global,
     by: By,
     cut: u32,
-    known: &Known,
+    known: &KnownParts,
     window: Option<Window>,
 ) -> Result<(), AllocError>
     ensures { OnOk result (string_bytes out.new ≡ string_bytes out.old ++ cause_text by cut known.now window) }

@@ -13,11 +13,11 @@ ghost use Rattle.case_text.specs.Why.{by_program, failure_of, told_of, program_f
 ghost use Rattle.case_text.specs.Cured.{line_without, uncured_line, program_uncured, found_uncured, cut_uncured, all_uncured, none_text, begin_text, cure_begin};
 
 use crate::head::put_options;
-use crate::known::Known;
+use crate::known::KnownParts;
 use crate::lines::put_case;
 use crate::site::Site;
 use crate::totals::put_totals;
-use case_runs::{CutFound, FailingCase, Found, Losses};
+use case_runs::{CutFound, FailingCase, FoundCases, Losses};
 use epochs::{By, Plan};
 use logfmt::Log;
 use losses::cure::{Failure, put_programs};
@@ -38,7 +38,7 @@ pub struct CasesCure {
 
 /// The line of a failing case.
 fn line_of(
-    known: &mut Known,
+    known: &mut KnownParts,
     site: &Site<'_>,
     program: usize,
     case: &FailingCase,
@@ -52,7 +52,7 @@ fn line_of(
 
 /// The window of a failing case.
 fn window_of(
-    known: &mut Known,
+    known: &mut KnownParts,
     site: &Site<'_>,
     case: &FailingCase,
 ) -> Result<Option<Window>, AllocError>
@@ -65,7 +65,7 @@ fn window_of(
 /// Keeps the line of a failing case, where none is kept before it.
 fn keep_line(
     uncured: &mut Option<String>,
-    known: &mut Known,
+    known: &mut KnownParts,
     site: &Site<'_>,
     program: usize,
     case: &FailingCase,
@@ -83,7 +83,7 @@ fn keep_line(
 /// Keeps it, where that case has no window.
 fn keep_uncured(
     uncured: &mut Option<String>,
-    known: &mut Known,
+    known: &mut KnownParts,
     site: &Site<'_>,
     program: usize,
     case: &FailingCase,
@@ -101,7 +101,7 @@ fn keep_uncured(
 fn take_case(
     failures: &mut Vec<Failure>,
     uncured: &mut Option<String>,
-    known: &mut Known,
+    known: &mut KnownParts,
     site: &Site<'_>,
     program: usize,
     case: &FailingCase,
@@ -122,7 +122,7 @@ fn take_case(
 fn take_program(
     failures: &mut Vec<Failure>,
     uncured: &mut Option<String>,
-    known: &mut Known,
+    known: &mut KnownParts,
     site: &Site<'_>,
     program: usize,
     failing: &[FailingCase],
@@ -141,9 +141,9 @@ fn take_program(
 fn take_each(
     failures: &mut Vec<Failure>,
     uncured: &mut Option<String>,
-    known: &mut Known,
+    known: &mut KnownParts,
     site: &Site<'_>,
-    programs: &[Found],
+    programs: &[FoundCases],
 ) -> Result<(), AllocError>
     requires { length programs.now ≤ 256 }
     ensures failures { OnOk result (failures.new.items ≡ failures.old.items ++ by_program (found_failures site.now.at site.now.tears) 0 programs.now) }
@@ -166,7 +166,7 @@ fn take_each(
 fn take_cut(
     failures: &mut Vec<Failure>,
     uncured: &mut Option<String>,
-    known: &mut Known,
+    known: &mut KnownParts,
     log: &Log,
     plan: &Plan<'_>,
     by: By,
@@ -201,7 +201,7 @@ fn take_cuts(
     ensures failures { OnOk result (failures.new.items ≡ failures.old.items ++ all_failures log.now by tears found.now) }
     ensures uncured { OnOk result (option_map string_bytes uncured.new ≡ option_or (option_map string_bytes uncured.old) (slice_get (all_uncured log.now by tears found.now) 0)) }
 {
-    let mut known = Known::new(alloc);
+    let mut known = KnownParts::new(alloc);
     for cut in found {
         take_cut(failures, uncured, &mut known, log, plan, by, tears, cut)?;
     }

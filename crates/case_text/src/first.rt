@@ -4,7 +4,7 @@ ghost use Rattle.std.specs.Prelude.{◌≡◌, ◌≤◌, ◌++◌, length, IfOk
 ghost use Rattle.case_text.specs.First.{first_text, first_bytes};
 
 use crate::head::put_head;
-use crate::known::Known;
+use crate::known::KnownParts;
 use crate::lines::put_case;
 use crate::site::Site;
 use case_runs::{FirstCase, Losses};
@@ -37,7 +37,7 @@ pub fn write_first(
     ensures { IfOk result (λ bytes. bytes.items ≡ first_bytes head.now asked log.now first.now) }
 {
     let mut out = String::new(alloc);
-    let mut known = Known::new(alloc);
+    let mut known = KnownParts::new(alloc);
     let site = Site::new(alloc, plan, log, head.by, asked.tears, first.cut)?;
     put_head(&mut out, head, asked)?;
     put_case(&mut out, &mut known, &site, first.program, &first.case)?;

@@ -5,7 +5,7 @@ ghost use Rattle.std.specs.Option.{option_or};
 ghost use Rattle.cases.specs.Choices.{departs};
 ghost use Rattle.cases.specs.Sets.{fates_in};
 ghost use Rattle.cases.specs.AtCut.{Apart, case_of};
-ghost use Rattle.case_text.specs.Known.{is_kept, is_mixed, is_free, is_never_whole, is_never_gone, known_of};
+ghost use Rattle.case_text.specs.KnownParts.{is_kept, is_mixed, is_free, is_never_whole, is_never_gone, known_of};
 ghost use Rattle.case_text.specs.Collected.{mixed_value, with_more};
 
 use crate::fates::{fates_of, is_free, is_kept, is_mixed, is_never_gone, is_never_whole, set_at};
@@ -17,20 +17,20 @@ use std::marker::Model;
 
 /// A part of which more than one fate is possible, and not all, with the set of its fates.
 #[derive(Clone, Copy, Drop)]
-pub(crate) struct Mixed {
+pub(crate) struct MixedFates {
     pub(crate) part: Part,
     pub(crate) set: u16,
 }
 
 /// What a case says of the parts at risk. Its room is kept from case to case.
 #[derive(Drop)]
-pub struct Known {
+pub struct KnownParts {
     /// What the representative loses and tears.
     pub(crate) lost: Vec<Departure>,
     /// The parts that are whole.
     pub(crate) kept: Vec<Part>,
     /// Those of which more than one fate is possible, and not all.
-    pub(crate) mixed: Vec<Mixed>,
+    pub(crate) mixed: Vec<MixedFates>,
     /// How many may have any fate.
     pub(crate) free: usize,
     /// The first entry of which a part isn't whole, whatever becomes of it.
@@ -39,9 +39,9 @@ pub struct Known {
     pub(crate) last_arrived: Option<u32>,
 }
 
-impl Model for Known {
+impl Model for KnownParts {
     ghost use Rattle.std.specs.Prelude.{map};
-    ghost use Rattle.case_text.specs.Known.{KnownValue};
+    ghost use Rattle.case_text.specs.KnownParts.{KnownValue};
     ghost use Rattle.case_text.specs.Collected.{mixed_value};
 
     ghost Value = { KnownValue };
@@ -71,7 +71,7 @@ fn push_kept(kept: &mut Vec<Part>, part: Part, is_kept: bool) -> Result<(), Allo
 
 /// Appends a part with the set of its fates, if these are more than one and not all.
 fn push_mixed(
-    mixed: &mut Vec<Mixed>,
+    mixed: &mut Vec<MixedFates>,
     part: Part,
     set: u16,
     is_mixed: bool,
@@ -79,7 +79,7 @@ fn push_mixed(
     ensures { OnOk result (map mixed_value mixed.new.items ≡ map mixed_value mixed.old.items ++ (if is_mixed then record { part = part; fates = fates_in set } ∷ [] else [])) }
 {
     if is_mixed {
-        mixed.push(Mixed { part, set })?;
+        mixed.push(MixedFates { part, set })?;
     }
     Ok(())
 }
@@ -101,10 +101,10 @@ fn last_with(last: Option<u32>, entry: u32, is: bool) -> Option<u32>
     if is { Some(entry) } else { last }
 }
 
-impl Known {
+impl KnownParts {
     /// Nothing, of no parts.
-    pub fn new(alloc: Global) -> Known {
-        Known {
+    pub fn new(alloc: Global) -> KnownParts {
+        KnownParts {
             lost: Vec::new(alloc),
             kept: Vec::new(alloc),
             mixed: Vec::new(alloc),

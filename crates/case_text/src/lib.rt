@@ -121,7 +121,7 @@ pub use cured::{CasesCure, cure_of_cases};
 pub use fates::{Fates, fates_of, is_free, is_kept, is_never_whole, set_at};
 pub use first::write_first;
 pub use head::put_options;
-pub use known::Known;
+pub use known::KnownParts;
 pub use laws::{case_is_shown, flush_takes_case_away, nothing_is_lost, window_is_told};
 pub use lines::{put_number, put_place};
 pub use said::{put_fates, put_window};

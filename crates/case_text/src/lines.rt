@@ -4,10 +4,10 @@ ghost use Rattle.std.specs.Prelude.{◌≡◌, ◌≤◌, ◌++◌, length, OnOk
 ghost use Rattle.case_runs.specs.Leaves.{failing_value};
 ghost use Rattle.case_text.specs.Text.{place_text, number_text, case_line, program_cases, programs_cases, cut_cases};
 
-use crate::known::Known;
+use crate::known::KnownParts;
 use crate::said::{put_known, put_window};
 use crate::site::Site;
-use case_runs::{CutFound, FailingCase, Found};
+use case_runs::{CutFound, FailingCase, FoundCases};
 use epochs::{By, Plan};
 use logfmt::Log;
 use report::lines::put_outcome;
@@ -32,7 +32,7 @@ pub fn put_number(out: &mut String, program: u64, number: u64) -> Result<(), All
 /// Appends a failing case of a program.
 pub(crate) fn put_case(
     out: &mut String,
-    known: &mut Known,
+    known: &mut KnownParts,
     site: &Site<'_>,
     program: usize,
     case: &FailingCase,
@@ -57,7 +57,7 @@ pub(crate) fn put_case(
 /// Appends those of a program.
 fn put_program(
     out: &mut String,
-    known: &mut Known,
+    known: &mut KnownParts,
     site: &Site<'_>,
     program: usize,
     failing: &[FailingCase],
@@ -73,9 +73,9 @@ fn put_program(
 /// Appends those of each program.
 fn put_programs(
     out: &mut String,
-    known: &mut Known,
+    known: &mut KnownParts,
     site: &Site<'_>,
-    programs: &[Found],
+    programs: &[FoundCases],
 ) -> Result<(), AllocError>
     ensures { OnOk result (string_bytes out.new ≡ string_bytes out.old ++ programs_cases site.now.at site.now.tears 0 programs.now) }
 {
@@ -88,7 +88,7 @@ fn put_programs(
 /// Appends the failing cases of a cut.
 pub(crate) fn put_cut(
     out: &mut String,
-    known: &mut Known,
+    known: &mut KnownParts,
     log: &Log,
     plan: &Plan<'_>,
     by: By,

@@ -6,7 +6,7 @@ ghost use Rattle.case_text.specs.Collected.{mixed_value};
 ghost use Rattle.case_text.specs.Text.{fate_word, next_fate, fates_text, part_name, next_part, parts_text, mixed_text, next_mixed, among_text, known_text, window_text};
 
 use crate::fates::fates_of;
-use crate::known::{Known, Mixed};
+use crate::known::{KnownParts, MixedFates};
 use choices::Fate;
 use epochs::{By, Part};
 use losses::flushes::Window;
@@ -75,7 +75,7 @@ pub(crate) fn put_parts(out: &mut String, by: By, parts: &[Part]) -> Result<(), 
 
 /// Appends a part with what may become of it.
 #[tactic(auto, unfolding(crate::specs::Text::mixed_text))]
-fn put_mixed(out: &mut String, by: By, mixed: Mixed) -> Result<(), AllocError>
+fn put_mixed(out: &mut String, by: By, mixed: MixedFates) -> Result<(), AllocError>
     ensures { OnOk result (string_bytes out.new ≡ string_bytes out.old ++ mixed_text by (mixed_value mixed)) }
 {
     put_part(out, by, mixed.part.entry, mixed.part.place)?;
@@ -85,7 +85,7 @@ fn put_mixed(out: &mut String, by: By, mixed: Mixed) -> Result<(), AllocError>
 }
 
 /// Appends one that follows another.
-fn put_next_mixed(out: &mut String, by: By, mixed: Mixed) -> Result<(), AllocError>
+fn put_next_mixed(out: &mut String, by: By, mixed: MixedFates) -> Result<(), AllocError>
     ensures { OnOk result (string_bytes out.new ≡ string_bytes out.old ++ next_mixed by (mixed_value mixed)) }
 {
     write!(out, ",")?;
@@ -94,7 +94,7 @@ fn put_next_mixed(out: &mut String, by: By, mixed: Mixed) -> Result<(), AllocErr
 
 /// Appends the parts of which more than one fate is possible and not all, where there are some.
 #[tactic(auto, unfolding(crate::specs::Text::among_text))]
-fn put_among(out: &mut String, by: By, mixed: &[Mixed]) -> Result<(), AllocError>
+fn put_among(out: &mut String, by: By, mixed: &[MixedFates]) -> Result<(), AllocError>
     ensures { OnOk result (string_bytes out.new ≡ string_bytes out.old ++ among_text by (map mixed_value mixed.now)) }
 {
     match mixed {
@@ -112,7 +112,7 @@ fn put_among(out: &mut String, by: By, mixed: &[Mixed]) -> Result<(), AllocError
 
 /// Appends what is known of the parts at risk.
 #[tactic(auto, unfolding(crate::specs::Text::known_text))]
-pub(crate) fn put_known(out: &mut String, by: By, known: &Known) -> Result<(), AllocError>
+pub(crate) fn put_known(out: &mut String, by: By, known: &KnownParts) -> Result<(), AllocError>
     ensures { OnOk result (string_bytes out.new ≡ string_bytes out.old ++ known_text by known.now) }
 {
     write!(out, " choice ")?;

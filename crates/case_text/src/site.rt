@@ -7,7 +7,7 @@ ghost use Rattle.epochs.specs.Units.{epoch_at, marks_at};
 ghost use Rattle.cases.specs.AtCut.{Apart, parts_of};
 ghost use Rattle.case_text.specs.Window.{stays, last_staying, later, between};
 
-use crate::known::Known;
+use crate::known::KnownParts;
 use cases::Cut;
 use epochs::{By, Part, Plan};
 use logfmt::{Entry, Log};
@@ -196,7 +196,7 @@ impl<'a> Site<'a> {
     }
 
     /// The window of a case, by what is known of it.
-    pub fn window(&self, known: &Known) -> Option<Window>
+    pub fn window(&self, known: &KnownParts) -> Option<Window>
         ensures { result ≡ between known.now.first_lost (later (last_staying self.now.at) known.now.last_arrived) }
     {
         between(known.first_lost, later(self.staying, known.last_arrived))

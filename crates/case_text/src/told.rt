@@ -9,7 +9,7 @@ ghost use Rattle.case_text.specs.Causes.{cause_text};
 ghost use Rattle.case_text.specs.Why.{tail_text, told_of, all_told, failure_of};
 
 use crate::causes::put_cause;
-use crate::known::Known;
+use crate::known::KnownParts;
 use crate::said::put_window;
 use crate::site::Site;
 use case_runs::FailingCase;
@@ -22,7 +22,7 @@ use std::alloc::{AllocError, Global};
 
 /// A failing case with what is said of it.
 #[derive(Drop)]
-pub(crate) struct Told {
+pub(crate) struct ToldFailing {
     /// Its number among the leaves of its cut.
     pub(crate) number: usize,
     /// Where a flush takes it away.
@@ -48,7 +48,7 @@ fn cause_of(
     alloc: Global,
     by: By,
     cut: u32,
-    known: &Known,
+    known: &KnownParts,
     window: Option<Window>,
 ) -> Result<String, AllocError>
     ensures { IfOk result (λ cause. string_bytes cause ≡ cause_text by cut known.now window) }
@@ -68,7 +68,11 @@ fn tail_of(alloc: Global, outcome: &Outcome, window: Option<Window>) -> Result<S
 }
 
 /// What is said of a failing case.
-fn told_of(known: &mut Known, site: &Site<'_>, case: &FailingCase) -> Result<Told, AllocError>
+fn told_of(
+    known: &mut KnownParts,
+    site: &Site<'_>,
+    case: &FailingCase,
+) -> Result<ToldFailing, AllocError>
     ensures { IfOk result (λ told. told_value told ≡ told_of site.now.at site.now.tears (failing_value case.now)) }
 {
     let alloc = *known.lost.allocator();
@@ -76,7 +80,7 @@ fn told_of(known: &mut Known, site: &Site<'_>, case: &FailingCase) -> Result<Tol
     let window = site.window(known);
     let cause = cause_of(alloc, site.by(), site.number(), known, window)?;
     let tail = tail_of(alloc, &case.outcome, window)?;
-    Ok(Told {
+    Ok(ToldFailing {
         number: case.number,
         window,
         cause,
@@ -86,10 +90,10 @@ fn told_of(known: &mut Known, site: &Site<'_>, case: &FailingCase) -> Result<Tol
 
 /// What is said of some failing cases.
 pub(crate) fn all_told(
-    known: &mut Known,
+    known: &mut KnownParts,
     site: &Site<'_>,
     failing: &[FailingCase],
-) -> Result<Vec<Told>, AllocError>
+) -> Result<Vec<ToldFailing>, AllocError>
     ensures { IfOk result (λ told. map told_value told.items ≡ all_told site.now.at site.now.tears failing.now) }
 {
     let mut told = Vec::new(*known.lost.allocator());
@@ -103,7 +107,7 @@ pub(crate) fn all_told(
 pub(crate) fn push_failures(
     failures: &mut Vec<Failure>,
     program: u8,
-    told: &[Told],
+    told: &[ToldFailing],
 ) -> Result<(), AllocError>
     ensures { OnOk result (failures.new.items ≡ failures.old.items ++ map (failure_of program) (map told_value told.now)) }
 {

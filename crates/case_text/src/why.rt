@@ -11,11 +11,11 @@ ghost use Rattle.case_text.specs.Why.{cut_line, told_text, program_causes, by_pr
 
 use crate::grouped::put_groups;
 use crate::head::put_options;
-use crate::known::Known;
+use crate::known::KnownParts;
 use crate::site::Site;
-use crate::told::{Told, all_told, push_failures};
+use crate::told::{ToldFailing, all_told, push_failures};
 use crate::totals::put_totals;
-use case_runs::{CutFound, FailingCase, Found, Losses};
+use case_runs::{CutFound, FailingCase, FoundCases, Losses};
 use epochs::{By, Plan};
 use logfmt::Log;
 use losses::cure::{Failure, put_missing, put_programs, windows_of};
@@ -38,7 +38,12 @@ fn put_cut_line(
 }
 
 /// Appends the failing cases of a program at a cut, where there are some.
-fn put_told(out: &mut String, cut: u32, program: usize, told: &[Told]) -> Result<(), AllocError>
+fn put_told(
+    out: &mut String,
+    cut: u32,
+    program: usize,
+    told: &[ToldFailing],
+) -> Result<(), AllocError>
     ensures { OnOk result (string_bytes out.new ≡ string_bytes out.old ++ told_text cut program (map told_value told.now)) }
 {
     if told.len() == 0 {
@@ -53,7 +58,7 @@ fn put_told(out: &mut String, cut: u32, program: usize, told: &[Told]) -> Result
 fn put_program(
     out: &mut String,
     failures: &mut Vec<Failure>,
-    known: &mut Known,
+    known: &mut KnownParts,
     site: &Site<'_>,
     program: usize,
     failing: &[FailingCase],
@@ -72,9 +77,9 @@ fn put_program(
 fn put_each(
     out: &mut String,
     failures: &mut Vec<Failure>,
-    known: &mut Known,
+    known: &mut KnownParts,
     site: &Site<'_>,
-    programs: &[Found],
+    programs: &[FoundCases],
 ) -> Result<(), AllocError>
     requires { length programs.now ≤ 256 }
     ensures text { OnOk result (string_bytes out.new ≡ string_bytes out.old ++ by_program (found_causes site.now.at site.now.tears) 0 programs.now) }
@@ -90,7 +95,7 @@ fn put_each(
 fn put_cut(
     out: &mut String,
     failures: &mut Vec<Failure>,
-    known: &mut Known,
+    known: &mut KnownParts,
     log: &Log,
     plan: &Plan<'_>,
     by: By,
@@ -125,7 +130,7 @@ fn put_cuts(
     ensures text { OnOk result (string_bytes out.new ≡ string_bytes out.old ++ flat_map (cut_causes log.now by tears) found.now) }
     ensures failures { OnOk result (failures.new.items ≡ failures.old.items ++ all_failures log.now by tears found.now) }
 {
-    let mut known = Known::new(alloc);
+    let mut known = KnownParts::new(alloc);
     for cut in found {
         put_cut(out, failures, &mut known, log, plan, by, tears, cut)?;
     }

@@ -5,7 +5,7 @@ ghost use Rattle.std.specs.List.{flat_map};
 ghost use Rattle.case_text.specs.Text.{cut_cases, cases_bytes};
 
 use crate::head::put_head;
-use crate::known::Known;
+use crate::known::KnownParts;
 use crate::lines::put_cut;
 use crate::totals::put_totals;
 use case_runs::{CutFound, Losses};
@@ -17,7 +17,7 @@ use std::alloc::{AllocError, Global};
 /// Appends the failing cases of all cuts.
 fn put_cuts(
     out: &mut String,
-    known: &mut Known,
+    known: &mut KnownParts,
     log: &Log,
     plan: &Plan<'_>,
     by: By,
@@ -53,7 +53,7 @@ pub fn write_cases(
     ensures { IfOk result (λ bytes. bytes.items ≡ cases_bytes head.now asked log.now found.now) }
 {
     let mut out = String::new(alloc);
-    let mut known = Known::new(alloc);
+    let mut known = KnownParts::new(alloc);
     put_head(&mut out, head, asked)?;
     put_cuts(&mut out, &mut known, log, plan, head.by, asked.tears, found)?;
     put_totals(&mut out, found)?;

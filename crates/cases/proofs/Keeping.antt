@@ -13,14 +13,14 @@ use Rattle.epochs.specs.Units.{unit_content}
 use Rattle.epochs.specs.Laws.{last_flush}
 use Rattle.cases.specs.declared.split.Parted.{Parted}
 use Rattle.cases.specs.declared.known.Over.{Over}
-use Rattle.cases.specs.declared.known.Row.{Row}
+use Rattle.cases.specs.declared.known.SectorRow.{SectorRow}
 use Rattle.cases.specs.Risk.{is_at_risk}
 use Rattle.cases.specs.Rows.{row, part_with, shows}
 use Rattle.cases.specs.Cases.{show_alike, firsts, kinds, matters, split_in_row}
 use Rattle.cases.specs.Sets.{has, fate_at, fates_in, pieces_in, numbers_in}
 use Rattle.cases.specs.AtCut.{CutValue, parts_of, Apart, case_of, image_of, split_by}
 use Rattle.cases.specs.Table.{IsNext}
-use Rattle.cases.specs.declared.lend.Reach.{Reach}
+use Rattle.cases.specs.declared.lend.UnitReach.{UnitReach}
 use Rattle.cases.specs.Lent.{reach_with, LeavesEach, ReachesSo, IsTornOver}
 use Rattle.cases.specs.Known.{IsOver, IsBase, AreOver, IsRow, AreRows}
 use Rattle.cases.proofs.AtRisk.{flushed}
@@ -48,11 +48,11 @@ pub kept_end : (at : CutValue) (s : ℕ) (over : List Over) (cut : ℕ) (base : 
 kept_end at s over cut base before own = subst (λ (xs : List Over). AreOver at at.cut s xs base) (append-nil over) (before.so [] base own)
 
 -- the units from a place on
-pub record LeftSo (at : CutValue) (r : Row) (sets : List ℕ) (wanted cut i : ℕ) : Type 0 where
+pub record LeftSo (at : CutValue) (r : SectorRow) (sets : List ℕ) (wanted cut i : ℕ) : Type 0 where
   pub row : RowSo at r.sector sets wanted cut
   pub over : AreOver at cut r.sector (drop i r.over.items) r.base
 
-pub left_start : (at : CutValue) (r : Row) (sets : List ℕ) (cut : ℕ) → IsRow at r → cut ≡ at.cut → LeftSo at r sets 255 cut 0
+pub left_start : (at : CutValue) (r : SectorRow) (sets : List ℕ) (cut : ℕ) → IsRow at r → cut ≡ at.cut → LeftSo at r sets 255 cut 0
 left_start at r sets cut is same = record {
   row = subst (λ k. RowSo at r.sector sets 255 k) (sym same) (row_start at r.sector sets);
   over = subst (λ k. AreOver at k r.sector r.over.items r.base) (sym same) is;
@@ -103,7 +103,7 @@ beyond_flush at u le risk = elim (cases_lt u.entry (last_flush at.log.entries at
 ]
 
 -- it splits the case
-pub over_found : (at : CutValue) (r : Row) (sets : List ℕ) (wanted cut i pieces set : ℕ) (part : Part) (o : Over) (it : Parted) → at.cut ≤ length at.log.entries → length sets ≡ length (parts_of at)
+pub over_found : (at : CutValue) (r : SectorRow) (sets : List ℕ) (wanted cut i pieces set : ℕ) (part : Part) (o : Over) (it : Parted) → at.cut ≤ length at.log.entries → length sets ≡ length (parts_of at)
     → Apart (parts_of at) → LeftSo at r sets wanted cut i → slice_get r.over.items i ≡ Some o → ((j : ℕ) → has pieces j ≡ (has wanted j && has o.pieces j))
     → slice_get (parts_of at) o.part ≡ Some part → set ≡ slice_index_or sets o.part 0
     → (map fates_in it.groups.items ≡ kinds (show_alike part o.unit (pieces_in pieces)) (fates_in set)) × (1 < length it.groups.items) → it.part ≡ o.part
@@ -115,7 +115,7 @@ over_found at r sets wanted cut i pieces set part o it le long apart before ther
     row_found at r.sector sets wanted cut o.unit o.part pieces set part it long before.row (over_unit at r.sector sets wanted cut pieces o next.0 apart long both) one held groups.0 groups.1 same
 
 -- it doesn't, and the row goes on
-pub over_passed : (at : CutValue) (r : Row) (sets : List ℕ) (wanted cut i pieces set more : ℕ) (part : Part) (o : Over) → at.cut ≤ length at.log.entries → length sets ≡ length (parts_of at)
+pub over_passed : (at : CutValue) (r : SectorRow) (sets : List ℕ) (wanted cut i pieces set more : ℕ) (part : Part) (o : Over) → at.cut ≤ length at.log.entries → length sets ≡ length (parts_of at)
     → Apart (parts_of at) → LeftSo at r sets wanted cut i → slice_get r.over.items i ≡ Some o → ((j : ℕ) → has pieces j ≡ (has wanted j && has o.pieces j))
     → slice_get (parts_of at) o.part ≡ Some part → set ≡ slice_index_or sets o.part 0
     → nat_lt 1 (length (firsts (show_alike part o.unit (pieces_in pieces)) (fates_in set))) ≡ false
@@ -132,7 +132,7 @@ over_passed at r sets wanted cut i pieces set more part o le long apart before t
     }
 
 -- no unit more
-pub over_none : (at : CutValue) (r : Row) (sets : List ℕ) (wanted cut i : ℕ) → LeftSo at r sets wanted cut i → length r.over.items ≤ i
+pub over_none : (at : CutValue) (r : SectorRow) (sets : List ℕ) (wanted cut i : ℕ) → LeftSo at r sets wanted cut i → length r.over.items ≤ i
     → (tears : Bool) → split_in_row at.log at.way at.cut r.sector (case_of tears (parts_of at) sets) (row at.log.entries at.cut r.sector) (range_with_len 0 8) ≡ None
 over_none at r sets wanted cut i before past tears =
     by_base r.base (subst (λ (xs : List Over). AreOver at cut r.sector xs r.base) (drop_all i r.over.items past) before.over)
@@ -143,26 +143,26 @@ over_none at r sets wanted cut i before past tears =
     by_base (Some u) is = row_durable at r.sector sets wanted cut u before.row is.0 is.1 tears
 
 -- the same of what the sector holds
-pub record HeldSo (at : CutValue) (r : Row) (sets : List ℕ) (cut i : ℕ) : Type 0 where
+pub record HeldSo (at : CutValue) (r : SectorRow) (sets : List ℕ) (cut i : ℕ) : Type 0 where
   pub below : FromBelow at r.sector sets cut
   pub over : AreOver at cut r.sector (drop i r.over.items) r.base
 
-pub held_start : (at : CutValue) (r : Row) (sets : List ℕ) (cut : ℕ) → IsRow at r → cut ≡ at.cut → HeldSo at r sets cut 0
+pub held_start : (at : CutValue) (r : SectorRow) (sets : List ℕ) (cut : ℕ) → IsRow at r → cut ≡ at.cut → HeldSo at r sets cut 0
 held_start at r sets cut is same = record {
   below = below_start at r.sector sets cut same;
   over = subst (λ k. AreOver at k r.sector r.over.items r.base) (sym same) is;
 }
 
-pub held_next : (at : CutValue) (r : Row) (sets : List ℕ) (cut i : ℕ) (o : Over) → HeldSo at r sets cut i → slice_get r.over.items i ≡ Some o → IsOver at cut r.sector o
+pub held_next : (at : CutValue) (r : SectorRow) (sets : List ℕ) (cut i : ℕ) (o : Over) → HeldSo at r sets cut i → slice_get r.over.items i ≡ Some o → IsOver at cut r.sector o
 held_next at r sets cut i o before there = (next_over at r.sector cut r.over.items r.base i o before.over there).0
 
-pub held_gone : (at : CutValue) (r : Row) (sets : List ℕ) (cut i : ℕ) (o : Over) → at.cut ≤ length at.log.entries → HeldSo at r sets cut i → slice_get r.over.items i ≡ Some o
+pub held_gone : (at : CutValue) (r : SectorRow) (sets : List ℕ) (cut i : ℕ) (o : Over) → at.cut ≤ length at.log.entries → HeldSo at r sets cut i → slice_get r.over.items i ≡ Some o
     → LeavesEach at sets o.unit false → HeldSo at r sets o.unit.entry (i + 1)
 held_gone at r sets cut i o le before there none =
     let next = next_over at r.sector cut r.over.items r.base i o before.over there in
     record { below = below_gone at r.sector sets cut o.unit le before.below next.0.next none; over = next.1 }
 
-pub held_whole : (at : CutValue) (r : Row) (sets : List ℕ) (cut i : ℕ) (o : Over) (content : List ℕ) → at.cut ≤ length at.log.entries → r.sector < at.log.sectors
+pub held_whole : (at : CutValue) (r : SectorRow) (sets : List ℕ) (cut i : ℕ) (o : Over) (content : List ℕ) → at.cut ≤ length at.log.entries → r.sector < at.log.sectors
     → HeldSo at r sets cut i → slice_get r.over.items i ≡ Some o → LeavesEach at sets o.unit true → content ≡ unit_content at.log.entries o.unit → length content ≡ 512
     → (tears : Bool) → slice_get (image_of at (case_of tears (parts_of at) sets)) r.sector ≡ Some content
 held_whole at r sets cut i o content le on before there all own long =
@@ -170,14 +170,14 @@ held_whole at r sets cut i o content le on before there all own long =
     below_whole at r.sector sets cut o.unit content le on before.below next.0.next all own long
 
 -- what of a unit reaches the device
-pub over_reach : (at : CutValue) (sets : List ℕ) (k s n : ℕ) (o : Over) (reach : Reach) → IsOver at k s o → Apart (parts_of at) → length sets ≡ length (parts_of at)
+pub over_reach : (at : CutValue) (sets : List ℕ) (k s n : ℕ) (o : Over) (reach : UnitReach) → IsOver at k s o → Apart (parts_of at) → length sets ≡ length (parts_of at)
     → reach ≡ reach_with (fate_at n) → fate_at n ≡ slice_index_or (fates_in (slice_index_or sets o.part 0)) 0 None → ReachesSo at sets o.unit reach
 over_reach at sets k s n o reach own apart long is first =
     let within = slice_get_within (parts_of at) o.part _ own.there in
-    subst (λ (r : Reach). ReachesSo at sets o.unit r) (sym (is ∙ ap reach_with first)) (reached at sets o.unit o.part _ own.next.unit own.risk apart own.there (omega (arith, within, long)) refl)
+    subst (λ (r : UnitReach). ReachesSo at sets o.unit r) (sym (is ∙ ap reach_with first)) (reached at sets o.unit o.part _ own.next.unit own.risk apart own.there (omega (arith, within, long)) refl)
 
 -- what is below them
-pub held_base : (at : CutValue) (r : Row) (sets : List ℕ) (cut i : ℕ) → HeldSo at r sets cut i → length r.over.items ≤ i → IsBase at cut r.sector r.base
+pub held_base : (at : CutValue) (r : SectorRow) (sets : List ℕ) (cut i : ℕ) → HeldSo at r sets cut i → length r.over.items ≤ i → IsBase at cut r.sector r.base
 held_base at r sets cut i before past = subst (λ (xs : List Over). AreOver at cut r.sector xs r.base) (drop_all i r.over.items past) before.over
 
 pub base_unit : (at : CutValue) (k s : ℕ) (base : Option LogUnit) (u : LogUnit) → IsBase at k s base → base ≡ Some u → IsNext at.log k s u × (is_at_risk at.log.entries at.cut u.entry ≡ false)
@@ -186,13 +186,13 @@ base_unit at k s base u own is = subst (IsBase at k s) is own
 pub base_none : (at : CutValue) (k s : ℕ) (base : Option LogUnit) → IsBase at k s base → base ≡ None → row at.log.entries k s ≡ []
 base_none at k s base own is = subst (IsBase at k s) is own
 
-pub held_unit : (at : CutValue) (r : Row) (sets : List ℕ) (cut i : ℕ) (u : LogUnit) (content : List ℕ) → at.cut ≤ length at.log.entries → r.sector < at.log.sectors
+pub held_unit : (at : CutValue) (r : SectorRow) (sets : List ℕ) (cut i : ℕ) (u : LogUnit) (content : List ℕ) → at.cut ≤ length at.log.entries → r.sector < at.log.sectors
     → HeldSo at r sets cut i → IsNext at.log cut r.sector u × (is_at_risk at.log.entries at.cut u.entry ≡ false) → content ≡ unit_content at.log.entries u → length content ≡ 512
     → (tears : Bool) → slice_get (image_of at (case_of tears (parts_of at) sets)) r.sector ≡ Some content
 held_unit at r sets cut i u content le on before next own long =
     below_whole at r.sector sets cut u content le on before.below next.0 (whole_unit at sets u next.1) own long
 
-pub held_none : (at : CutValue) (r : Row) (sets : List ℕ) (cut i : ℕ) (held : List ℕ) → r.sector < at.log.sectors → HeldSo at r sets cut i → row at.log.entries cut r.sector ≡ []
+pub held_none : (at : CutValue) (r : SectorRow) (sets : List ℕ) (cut i : ℕ) (held : List ℕ) → r.sector < at.log.sectors → HeldSo at r sets cut i → row at.log.entries cut r.sector ≡ []
     → held ≡ initial_sector at.log.initial r.sector → (tears : Bool) → slice_get (image_of at (case_of tears (parts_of at) sets)) r.sector ≡ Some held
 held_none at r sets cut i held on before none own = below_none at r.sector sets cut held before.below on own 255 refl (inr none)
 
@@ -201,12 +201,12 @@ no_pieces A (inl bad) = absurd (omega (arith, bad))
 no_pieces A (inr is) = is
 
 -- a row among those that are kept
-pub among_rows : (at : CutValue) (rows : List Row) (place : ℕ) (r : Row) → AreRows at rows → slice_get rows place ≡ Some r → IsRow at r
+pub among_rows : (at : CutValue) (rows : List SectorRow) (place : ℕ) (r : SectorRow) → AreRows at rows → slice_get rows place ≡ Some r → IsRow at r
 among_rows at rows place r all there =
     subst (IsRow at) (get_or_from_slice_get rows place r r there) (All-get_or (IsRow at) rows place r (slice_get_within rows place r there) all)
 
 -- a unit whose part is torn
-pub held_torn : (at : CutValue) (r : Row) (sets : List ℕ) (cut i : ℕ) (o : Over) → HeldSo at r sets cut i → slice_get r.over.items i ≡ Some o
+pub held_torn : (at : CutValue) (r : SectorRow) (sets : List ℕ) (cut i : ℕ) (o : Over) → HeldSo at r sets cut i → slice_get r.over.items i ≡ Some o
     → (part : ℕ) × IsTornOver at sets o.unit.sector part → (part : ℕ) × IsTornOver at sets r.sector part
 held_torn at r sets cut i o before there torn =
     let next = next_over at r.sector cut r.over.items r.base i o before.over there in

@@ -20,7 +20,7 @@ use Rattle.cases.specs.Trees.{is_torn}
 use Rattle.cases.specs.Sets.{has, fate_at, fates_in}
 use Rattle.cases.specs.AtCut.{CutValue, parts_of, Apart, case_of, image_of}
 use Rattle.cases.specs.Table.{leaves_piece, IsNext}
-use Rattle.cases.specs.declared.lend.Reach.TheVariants as reach
+use Rattle.cases.specs.declared.lend.UnitReach.TheVariants as reach
 use Rattle.cases.specs.Lent.{reach_with, LeavesEach, ReachesSo}
 use Rattle.cases.proofs.Numbered.{none_has}
 use Rattle.cases.proofs.Chosen.{case_there}

@@ -3,7 +3,7 @@ use Rattle.std.specs.Prelude.{ℕ, ◌≡◌, true, false, List, [], ◌∷◌, 
 use Rattle.std.specs.List.{range_with_len}
 use Rattle.epochs.specs.declared.unit.Unit.{Unit as LogUnit}
 use Rattle.cases.specs.declared.known.Over.{Over}
-use Rattle.cases.specs.declared.known.Row.{Row}
+use Rattle.cases.specs.declared.known.SectorRow.{SectorRow}
 use Rattle.cases.specs.Risk.{is_at_risk}
 use Rattle.cases.specs.Rows.{row, part_with}
 use Rattle.cases.specs.Cases.{matters}
@@ -29,9 +29,9 @@ AreOver at k s [] base = IsBase at k s base
 AreOver at k s (o ∷ os) base = IsOver at k s o × AreOver at o.unit.entry s os base
 
 -- the row of a sector, from the cut down
-abbrev pub IsRow : CutValue → Row → Type 0
+abbrev pub IsRow : CutValue → SectorRow → Type 0
 IsRow at r = AreOver at at.cut r.sector r.over.items r.base
 
 -- some rows
-abbrev pub AreRows : CutValue → List Row → Type 0
+abbrev pub AreRows : CutValue → List SectorRow → Type 0
 AreRows at rows = All (IsRow at) rows

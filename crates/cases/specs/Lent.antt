@@ -4,15 +4,15 @@ use Rattle.epochs.specs.declared.part.Part.{Part}
 use Rattle.epochs.specs.declared.unit.Unit.{Unit as LogUnit}
 use Rattle.choices.specs.declared.fate.Fate.{Fate}
 use Rattle.choices.specs.declared.fate.Fate.TheVariants as fate
-use Rattle.cases.specs.declared.lend.Reach.{Reach}
-use Rattle.cases.specs.declared.lend.Reach.TheVariants as reach
+use Rattle.cases.specs.declared.lend.UnitReach.{UnitReach}
+use Rattle.cases.specs.declared.lend.UnitReach.TheVariants as reach
 use Rattle.cases.specs.Trees.{is_torn}
 use Rattle.cases.specs.Sets.{fates_in}
 use Rattle.cases.specs.AtCut.{CutValue, parts_of, case_of}
 use Rattle.cases.specs.Table.{leaves_piece}
 
 -- what reaches the device of a part with that fate
-abbrev pub reach_with : Option Fate → Reach
+abbrev pub reach_with : Option Fate → UnitReach
 reach_with None = reach.Whole
 reach_with (Some fate.Drop) = reach.Gone
 reach_with (Some (fate.Head t)) = reach.Torn
@@ -34,7 +34,7 @@ pub record IsTornOver (at : CutValue) (sets : List ℕ) (s number : ℕ) : Type 
 abbrev pub LeavesEach : CutValue → List ℕ → LogUnit → Bool → Type 0
 LeavesEach at sets u is = (tears : Bool) (i : ℕ) → i < 8 → leaves_piece at (case_of tears (parts_of at) sets) u i ≡ is
 
-abbrev pub ReachesSo : CutValue → List ℕ → LogUnit → Reach → Type 0
+abbrev pub ReachesSo : CutValue → List ℕ → LogUnit → UnitReach → Type 0
 ReachesSo at sets u reach.Whole = LeavesEach at sets u true
 ReachesSo at sets u reach.Gone = LeavesEach at sets u false
 ReachesSo at sets u reach.Torn = (number : ℕ) × IsTornOver at sets u.sector number

@@ -12,7 +12,7 @@ ghost use Rattle.cases.specs.Known.{IsOver, IsRow, AreRows};
 use crate::bits::both;
 use crate::cut::Cut;
 use crate::fates::{first_number, groups_if, left_of};
-use crate::lend::{Reach, reach_at};
+use crate::lend::{UnitReach, reach_at};
 use crate::row::content_of;
 use crate::split::Parted;
 use epochs::{Part, Unit};
@@ -31,7 +31,7 @@ pub(crate) struct Over {
 
 /// The row of a sector: the units at risk that cover it, the last one first, down to the first that isn't at risk, and that one.
 #[derive(Drop)]
-pub(crate) struct Row {
+pub(crate) struct SectorRow {
     pub(crate) sector: u32,
     pub(crate) over: Vec<Over>,
     pub(crate) base: Option<Unit>,
@@ -39,21 +39,21 @@ pub(crate) struct Row {
 
 /// Where the row of a sector stands among those that are known.
 #[derive(Clone, Copy)]
-pub(crate) struct Place {
+pub(crate) struct RowPlace {
     pub(crate) sector: u32,
     pub(crate) place: usize,
 }
 
 impl<'a> Cut<'a> {
     /// The row of a sector. It takes a walk over the entries from the cut down.
-    fn row_of(&self, alloc: Global, sector: u32) -> Result<Row, AllocError>
+    fn row_of(&self, alloc: Global, sector: u32) -> Result<SectorRow, AllocError>
         ensures { IfOk result (IsRow self.now) }
     {
         let mut over = Vec::new(alloc);
         let mut cut = self.number();
         'row: while let Some(unit) = self.next_wanted(255, cut, sector) {
             if !self.risks(unit.entry) {
-                return Ok(Row {
+                return Ok(SectorRow {
                     sector,
                     over,
                     base: Some(unit),
@@ -64,7 +64,7 @@ impl<'a> Cut<'a> {
             over.push(Over { unit, part, pieces })?;
             cut = unit.entry;
         }
-        Ok(Row {
+        Ok(SectorRow {
             sector,
             over,
             base: None,
@@ -80,7 +80,7 @@ impl<'a> Cut<'a> {
     }
 
     /// The first part of a row whose fates in a case show something different of its sector.
-    fn split_of(&self, sets: &[u16], known: &Row) -> Option<Parted>
+    fn split_of(&self, sets: &[u16], known: &SectorRow) -> Option<Parted>
         requires each { length sets.now ≡ length (parts_of self.now) }
         requires row { IsRow self.now known.now }
         ensures { (tears : Bool) → IsFound (parts_of self.now) result (split_in_row self.now.log self.now.way self.now.cut known.now.sector (case_of tears (parts_of self.now) sets.now) (row self.now.log.entries self.now.cut known.now.sector) (range_with_len 0 8)) }
@@ -110,7 +110,7 @@ impl<'a> Cut<'a> {
     }
 
     /// What of a unit at risk reaches the device with the representative of a case.
-    fn reach_over(&self, sets: &[u16], over: Over) -> Reach
+    fn reach_over(&self, sets: &[u16], over: Over) -> UnitReach
         requires each { length sets.now ≡ length (parts_of self.now) }
         requires over { (k : ℕ) × (s : ℕ) × IsOver self.now k s over }
         ensures { ReachesSo self.now sets.now over.unit result }
@@ -121,7 +121,7 @@ impl<'a> Cut<'a> {
     }
 
     /// The sector of a row in the image of a case's representative, where a unit leaves it, or what the device held before entry 0.
-    fn lent_of(&self, sets: &[u16], known: &Row) -> Option<&'a [u8; 512]>
+    fn lent_of(&self, sets: &[u16], known: &SectorRow) -> Option<&'a [u8; 512]>
         requires each { length sets.now ≡ length (parts_of self.now) }
         requires row { IsRow self.now known.now }
         requires device { known.now.sector < self.now.log.sectors }
@@ -133,9 +133,9 @@ impl<'a> Cut<'a> {
         for place in 0..known.over.len() {
             let over = known.over[place];
             match self.reach_over(sets, over) {
-                Reach::Whole => return Some(content_of(log, over.unit)),
-                Reach::Torn => return None,
-                Reach::Gone => cut = over.unit.entry,
+                UnitReach::Whole => return Some(content_of(log, over.unit)),
+                UnitReach::Torn => return None,
+                UnitReach::Gone => cut = over.unit.entry,
             }
         }
         match known.base {
@@ -146,14 +146,14 @@ impl<'a> Cut<'a> {
 }
 
 /// Where the row of a sector may stand in the order of sectors. No contract says so, and who asks has to look.
-fn guess_in(order: &[Place], sector: u32) -> usize
+fn guess_in(order: &[RowPlace], sector: u32) -> usize
     ensures { result ≤ length order.now }
 {
     order.partition_point(|each| each.sector < sector)
 }
 
 /// The row of a sector, if it is known.
-fn find_row<'r>(rows: &'r [Row], order: &[Place], sector: u32) -> Option<&'r Row>
+fn find_row<'r>(rows: &'r [SectorRow], order: &[RowPlace], sector: u32) -> Option<&'r SectorRow>
     ensures sector { IfSome result (λ row. row.now.sector ≡ sector) }
     ensures among { IfSome result (λ row. (place : ℕ) × (slice_get rows.now place ≡ Some row.now)) }
 {
@@ -168,8 +168,8 @@ fn find_row<'r>(rows: &'r [Row], order: &[Place], sector: u32) -> Option<&'r Row
 
 /// Makes the row of a sector known.
 fn put_row(
-    rows: &mut Vec<Row>,
-    order: &mut Vec<Place>,
+    rows: &mut Vec<SectorRow>,
+    order: &mut Vec<RowPlace>,
     cut: &Cut<'_>,
     sector: u32,
 ) -> Result<(), AllocError>
@@ -178,15 +178,18 @@ fn put_row(
 {
     let row = cut.row_of(*rows.allocator(), sector)?;
     let place = rows.len();
-    order.insert(guess_in(order.as_slice(), sector), Place { sector, place })?;
+    order.insert(
+        guess_in(order.as_slice(), sector),
+        RowPlace { sector, place },
+    )?;
     rows.push(row)?;
     Ok(())
 }
 
 /// The part of a sector's row that splits a case. It makes the row known.
 fn split_at(
-    rows: &mut Vec<Row>,
-    order: &mut Vec<Place>,
+    rows: &mut Vec<SectorRow>,
+    order: &mut Vec<RowPlace>,
     cut: &Cut<'_>,
     sets: &[u16],
     sector: u32,
@@ -205,8 +208,8 @@ fn split_at(
 
 /// The part that splits a case, the first one of some sectors. It makes their rows known.
 fn split_among(
-    rows: &mut Vec<Row>,
-    order: &mut Vec<Place>,
+    rows: &mut Vec<SectorRow>,
+    order: &mut Vec<RowPlace>,
     cut: &Cut<'_>,
     sets: &[u16],
     sectors: &[u32],
@@ -231,9 +234,9 @@ fn split_among(
 #[derive(Drop)]
 pub struct KnownRows<'a> {
     cut: &'a Cut<'a>,
-    rows: Vec<Row>,
+    rows: Vec<SectorRow>,
     /// By sector.
-    order: Vec<Place>,
+    order: Vec<RowPlace>,
 }
 
 impl<'a> Model for KnownRows<'a> {

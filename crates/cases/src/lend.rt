@@ -15,7 +15,7 @@ use epochs::Unit;
 
 /// What of a unit reaches the device.
 #[derive(Clone, Copy)]
-pub(crate) enum Reach {
+pub(crate) enum UnitReach {
     /// All of it.
     Whole,
     /// Nothing.
@@ -26,15 +26,15 @@ pub(crate) enum Reach {
 
 /// What reaches the device of a part with a fate, by the number of that.
 #[tactic(auto, using(crate::proofs::Lending::reach_whole, crate::proofs::Lending::reach_gone, crate::proofs::Lending::reach_torn))]
-pub(crate) fn reach_at(fate: u8) -> Reach
+pub(crate) fn reach_at(fate: u8) -> UnitReach
     ensures { result ≡ reach_with (fate_at fate) }
 {
     if fate == 0 {
-        Reach::Whole
+        UnitReach::Whole
     } else if fate == 1 {
-        Reach::Gone
+        UnitReach::Gone
     } else {
-        Reach::Torn
+        UnitReach::Torn
     }
 }
 
@@ -64,14 +64,14 @@ impl<'a> Cut<'a> {
     }
 
     /// What of a unit reaches the device with the representative of a case.
-    fn reach_of(&self, sets: &[u16], unit: Unit) -> Reach
+    fn reach_of(&self, sets: &[u16], unit: Unit) -> UnitReach
         requires each { length sets.now ≡ length (parts_of self.now) }
         requires unit { IsUnit self.now.log unit }
         requires before { unit.entry < self.now.cut }
         ensures { ReachesSo self.now sets.now unit result }
     {
         if !self.risks(unit.entry) {
-            return Reach::Whole;
+            return UnitReach::Whole;
         }
         let number = self.number_of(unit);
         reach_at(first_number(sets[number]))
@@ -88,9 +88,9 @@ impl<'a> Cut<'a> {
         let mut cut = self.number();
         'row: while let Some(unit) = self.next_wanted(255, cut, number) {
             match self.reach_of(sets, unit) {
-                Reach::Whole => return Some(content_of(self.log(), unit)),
-                Reach::Torn => return None,
-                Reach::Gone => cut = unit.entry,
+                UnitReach::Whole => return Some(content_of(self.log(), unit)),
+                UnitReach::Torn => return None,
+                UnitReach::Gone => cut = unit.entry,
             }
         }
         Some(self.log().initial().sector(number))

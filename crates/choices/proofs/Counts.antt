@@ -1,6 +1,7 @@
 -- Closed forms of the numbers of choices.
 use Rattle.std.proofs.Common.{ℕ, zero, suc, ◌≡◌, ◌+◌, ◌-◌, ◌*◌, ◌/◌, ◌<◌, ◌≤◌, refl, ◌∙◌, ap, arith}
 use Rattle.std.proofs.lemmas.Nat.{div-mul-add, mul-le}
+use Rattle.base.specs.Sizes.{most_units}
 use Rattle.choices.specs.Picks.{most_fates}
 use Rattle.choices.specs.Ways.{ways, ways_below, pairs, triples}
 
@@ -69,20 +70,20 @@ triples_none zero h = refl
 triples_none (suc zero) h = refl
 triples_none (suc (suc k)) h = absurd (omega (arith, h))
 
--- the products that the code forms: the greatest is below 2^64, those of two factors less are below 2^43
-pub line_le : (m k : ℕ) → m ≤ most_fates → k ≤ 262144 → m * k ≤ 7730941132800
-line_le m k h le = let line : m * k ≤ 3932160 = mul-le m k 15 262144 h le in omega (arith, line)
+-- the products that the code forms: the greatest is below 2^73, those of two factors less are below 2^49
+pub line_le : (m k : ℕ) → m ≤ most_fates → k ≤ most_units → m * k ≤ 494779996569600
+line_le m k h le = let line : m * k ≤ 31457280 = mul-le m k 15 2097152 h le in omega (arith, line)
 
-pub square_le : (m t : ℕ) → m ≤ most_fates → t ≤ 34359738368 → m * m * t ≤ 7730941132800
+pub square_le : (m t : ℕ) → m ≤ most_fates → t ≤ 2199022206976 → m * m * t ≤ 494779996569600
 square_le m t h k =
     let square : m * m ≤ 225 = mul-le m m 15 15 h h in
-    mul-le (m * m) t 225 34359738368 square k
+    mul-le (m * m) t 225 2199022206976 square k
 
-pub cube_le : (m t : ℕ) → m ≤ most_fates → t ≤ 3002399751580331 → m * m * m * t ≤ 10133099161583617125
+pub cube_le : (m t : ℕ) → m ≤ most_fates → t ≤ 1537226473786572800 → m * m * m * t ≤ 5188139349029683200000
 cube_le m t h k =
     let square : m * m ≤ 225 = mul-le m m 15 15 h h in
     let cube : m * m * m ≤ 3375 = mul-le (m * m) m 225 15 square h in
-    mul-le (m * m * m) t 3375 3002399751580331 cube k
+    mul-le (m * m * m) t 3375 1537226473786572800 cube k
 
 -- the sum over the numbers of departures: its start, and one more
 pub ways_below_none : (m v : ℕ) → 0 ≡ ways_below m 0 v

@@ -60,8 +60,8 @@
 //!
 //! # How it is written
 //!
-//! `ways` has closed forms of the numbers of choices of one cut; they stay below 2^64, at 262,144 parts and three departures
-//! too. A sum over cuts might not, so each number is compared with what is left before it is added. `rank` finds a choice by its
+//! `ways` has closed forms of the numbers of choices of one cut; they have 128 bits, as three departures among
+//! 2,097,152 parts have some 2^72. Each number is compared with what is left before it is added, so a sum over cuts stays small. `rank` finds a choice by its
 //! number: the number of departures by taking off the smaller ones, then each departure by a search by halves for its part and a
 //! division for its fate. `step` changes the last departure that has a next fate or a next part. A choice keeps its departures as
 //! numbers too, so `next` needs no search but those of `Plan::part`. A `Picked` keeps the numbers alone, and needs none

@@ -1,6 +1,7 @@
 //! A choice by the names of its departures.
 
 ghost use Rattle.std.specs.Prelude.{◌≡◌, ◌==◌, ◌<◌, ◌≤◌, ℕ, length, slice_get, Some, IfSome, MatchOption, position};
+ghost use Rattle.base.specs.Sizes.{most_units};
 ghost use Rattle.epochs.specs.Parts.{volatile_parts};
 ghost use Rattle.choices.specs.Choices.{fate_of};
 ghost use Rattle.choices.specs.Named.{IsNamed, NoneIsNamed};
@@ -40,7 +41,7 @@ fn part_named(plan: &Plan, cut: u32, begin: u32, name: &Name) -> Option<u32>
     requires { cut ≤ length plan.now.log.entries }
     ensures found { MatchOption result (NoneNamed (volatile_parts plan.now.by plan.now.log.entries cut) name.now begin (length (volatile_parts plan.now.by plan.now.log.entries cut)))
         (IsFirstNamed (volatile_parts plan.now.by plan.now.log.entries cut) name.now begin) }
-    ensures small { IfSome result (λ number. number < 262144) }
+    ensures small { IfSome result (λ number. number < most_units) }
 {
     for number in begin..plan.volatile(cut) {
         if is_named(plan.part(cut, number), name) {
@@ -57,7 +58,7 @@ fn pick_named(plan: &Plan, fates: u8, cut: u32, begin: u32, name: &Name) -> Opti
     requires { cut ≤ length plan.now.log.entries }
     ensures found { MatchOption result (NoPickOf (volatile_parts plan.now.by plan.now.log.entries cut) fates name.now begin)
         (IsFirstPick (volatile_parts plan.now.by plan.now.log.entries cut) fates name.now begin) }
-    ensures small { IfSome result (λ pick. pick.part < 262144) }
+    ensures small { IfSome result (λ pick. pick.part < most_units) }
 {
     let fate = number_of(name.fate);
     if fate >= fates {

@@ -1,6 +1,7 @@
 //! The departures of a choice as numbers.
 
 ghost use Rattle.std.specs.Prelude.{◌≡◌, ◌<◌, ◌≤◌, length, Some};
+ghost use Rattle.base.specs.Sizes.{most_units};
 ghost use Rattle.choices.specs.Picks.{ArePicks, most_fates};
 ghost use Rattle.choices.specs.Choices.{ranked_at};
 ghost use Rattle.choices.specs.Numbers.{number_of, numbers_of, numbers_at};
@@ -13,7 +14,7 @@ use epochs::Plan;
 
 /// The number of a departure: first by its part, then by its fate.
 fn number_of(pick: Pick) -> u32
-    requires part { pick.part < 262144 }
+    requires part { pick.part < most_units }
     requires fate { pick.fate < most_fates }
     ensures { result ≡ number_of pick }
 {
@@ -22,7 +23,7 @@ fn number_of(pick: Pick) -> u32
 
 /// The numbers of some departures.
 fn numbers_of(parts: u32, picks: &[Pick]) -> ArrayVec<u32, 3>
-    requires parts { parts ≤ 262144 }
+    requires parts { parts ≤ most_units }
     requires few { length picks.now ≤ 3 }
     requires picks { ArePicks most_fates parts picks.now }
     ensures { result.items ≡ numbers_of picks.now }

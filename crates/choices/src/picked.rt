@@ -2,6 +2,7 @@
 
 ghost use Rattle.std.specs.Prelude.{◌≡◌, ◌+◌, ◌*◌, ◌<◌, ◌≤◌, ◌∷◌, ◌++◌, [], if◌then◌else◌, ℕ, Bool, List, length, slice_get, Some, IsTrue, IsFalse};
 ghost use Rattle.arrayvec.specs.ArrayVec.{array_vec_len};
+ghost use Rattle.base.specs.Sizes.{most_units};
 ghost use Rattle.epochs.specs.Parts.{volatile_parts};
 ghost use Rattle.epochs.specs.Plan.{PlanValue};
 ghost use Rattle.choices.specs.Choices.{ranked_choices};
@@ -154,7 +155,7 @@ impl Picked {
 
     /// Goes on over that many choices, in which the last departure alone changes. It has one.
     pub fn pass(&mut self, tears: bool, count: u64)
-        requires { (front : List Pick) × (last : Pick) × CanPass (fates_of tears) 262144 count front last self.old.picks }
+        requires { (front : List Pick) × (last : Pick) × CanPass (fates_of tears) most_units count front last self.old.picks }
         ensures value { (front : List Pick) (last : Pick) → self.old.picks ≡ front ++ last ∷ []
             → self.new ≡ with_last self.old front (pick_after (fates_of tears) count last) }
         ensures ranked { (plan : PlanValue) (bound n : ℕ) (front : List Pick) (last : Pick) → IsRanked plan bound tears n self.old
@@ -173,7 +174,7 @@ impl Picked {
 #[inline(always)]
 fn beyond(pick: Pick, fates: u8, count: u64) -> Pick
     requires some { 1 ≤ fates }
-    requires parts { pick.part * fates + pick.fate + count < 262144 * fates }
+    requires parts { pick.part * fates + pick.fate + count < most_units * fates }
     ensures { result ≡ pick_after fates count pick }
 {
     let fates = u64::from(fates);

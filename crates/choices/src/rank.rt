@@ -1,6 +1,7 @@
 //! A choice by its number.
 
 ghost use Rattle.std.specs.Prelude.{◌≡◌, ◌+◌, ◌-◌, ◌<◌, ◌≤◌, slice_get, Some, length};
+ghost use Rattle.base.specs.Sizes.{most_units};
 ghost use Rattle.choices.specs.Picks.{ranked_picks, most_fates, picks_within};
 ghost use Rattle.choices.specs.Ways.{ways, ways_below, ways_within};
 ghost use Rattle.choices.specs.Seeks.{Begins, Reaches};
@@ -10,11 +11,11 @@ use crate::ways::ways;
 use arrayvec::ArrayVec;
 
 /// The least number of parts among which there are `left` choices, by a search by halves.
-fn reaching(fates: u8, size: u8, parts: u32, left: u64) -> u32
+fn reaching(fates: u8, size: u8, parts: u32, left: u128) -> u32
     requires fates { fates ≤ most_fates }
     requires some { 1 ≤ size }
     requires size { size ≤ 3 }
-    requires parts { parts ≤ 262144 }
+    requires parts { parts ≤ most_units }
     requires low { 1 ≤ left }
     requires high { left ≤ ways fates size parts }
     ensures bound { result ≤ parts }
@@ -35,11 +36,11 @@ fn reaching(fates: u8, size: u8, parts: u32, left: u64) -> u32
 
 /// The first departure of a choice, and the number of what follows it among all that may. The parts
 /// are those from `begin` to below `end`.
-fn first_pick(fates: u8, size: u8, begin: u32, end: u32, number: u64) -> (Pick, u64)
+fn first_pick(fates: u8, size: u8, begin: u32, end: u32, number: u128) -> (Pick, u128)
     requires fates { fates ≤ most_fates }
     requires some { 1 ≤ size }
     requires size { size ≤ 3 }
-    requires parts { end ≤ 262144 }
+    requires parts { end ≤ most_units }
     requires within { begin ≤ end }
     requires number { number < ways fates size (end - begin) }
     ensures { Begins fates size begin end number result.0 result.1 }
@@ -57,10 +58,10 @@ fn first_pick(fates: u8, size: u8, begin: u32, end: u32, number: u64) -> (Pick, 
 }
 
 /// A choice of `size` departures among that many parts, by its number.
-pub(crate) fn nth_of_size(fates: u8, size: u8, parts: u32, number: u64) -> ArrayVec<Pick, 3>
+pub(crate) fn nth_of_size(fates: u8, size: u8, parts: u32, number: u128) -> ArrayVec<Pick, 3>
     requires fates { fates ≤ most_fates }
     requires size { size ≤ 3 }
-    requires parts { parts ≤ 262144 }
+    requires parts { parts ≤ most_units }
     requires number { number < ways fates size parts }
     ensures { slice_get (ranked_picks fates size 0 parts) number ≡ Some result.items }
 {
@@ -77,10 +78,10 @@ pub(crate) fn nth_of_size(fates: u8, size: u8, parts: u32, number: u64) -> Array
 }
 
 /// The number of departures of a choice, and its number among those with as many.
-fn size_of(fates: u8, bound: u8, parts: u32, number: u64) -> (u8, u64)
+fn size_of(fates: u8, bound: u8, parts: u32, number: u128) -> (u8, u128)
     requires fates { fates ≤ most_fates }
     requires bound { bound ≤ 3 }
-    requires parts { parts ≤ 262144 }
+    requires parts { parts ≤ most_units }
     requires number { number < ways_within fates bound parts }
     ensures bound { result.0 ≤ bound }
     ensures rest { result.1 < ways fates result.0 parts }
@@ -101,10 +102,10 @@ fn size_of(fates: u8, bound: u8, parts: u32, number: u64) -> (u8, u64)
 pub(crate) fn nth_within(fates: u8, bound: u8, parts: u32, number: u64) -> ArrayVec<Pick, 3>
     requires fates { fates ≤ most_fates }
     requires bound { bound ≤ 3 }
-    requires parts { parts ≤ 262144 }
+    requires parts { parts ≤ most_units }
     requires number { number < ways_within fates bound parts }
     ensures { slice_get (picks_within fates bound parts) number ≡ Some result.items }
 {
-    let (size, rest) = size_of(fates, bound, parts, number);
+    let (size, rest) = size_of(fates, bound, parts, u128::from(number));
     nth_of_size(fates, size, parts, rest)
 }

@@ -22,18 +22,18 @@ pub struct TooMany {
 }
 
 /// How many choices there are at a cut.
-pub(crate) fn ways_at(plan: &Plan, bound: u8, tears: bool, cut: u32) -> u64
+pub(crate) fn ways_at(plan: &Plan, bound: u8, tears: bool, cut: u32) -> u128
     requires bound { bound ≤ 3 }
     requires cut { cut ≤ length plan.now.log.entries }
     ensures value { result ≡ length (ranked_at plan.now bound tears cut) }
-    ensures small { result ≤ 10133122354407015525 }
+    ensures small { result ≤ 5188140833369672908800 }
 {
     ways_within(fates_of(tears), bound, plan.volatile(cut))
 }
 
 /// How many choices a plan has, with at most `bound` departures each, torn writes or none. It is
-/// refused at the wanted cut with which the number first passes `most`. Each cut's number is compared with what is left, so
-/// nothing wraps.
+/// refused at the wanted cut with which the number first passes `most`. Each cut's number, of 128 bits, is compared with
+/// what is left, so nothing wraps.
 pub fn count_up_to(plan: &Plan, bound: u8, tears: bool, most: u64) -> Result<u64, TooMany>
     requires { bound ≤ 3 }
     ensures value { IfOk result (λ number. number ≡ length (ranked_choices plan.now bound tears)) }
@@ -43,11 +43,11 @@ pub fn count_up_to(plan: &Plan, bound: u8, tears: bool, most: u64) -> Result<u64
     let mut sum = 0;
     for cut in plan.cuts() {
         let own = ways_at(plan, bound, tears, *cut);
-        let left = most - sum;
+        let left = u128::from(most - sum);
         if own > left {
             return Err(TooMany { at: *cut });
         }
-        sum += own;
+        sum += own as u64;
     }
     Ok(sum)
 }
@@ -78,10 +78,11 @@ pub fn count_at_up_to(
     ensures at { IfErr result (λ fault. fault.at ≡ cut) }
 {
     let number = ways_at(plan, bound, tears, cut);
-    if number > most {
+    let allowed = u128::from(most);
+    if number > allowed {
         Err(TooMany { at: cut })
     } else {
-        Ok(number)
+        Ok(number as u64)
     }
 }
 
@@ -105,14 +106,14 @@ fn place_of(plan: &Plan, bound: u8, tears: bool, number: u64) -> (usize, u64)
 {
     let cuts = plan.cuts();
     let mut place = 0;
-    let mut rest = number;
+    let mut rest = u128::from(number);
     let mut own = ways_at(plan, bound, tears, cuts[place]);
     while rest >= own {
         rest -= own;
         place += 1;
         own = ways_at(plan, bound, tears, cuts[place]);
     }
-    (place, rest)
+    (place, rest as u64)
 }
 
 /// The choice of a number among those at the wanted cut of a place.

@@ -133,7 +133,8 @@ fn sums_of(alloc: Global, plan: &Plan, bound: u8, tears: bool) -> Result<Vec<u64
     let mut sum: u64 = 0;
     sums.push(0)?;
     for cut in cuts {
-        sum += ways_at(plan, bound, tears, *cut);
+        let own = ways_at(plan, bound, tears, *cut);
+        sum += own as u64;
         sums.push(sum)?;
     }
     Ok(sums)

@@ -3,6 +3,7 @@
 ghost use Rattle.std.specs.Prelude.{◌≡◌, ◌+◌, ◌-◌, ◌<◌, ◌≤◌, ◌∷◌, ◌++◌, take, length, IsTrue, IsFalse, IfSome, IfNone, Some, None};
 ghost use Rattle.std.specs.Option.{option_map};
 ghost use Rattle.arrayvec.specs.ArrayVec.{array_vec_len};
+ghost use Rattle.base.specs.Sizes.{most_units};
 ghost use Rattle.choices.specs.Picks.{ArePicks};
 ghost use Rattle.choices.specs.Steps.{first_picks, next_picks, following, one_more, following_below};
 
@@ -12,7 +13,7 @@ use arrayvec::ArrayVec;
 /// Appends that many parts in a row, from `first` on, each dropped.
 fn put_row(picks: &mut ArrayVec<Pick, 3>, count: usize, first: u32)
     requires room { array_vec_len picks.old + count ≤ 3 }
-    requires small { first ≤ 262144 }
+    requires small { first ≤ most_units }
     ensures { picks.new.items ≡ picks.old.items ++ first_picks count first }
 {
     for index in 0..count {
@@ -28,7 +29,7 @@ fn put_row(picks: &mut ArrayVec<Pick, 3>, count: usize, first: u32)
 #[tactic(auto, unfolding(crate::specs::Steps::next_picks))]
 fn next_pick(fates: u8, parts: u32, pick: Pick, beyond: usize) -> Option<Pick>
     requires some { 1 ≤ fates }
-    requires parts { parts ≤ 262144 }
+    requires parts { parts ≤ most_units }
     requires below { pick.part < parts }
     requires beyond { beyond ≤ 3 }
     ensures value { option_map (λ next. next ∷ first_picks beyond (next.part + 1)) result ≡ next_picks fates parts pick beyond }
@@ -52,7 +53,7 @@ fn next_pick(fates: u8, parts: u32, pick: Pick, beyond: usize) -> Option<Pick>
 /// The last departure that has a next one, as its place and the next one.
 fn last_step(fates: u8, parts: u32, picks: &[Pick]) -> Option<(usize, Pick)>
     requires some { 1 ≤ fates }
-    requires parts { parts ≤ 262144 }
+    requires parts { parts ≤ most_units }
     requires size { length picks.now ≤ 3 }
     requires below { ArePicks fates parts picks.now }
     ensures place { IfSome result (λ found. found.0 < length picks.now) }
@@ -73,7 +74,7 @@ fn last_step(fates: u8, parts: u32, picks: &[Pick]) -> Option<(usize, Pick)>
 /// Goes on to the following choice with as many departures, if there is one.
 fn step_within_size(fates: u8, parts: u32, picks: &mut ArrayVec<Pick, 3>) -> bool
     requires some { 1 ≤ fates }
-    requires parts { parts ≤ 262144 }
+    requires parts { parts ≤ most_units }
     requires below { ArePicks fates parts picks.old.items }
     ensures moved { IsTrue result → following fates parts picks.old.items ≡ Some picks.new.items }
     ensures last { IsFalse result → following fates parts picks.old.items ≡ None }
@@ -96,7 +97,7 @@ fn step_within_size(fates: u8, parts: u32, picks: &mut ArrayVec<Pick, 3>) -> boo
 pub(crate) fn step(fates: u8, bound: u8, parts: u32, picks: &mut ArrayVec<Pick, 3>) -> bool
     requires some { 1 ≤ fates }
     requires bound { bound ≤ 3 }
-    requires parts { parts ≤ 262144 }
+    requires parts { parts ≤ most_units }
     requires below { ArePicks fates parts picks.old.items }
     ensures moved { IsTrue result → following_below fates (bound + 1) parts picks.old.items ≡ Some picks.new.items }
     ensures last { IsFalse result → following_below fates (bound + 1) parts picks.old.items ≡ None }

@@ -43,7 +43,8 @@ const AFTER: &str = "Without a word the program explores an empty log with a pro
 
 A log has at most 64 MiB, 65,536 entries and 262,144 written or discarded sectors; a device 16,384
 sectors of 512 bytes; a program 4,096 slots; a run 8 programs and 16,777,216 images, and in parts
-more. With --large a log has at most 192 MiB, and a device 1,048,576 sectors.
+more. With --large a log has at most 1 GiB, and 2,097,152 such sectors, and a device 33,554,432
+sectors.
 
 Exit status: 0 where the command succeeded and no image fails, 1 where an image fails, 2 for a
 refusal (a line on standard error, as 'refused 12 at 3'), a fault of the command line, or a standard
@@ -229,7 +230,7 @@ fn sectors_option<'a>(alloc: Global) -> Arg<'a> {
         .value_name("N")
         .required(true)
         .value_parser(clap::value_parser!(u64))
-        .help("Sectors of the device, 1 to 16384, with --large to 1048576")
+        .help("Sectors of the device, 1 to 16384, with --large to 33554432")
 }
 
 /// The option that allows large logs and devices.
@@ -237,7 +238,7 @@ fn large_option<'a>(alloc: Global) -> Arg<'a> {
     flag_option(
         alloc,
         "large",
-        "Allow a device of 1048576 sectors, 512 MiB, and a log of 192 MiB",
+        "Allow a device of 33554432 sectors, 16 GiB, and a log of 1 GiB",
     )
 }
 
@@ -609,7 +610,7 @@ fn table_command<'a>(alloc: Global) -> Result<Command<'a>, AllocError> {
         .arg(number_option(
             alloc,
             "sectors",
-            "Sectors of the device, 1 to 16384, with --large to 1048576 [default: the most]",
+            "Sectors of the device, 1 to 16384, with --large to 33554432 [default: the most]",
         ))?
         .arg(large_option(alloc))?
         .arg(flush_option(alloc))?
@@ -670,7 +671,7 @@ fn image_file<'a>(alloc: Global) -> Arg<'a> {
     Arg::new(alloc, "image")
         .required(true)
         .value_name("IMAGE")
-        .help("The bytes of a device: 1 to 16384 sectors of 512, with --large to 1048576")
+        .help("The bytes of a device: 1 to 16384 sectors of 512, with --large to 33554432")
 }
 
 /// The option that names the lines of C of a program.

@@ -100,7 +100,7 @@ none_lacking cuts n has =
 log_free : (text : Recording) (s : Settings) (value : LogValue) → IsLogOf text s value → IsLogOf text (ranged no_range s) value
 log_free text s value h = record {
   read = h.read;
-  recorded = record { device = h.recorded.device; size = h.recorded.size; of_log = h.recorded.of_log; initial = h.recorded.initial };
+  recorded = record { device = h.recorded.device; size = h.recorded.size; units = h.recorded.units; of_log = h.recorded.of_log; initial = h.recorded.initial };
   has = none_lacking s.cuts (length h.read.entries) h.has;
   added = h.added;
 }

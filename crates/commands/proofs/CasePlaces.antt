@@ -4,7 +4,7 @@ use Rattle.std.specs.List.{range_with_len}
 use Rattle.std.proofs.lemmas.Bool.Decides.{nat_tests}
 use Rattle.std.proofs.lemmas.List.{map-append}
 use Rattle.std.proofs.lemmas.List.Sums.{sum_by-cons}
-use Rattle.base.specs.Sizes.{most_sectors}
+use Rattle.base.specs.Sizes.{most_sectors, most_units}
 use Rattle.logfmt.specs.declared.entry.Entry.{Entry}
 use Rattle.logfmt.specs.Bounds.{LogValue, IsLog, units_of}
 use Rattle.epochs.specs.declared.part.Part.{Part}
@@ -143,7 +143,7 @@ place_of_run by.Sector log e j x bounds there within =
     let count : j < x.count = within in
     let fits = (bounds.entries e x there).device (omega (arith, count)) in
     let device = bounds.device in
-    let sectors : most_sectors ≡ 1048576 = refl in
+    let sectors : most_sectors ≡ 33554432 = refl in
     let small : j * 1 < 2 ^ 32 = omega (arith, count, fits, device, sectors) in
     grind (arith, nat_tests, small)
 place_of_run by.Write log e j x bounds there within = by_count (x.count == 0) refl within
@@ -197,7 +197,7 @@ taken_few (suc k) (x ∷ es) =
     let two = sum_by-cons (λ (y : Entry). y.count) x es in
     omega (arith, rest, one, two)
 
-pub risky_few : (log : LogValue) (way : By) (k : ℕ) → IsLog log → length (parts_at_risk way log.entries k) ≤ 262144
+pub risky_few : (log : LogValue) (way : By) (k : ℕ) → IsLog log → length (parts_at_risk way log.entries k) ≤ most_units
 unfolding parts_at_risk
 risky_few log way k bounds =
     let kept = some_few (filter (λ (p : Part). is_at_risk log.entries k p.entry) (parts_before way log.entries k)) (parts_before way log.entries k) (some_kept (λ (p : Part). is_at_risk log.entries k p.entry) (parts_before way log.entries k)) in

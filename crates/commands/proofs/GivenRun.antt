@@ -11,7 +11,7 @@ use Rattle.choices.specs.Choices.{ChoiceValue, ranked_choices}
 use Rattle.choices.specs.Sums.{StartsValue}
 use Rattle.checker.specs.Checker.{CheckerValue}
 use Rattle.report.specs.declared.head.ProgramHead.{ProgramHead}
-use Rattle.report.specs.declared.lines.marks.Mark.{Mark}
+use Rattle.report.specs.declared.lines.marks.LineMark.{LineMark}
 use Rattle.report.specs.ChoiceText.{departures_text}
 use Rattle.report.specs.Images as numbers
 use Rattle.report.specs.Images.{distinct_count, failing_images}
@@ -69,7 +69,7 @@ told_all ls = map told_of ls
 
 marks_are : (ls : List FailingLine) → marks_told (told_all ls) ≡ marks_of ls
 marks_are [] = refl
-marks_are (l ∷ ls) = ap (λ (ms : List Mark). mark_of l ∷ ms) (marks_are ls)
+marks_are (l ∷ ls) = ap (λ (ms : List LineMark). mark_of l ∷ ms) (marks_are ls)
 
 images_are : (ls : List FailingLine) → numbers.images_of ls ≡ images_told (told_all ls)
 images_are [] = refl
@@ -267,7 +267,7 @@ is_report text files s value checkers report given whole all is =
       are = record { some = printed.some; few = printed.few; numbers = printed.numbers.programs; of_run = printed.programs; is = refl };
       head = ap (λ (bs : List ℕ). bs ++ program_lines 0 (map program_head checkers)) (options_are s value checkers);
       lines = told_each (length (map program_head checkers)) starts ls (λ i l there. is_told s value checkers l (lists.sound i l there) (each_there IsPrintable ls printable i l there));
-      order = ap (λ (ms : List Mark). in_order 0 n None ms) (marks_are ls) ∙ order;
+      order = ap (λ (ms : List LineMark). in_order 0 n None ms) (marks_are ls) ∙ order;
       last = totals;
       is = told ∙ pieces_are s value checkers (flat_map (told_line starts) (told_all ls)) (totals_line n ls) lines refl;
     }
@@ -287,7 +287,7 @@ unfolding head_of why_text why_head missing_text opening_told missing_told
 tells_causes s value checkers bytes h =
     let ls : List FailingLine = failing_lines (subject_of s value checkers) in
     let starts : StartsValue = starts_of s value in
-    let marks = subst (λ (ms : List Mark). AreFailuresAt starts ms h.failures) (marks_are ls) h.are_missing.failures in
+    let marks = subst (λ (ms : List LineMark). AreFailuresAt starts ms h.failures) (marks_are ls) h.are_missing.failures in
     let causes = causes_are starts ls 0 h.causes in
     record {
       failures = h.failures;
@@ -315,7 +315,7 @@ tells_page s value checkers bytes h =
     let ls : List FailingLine = failing_lines (subject_of s value checkers) in
     let starts : StartsValue = starts_of s value in
     let g : GivenValue = given_of s value checkers in
-    let marks = subst (λ (ms : List Mark). AreFailuresAt starts ms h.failures) (marks_are ls) h.are_failures in
+    let marks = subst (λ (ms : List LineMark). AreFailuresAt starts ms h.failures) (marks_are ls) h.are_failures in
     record {
       failures = h.failures;
       are_failures = failures_are listed s value checkers starts ls (marks_of ls) h.failures refl refl refl marks;

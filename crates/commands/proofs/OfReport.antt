@@ -79,7 +79,7 @@ first_asked w (Some c) (Some way) (Some added) (Some extent) s h =
 
 log_images : {text : Recording} {s : Settings} {v : LogValue} → IsLogOf text s v → IsLogOf text (set_images s) v
 log_images h =
-    record { read = h.read; recorded = record { device = h.recorded.device; size = h.recorded.size; of_log = h.recorded.of_log; initial = h.recorded.initial }; has = h.has; added = h.added }
+    record { read = h.read; recorded = record { device = h.recorded.device; size = h.recorded.size; units = h.recorded.units; of_log = h.recorded.of_log; initial = h.recorded.initial }; has = h.has; added = h.added }
 
 source_images : {text : Recording} {s : Settings} {v : LogValue} → HasImages text s v → HasImages text (set_images s) v
 source_images h = record { reads = log_images h.reads; few = h.few; within = h.within }

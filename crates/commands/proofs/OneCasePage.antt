@@ -6,7 +6,7 @@ use Rattle.report.specs.Report.{HeadValue}
 use Rattle.report.specs.declared.head.ProgramHead.{ProgramHead}
 use Rattle.cases.specs.AtCut.{CutValue, parts_of}
 use Rattle.case_runs.specs.declared.found.Losses.{Losses}
-use Rattle.case_runs.specs.declared.found.Found.{Found}
+use Rattle.case_runs.specs.declared.found.FoundCases.{FoundCases}
 use Rattle.case_runs.specs.declared.found.CutFound.{CutFound}
 use Rattle.case_runs.specs.declared.leaves.FailingCase.{FailingCase}
 use Rattle.case_runs.specs.Leaves.{failing_value}
@@ -44,7 +44,7 @@ long_known at tears [] = refl
 long_known at tears (f ∷ items) = ap suc (long_known at tears items)
 
 -- what was found of a program at a cut is the same
-each_at : {A : Type 0} (own : Found → A) (none : A) (at : CutValue) (tears : Bool) → ((f g : Found) → SameFound at tears f g → own f ≡ own g) → (program : ℕ) (fs gs : List Found)
+each_at : {A : Type 0} (own : FoundCases → A) (none : A) (at : CutValue) (tears : Bool) → ((f g : FoundCases) → SameFound at tears f g → own f ≡ own g) → (program : ℕ) (fs gs : List FoundCases)
     → EachSame at tears fs gs → option_map_or own (slice_get fs program) none ≡ option_map_or own (slice_get gs program) none
 each_at own none at tears tells program [] [] same = refl
 each_at own none at tears tells program [] (g ∷ gs) same = absurd same
@@ -53,8 +53,8 @@ each_at own none at tears tells zero (f ∷ fs) (g ∷ gs) same = tells f g same
 each_at own none at tears tells (suc program) (f ∷ fs) (g ∷ gs) same = each_at own none at tears tells program fs gs same.1
 
 -- what is known where nothing was found is nothing
-of_none : (at : CutValue) (tears : Bool) (it : Option Found)
-    → map (known_case at tears) (option_map_or (λ (f : Found). f.failing.items) it []) ≡ option_map_or (λ (f : Found). map (known_case at tears) f.failing.items) it []
+of_none : (at : CutValue) (tears : Bool) (it : Option FoundCases)
+    → map (known_case at tears) (option_map_or (λ (f : FoundCases). f.failing.items) it []) ≡ option_map_or (λ (f : FoundCases). map (known_case at tears) f.failing.items) it []
 of_none at tears None = refl
 of_none at tears (Some f) = refl
 
@@ -63,12 +63,12 @@ known_same : (run : RunValue) (program : ℕ) (c d : CutFound) → EachSame (cut
 known_same run program c d same =
     let at = cut_value run.log run.way c.cut in
     of_none at run.tears (slice_get c.programs.items program)
-    ∙ each_at (λ (f : Found). map (known_case at run.tears) f.failing.items) [] at run.tears (λ f g own. own.failing) program c.programs.items d.programs.items same
+    ∙ each_at (λ (f : FoundCases). map (known_case at run.tears) f.failing.items) [] at run.tears (λ f g own. own.failing) program c.programs.items d.programs.items same
     ∙ sym (of_none at run.tears (slice_get d.programs.items program))
 
 cases_same : (run : RunValue) (program : ℕ) (c d : CutFound) → EachSame (cut_value run.log run.way c.cut) run.tears c.programs.items d.programs.items → cases_of program c ≡ cases_of program d
 cases_same run program c d same =
-    each_at (λ (f : Found). f.cases) 0 (cut_value run.log run.way c.cut) run.tears (λ f g own. own.cases) program c.programs.items d.programs.items same
+    each_at (λ (f : FoundCases). f.cases) 0 (cut_value run.log run.way c.cut) run.tears (λ f g own. own.cases) program c.programs.items d.programs.items same
 
 many_same : (run : RunValue) (program : ℕ) (c d : CutFound) → EachSame (cut_value run.log run.way c.cut) run.tears c.programs.items d.programs.items
     → length (failing_of program c) ≡ length (failing_of program d)

@@ -4,7 +4,7 @@ use Rattle.choices.specs.Choices.{ranked_at}
 use Rattle.choices.specs.Sums.{StartsValue}
 use Rattle.losses.specs.Folded.{AreFolded}
 use Rattle.losses.proofs.Folds.{stands_under_one}
-use Rattle.losses.specs.declared.why.group.Group.{Group}
+use Rattle.losses.specs.declared.why.group.FailingGroup.{FailingGroup}
 use Rattle.losses.specs.declared.why.cut.CutFailures.{CutFailures}
 use Rattle.losses.specs.CountedGroups.{groups_of, AreGrouped}
 use Rattle.losses.specs.Failures.{first_at, failing_before, failing_at, numbers_in, IsCut, AreCuts}
@@ -22,7 +22,7 @@ one_folding cs gs hs a b =
     same_list gs hs
     (alike (λ (g h : ℕ). g ≡ h) gs hs (a.each_once ∙ sym b.each_once) (λ i g h p q. stands_under_one cs i g h (a.each i g p) (b.each i h q)))
 
-same_groups : (outcomes : List (List ℕ)) (begin : ℕ) (images : List ℕ) (cs ds : List (List ℕ)) (gs hs : List Group) → cs ≡ ds → AreGrouped outcomes begin images cs gs
+same_groups : (outcomes : List (List ℕ)) (begin : ℕ) (images : List ℕ) (cs ds : List (List ℕ)) (gs hs : List FailingGroup) → cs ≡ ds → AreGrouped outcomes begin images cs gs
     → AreGrouped outcomes begin images ds hs → gs ≡ hs
 same_groups outcomes begin images cs ds gs hs same a other =
     let b : AreGrouped outcomes begin images cs hs = subst (λ (x : List (List ℕ)). AreGrouped outcomes begin images x hs) (sym same) other in

@@ -10,7 +10,7 @@ use Rattle.losses.specs.ProgramOutcomes.{outcomes_failing}
 use Rattle.report.specs.declared.head.ProgramHead.{ProgramHead}
 use Rattle.report.specs.Report.{HeadValue}
 use Rattle.losses.specs.declared.why.cut.CutFailures.{CutFailures}
-use Rattle.losses.specs.declared.why.group.Group.{Group}
+use Rattle.losses.specs.declared.why.group.FailingGroup.{FailingGroup}
 use Rattle.crash_page.specs.declared.program.ProgramFailures.{ProgramFailures}
 use Rattle.crash_page.specs.Lacking.{advice_text}
 use Rattle.crash_page.specs.Blocks.{most_cells}
@@ -65,7 +65,7 @@ same_shown s outcomes program is_open rows c d h =
     join_shown (cut_head s (record { program = program; is_open = is_open; rows = rows }) c) (cut_head s (record { program = program; is_open = is_open; rows = rows }) d)
     (groups_text s outcomes is_open (take rows c.groups.items)) (groups_text s outcomes is_open (take rows d.groups.items))
     (rest_text (length c.groups.items - rows)) (rest_text (length d.groups.items - rows)) _ (same_head s program is_open rows c d h)
-    (ap (λ (gs : List Group). groups_text s outcomes is_open (take rows gs)) h.groups) (ap (λ (gs : List Group). rest_text (length gs - rows)) h.groups)
+    (ap (λ (gs : List FailingGroup). groups_text s outcomes is_open (take rows gs)) h.groups) (ap (λ (gs : List FailingGroup). rest_text (length gs - rows)) h.groups)
 
 same_cut_text : (s : StartsValue) (outcomes : List (List ℕ)) (program : ℕ) (is_open : Bool) (rows : ℕ) (c d : CutFailures) → SameCut c d
     → cut_text s outcomes (record { program = program; is_open = is_open; rows = rows }) c ≡ cut_text s outcomes (record { program = program; is_open = is_open; rows = rows }) d
@@ -86,7 +86,7 @@ same_cuts_text s outcomes program lines left [] [] h = refl
 same_cuts_text s outcomes program lines left [] (d ∷ ds) h = absurd h
 same_cuts_text s outcomes program lines left (c ∷ cs) [] h = absurd h
 same_cuts_text s outcomes program lines left (c ∷ cs) (d ∷ ds) h =
-    let groups : length c.groups.items ≡ length d.groups.items = ap (λ (gs : List Group). length gs) h.0.groups in
+    let groups : length c.groups.items ≡ length d.groups.items = ap (λ (gs : List FailingGroup). length gs) h.0.groups in
     let first =
     same_listed s outcomes program lines (lines == most_cells) (shown_of left (length c.groups.items)) c d h.0
     ∙ ap (λ n. listed_text s outcomes lines (record { program = program; is_open = lines == most_cells; rows = shown_of left n }) d) groups in

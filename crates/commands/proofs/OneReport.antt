@@ -148,7 +148,7 @@ of_log below text s value _ h (past_device long) =
     let initial = ap (λ (xs : List ℕ). length xs) h.recorded.initial in
     absurd (omega (arith, long, fits, device, initial))
 of_log below text s value r h (with_fault cause at fits fault) =
-    absurd (below.clean text.text h.read s.limits cause at h.recorded.of_log h.recorded.size (subst (λ n. log_fault.FirstFault text.text n s.limits cause at) (sym h.recorded.device) fault))
+    absurd (below.clean text.text h.read s.limits cause at h.recorded.of_log h.recorded.size h.recorded.units (subst (λ n. log_fault.FirstFault text.text n s.limits cause at) (sym h.recorded.device) fault))
 of_log below text s value r h no_memory = refl
 of_log below text s value r h (lacks read place recorded at) =
     let same : read ≡ h.read = same_recorded below.texts text s read h.read recorded h.recorded in

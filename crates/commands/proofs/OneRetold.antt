@@ -5,7 +5,7 @@ use Rattle.logfmt.specs.Bounds.{LogValue}
 use Rattle.logfmt.specs.Laws.{TextOfOneLog}
 use Rattle.choices.specs.Choices.{ChoiceValue}
 use Rattle.choices.specs.Sums.{StartsValue}
-use Rattle.report.specs.declared.lines.marks.Mark.{Mark}
+use Rattle.report.specs.declared.lines.marks.LineMark.{LineMark}
 use Rattle.losses.specs.declared.flushes.window.Window.{Window}
 use Rattle.losses.specs.declared.flushes.counted.MissingFlush.{MissingFlush}
 use Rattle.losses.specs.Counted.{AreMissing}
@@ -38,7 +38,7 @@ use Rattle.commands.proofs.OneReport.{Below, same_test, same_log, of_source}
 use Rattle.commands.proofs.OneText.{same_cause}
 
 -- a mark has one failure
-same_failure_at : (s : StartsValue) (m : Mark) (f g : Failure) → IsFailureAt s m f → IsFailureAt s m g → f ≡ g
+same_failure_at : (s : StartsValue) (m : LineMark) (f g : Failure) → IsFailureAt s m f → IsFailureAt s m g → f ≡ g
 same_failure_at s m f g a b =
     let both : Some b.choice ≡ Some a.choice = sym b.there ∙ a.there in
     let choice : b.choice ≡ a.choice = cc in
@@ -48,10 +48,10 @@ same_failure_at s m f g a b =
     λ i. record { program = program i; window = window i }
 
 -- each failure is that of the mark at its place
-abbrev EachFailsAt : StartsValue → List Mark → List Failure → Type 0
-EachFailsAt s ms fs = (i : ℕ) (m : Mark) (f : Failure) → slice_get ms i ≡ Some m → slice_get fs i ≡ Some f → IsFailureAt s m f
+abbrev EachFailsAt : StartsValue → List LineMark → List Failure → Type 0
+EachFailsAt s ms fs = (i : ℕ) (m : LineMark) (f : Failure) → slice_get ms i ≡ Some m → slice_get fs i ≡ Some f → IsFailureAt s m f
 
-same_each : (s : StartsValue) (ms : List Mark) (fs gs : List Failure) → length fs ≡ length ms → length gs ≡ length ms → EachFailsAt s ms fs → EachFailsAt s ms gs → fs ≡ gs
+same_each : (s : StartsValue) (ms : List LineMark) (fs gs : List Failure) → length fs ≡ length ms → length gs ≡ length ms → EachFailsAt s ms fs → EachFailsAt s ms gs → fs ≡ gs
 same_each s [] [] [] long wide a b = refl
 same_each s [] (f ∷ fs) gs long wide a b = absurd (let more : suc (length fs) ≡ 0 = long in omega (arith, more))
 same_each s [] [] (g ∷ gs) long wide a b = absurd (let more : suc (length gs) ≡ 0 = wide in omega (arith, more))
@@ -64,7 +64,7 @@ same_each s (m ∷ ms) (f ∷ fs) (g ∷ gs) long wide a b =
     let rest = same_each s ms fs gs (omega (arith, more)) (omega (arith, much)) (λ i n h there at. a (suc i) n h there at) (λ i n h there at. b (suc i) n h there at) in
     λ i. one i ∷ rest i
 
-pub same_failures_at : (s : StartsValue) (ms : List Mark) (fs gs : List Failure) → AreFailuresAt s ms fs → AreFailuresAt s ms gs → fs ≡ gs
+pub same_failures_at : (s : StartsValue) (ms : List LineMark) (fs gs : List Failure) → AreFailuresAt s ms fs → AreFailuresAt s ms gs → fs ≡ gs
 same_failures_at s ms fs gs a b = same_each s ms fs gs a.all b.all a.each b.each
 
 same_flushes : (s : StartsValue) (ts : List ToldLine) (fs gs : List Failure) (ms ns : List MissingFlush) → AreMissingFor s ts fs ms → AreMissingFor s ts gs ns → ms ≡ ns

@@ -103,7 +103,7 @@ pub ask_alone : (w : OptionWords) (s : Settings) → AskFor w s → AskFor (alon
 ask_alone w s h = record { asked = alone_of w w.cuts w.by w.flushes w.images s h.asked; good = good_alone s h.good }
 
 pub log_alone : {text : Recording} {s : Settings} {v : LogValue} → IsLogOf text s v → IsLogOf text (set_alone s) v
-log_alone h = record { read = h.read; recorded = record { device = h.recorded.device; size = h.recorded.size; of_log = h.recorded.of_log; initial = h.recorded.initial }; has = h.has; added = h.added }
+log_alone h = record { read = h.read; recorded = record { device = h.recorded.device; size = h.recorded.size; units = h.recorded.units; of_log = h.recorded.of_log; initial = h.recorded.initial }; has = h.has; added = h.added }
 
 images_alone : {text : Recording} {s : Settings} {v : LogValue} → HasImages text s v → HasImages text (set_alone s) v
 images_alone h = record { reads = log_alone h.reads; few = h.few; within = h.within }

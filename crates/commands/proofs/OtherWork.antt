@@ -43,7 +43,7 @@ counts_alone w files images h = record {
 -- what is answered by one worker without a cache is answered by others
 log_back : (text : Recording) (s : Settings) (v : LogValue) → IsLogOf text (set_alone s) v → IsLogOf text s v
 log_back text s v h =
-    record { read = h.read; recorded = record { device = h.recorded.device; size = h.recorded.size; of_log = h.recorded.of_log; initial = h.recorded.initial }; has = h.has; added = h.added }
+    record { read = h.read; recorded = record { device = h.recorded.device; size = h.recorded.size; units = h.recorded.units; of_log = h.recorded.of_log; initial = h.recorded.initial }; has = h.has; added = h.added }
 
 pub images_back : (text : Recording) (s : Settings) (v : LogValue) → HasImages text (set_alone s) v → HasImages text s v
 images_back text s v h = record { reads = log_back text s v h.reads; few = h.few; within = h.within }

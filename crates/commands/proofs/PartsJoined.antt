@@ -59,7 +59,7 @@ pub record AreOne : Type 0 where
 log_meant : (text : Recording) (e f : Extent) (s : Settings) (value : LogValue) → IsLogOf text (meant e s) value → IsLogOf text (meant f s) value
 log_meant text e f s value h = record {
   read = h.read;
-  recorded = record { device = h.recorded.device; size = h.recorded.size; of_log = h.recorded.of_log; initial = h.recorded.initial };
+  recorded = record { device = h.recorded.device; size = h.recorded.size; units = h.recorded.units; of_log = h.recorded.of_log; initial = h.recorded.initial };
   has = h.has;
   added = h.added;
 }
@@ -67,7 +67,7 @@ log_meant text e f s value h = record {
 log_itself : (text : Recording) (e : Extent) (s : Settings) (value : LogValue) → IsLogOf text s value → IsLogOf text (meant e s) value
 log_itself text e s value h = record {
   read = h.read;
-  recorded = record { device = h.recorded.device; size = h.recorded.size; of_log = h.recorded.of_log; initial = h.recorded.initial };
+  recorded = record { device = h.recorded.device; size = h.recorded.size; units = h.recorded.units; of_log = h.recorded.of_log; initial = h.recorded.initial };
   has = h.has;
   added = h.added;
 }

@@ -6,7 +6,7 @@ use Rattle.std.proofs.lemmas.Bool.Decides.{nat_tests}
 use Rattle.std.proofs.lemmas.Option.{slice_get_within}
 use Rattle.std.proofs.Math.Nat.{mod-lt}
 use Rattle.base.specs.Check.{Check, check, first_failing}
-use Rattle.base.specs.Sizes.{sector_limit}
+use Rattle.base.specs.Sizes.{most_sectors, sector_limit}
 use Rattle.logfmt.specs.declared.entry.Entry.{Entry}
 use Rattle.logfmt.specs.Bounds.{LogValue}
 use Rattle.logfmt.specs.Flushed.{is_place}
@@ -32,7 +32,7 @@ use Rattle.images.specs.Number.{initial_mix, initial_number}
 use Rattle.images.specs.Views.{view_of, sectors_of, context_at}
 use Rattle.checker.specs.Checker.{CheckerValue, judgement}
 use Rattle.checker.proofs.Counted.{few_guarded}
-use Rattle.report.specs.declared.lines.marks.Mark.{Mark}
+use Rattle.report.specs.declared.lines.marks.LineMark.{LineMark}
 use Rattle.report.specs.Line.{FailingLine}
 use Rattle.report.specs.Marks.{mark_of, marks_of}
 use Rattle.report.specs.declared.head.ProgramHead.{ProgramHead}
@@ -107,12 +107,12 @@ after_one a b (inr (same, less)) =
     rw (none, image, program) refl
 
 -- where a line stands, after one
-record StandsIn (from to : ℕ) (last : Option Mark) (l : FailingLine) : Type 0 where
+record StandsIn (from to : ℕ) (last : Option LineMark) (l : FailingLine) : Type 0 where
   low : from ≤ l.image
   high : l.image < to
   beyond : follows last (mark_of l) ≡ true
 
-in_order_of : (from to : ℕ) (last : Option Mark) (ls : List FailingLine) → ((i : ℕ) (l : FailingLine) → slice_get ls i ≡ Some l → StandsIn from to last l) → ArePreceding ls
+in_order_of : (from to : ℕ) (last : Option LineMark) (ls : List FailingLine) → ((i : ℕ) (l : FailingLine) → slice_get ls i ≡ Some l → StandsIn from to last l) → ArePreceding ls
     → in_order from to last (marks_of ls) ≡ true
 in_order_of from to last [] each precede = refl
 in_order_of from to last (l ∷ ls) each precede =
@@ -462,7 +462,7 @@ head_printed text files s value checkers given =
     let few = given.count.few in
     let some_sector = given.asked.some in
     let one : nat_le 1 s.sectors ≡ true = grind (arith, nat_tests, some_sector) in
-    let two : nat_le s.sectors 1048576 ≡ true = grind (arith, nat_tests, sectors) in
+    let two : nat_le s.sectors most_sectors ≡ true = grind (arith, nat_tests, sectors) in
     let three : nat_le (length value.entries) 65536 ≡ true = grind (arith, nat_tests, entries) in
     let four : nat_le s.bound 3 ≡ true = grind (arith, nat_tests, bound) in
     let as_long : length value.entries ≡ length reads.read.entries = ap (λ (v : LogValue). length v.entries) reads.added ∙ length-flushed (is_place (places_of s.cuts.flushes)) reads.read.entries in

@@ -46,8 +46,8 @@ use Rattle.raw_log.specs.Imported.{IsImported}
 use Rattle.inspect.specs.Import.{RefusesImport}
 use Rattle.inspect.specs.Image.{IsImage, RefusesImage, IsShown}
 use Rattle.inspect.specs.AnyImage.{IsAnyImage, RefusesAnyImage}
-use Rattle.inspect.specs.declared.looks.image_command.Form.{Form}
-use Rattle.inspect.specs.declared.looks.image_command.Form.TheVariants as form
+use Rattle.inspect.specs.declared.looks.image_command.ImageForm.{ImageForm}
+use Rattle.inspect.specs.declared.looks.image_command.ImageForm.TheVariants as form
 use Rattle.inspect.specs.CutSurvey.{IsCutSurvey, RefusesCutSurvey}
 use Rattle.inspect.specs.Survey.{IsSurvey, RefusesSurvey}
 use Rattle.inspect.specs.Export.{IsExport, RefusesExport}
@@ -169,7 +169,7 @@ abbrev pub any_words : LossWords
 any_words = record { any = true; torn = None; at_most = None; telling = cases.Cases }
 
 -- how an image is told
-abbrev pub form_of : Bool → Form
+abbrev pub form_of : Bool → ImageForm
 form_of in_words = if in_words then form.Words else form.Bytes
 
 -- what a command on one file answers, by what that file holds; its status is 0

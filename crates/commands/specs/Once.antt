@@ -2,7 +2,7 @@
 use Rattle.std.specs.Prelude.{ℕ, ◌≡◌, Bool, List, length, map, slice_get, Some}
 use Rattle.std.specs.List.{sum_by}
 use Rattle.choices.specs.Sums.{StartsValue}
-use Rattle.losses.specs.declared.why.group.Group.{Group}
+use Rattle.losses.specs.declared.why.group.FailingGroup.{FailingGroup}
 use Rattle.losses.specs.declared.why.cut.CutFailures.{CutFailures}
 use Rattle.losses.specs.ProgramOutcomes.{outcomes_failing}
 use Rattle.losses.specs.Failures.{numbers_in, first_at, failing_before, failing_at}
@@ -17,7 +17,7 @@ use Rattle.runs.specs.Why.{images_failing, starts_of, IsExplained}
 -- lost and the same is torn as in a choice that is a part of its own. The numbers of the groups are those of the images that stand
 -- under them, and add up to that of the cut.
 pub record StandAtCut (s : StartsValue) (images : List ℕ) (outcomes : List (List ℕ)) (place : ℕ) (c : CutFailures) : Type 0 where
-  pub numbers : sum_by (λ (g : Group). g.failing) c.groups.items ≡ c.failing
+  pub numbers : sum_by (λ (g : FailingGroup). g.failing) c.groups.items ≡ c.failing
   pub once : StandOnce outcomes (failing_before s images place) (failing_at s images place) (map (numbers_in s c.cut (first_at s place)) (failing_at s images place)) c.groups.items
 
 -- These images stand once in what fails at each cut: the numbers of the cuts add up to theirs.

@@ -17,7 +17,7 @@ use base::limits::Limits;
 use base::refusal::{Cause, Refusal};
 use command_line::Words;
 use inspect::looks::{
-    Form, any_image, assemble, export_images, image, import, list, show, shown_log, survey,
+    ImageForm, any_image, assemble, export_images, image, import, list, show, shown_log, survey,
     survey_cuts, verify_program,
 };
 use inspect::trial::try_image;
@@ -342,10 +342,14 @@ fn any_words() -> LossWords
 }
 
 /// How an image is told.
-fn form_of(in_words: bool) -> Form
+fn form_of(in_words: bool) -> ImageForm
     ensures { result ≡ form_of in_words }
 {
-    if in_words { Form::Words } else { Form::Bytes }
+    if in_words {
+        ImageForm::Words
+    } else {
+        ImageForm::Bytes
+    }
 }
 
 /// The image with any number of losses that the text of a choice names, of the log that the first file holds.

@@ -121,7 +121,7 @@ pub use command_line::Words;
 pub use epochs::{By, CutKind, Cuts, Flushes};
 pub use escaping::escaped_words;
 pub use exit::{Exit, perform};
-pub use export::{Fault, Output, emit};
+pub use export::{Output, StreamFault, emit};
 pub use inspect::looks::{Stopped, choices_are_short, image, report_prints_choices, show, survey};
 pub use largest::lines_of_image;
 pub use laws::{

@@ -11,7 +11,7 @@ use Rattle.images.specs.Views.{ViewValue, IsMember, view_of, sectors_of}
 use Rattle.images.specs.Laws.{ImagesAreDevices}
 use Rattle.images.proofs.Members.{member_cut as cut_of_member}
 use Rattle.choices.specs.Sums.{StartsValue}
-use Rattle.losses.specs.declared.why.group.Group.{Group}
+use Rattle.losses.specs.declared.why.group.FailingGroup.{FailingGroup}
 use Rattle.losses.specs.WhyText.{IsNumbered}
 
 pub member_of : (plan : PlanValue) (bound : ℕ) (tears : Bool) (n : ℕ) (c : ChoiceValue) → slice_get (ranked_choices plan bound tears) n ≡ Some c → IsMember plan c
@@ -52,5 +52,5 @@ small plan history l view c devices bounds own same is =
     omega (arith, count, most)
 
 -- the images of groups are those of the run
-pub images_within : (s : StartsValue) (lines : ℕ) (gs : List Group) → All (IsNumbered s lines) gs → All (λ (g : Group). g.image < length (ranked_choices s.plan s.bound s.tears)) gs
+pub images_within : (s : StartsValue) (lines : ℕ) (gs : List FailingGroup) → All (IsNumbered s lines) gs → All (λ (g : FailingGroup). g.image < length (ranked_choices s.plan s.bound s.tears)) gs
 images_within s lines gs are = λ k d lt. (are k d lt).image

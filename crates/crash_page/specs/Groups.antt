@@ -12,7 +12,7 @@ use Rattle.images.specs.Views.{ViewValue, view_of, sectors_of}
 use Rattle.crash_text.specs.Shown.{shown_text}
 use Rattle.losses.specs.declared.why.cut.CutFailures.{CutFailures}
 use Rattle.crash_page.specs.declared.counts.CutCount.{CutCount}
-use Rattle.losses.specs.declared.why.group.Group.{Group}
+use Rattle.losses.specs.declared.why.group.FailingGroup.{FailingGroup}
 use Rattle.losses.specs.CountedGroups.{ends_at}
 use Rattle.crash_page.specs.declared.pieces.PagePart.TheVariants as piece
 use Rattle.crash_page.specs.Pieces.{piece_text}
@@ -57,33 +57,33 @@ group_open is_open = if is_open then piece_text piece.GroupOpened else piece_tex
 unfoldable pub group_choice : StartsValue → Bool → ChoiceValue → List ℕ
 group_choice s is_open choice = group_open is_open ++ departures_text s.plan.by choice.departures
 
-unfoldable pub group_size : Group → List ℕ
+unfoldable pub group_size : FailingGroup → List ℕ
 group_size g = piece_text piece.GroupImage ++ decimal g.image ++ piece_text piece.GroupSize ++ decimal g.failing
 
 -- what the program ends in on its image, and whether on all images of the group
 abbrev pub same_text : Bool → List ℕ
 same_text same = if same then piece_text piece.GroupAll else piece_text piece.GroupSome
 
-unfoldable pub group_end : List (List ℕ) → Group → List ℕ
+unfoldable pub group_end : List (List ℕ) → FailingGroup → List ℕ
 group_end outcomes g = same_text g.same ++ html (ends_at outcomes g.line) ++ piece_text piece.GroupLineEnd
 
-unfoldable pub group_line : StartsValue → List (List ℕ) → Bool → Group → ChoiceValue → List ℕ
+unfoldable pub group_line : StartsValue → List (List ℕ) → Bool → FailingGroup → ChoiceValue → List ℕ
 group_line s outcomes is_open g choice = group_choice s is_open choice ++ group_size g ++ group_end outcomes g
 
-unfoldable pub chosen_text : StartsValue → List (List ℕ) → Bool → Group → ChoiceValue → List ℕ
+unfoldable pub chosen_text : StartsValue → List (List ℕ) → Bool → FailingGroup → ChoiceValue → List ℕ
 chosen_text s outcomes is_open g choice =
     group_line s outcomes is_open g choice ++ sides_text choice ++ block_text (image_text s choice) ++ piece_text piece.GroupClose
 
-abbrev pub group_text : StartsValue → List (List ℕ) → Bool → Group → List ℕ
+abbrev pub group_text : StartsValue → List (List ℕ) → Bool → FailingGroup → List ℕ
 group_text s outcomes is_open g = option_map_or (chosen_text s outcomes is_open g) (slice_get (ranked_choices s.plan s.bound s.tears) g.image) []
 
 -- groups, of which the first may be open
-unfoldable pub groups_text : StartsValue → List (List ℕ) → Bool → List Group → List ℕ
+unfoldable pub groups_text : StartsValue → List (List ℕ) → Bool → List FailingGroup → List ℕ
 groups_text s outcomes is_open [] = []
 groups_text s outcomes is_open (g ∷ gs) = group_text s outcomes is_open g ++ flat_map (group_text s outcomes false) gs
 
 -- the choice of the first group of a cut, and how many there are
-unfoldable pub first_text : StartsValue → List Group → List ℕ
+unfoldable pub first_text : StartsValue → List FailingGroup → List ℕ
 first_text s [] = []
 first_text s (g ∷ gs) = piece_text piece.FirstOpen ++ choice_at s g.image ++ piece_text piece.FirstOf ++ decimal (length (g ∷ gs)) ++ piece_text piece.FirstClose
 

@@ -14,13 +14,13 @@ use crate::pieces::{PagePart, put, put_number};
 use crate::program::one_failing;
 use crate::run::CaseRun;
 use case_runs::{CutFound, FailingCase};
-use case_text::{Known, Site};
+use case_text::{KnownParts, Site};
 use std::alloc::{AllocError, Global};
 
 /// Appends failing cases of a cut.
 fn put_rows(
     out: &mut String,
-    known: &mut Known,
+    known: &mut KnownParts,
     site: &Site<'_>,
     failing: &[FailingCase],
 ) -> Result<(), AllocError>
@@ -43,7 +43,7 @@ fn put_cases(
     requires { cut ≤ length run.now.log.now.entries }
     ensures { OnOk result (string_bytes out.new ≡ string_bytes out.old ++ case_rows (cut_at (run_of run.now) cut) run.now.tears failing.now) }
 {
-    let mut known = Known::new(alloc);
+    let mut known = KnownParts::new(alloc);
     let site = Site::new(alloc, run.plan, run.log, run.by, run.tears, cut)?;
     put_rows(out, &mut known, &site, failing)
 }

@@ -9,7 +9,7 @@ ghost use Rattle.crash_page.specs.CaseRows.{window_words, helps_text, case_said,
 use crate::parts::{CaseRow, put_parts};
 use crate::pieces::{PagePart, put, put_number};
 use case_runs::FailingCase;
-use case_text::{Known, Site};
+use case_text::{KnownParts, Site};
 use epochs::Part;
 use losses::flushes::Window;
 use report::lines::put_outcome;
@@ -76,7 +76,7 @@ fn put_row(
 /// Appends a failing case of a cut.
 pub(crate) fn put_case(
     out: &mut String,
-    known: &mut Known,
+    known: &mut KnownParts,
     site: &Site<'_>,
     case: &FailingCase,
 ) -> Result<(), AllocError>

@@ -3,7 +3,7 @@
 ghost use Rattle.std.specs.Prelude.{◌≡◌, ◌<◌, ◌≤◌, ◌++◌, ◌-◌, All, false, length, map, take, OnOk, string_bytes};
 ghost use Rattle.std.specs.List.{flat_map};
 ghost use Rattle.choices.specs.Choices.{ranked_choices};
-ghost use Rattle.losses.specs.declared.why.group.Group.{Group as GroupValue};
+ghost use Rattle.losses.specs.declared.why.group.FailingGroup.{FailingGroup as GroupValue};
 ghost use Rattle.losses.specs.WhyText.{IsNumbered};
 ghost use Rattle.crash_page.specs.Counts.{image_count};
 ghost use Rattle.crash_page.specs.Groups.{group_text, groups_text, first_text, stand_text, bar_text, cut_line, cut_open, cut_body, cut_begin, cut_head, rest_text, most_of_cut, shown_of, cut_shown, cut_text};
@@ -16,7 +16,7 @@ use crate::run::PageRun;
 use crate::share::{put_class, share_of};
 use crate::strip::{put_count, put_place_name};
 use epochs::Plan;
-use losses::why::{CutFailures, Group};
+use losses::why::{CutFailures, FailingGroup};
 use std::alloc::{AllocError, Global};
 
 /// How many groups or cases of a cut are shown.
@@ -35,7 +35,7 @@ pub(crate) struct Showing {
 
 /// Appends the first of the choices of a cut, and how many there are.
 #[tactic(auto, unfolding(crate::specs::Groups::first_text))]
-fn put_first(out: &mut String, run: &PageRun<'_>, groups: &[Group]) -> Result<(), AllocError>
+fn put_first(out: &mut String, run: &PageRun<'_>, groups: &[FailingGroup]) -> Result<(), AllocError>
     requires images { All (λ (g : GroupValue). g.image < length (ranked_choices run.now.starts.now.plan run.now.starts.now.bound run.now.starts.now.tears)) groups.now }
     ensures { OnOk result (string_bytes out.new ≡ string_bytes out.old ++ first_text run.now.starts.now groups.now) }
 {
@@ -165,7 +165,7 @@ fn put_closed(
     out: &mut String,
     run: &PageRun<'_>,
     outcomes: &[&str],
-    groups: &[Group],
+    groups: &[FailingGroup],
 ) -> Result<(), AllocError>
     requires groups { All (IsNumbered run.now.starts.now (length outcomes.now)) groups.now }
     ensures { OnOk result (string_bytes out.new ≡ string_bytes out.old ++ flat_map (group_text run.now.starts.now (map (λ o. o.now) outcomes.now) false) groups.now) }
@@ -184,7 +184,7 @@ fn put_groups(
     run: &PageRun<'_>,
     outcomes: &[&str],
     is_open: bool,
-    groups: &[Group],
+    groups: &[FailingGroup],
 ) -> Result<(), AllocError>
     requires groups { All (IsNumbered run.now.starts.now (length outcomes.now)) groups.now }
     ensures { OnOk result (string_bytes out.new ≡ string_bytes out.old ++ groups_text run.now.starts.now (map (λ o. o.now) outcomes.now) is_open groups.now) }

@@ -12,7 +12,7 @@ use crate::run::PageRun;
 use choices::{Choice, Starts, choice_named};
 use crash_text::put_shown;
 use images::images_are_devices;
-use losses::why::Group;
+use losses::why::FailingGroup;
 use report::choice_text::put_departures;
 use std::alloc::{AllocError, Global};
 
@@ -122,7 +122,7 @@ fn put_group_choice(
 
 /// Appends the image of a group, and how many failing images stand in it.
 #[tactic(auto, unfolding(crate::specs::Groups::group_size))]
-fn put_group_size(out: &mut String, group: Group) -> Result<(), AllocError>
+fn put_group_size(out: &mut String, group: FailingGroup) -> Result<(), AllocError>
     ensures { OnOk result (string_bytes out.new ≡ string_bytes out.old ++ group_size group) }
 {
     put(out, PagePart::GroupImage)?;
@@ -144,7 +144,7 @@ fn put_same(out: &mut String, same: bool) -> Result<(), AllocError>
 
 /// Appends what a program ends in on the example of a group.
 #[tactic(auto, unfolding(crate::specs::Groups::group_end))]
-fn put_group_end(out: &mut String, outcomes: &[&str], group: Group) -> Result<(), AllocError>
+fn put_group_end(out: &mut String, outcomes: &[&str], group: FailingGroup) -> Result<(), AllocError>
     requires { group.line < length outcomes.now }
     ensures { OnOk result (string_bytes out.new ≡ string_bytes out.old ++ group_end (map (λ o. o.now) outcomes.now) group) }
 {
@@ -160,7 +160,7 @@ fn put_group_line(
     run: &PageRun<'_>,
     outcomes: &[&str],
     is_open: bool,
-    group: Group,
+    group: FailingGroup,
     choice: &Choice,
 ) -> Result<(), AllocError>
     requires { group.line < length outcomes.now }
@@ -179,7 +179,7 @@ pub(crate) fn put_group(
     run: &PageRun<'_>,
     outcomes: &[&str],
     is_open: bool,
-    group: Group,
+    group: FailingGroup,
 ) -> Result<(), AllocError>
     requires group { IsNumbered run.now.starts.now (length outcomes.now) group }
     ensures { OnOk result (string_bytes out.new ≡ string_bytes out.old ++ group_text run.now.starts.now (map (λ o. o.now) outcomes.now) is_open group) }

@@ -1,5 +1,5 @@
 -- Rows of 16 bytes of a device, as `xxd` prints them (docs/OUTPUT.md, The text of `show`).
-use Rattle.std.specs.Prelude.{ℕ, ◌+◌, ◌*◌, ◌/◌, ◌%◌, ◌&&◌, nat_lt, nat_le, if◌then◌else◌, List, [], ◌∷◌, ◌++◌, codes, slice_index}
+use Rattle.std.specs.Prelude.{ℕ, ◌+◌, ◌*◌, ◌/◌, ◌%◌, ◌==◌, ◌&&◌, nat_lt, nat_le, if◌then◌else◌, List, [], ◌∷◌, ◌++◌, codes, slice_index}
 use Rattle.std.specs.List.{flat_map, range_with_len}
 
 -- 0 to 9 and a to f
@@ -9,9 +9,13 @@ hex_digit n = if nat_lt n 10 then 48 + n else 87 + n
 abbrev pub hex_byte : ℕ → List ℕ
 hex_byte b = hex_digit (b / 16) ∷ hex_digit (b % 16) ∷ []
 
--- the number of a byte of the device, in eight digits
+-- the digit before the last eight, where it is no zero
+abbrev pub high_text : ℕ → List ℕ
+high_text n = if n == 0 then [] else hex_digit n ∷ []
+
+-- the number of a byte of the device, in eight digits, or in nine where it needs them
 unfoldable pub address_text : ℕ → List ℕ
-address_text a = hex_byte (a / 16777216 % 256) ++ hex_byte (a / 65536 % 256) ++ hex_byte (a / 256 % 256) ++ hex_byte (a % 256)
+address_text a = high_text (a / 4294967296) ++ hex_byte (a / 16777216 % 256) ++ hex_byte (a / 65536 % 256) ++ hex_byte (a / 256 % 256) ++ hex_byte (a % 256)
 
 -- two bytes of a sector
 unfoldable pub pair_text : List ℕ → ℕ → List ℕ

@@ -2,7 +2,7 @@
 
 ghost use Rattle.std.specs.Prelude.{ℕ, [], ◌∷◌, ◌≡◌, ◌+◌, ◌*◌, ◌<◌, ◌≤◌, ◌++◌, OnOk, string_bytes, slice_index};
 ghost use Rattle.base.specs.Sizes.{most_sectors};
-ghost use Rattle.crash_text.specs.Rows.{hex_digit, hex_byte, address_text, pair_text, character_of, pairs_text, characters_text, row_text};
+ghost use Rattle.crash_text.specs.Rows.{hex_digit, hex_byte, high_text, address_text, pair_text, character_of, pairs_text, characters_text, row_text};
 
 use std::alloc::AllocError;
 
@@ -29,11 +29,24 @@ fn put_byte(out: &mut String, byte: u8) -> Result<(), AllocError>
     out.push(low as char)
 }
 
-/// Appends the number of a byte of the device, in eight digits.
+/// Appends the digit before the last eight, where it is no zero.
+fn put_high(out: &mut String, high: u64) -> Result<(), AllocError>
+    requires { high < 16 }
+    ensures { OnOk result (string_bytes out.new ≡ string_bytes out.old ++ high_text high) }
+{
+    if high == 0 {
+        return Ok(());
+    }
+    out.push(hex_digit(high as u8) as char)
+}
+
+/// Appends the number of a byte of the device, in eight digits, or in nine where it needs them.
 #[tactic(auto, unfolding(crate::specs::Rows::address_text))]
-fn put_address(out: &mut String, address: u32) -> Result<(), AllocError>
+fn put_address(out: &mut String, address: u64) -> Result<(), AllocError>
+    requires { address < 68719476736 }
     ensures { OnOk result (string_bytes out.new ≡ string_bytes out.old ++ address_text address) }
 {
+    put_high(out, address / 4294967296)?;
     put_byte(out, (address / 16777216 % 256) as u8)?;
     put_byte(out, (address / 65536 % 256) as u8)?;
     put_byte(out, (address / 256 % 256) as u8)?;
@@ -107,7 +120,7 @@ pub(crate) fn put_row(
     requires row { row < 32 }
     ensures { OnOk result (string_bytes out.new ≡ string_bytes out.old ++ row_text sector bytes.now row) }
 {
-    put_address(out, 512 * sector + 16 * row as u32)?;
+    put_address(out, 512 * u64::from(sector) + 16 * row as u64)?;
     out.push_str(":")?;
     put_pairs(out, bytes, row)?;
     out.push_str("  ")?;

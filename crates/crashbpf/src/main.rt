@@ -38,8 +38,9 @@ ghost use Rattle.crashbpf.specs.Ending.{held_in, files_name, Ends, EndsOn};
 use base::refusal::Refusal;
 use clap::error::ErrorKind as WordsFault;
 use commands::{
-    Exit, Facts, Fault, OptionWords, Output, Progress, Request, Stopped, Streamed, Words, emit,
-    escaped_words, fault_line, lines_of_image, notes_after, notes_beside, perform, perform_export,
+    Exit, Facts, OptionWords, Output, Progress, Request, Stopped, StreamFault, Streamed, Words,
+    emit, escaped_words, fault_line, lines_of_image, notes_after, notes_beside, perform,
+    perform_export,
 };
 use input_files::{DeviceSize, FileSource, Inputs};
 use std::alloc::AllocError;
@@ -268,12 +269,12 @@ fn print_stopped<R: AllocGlobal + Eprint>(
 }
 
 /// Prints why an answer is cut off.
-fn print_cut<R: AllocGlobal + Eprint>(rt: &R, fault: Fault) -> u8
+fn print_cut<R: AllocGlobal + Eprint>(rt: &R, fault: StreamFault) -> u8
     ensures { result ≡ 2 }
 {
     match fault {
-        Fault::Memory => print_refusal(rt, &Refusal::of_memory()),
-        Fault::Unwritten => print_line(rt, UNWRITTEN),
+        StreamFault::Memory => print_refusal(rt, &Refusal::of_memory()),
+        StreamFault::Unwritten => print_line(rt, UNWRITTEN),
     }
 }
 

@@ -4,12 +4,13 @@ use Rattle.std.proofs.lemmas.List.{drop_at, drop-append-le, length-take-le}
 use Rattle.std.proofs.lemmas.List.Sums.{length-filter, count_by-le-length, sum_by-cons, sum_by_more_le, sum_by-take-le}
 use Rattle.std.proofs.lemmas.List.FromFn.{length-map-range_with_len}
 use Rattle.std.proofs.lemmas.Option.{slice_get_within, get_or_from_slice_get}
+use Rattle.base.specs.Sizes.{most_units}
 use Rattle.base.proofs.Lists.{take-suc_place, count_by-push, slice_get_of_push}
 use Rattle.logfmt.specs.declared.entry.Entry.{Entry}
 use Rattle.logfmt.specs.Bounds.{units_of}
 use Rattle.epochs.specs.declared.part.Part.{Part}
 use Rattle.epochs.specs.declared.part.By.{By}
-use Rattle.epochs.specs.declared.table.Row.{Row}
+use Rattle.epochs.specs.declared.table.CutRow.{CutRow}
 use Rattle.epochs.specs.Units.{of_entries, is_forced, epoch_at, marks_at}
 use Rattle.epochs.specs.Parts.{part_count, part_of, parts_of_entry, parts_before, volatile_parts}
 use Rattle.epochs.specs.Table.{unforced_parts, IsRow, RowFits, AreRows, next_row}
@@ -34,7 +35,7 @@ next_durable true start durable more le = omega arith
 next_durable false start durable more le = omega (arith, le)
 
 -- from the row of a cut to the row of the next
-pub next_is_row : (way : By) (es : List Entry) (k : ℕ) (row : Row) (x : Entry) → IsRow way es k row → slice_get es k ≡ Some x → IsRow way es (suc k) (next_row way row x)
+pub next_is_row : (way : By) (es : List Entry) (k : ℕ) (row : CutRow) (x : Entry) → IsRow way es k row → slice_get es k ≡ Some x → IsRow way es (suc k) (next_row way row x)
 next_is_row way es k row x is here =
     let grown = unforced_parts-next way es k x here in
     let long = ap length grown ∙ length-append (unforced_parts way es k) (own_parts way k x) in
@@ -82,8 +83,8 @@ unforced_parts-le way es k =
     omega (arith, kept, fewer, all)
 
 -- the numbers of the next row do not wrap
-pub room_for_row : (way : By) (es : List Entry) (k : ℕ) (row : Row) (x : Entry) → IsRow way es k row → slice_get es k ≡ Some x → units_of es ≤ 262144
-    → row.start + x.count ≤ 262144
+pub room_for_row : (way : By) (es : List Entry) (k : ℕ) (row : CutRow) (x : Entry) → IsRow way es k row → slice_get es k ≡ Some x → units_of es ≤ most_units
+    → row.start + x.count ≤ most_units
 room_for_row way es k row x is here units =
     let within = slice_get_within es k x here in
     let part = sum_by_more_le (λ (entry : Entry). entry.count) es k x within in
@@ -91,7 +92,7 @@ room_for_row way es k row x is here units =
     omega (arith, part, same, unforced_parts-le way es k, is.start, units)
 
 -- the numbers of a row are small
-pub row_fits : (way : By) (es : List Entry) (k : ℕ) (row : Row) → IsRow way es k row → length es ≤ 65536 → units_of es ≤ 262144 → k ≤ length es → RowFits row
+pub row_fits : (way : By) (es : List Entry) (k : ℕ) (row : CutRow) → IsRow way es k row → length es ≤ 65536 → units_of es ≤ most_units → k ≤ length es → RowFits row
 row_fits way es k row is few units within = record {
   start = omega (arith, is.start, unforced_parts-le way es k, sum_by-take-le (λ (entry : Entry). entry.count) es k, units);
   epoch = omega (arith, is.epoch, count_by-le-length (λ (entry : Entry). entry.flags.flush) (take k es), length-take-le k es within, few);
@@ -99,24 +100,24 @@ row_fits way es k row is few units within = record {
 }
 
 -- the rows of the cuts up to i, the last of which is at hand
-pub record Filled (way : By) (es : List Entry) (i : ℕ) (rows : List Row) (row : Row) : Type 0 where
+pub record Filled (way : By) (es : List Entry) (i : ℕ) (rows : List CutRow) (row : CutRow) : Type 0 where
   pub count : length rows ≡ i + 1
-  pub each : (k : ℕ) (r : Row) → slice_get rows k ≡ Some r → IsRow way es k r
+  pub each : (k : ℕ) (r : CutRow) → slice_get rows k ≡ Some r → IsRow way es k r
   pub last : IsRow way es i row
 
-one_row : (way : By) (es : List Entry) (row : Row) → IsRow way es 0 row → (k : ℕ) (r : Row) → slice_get (row ∷ []) k ≡ Some r → IsRow way es k r
-one_row way es row is zero r h = let here : Some row ≡ Some r = h in let same : row ≡ r = cc in let P : Row → Type 0 = λ x. IsRow way es 0 x in subst P same is
+one_row : (way : By) (es : List Entry) (row : CutRow) → IsRow way es 0 row → (k : ℕ) (r : CutRow) → slice_get (row ∷ []) k ≡ Some r → IsRow way es k r
+one_row way es row is zero r h = let here : Some row ≡ Some r = h in let same : row ≡ r = cc in let P : CutRow → Type 0 = λ x. IsRow way es 0 x in subst P same is
 one_row way es row is (suc k) r h = absurd (let bad : None ≡ Some r = h in cc)
 
 -- the loop over the entries: the first row, one more row, and the end
-pub begin : (way : By) (es : List Entry) (row : Row) → row ≡ record { start = 0; durable = 0; epoch = 0; marks = 0 } → Filled way es 0 (row ∷ []) row
+pub begin : (way : By) (es : List Entry) (row : CutRow) → row ≡ record { start = 0; durable = 0; epoch = 0; marks = 0 } → Filled way es 0 (row ∷ []) row
 begin way es row is =
-    let P : Row → Type 0 = λ x. IsRow way es 0 x in
+    let P : CutRow → Type 0 = λ x. IsRow way es 0 x in
     let first : IsRow way es 0 row = subst P (sym is) (first_is_row way es) in
     record { count = refl; each = one_row way es row first; last = first }
 
 -- the table with one row more
-pub go_on : (way : By) (es : List Entry) (i : ℕ) (rows : List Row) (row : Row) (x : Entry) → Filled way es i rows row → slice_get es i ≡ Some x
+pub go_on : (way : By) (es : List Entry) (i : ℕ) (rows : List CutRow) (row : CutRow) (x : Entry) → Filled way es i rows row → slice_get es i ≡ Some x
     → Filled way es (i + 1) (rows ++ next_row way row x ∷ []) (next_row way row x)
 go_on way es i rows row x so here =
     let next : IsRow way es (suc i) (next_row way row x) = next_is_row way es i row x so.last here in
@@ -130,5 +131,5 @@ go_on way es i rows row x so here =
     }
 
 -- the table when all entries have their rows
-pub all_rows : (way : By) (es : List Entry) (i : ℕ) (rows : List Row) (row : Row) → Filled way es i rows row → i ≡ length es → AreRows way es rows
+pub all_rows : (way : By) (es : List Entry) (i : ℕ) (rows : List CutRow) (row : CutRow) → Filled way es i rows row → i ≡ length es → AreRows way es rows
 all_rows way es i rows row so end = record { count = omega (arith, so.count, end); each = so.each }

@@ -10,7 +10,7 @@ use Rattle.logfmt.specs.declared.entry.Entry.{Entry}
 use Rattle.logfmt.specs.Bounds.{LogValue, IsLog}
 use Rattle.epochs.specs.declared.part.Part.{Part}
 use Rattle.epochs.specs.declared.part.By.{By}
-use Rattle.epochs.specs.declared.table.Row.{Row}
+use Rattle.epochs.specs.declared.table.CutRow.{CutRow}
 use Rattle.epochs.specs.Parts.{part_size, part_count, part_of, parts_of_entry, volatile_parts}
 use Rattle.epochs.specs.Table.{unforced_parts, IsRow, AreRows, Found}
 use Rattle.epochs.specs.Plan.{IsPart}
@@ -53,7 +53,7 @@ unforced_parts-keep way es k n i le within lt =
     ∙ slice_get-append_left (unforced_parts way es k) parts.0 i lt
 
 -- the volatile part of that number, by the row of its cut
-pub volatile_by_row : (way : By) (es : List Entry) (k : ℕ) (row : Row) (i : ℕ) → IsRow way es k row
+pub volatile_by_row : (way : By) (es : List Entry) (k : ℕ) (row : CutRow) (i : ℕ) → IsRow way es k row
     → slice_get (volatile_parts way es k) i ≡ slice_get (unforced_parts way es k) (row.durable + i)
 volatile_by_row way es k row i is = ap (λ us. slice_get us i) is.volatile ∙ slice_get-drop row.durable (unforced_parts way es k) i
 
@@ -95,27 +95,27 @@ part_at way es e x t here low high =
     )
 
 -- a row of the table, at any default
-pub row_at : (way : By) (es : List Entry) (rows : List Row) (k : ℕ) (d : Row) → AreRows way es rows → k ≤ length es → IsRow way es k (slice_index_or rows k d)
+pub row_at : (way : By) (es : List Entry) (rows : List CutRow) (k : ℕ) (d : CutRow) → AreRows way es rows → k ≤ length es → IsRow way es k (slice_index_or rows k d)
 row_at way es rows k d are within = are.each k (slice_index_or rows k d) (slice_get-get_or rows k d (omega (arith, are.count, within)))
 
 -- the rows rise by their start, so they can be searched by halves
-pub rows_rise : (way : By) (es : List Entry) (rows : List Row) → AreRows way es rows → IsNonDecreasingBy (λ (row : Row). row.start) rows
+pub rows_rise : (way : By) (es : List Entry) (rows : List CutRow) → AreRows way es rows → IsNonDecreasingBy (λ (row : CutRow). row.start) rows
 rows_rise way es rows are i j d le lt =
     let first = row_at way es rows i d are (omega (arith, are.count, le, lt)) in
     let second = row_at way es rows j d are (omega (arith, are.count, lt)) in
     omega (arith, first.start, second.start, unforced_parts-rise way es i j le (omega (arith, are.count, lt)))
 
 -- what the search tells: the rows before `count` start at or before t, the others after it
-pub record Splits (rows : List Row) (t count : ℕ) : Type 0 where
+pub record Splits (rows : List CutRow) (t count : ℕ) : Type 0 where
   pub bound : count ≤ length rows
-  pub before : (k : ℕ) (d : Row) → k < count → (slice_index_or rows k d).start ≤ t
-  pub beyond : (k : ℕ) (d : Row) → count ≤ k → k < length rows → t < (slice_index_or rows k d).start
+  pub before : (k : ℕ) (d : CutRow) → k < count → (slice_index_or rows k d).start ≤ t
+  pub beyond : (k : ℕ) (d : CutRow) → count ≤ k → k < length rows → t < (slice_index_or rows k d).start
 
-blank : Row
+blank : CutRow
 blank = record { start = 0; durable = 0; epoch = 0; marks = 0 }
 
 -- the row of cut 0 starts at or before each part, that of the last cut after each
-pub some_row : (way : By) (es : List Entry) (rows : List Row) (t count : ℕ) → AreRows way es rows → t < length (unforced_parts way es (length es)) → Splits rows t count
+pub some_row : (way : By) (es : List Entry) (rows : List CutRow) (t count : ℕ) → AreRows way es rows → t < length (unforced_parts way es (length es)) → Splits rows t count
     → (1 ≤ count) × (count ≤ length es)
 some_row way es rows t count are lt splits =
     let first = row_at way es rows 0 blank are (omega arith) in
@@ -132,7 +132,7 @@ some_row way es rows t count are lt splits =
     (low, high)
 
 -- where the rows up to `count` start at t or before it, part t lies in the last of these entries
-pub found : (way : By) (es : List Entry) (rows : List Row) (t count e : ℕ) → AreRows way es rows → t < length (unforced_parts way es (length es)) → Splits rows t count
+pub found : (way : By) (es : List Entry) (rows : List CutRow) (t count e : ℕ) → AreRows way es rows → t < length (unforced_parts way es (length es)) → Splits rows t count
     → e ≡ count - 1 → Found way es t e
 found way es rows t count e are lt splits before =
     let bounds = some_row way es rows t count are lt splits in
@@ -168,14 +168,14 @@ found_part way log t e is at =
     record { entry = at.entry; there = at.there; some = some; inside = inside; sector = refl; device = omega (arith, inside, device) }
 
 -- the number of a volatile part among those that are not forced
-pub inside_run : (way : By) (es : List Entry) (k : ℕ) (row : Row) (i : ℕ) → IsRow way es k row → i < length (volatile_parts way es k)
+pub inside_run : (way : By) (es : List Entry) (k : ℕ) (row : CutRow) (i : ℕ) → IsRow way es k row → i < length (volatile_parts way es k)
     → row.durable + i < length (unforced_parts way es k)
 inside_run way es k row i is lt =
     let long = ap length is.volatile ∙ length-drop row.durable (unforced_parts way es k) in
     omega (arith, long, lt)
 
 -- a volatile part of a cut is one of the parts that are not forced, after the durable ones
-pub inside_all : (way : By) (es : List Entry) (k : ℕ) (row : Row) (i : ℕ) → IsRow way es k row → i < length (volatile_parts way es k) → k ≤ length es
+pub inside_all : (way : By) (es : List Entry) (k : ℕ) (row : CutRow) (i : ℕ) → IsRow way es k row → i < length (volatile_parts way es k) → k ≤ length es
     → row.durable + i < length (unforced_parts way es (length es))
 inside_all way es k row i is lt within =
     omega (arith, inside_run way es k row i is lt, unforced_parts-rise way es k (length es) within (omega arith))

@@ -15,7 +15,7 @@ use Rattle.logfmt.specs.declared.entry.Entry.{Entry}
 use Rattle.logfmt.specs.Bounds.{LogValue, IsLog}
 use Rattle.epochs.specs.declared.part.Part.{Part}
 use Rattle.epochs.specs.declared.part.By.{By}
-use Rattle.epochs.specs.declared.table.Row.{Row}
+use Rattle.epochs.specs.declared.table.CutRow.{CutRow}
 use Rattle.epochs.specs.Parts.{part_size, part_count, part_of, parts_of_entry, volatile_parts}
 use Rattle.epochs.specs.Table.{unforced_parts, IsRow, Found}
 use Rattle.epochs.specs.Laws.{last_flush}
@@ -202,7 +202,7 @@ touching_rise way es sectors d e n le low high =
     omega (arith, long)
 
 -- where the run of a cut begins
-durable_start : (way : By) (es : List Entry) (k : ℕ) (row : Row) → IsRow way es k row → k ≤ length es
+durable_start : (way : By) (es : List Entry) (k : ℕ) (row : CutRow) → IsRow way es k row → k ≤ length es
     → row.durable ≡ length (unforced_parts way es (last_flush es k))
 durable_start way es k row is le =
     let us : List Part = unforced_parts way es k in
@@ -218,7 +218,7 @@ pub record Begins (way : By) (es : List Entry) (k e durable : ℕ) : Type 0 wher
   pub start : length (unforced_parts way es e) ≡ durable
   pub before : e < k
 
-pub begins : (way : By) (es : List Entry) (k e : ℕ) (row : Row) → IsRow way es k row → k ≤ length es → (row.start ≡ row.durable → ⊥) → Found way es row.durable e
+pub begins : (way : By) (es : List Entry) (k e : ℕ) (row : CutRow) → IsRow way es k row → k ≤ length es → (row.start ≡ row.durable → ⊥) → Found way es row.durable e
     → Begins way es k e row.durable
 begins way es k e row is le some at =
     let s = durable_start way es k row is le in
@@ -246,13 +246,13 @@ unfolding touching_before
 touching_begins way es sectors d e is = ap (places_where (touches sectors)) (drop_of_length-le (unforced_parts way es e) (omega (arith, is)))
 
 -- all before the cut
-pub touching_ends : (way : By) (es : List Entry) (sectors : List ℕ) (k : ℕ) (row : Row) → IsRow way es k row
+pub touching_ends : (way : By) (es : List Entry) (sectors : List ℕ) (k : ℕ) (row : CutRow) → IsRow way es k row
     → touching_before way es sectors row.durable k ≡ touching way es k sectors
 unfolding touching_before touching
 touching_ends way es sectors k row is = ap (places_where (touches sectors)) (sym is.volatile)
 
 -- none where no part is volatile
-pub touching_none : (way : By) (es : List Entry) (sectors : List ℕ) (k : ℕ) (row : Row) → IsRow way es k row → row.start ≡ row.durable
+pub touching_none : (way : By) (es : List Entry) (sectors : List ℕ) (k : ℕ) (row : CutRow) → IsRow way es k row → row.start ≡ row.durable
     → touching way es k sectors ≡ []
 touching_none way es sectors k row is none =
     sym (touching_ends way es sectors k row is) ∙ touching_begins way es sectors row.durable k (omega (arith, is.start, none))
@@ -296,7 +296,7 @@ entry_fits log e x bounds here =
     ]
 
 -- a cut has volatile parts
-pub some_volatile : (way : By) (es : List Entry) (k : ℕ) (row : Row) → IsRow way es k row → k ≤ length es → (row.start ≡ row.durable → ⊥)
+pub some_volatile : (way : By) (es : List Entry) (k : ℕ) (row : CutRow) → IsRow way es k row → k ≤ length es → (row.start ≡ row.durable → ⊥)
     → row.durable < length (unforced_parts way es (length es))
 some_volatile way es k row is le some =
     let rise = unforced_parts-rise way es k (length es) le (omega arith) in
@@ -312,7 +312,7 @@ pub record Puts (way : By) (es : List Entry) (sectors old now : List ℕ) (d e k
   pub high : e ≤ k
   pub few : length (touching_before way es sectors d e) ≤ most
 
-pub puts_begin : (way : By) (es : List Entry) (sectors old : List ℕ) (k e most : ℕ) (row : Row) → IsRow way es k row → k ≤ length es
+pub puts_begin : (way : By) (es : List Entry) (sectors old : List ℕ) (k e most : ℕ) (row : CutRow) → IsRow way es k row → k ≤ length es
     → (row.start ≡ row.durable → ⊥) → Found way es row.durable e → Puts way es sectors old old row.durable e k most
 puts_begin way es sectors old k e most row is le some at =
     let first = begins way es k e row is le some at in
@@ -343,7 +343,7 @@ leb_many : (n m : ℕ) → m < n → false ≡ nat_le n m
 leb_many n m h = grind (arith, nat_tests, h)
 
 -- there are too many
-pub puts_many : (way : By) (es : List Entry) (sectors old now new : List ℕ) (e k most before long : ℕ) (row : Row)
+pub puts_many : (way : By) (es : List Entry) (sectors old now new : List ℕ) (e k most before long : ℕ) (row : CutRow)
     → Puts way es sectors old now row.durable e k most → IsRow way es k row → e < k → k ≤ length es
     → new ≡ old ++ touching_before way es sectors row.durable (e + 1) → before ≡ length old → long ≡ length new → most < long - before
     → false ≡ nat_le (length (touching way es k sectors)) most
@@ -356,7 +356,7 @@ puts_many way es sectors old now new e k most before long row was is lt le so ha
     leb_many (length (touching way es k sectors)) most (omega (arith, all, had, has, many, more, same))
 
 -- and all of them
-pub puts_end : (way : By) (es : List Entry) (sectors old now : List ℕ) (e k most : ℕ) (row : Row)
+pub puts_end : (way : By) (es : List Entry) (sectors old now : List ℕ) (e k most : ℕ) (row : CutRow)
     → Puts way es sectors old now row.durable e k most → IsRow way es k row → k ≤ e
     → (now ≡ old ++ touching way es k sectors) × (true ≡ nat_le (length (touching way es k sectors)) most)
 puts_end way es sectors old now e k most row was is le =

@@ -6,7 +6,7 @@ use Rattle.epochs.specs.declared.cuts.Cuts.{Cuts}
 use Rattle.epochs.specs.declared.unit.Unit.{Unit as LogUnit}
 use Rattle.epochs.specs.declared.part.Part.{Part}
 use Rattle.epochs.specs.declared.part.By.{By}
-use Rattle.epochs.specs.declared.table.Row.{Row}
+use Rattle.epochs.specs.declared.table.CutRow.{CutRow}
 use Rattle.epochs.specs.Cuts.{cuts_of}
 use Rattle.epochs.specs.Table.{AreRows}
 
@@ -17,7 +17,7 @@ pub record PlanValue : Type 0 where
   pub by : By
 
 -- what a plan keeps of its log
-pub record IsPlan (plan : PlanValue) (rows : List Row) (cuts : List ℕ) : Type 0 where
+pub record IsPlan (plan : PlanValue) (rows : List CutRow) (cuts : List ℕ) : Type 0 where
   pub bounds : IsLog plan.log
   pub table : AreRows plan.by plan.log.entries rows
   pub wanted : cuts ≡ cuts_of plan.kind plan.log.entries

@@ -2,6 +2,7 @@
 
 ghost use Rattle.std.specs.Prelude.{ℕ, ◌≡◌, ◌+◌, ◌^◌, ◌<◌, ◌≤◌, ◌++◌, nat_le, nat_lt, ◌&&◌, List, OnOk};
 ghost use Rattle.std.specs.List.{list_any};
+ghost use Rattle.base.specs.Sizes.{most_units};
 ghost use Rattle.epochs.specs.Parts.{part_size, part_count};
 ghost use Rattle.epochs.specs.Touching.{touching_parts};
 
@@ -50,7 +51,7 @@ impl By {
         count: u32,
     ) -> Result<(), AllocError>
         requires count { count ≤ part_count self entry.now }
-        requires small { first + count ≤ 262144 }
+        requires small { first + count ≤ most_units }
         requires fits { entry.now.sector + entry.now.count < 2 ^ 64 }
         ensures put { (e : ℕ) → OnOk result (numbers.new.items ≡ numbers.old.items ++ touching_parts self e entry.now sectors.now first count) }
         ensures kept { (more : List ℕ) × (numbers.new.items ≡ numbers.old.items ++ more) }

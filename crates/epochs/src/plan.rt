@@ -1,6 +1,7 @@
 //! What each cut of a log leaves open.
 
 ghost use Rattle.std.specs.Prelude.{ℕ, ◌≡◌, ◌+◌, ◌<◌, ◌≤◌, ◌++◌, nat_le, List, length, slice_get, IfOk, OnOk, IsTrue, IsFalse, All, Some};
+ghost use Rattle.base.specs.Sizes.{most_units};
 ghost use Rattle.epochs.specs.Units.{epoch_at, marks_at};
 ghost use Rattle.epochs.specs.Parts.{volatile_parts};
 ghost use Rattle.epochs.specs.Cuts.{cuts_of};
@@ -9,7 +10,7 @@ ghost use Rattle.epochs.specs.Touching.{touching, touching_before};
 
 use crate::cuts::Cuts;
 use crate::part::{By, Part};
-use crate::table::{Row, rows_of, rows_up_to};
+use crate::table::{CutRow, rows_of, rows_up_to};
 use logfmt::Log;
 use std::alloc::{AllocError, Global};
 use std::marker::Model;
@@ -24,7 +25,7 @@ pub struct Plan<'a> {
     log: &'a Log,
     kind: Cuts,
     by: By,
-    rows: Vec<Row>,
+    rows: Vec<CutRow>,
     cuts: Vec<u32>,
 }
 
@@ -68,7 +69,7 @@ impl<'a> Plan<'a> {
     }
 
     /// The row of a cut.
-    fn row(&self, cut: u32) -> Row
+    fn row(&self, cut: u32) -> CutRow
         requires { cut ≤ length self.now.log.entries }
         ensures row { IsRow self.now.by self.now.log.entries cut result }
         ensures fits { RowFits result }
@@ -98,7 +99,7 @@ impl<'a> Plan<'a> {
     pub fn volatile(&self, cut: u32) -> u32
         requires { cut ≤ length self.now.log.entries }
         ensures value { result ≡ length (volatile_parts self.now.by self.now.log.entries cut) }
-        ensures bound { result ≤ 262144 }
+        ensures bound { result ≤ most_units }
     {
         let row = self.row(cut);
         row.start - row.durable

@@ -2,6 +2,7 @@
 
 ghost use Rattle.std.specs.Prelude.{◌≡◌, ◌+◌, ◌<◌, ◌≤◌, length, slice_index_or, IfOk, ℕ};
 ghost use Rattle.std.specs.List.Sorted.{IsNonDecreasingBy};
+ghost use Rattle.base.specs.Sizes.{most_units};
 ghost use Rattle.logfmt.specs.Bounds.{units_of};
 ghost use Rattle.epochs.specs.Table.{AreRows, next_row};
 
@@ -11,7 +12,7 @@ use std::alloc::{AllocError, Global};
 
 /// What a plan keeps for a cut.
 #[derive(Clone, Copy)]
-pub(crate) struct Row {
+pub(crate) struct CutRow {
     /// How many parts before the cut are not forced (FUA).
     pub start: u32,
     /// How many of these a flush has made durable; the others are volatile.
@@ -22,10 +23,10 @@ pub(crate) struct Row {
     pub marks: u32,
 }
 
-impl Row {
+impl CutRow {
     /// The row of the next cut, after that entry.
-    fn after(self, by: By, entry: &Entry) -> Row
-        requires units { self.start + entry.now.count ≤ 262144 }
+    fn after(self, by: By, entry: &Entry) -> CutRow
+        requires units { self.start + entry.now.count ≤ most_units }
         requires epoch { self.epoch ≤ 65536 }
         requires marks { self.marks ≤ 65536 }
         ensures { result ≡ next_row by self entry.now }
@@ -35,7 +36,7 @@ impl Row {
         } else {
             by.parts(entry) as u32
         };
-        Row {
+        CutRow {
             start: self.start + own,
             durable: if entry.flags.flush {
                 self.start
@@ -49,13 +50,13 @@ impl Row {
 }
 
 /// The rows of all cuts.
-pub(crate) fn rows_of(alloc: Global, by: By, entries: &[Entry]) -> Result<Vec<Row>, AllocError>
+pub(crate) fn rows_of(alloc: Global, by: By, entries: &[Entry]) -> Result<Vec<CutRow>, AllocError>
     requires count { length entries.now ≤ 65536 }
-    requires units { units_of entries.now ≤ 262144 }
+    requires units { units_of entries.now ≤ most_units }
     ensures { IfOk result (λ rows. AreRows by entries.now rows.items) }
 {
     let mut rows = Vec::with_capacity(alloc, entries.len() + 1)?;
-    let mut row = Row {
+    let mut row = CutRow {
         start: 0,
         durable: 0,
         epoch: 0,
@@ -70,11 +71,11 @@ pub(crate) fn rows_of(alloc: Global, by: By, entries: &[Entry]) -> Result<Vec<Ro
 }
 
 /// How many rows have a start of at most `part`.
-pub(crate) fn rows_up_to(rows: &[Row], part: u32) -> usize
-    requires { IsNonDecreasingBy (λ (row : Row). row.start) rows.now }
+pub(crate) fn rows_up_to(rows: &[CutRow], part: u32) -> usize
+    requires { IsNonDecreasingBy (λ (row : CutRow). row.start) rows.now }
     ensures bound { result ≤ length rows.now }
-    ensures before { (k : ℕ) (d : Row) → k < result → (slice_index_or rows.now k d).start ≤ part }
-    ensures beyond { (k : ℕ) (d : Row) → result ≤ k → k < length rows.now → part < (slice_index_or rows.now k d).start }
+    ensures before { (k : ℕ) (d : CutRow) → k < result → (slice_index_or rows.now k d).start ≤ part }
+    ensures beyond { (k : ℕ) (d : CutRow) → result ≤ k → k < length rows.now → part < (slice_index_or rows.now k d).start }
 {
     rows.partition_point(|row| row.start <= part)
 }

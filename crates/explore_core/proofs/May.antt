@@ -4,9 +4,9 @@ use Rattle.std.specs.List.{find}
 use Rattle.std.proofs.lemmas.Bool.Decides.{nat_tests}
 use Rattle.std.proofs.lemmas.Option.{slice_get_within}
 use Rattle.explore_core.specs.declared.job.Job.{Job}
-use Rattle.explore_core.specs.declared.hand.Hand.{Hand}
-use Rattle.explore_core.specs.declared.hand.Hand.TheVariants.{Idle, Holding, Ended, Lost}
-use Rattle.explore_core.specs.declared.piece.Found.TheVariants.{Lines, Passed}
+use Rattle.explore_core.specs.declared.hand.WorkerHand.{WorkerHand}
+use Rattle.explore_core.specs.declared.hand.WorkerHand.TheVariants.{Idle, Holding, Ended, Lost}
+use Rattle.explore_core.specs.declared.piece.BlockFindings.TheVariants.{Lines, Passed}
 use Rattle.explore_core.specs.declared.event.Event.TheVariants.{Draw, Take, Look, Put, Post, Pass, Done, Quit}
 use Rattle.explore_core.specs.Jobs.{block_at, failing, lies_after}
 use Rattle.explore_core.specs.State.{State, may_draw, after_draw, after_steal, next_job, after_look, last_judged, after_put, lower_image, after_post, handed_over, piece_passed, piece_done, quit}
@@ -26,7 +26,7 @@ found_at (j ∷ js) job e = step j.fails refl e (found_at js job)
     step true k e rest = (zero, j, refl, k)
     step false k e rest = let there = rest e in (suc there.0, there.1, there.2, there.3)
 
-draw_not : (s : State) (w : ℕ) (hand : Option Hand) (late : Option Bool) → slice_get s.hands w ≡ hand → slice_get s.late w ≡ late → (May s (Draw w) → ⊥) → after_draw s w (may_draw hand late) ≡ s
+draw_not : (s : State) (w : ℕ) (hand : Option WorkerHand) (late : Option Bool) → slice_get s.hands w ≡ hand → slice_get s.late w ≡ late → (May s (Draw w) → ⊥) → after_draw s w (may_draw hand late) ≡ s
 draw_not s w None late at is h = refl
 draw_not s w (Some Ended) late at is h = refl
 draw_not s w (Some (Lost b)) late at is h = refl
@@ -37,7 +37,7 @@ draw_not s w (Some (Holding b judged)) None at is h = refl
 draw_not s w (Some (Holding b judged)) (Some true) at is h = refl
 draw_not s w (Some (Holding b judged)) (Some false) at is h = absurd (h (inr (b, judged, at), is))
 
-take_not : (s : State) (w from block : ℕ) (hand : Option Hand) (listed : Bool) → slice_get s.hands w ≡ hand → listed_under from block s.lists ≡ listed
+take_not : (s : State) (w from block : ℕ) (hand : Option WorkerHand) (listed : Bool) → slice_get s.hands w ≡ hand → listed_under from block s.lists ≡ listed
     → (May s (Take w from block) → ⊥) → after_steal s w from block hand listed ≡ s
 take_not s w from block None listed at there h = refl
 take_not s w from block (Some Ended) listed at there h = refl
@@ -55,7 +55,7 @@ take_not s w from block (Some Idle) true at there h =
     both true b e = (refl, e)
     both false b e = absurd (let bad : false ≡ true = e in cc)
 
-look_not : (s : State) (w : ℕ) (hand : Option Hand) → slice_get s.hands w ≡ hand → (May s (Look w) → ⊥) → after_look s w hand (next_job s.blocks hand) ≡ s
+look_not : (s : State) (w : ℕ) (hand : Option WorkerHand) → slice_get s.hands w ≡ hand → (May s (Look w) → ⊥) → after_look s w hand (next_job s.blocks hand) ≡ s
 look_not s w None at h = refl
 look_not s w (Some Idle) at h = refl
 look_not s w (Some Ended) at h = refl
@@ -66,7 +66,7 @@ look_not s w (Some (Holding b judged)) at h = step (slice_get (block_at s.blocks
     step None e = refl
     step (Some job) e = absurd (h (b, judged, at, slice_get_within (block_at s.blocks b) (length judged) job e))
 
-put_not : (s : State) (w : ℕ) (gone : List ℕ) (hand : Option Hand) → slice_get s.hands w ≡ hand
+put_not : (s : State) (w : ℕ) (gone : List ℕ) (hand : Option WorkerHand) → slice_get s.hands w ≡ hand
     → ((block : ℕ) × (judged : List Job) × (slice_get s.hands w ≡ Some (Holding block judged)) × (0 < length judged) → ⊥) → after_put s gone (last_judged hand) ≡ s
 put_not s w gone None at h = refl
 put_not s w gone (Some Idle) at h = refl
@@ -78,7 +78,7 @@ put_not s w gone (Some (Holding b judged)) at h = step (slice_get judged (length
     step None e = refl
     step (Some job) e = let within = slice_get_within judged (length judged - 1) job e in absurd (h (b, judged, at, omega (arith, within)))
 
-post_not : (s : State) (w : ℕ) (hand : Option Hand) → slice_get s.hands w ≡ hand → (May s (Post w) → ⊥) → after_post s hand ≡ s
+post_not : (s : State) (w : ℕ) (hand : Option WorkerHand) → slice_get s.hands w ≡ hand → (May s (Post w) → ⊥) → after_post s hand ≡ s
 post_not s w None at h = refl
 post_not s w (Some Idle) at h = refl
 post_not s w (Some Ended) at h = refl
@@ -89,7 +89,7 @@ post_not s w (Some (Holding b judged)) at h = step (find (λ (j : Job). j.fails)
     step None e = refl
     step (Some job) e = absurd (h (b, judged, at, found_at judged job e))
 
-pass_not : (s : State) (w : ℕ) (hand : Option Hand) (first : Bool) (least : Option ℕ) → slice_get s.hands w ≡ hand → s.first ≡ first → s.least ≡ least
+pass_not : (s : State) (w : ℕ) (hand : Option WorkerHand) (first : Bool) (least : Option ℕ) → slice_get s.hands w ≡ hand → s.first ≡ first → s.least ≡ least
     → (May s (Pass w) → ⊥) → handed_over s w (piece_passed s.blocks first least hand) ≡ s
 pass_not s w hand false least at is_first is_least h = refl
 pass_not s w hand true None at is_first is_least h = refl
@@ -103,7 +103,7 @@ pass_not s w (Some (Holding b judged)) true (Some image) at is_first is_least h 
     step false e = refl
     step true e = absurd (h (b, judged, at, is_first, (image, is_least, after_all_of image (block_at s.blocks b) e)))
 
-done_not : (s : State) (w : ℕ) (hand : Option Hand) → slice_get s.hands w ≡ hand → (May s (Done w) → ⊥) → handed_over s w (piece_done s.blocks hand) ≡ s
+done_not : (s : State) (w : ℕ) (hand : Option WorkerHand) → slice_get s.hands w ≡ hand → (May s (Done w) → ⊥) → handed_over s w (piece_done s.blocks hand) ≡ s
 done_not s w None at h = refl
 done_not s w (Some Idle) at h = refl
 done_not s w (Some Ended) at h = refl
@@ -115,7 +115,7 @@ done_not s w (Some (Holding b judged)) at h = step (length judged == length (blo
     step false e = refl
     step true e = let whole : length judged ≡ length (block_at s.blocks b) = grind (arith, nat_tests, e) in absurd (h (b, judged, at, whole))
 
-quit_not : (s : State) (w : ℕ) (hand : Option Hand) → slice_get s.hands w ≡ hand → (May s (Quit w) → ⊥) → quit s w hand ≡ s
+quit_not : (s : State) (w : ℕ) (hand : Option WorkerHand) → slice_get s.hands w ≡ hand → (May s (Quit w) → ⊥) → quit s w hand ≡ s
 quit_not s w None at h = refl
 quit_not s w (Some Idle) at h = absurd (h (inl at))
 quit_not s w (Some Ended) at h = refl

@@ -6,9 +6,9 @@ use Rattle.std.proofs.lemmas.Bool.Decides.{eqb_tells, nat_tests}
 use Rattle.std.proofs.lemmas.List.Sums.{sum_by-cons}
 use Rattle.base.proofs.Lists.{count_by-push}
 use Rattle.explore_core.specs.declared.job.Job.{Job}
-use Rattle.explore_core.specs.declared.hand.Hand.{Hand}
-use Rattle.explore_core.specs.declared.hand.Hand.TheVariants.{Idle, Holding}
-use Rattle.explore_core.specs.declared.piece.Piece.{Piece}
+use Rattle.explore_core.specs.declared.hand.WorkerHand.{WorkerHand}
+use Rattle.explore_core.specs.declared.hand.WorkerHand.TheVariants.{Idle, Holding}
+use Rattle.explore_core.specs.declared.piece.HandedBlock.{HandedBlock}
 use Rattle.explore_core.specs.declared.lists.Drawn.{Drawn}
 use Rattle.explore_core.specs.Lists.{is_under, listed_under, lists_without}
 use Rattle.explore_core.specs.Sound.{holds, loses, hold_count, loss_count, piece_count, ArePlaced}
@@ -20,7 +20,7 @@ bit b = cond b 1 0
 bit_of : (a b : ℕ) → ((a ≡ b) × (bit (a == b) ≡ 1)) ⊎ ((a ≢ b) × (bit (a == b) ≡ 0))
 bit_of a b = elim (eqb_tells a b) [ inl h ↦ inl (h.1, rw h.0 refl) | inr h ↦ inr (h.1, rw h.0 refl) ]
 
-none_idle : (test : Hand → Bool) (n : ℕ) → test Idle ≡ false → count_by test (replicate n Idle) ≡ 0
+none_idle : (test : WorkerHand → Bool) (n : ℕ) → test Idle ≡ false → count_by test (replicate n Idle) ≡ 0
 none_idle test zero h = refl
 none_idle test (suc n) h =
     let rest = none_idle test n h in
@@ -35,7 +35,7 @@ placed_first blocks workers = record {
 }
 
 -- the same block in hand or lost
-pub placed_same : (blocks next : ℕ) (lists : List Drawn) (hands : List Hand) (pieces : List Piece) (w : ℕ) (old new : Hand) → slice_get hands w ≡ Some old
+pub placed_same : (blocks next : ℕ) (lists : List Drawn) (hands : List WorkerHand) (pieces : List HandedBlock) (w : ℕ) (old new : WorkerHand) → slice_get hands w ≡ Some old
     → ((b : ℕ) → bit (holds b old) + bit (loses b old) ≡ bit (holds b new) + bit (loses b new))
     → ArePlaced blocks next lists hands pieces → ArePlaced blocks next lists (slice_set hands w new) pieces
 placed_same blocks next lists hands pieces w old new at same placed = record {
@@ -45,7 +45,7 @@ placed_same blocks next lists hands pieces w old new at same placed = record {
 }
 
 -- from a hand to a piece
-pub placed_over : (blocks next : ℕ) (lists : List Drawn) (hands : List Hand) (pieces : List Piece) (w : ℕ) (judged : List Job) (piece : Piece) → slice_get hands w ≡ Some (Holding piece.block judged)
+pub placed_over : (blocks next : ℕ) (lists : List Drawn) (hands : List WorkerHand) (pieces : List HandedBlock) (w : ℕ) (judged : List Job) (piece : HandedBlock) → slice_get hands w ≡ Some (Holding piece.block judged)
     → ArePlaced blocks next lists hands pieces → ArePlaced blocks next lists (slice_set hands w Idle) (pieces ++ piece ∷ [])
 placed_over blocks next lists hands pieces w judged piece at placed = record {
   drawn = λ b lt within. omega (arith, moved b, placed.drawn b lt within);
@@ -57,11 +57,11 @@ placed_over blocks next lists hands pieces w judged piece at placed = record {
     moved b =
         let holding = count_set (holds b) hands w (Holding piece.block judged) Idle at in
         let losing = count_set (loses b) hands w (Holding piece.block judged) Idle at in
-        let more = count_by-push (λ (p : Piece). p.block == b) pieces piece in
+        let more = count_by-push (λ (p : HandedBlock). p.block == b) pieces piece in
         omega (arith, holding, losing, more)
 
 -- the next block, from nowhere to a list
-pub placed_drawn : (blocks next : ℕ) (lists : List Drawn) (hands : List Hand) (pieces : List Piece) (w : ℕ) → next < blocks
+pub placed_drawn : (blocks next : ℕ) (lists : List Drawn) (hands : List WorkerHand) (pieces : List HandedBlock) (w : ℕ) → next < blocks
     → ArePlaced blocks next lists hands pieces → ArePlaced blocks (next + 1) (lists ++ record { worker = w; block = next } ∷ []) hands pieces
 placed_drawn blocks next lists hands pieces w more placed = record {
   drawn = λ b lt within. elim (bit_of next b) [
@@ -98,7 +98,7 @@ no_other from block other d apart e =
     ]
 
 -- a block in a list is one of the run
-pub listed_within : (blocks next : ℕ) (lists : List Drawn) (hands : List Hand) (pieces : List Piece) (from block : ℕ) → listed_under from block lists ≡ true
+pub listed_within : (blocks next : ℕ) (lists : List Drawn) (hands : List WorkerHand) (pieces : List HandedBlock) (from block : ℕ) → listed_under from block lists ≡ true
     → ArePlaced blocks next lists hands pieces → block < blocks
 listed_within blocks next lists hands pieces from block there placed =
     let some = any_counts (is_under from block) lists there in
@@ -109,7 +109,7 @@ listed_within blocks next lists hands pieces from block there placed =
     ]
 
 -- from a list to a hand
-pub placed_given : (blocks next : ℕ) (lists : List Drawn) (hands : List Hand) (pieces : List Piece) (w from block : ℕ) → slice_get hands w ≡ Some Idle → listed_under from block lists ≡ true
+pub placed_given : (blocks next : ℕ) (lists : List Drawn) (hands : List WorkerHand) (pieces : List HandedBlock) (w from block : ℕ) → slice_get hands w ≡ Some Idle → listed_under from block lists ≡ true
     → ArePlaced blocks next lists hands pieces → ArePlaced blocks next (lists_without from block lists) (slice_set hands w (Holding block [])) pieces
 placed_given blocks next lists hands pieces w from block at there placed = record {
   drawn = λ b lt within. omega (arith, moved b, placed.drawn b lt within);
@@ -147,7 +147,7 @@ placed_given blocks next lists hands pieces w from block at there placed = recor
         omega (arith, holding, losing, left b)
 
 -- a draw that found no block
-pub placed_late : (blocks next : ℕ) (lists : List Drawn) (hands : List Hand) (pieces : List Piece) → blocks ≤ next → ArePlaced blocks next lists hands pieces → ArePlaced blocks (next + 1) lists hands pieces
+pub placed_late : (blocks next : ℕ) (lists : List Drawn) (hands : List WorkerHand) (pieces : List HandedBlock) → blocks ≤ next → ArePlaced blocks next lists hands pieces → ArePlaced blocks (next + 1) lists hands pieces
 placed_late blocks next lists hands pieces late placed = record {
   drawn = λ b lt within. placed.drawn b (omega (arith, late, within)) within;
   waiting = λ b le. placed.waiting b (omega (arith, le));

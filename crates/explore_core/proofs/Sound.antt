@@ -7,11 +7,11 @@ use Rattle.std.proofs.lemmas.Bool.Decides.{nat_tests}
 use Rattle.std.proofs.lemmas.Option.{slice_get_within}
 use Rattle.base.proofs.Lists.{slice_get-append_left, slice_get-append_right, take-suc_place, count_by-push}
 use Rattle.explore_core.specs.declared.job.Job.{Job}
-use Rattle.explore_core.specs.declared.cache.Entry.{Entry}
-use Rattle.explore_core.specs.declared.hand.Hand.{Hand}
-use Rattle.explore_core.specs.declared.hand.Hand.TheVariants.{Idle, Holding, Ended, Lost}
-use Rattle.explore_core.specs.declared.piece.Piece.{Piece}
-use Rattle.explore_core.specs.declared.piece.Found.TheVariants.{Lines, Passed}
+use Rattle.explore_core.specs.declared.cache.CacheEntry.{CacheEntry}
+use Rattle.explore_core.specs.declared.hand.WorkerHand.{WorkerHand}
+use Rattle.explore_core.specs.declared.hand.WorkerHand.TheVariants.{Idle, Holding, Ended, Lost}
+use Rattle.explore_core.specs.declared.piece.HandedBlock.{HandedBlock}
+use Rattle.explore_core.specs.declared.piece.BlockFindings.TheVariants.{Lines, Passed}
 use Rattle.explore_core.specs.declared.event.Event.{Event}
 use Rattle.explore_core.specs.declared.event.Event.TheVariants.{Draw, Take, Look, Put, Post, Pass, Done, Quit}
 use Rattle.explore_core.specs.Jobs.{AreJobs, all_jobs, block_at, failing, first_failing_image, lies_after}
@@ -36,14 +36,14 @@ in_hand blocks b judged h i job at =
     of_block blocks b i job (taken_at (length judged) (block_at blocks b) i job first)
 
 -- what a job takes from a true cache is its own outcome
-taken_same : (blocks : List (List Job)) (cache : List Entry) (job : Job) → Each (IsTrueEntry blocks) cache → IsJob blocks job → job_by_cache cache job ≡ job
-taken_same blocks cache job h after_list = step (find (λ (e : Entry). e.key == job.key) cache) refl
+taken_same : (blocks : List (List Job)) (cache : List CacheEntry) (job : Job) → Each (IsTrueEntry blocks) cache → IsJob blocks job → job_by_cache cache job ≡ job
+taken_same blocks cache job h after_list = step (find (λ (e : CacheEntry). e.key == job.key) cache) refl
   where
-    step : (o : Option Entry) → find (λ (e : Entry). e.key == job.key) cache ≡ o
-        → record { image = job.image; key = job.key; outcome = unwrap_or (option_map (λ (e : Entry). e.outcome) o) job.outcome; fails = job.fails } ≡ job
+    step : (o : Option CacheEntry) → find (λ (e : CacheEntry). e.key == job.key) cache ≡ o
+        → record { image = job.image; key = job.key; outcome = unwrap_or (option_map (λ (e : CacheEntry). e.outcome) o) job.outcome; fails = job.fails } ≡ job
     step None e = refl
     step (Some entry) e =
-        let there = found (IsTrueEntry blocks) (λ (e : Entry). e.key == job.key) cache entry h e in
+        let there = found (IsTrueEntry blocks) (λ (e : CacheEntry). e.key == job.key) cache entry h e in
         let same : job.key ≡ entry.key = grind (arith, nat_tests, there.1) in
         let own : entry.outcome ≡ job.outcome = sym (there.0.outcome job after_list same) in
         λ i. record { image = job.image; key = job.key; outcome = own i; fails = job.fails }
@@ -77,7 +77,7 @@ sound_drawn s w true sound = step (nat_lt s.next (length s.blocks)) refl
           places = placed_late (length s.blocks) s.next s.lists s.hands s.pieces late sound.places;
         }
 
-sound_given : (s : State) (w from block : ℕ) (hand : Option Hand) (after_list : Bool) → slice_get s.hands w ≡ hand → listed_under from block s.lists ≡ after_list → IsSound s → IsSound (after_steal s w from block hand after_list)
+sound_given : (s : State) (w from block : ℕ) (hand : Option WorkerHand) (after_list : Bool) → slice_get s.hands w ≡ hand → listed_under from block s.lists ≡ after_list → IsSound s → IsSound (after_steal s w from block hand after_list)
 sound_given s w from block None after_list at there sound = sound
 sound_given s w from block (Some (Holding b judged)) after_list at there sound = sound
 sound_given s w from block (Some Ended) after_list at there sound = sound
@@ -93,7 +93,7 @@ sound_given s w from block (Some Idle) true at there sound = record {
   places = placed_given (length s.blocks) s.next s.lists s.hands s.pieces w from block at there sound.places;
 }
 
-sound_looked : (s : State) (w : ℕ) (hand : Option Hand) → slice_get s.hands w ≡ hand → IsSound s → IsSound (after_look s w hand (next_job s.blocks hand))
+sound_looked : (s : State) (w : ℕ) (hand : Option WorkerHand) → slice_get s.hands w ≡ hand → IsSound s → IsSound (after_look s w hand (next_job s.blocks hand))
 sound_looked s w None at sound = sound
 sound_looked s w (Some Idle) at sound = sound
 sound_looked s w (Some Ended) at sound = sound
@@ -131,7 +131,7 @@ entry_true blocks job jobs after_list = record {
   outcome = λ other there same. jobs.agree there.0 after_list.0 other job there.1 after_list.1 same;
 }
 
-sound_put : (s : State) (gone : List ℕ) (hand : Option Hand) (w : ℕ) → slice_get s.hands w ≡ hand → IsSound s → IsSound (after_put s gone (last_judged hand))
+sound_put : (s : State) (gone : List ℕ) (hand : Option WorkerHand) (w : ℕ) → slice_get s.hands w ≡ hand → IsSound s → IsSound (after_put s gone (last_judged hand))
 sound_put s gone None w at sound = sound
 sound_put s gone (Some Idle) w at sound = sound
 sound_put s gone (Some Ended) w at sound = sound
@@ -143,7 +143,7 @@ sound_put s gone (Some (Holding b judged)) w at sound = step (slice_get judged (
     step (Some job) e =
         let after_list = in_hand s.blocks b judged (sound.hands w (Holding b judged) at) (length judged - 1) job e in
         let more = each_push (IsTrueEntry s.blocks) s.cache (record { key = job.key; outcome = job.outcome }) sound.cache (entry_true s.blocks job sound.jobs after_list) in
-        let left = each_filter (IsTrueEntry s.blocks) (λ (e : Entry). not (list_any (λ key. key == e.key) gone)) (s.cache ++ record { key = job.key; outcome = job.outcome } ∷ []) more in
+        let left = each_filter (IsTrueEntry s.blocks) (λ (e : CacheEntry). not (list_any (λ key. key == e.key) gone)) (s.cache ++ record { key = job.key; outcome = job.outcome } ∷ []) more in
         record {
           jobs = sound.jobs;
           least = sound.least;
@@ -170,7 +170,7 @@ first_fails blocks judged h = step (find (λ (j : Job). j.fails) judged) refl
     step None e = tt
     step (Some job) e = let there = found (IsJob blocks) (λ (j : Job). j.fails) judged job h e in (job, there.0, there.1, refl)
 
-sound_posted : (s : State) (hand : Option Hand) (w : ℕ) → slice_get s.hands w ≡ hand → IsSound s → IsSound (after_post s hand)
+sound_posted : (s : State) (hand : Option WorkerHand) (w : ℕ) → slice_get s.hands w ≡ hand → IsSound s → IsSound (after_post s hand)
 sound_posted s None w at sound = sound
 sound_posted s (Some Idle) w at sound = sound
 sound_posted s (Some Ended) w at sound = sound
@@ -188,7 +188,7 @@ sound_posted s (Some (Holding b judged)) w at sound =
     }
 
 -- a true piece of the block in hand
-sound_over : (s : State) (w : ℕ) (judged : List Job) (piece : Piece) → slice_get s.hands w ≡ Some (Holding piece.block judged) → IsTruePiece s.blocks piece
+sound_over : (s : State) (w : ℕ) (judged : List Job) (piece : HandedBlock) → slice_get s.hands w ≡ Some (Holding piece.block judged) → IsTruePiece s.blocks piece
     → (s.first ≡ false → is_passed piece ≡ false) → IsSound s → IsSound (handed_over s w (Some piece))
 sound_over s w judged piece at true_piece full sound = record {
   jobs = sound.jobs;
@@ -211,7 +211,7 @@ after_all_of image (j ∷ js) e = step (nat_lt image j.image) refl (after_all_of
     step true k rest e = each_cons (λ (j : Job). image < j.image) j js (grind (arith, nat_tests, k)) (rest e)
     step false k rest e = absurd (let bad : false ≡ true = e in cc)
 
-sound_passed : (s : State) (w : ℕ) (hand : Option Hand) (first : Bool) (least : Option ℕ) → slice_get s.hands w ≡ hand → s.first ≡ first → s.least ≡ least → IsSound s
+sound_passed : (s : State) (w : ℕ) (hand : Option WorkerHand) (first : Bool) (least : Option ℕ) → slice_get s.hands w ≡ hand → s.first ≡ first → s.least ≡ least → IsSound s
     → IsSound (handed_over s w (piece_passed s.blocks first least hand))
 sound_passed s w hand false least at is_first is_least sound = sound
 sound_passed s w hand true None at is_first is_least sound = sound
@@ -230,7 +230,7 @@ sound_passed s w (Some (Holding b judged)) true (Some image) at is_first is_leas
         ((sound.hands w (Holding b judged) at).0, (fails, after_all_of image (block_at s.blocks b) e))
         (λ off. absurd (let bad : true ≡ false = sym is_first ∙ off in cc)) sound
 
-sound_done : (s : State) (w : ℕ) (hand : Option Hand) → slice_get s.hands w ≡ hand → IsSound s → IsSound (handed_over s w (piece_done s.blocks hand))
+sound_done : (s : State) (w : ℕ) (hand : Option WorkerHand) → slice_get s.hands w ≡ hand → IsSound s → IsSound (handed_over s w (piece_done s.blocks hand))
 sound_done s w None at sound = sound
 sound_done s w (Some Idle) at sound = sound
 sound_done s w (Some Ended) at sound = sound
@@ -246,7 +246,7 @@ sound_done s w (Some (Holding b judged)) at sound = step (length judged == lengt
         let all : judged ≡ block_at s.blocks b = holding.1 ∙ ap (λ n. take n (block_at s.blocks b)) whole ∙ take-length (block_at s.blocks b) in
         sound_over s w judged (record { block = b; found = Lines (failing judged) }) at (holding.0, ap failing all) (λ off. refl) sound
 
-sound_hand : (s : State) (w : ℕ) (old new : Hand) → slice_get s.hands w ≡ Some old → IsTrueHand s.blocks new
+sound_hand : (s : State) (w : ℕ) (old new : WorkerHand) → slice_get s.hands w ≡ Some old → IsTrueHand s.blocks new
     → ArePlaced (length s.blocks) s.next s.lists (slice_set s.hands w new) s.pieces → IsSound s → IsSound (with_hand s w new)
 sound_hand s w old new at true_hand placed sound = record {
   jobs = sound.jobs;
@@ -258,7 +258,7 @@ sound_hand s w old new at true_hand placed sound = record {
   places = placed;
 }
 
-sound_quit : (s : State) (w : ℕ) (hand : Option Hand) → slice_get s.hands w ≡ hand → IsSound s → IsSound (quit s w hand)
+sound_quit : (s : State) (w : ℕ) (hand : Option WorkerHand) → slice_get s.hands w ≡ hand → IsSound s → IsSound (quit s w hand)
 sound_quit s w None at sound = sound
 sound_quit s w (Some Ended) at sound = sound
 sound_quit s w (Some (Lost b)) at sound = sound

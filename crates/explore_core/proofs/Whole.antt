@@ -6,9 +6,9 @@ use Rattle.std.proofs.lemmas.Bool.Decides.{nat_tests}
 use Rattle.std.proofs.lemmas.List.Elements.{filter-append}
 use Rattle.std.proofs.lemmas.List.Sums.{length-filter, sum_by-cons}
 use Rattle.explore_core.specs.declared.job.Job.{Job}
-use Rattle.explore_core.specs.declared.piece.Piece.{Piece}
-use Rattle.explore_core.specs.declared.piece.Found.{Found}
-use Rattle.explore_core.specs.declared.piece.Found.TheVariants.{Lines, Passed}
+use Rattle.explore_core.specs.declared.piece.HandedBlock.{HandedBlock}
+use Rattle.explore_core.specs.declared.piece.BlockFindings.{BlockFindings}
+use Rattle.explore_core.specs.declared.piece.BlockFindings.TheVariants.{Lines, Passed}
 use Rattle.explore_core.specs.Jobs.{Rise, all_jobs, block_at, failing}
 use Rattle.explore_core.specs.State.{State}
 use Rattle.explore_core.specs.Sound.{Each, IsFailing, ComesBefore, IsTrueFound, IsTruePiece, passes, is_passed, piece_count, lines_of, lines_at, by_block, first_lines, BeginsWith, IsSound, IsComplete}
@@ -23,18 +23,18 @@ IsRow blocks js ls = (ls ≡ failing js) ⊎ ((ls ≡ []) × ((image : ℕ) × I
 same_row : (blocks : List (List Job)) (js : List Job) {ls ms : List Job} → ls ≡ ms → IsRow blocks js ls → IsRow blocks js ms
 same_row blocks js e row = rw e at row
 
-row_of : (blocks : List (List Job)) (b : ℕ) (found : Found) → IsTrueFound blocks b found → IsRow blocks (block_at blocks b) (lines_of found)
+row_of : (blocks : List (List Job)) (b : ℕ) (found : BlockFindings) → IsTrueFound blocks b found → IsRow blocks (block_at blocks b) (lines_of found)
 row_of blocks b (Lines js) h = inl h
 row_of blocks b (Passed image) h = inr (refl, (image, h.0, h.1))
 
-full_of : (blocks : List (List Job)) (b : ℕ) (found : Found) → IsTrueFound blocks b found → passes found ≡ false → lines_of found ≡ failing (block_at blocks b)
+full_of : (blocks : List (List Job)) (b : ℕ) (found : BlockFindings) → IsTrueFound blocks b found → passes found ≡ false → lines_of found ≡ failing (block_at blocks b)
 full_of blocks b (Lines js) h full = h
 full_of blocks b (Passed image) h full = absurd (let bad : true ≡ false = full in cc)
 
-abbrev lines_in : List Piece → List Job
-lines_in pieces = flat_map (λ (p : Piece). lines_of p.found) pieces
+abbrev lines_in : List HandedBlock → List Job
+lines_in pieces = flat_map (λ (p : HandedBlock). lines_of p.found) pieces
 
-alone : (pieces : List Piece) → length pieces ≡ 1 → (p : Piece) × (slice_get pieces 0 ≡ Some p) × (lines_in pieces ≡ lines_of p.found)
+alone : (pieces : List HandedBlock) → length pieces ≡ 1 → (p : HandedBlock) × (slice_get pieces 0 ≡ Some p) × (lines_in pieces ≡ lines_of p.found)
 alone [] h = absurd (omega (arith, h))
 alone (p ∷ []) h = (p, refl, all (lines_of p.found))
   where
@@ -44,15 +44,15 @@ alone (p ∷ []) h = (p, refl, all (lines_of p.found))
 alone (p ∷ q ∷ ps) h = absurd (omega (arith, h))
 
 -- the piece of a block of which there is one
-one_piece : (blocks : List (List Job)) (P : Piece → Type 0) (pieces : List Piece) (b : ℕ) → Each P pieces → piece_count pieces b ≡ 1
-    → (p : Piece) × P p × (p.block ≡ b) × (lines_at pieces b ≡ lines_of p.found)
+one_piece : (blocks : List (List Job)) (P : HandedBlock → Type 0) (pieces : List HandedBlock) (b : ℕ) → Each P pieces → piece_count pieces b ≡ 1
+    → (p : HandedBlock) × P p × (p.block ≡ b) × (lines_at pieces b ≡ lines_of p.found)
 one_piece blocks P pieces b h one =
-    let count : length (filter (λ (p : Piece). p.block == b) pieces) ≡ 1 = length-filter (λ (p : Piece). p.block == b) pieces ∙ one in
-    let p = alone (filter (λ (p : Piece). p.block == b) pieces) count in
-    let is = each_filter P (λ (p : Piece). p.block == b) pieces h 0 p.0 p.1 in
+    let count : length (filter (λ (p : HandedBlock). p.block == b) pieces) ≡ 1 = length-filter (λ (p : HandedBlock). p.block == b) pieces ∙ one in
+    let p = alone (filter (λ (p : HandedBlock). p.block == b) pieces) count in
+    let is = each_filter P (λ (p : HandedBlock). p.block == b) pieces h 0 p.0 p.1 in
     (p.0, is.0, (grind (arith, nat_tests, is.1)), p.2)
 
-piece_row : (blocks : List (List Job)) (pieces : List Piece) (b : ℕ) → Each (IsTruePiece blocks) pieces → piece_count pieces b ≡ 1
+piece_row : (blocks : List (List Job)) (pieces : List HandedBlock) (b : ℕ) → Each (IsTruePiece blocks) pieces → piece_count pieces b ≡ 1
     → IsRow blocks (block_at blocks b) (lines_at pieces b)
 piece_row blocks pieces b h one =
     let p = one_piece blocks (IsTruePiece blocks) pieces b h one in
@@ -60,7 +60,7 @@ piece_row blocks pieces b h one =
     rw p.3 (rw p.2 at row)
 
 -- no piece is passed
-none_counted : (pieces : List Piece) → count_by is_passed pieces ≡ 0 → Each (λ p. is_passed p ≡ false) pieces
+none_counted : (pieces : List HandedBlock) → count_by is_passed pieces ≡ 0 → Each (λ p. is_passed p ≡ false) pieces
 none_counted [] h i p at = absurd (let bad : None ≡ Some p = at in cc)
 none_counted (q ∷ qs) h i p at = step (none_counted qs rest) (is_passed q) refl i at
   where
@@ -75,7 +75,7 @@ none_counted (q ∷ qs) h i p at = step (none_counted qs rest) (is_passed q) ref
     step more false e zero at = let same : q ≡ p = (let s : Some q ≡ Some p = at in cc) in rw same at e
     step more false e (suc i) at = more i p at
 
-whole_row : (blocks : List (List Job)) (pieces : List Piece) (b : ℕ) → Each (IsTruePiece blocks) pieces → count_by is_passed pieces ≡ 0 → piece_count pieces b ≡ 1
+whole_row : (blocks : List (List Job)) (pieces : List HandedBlock) (b : ℕ) → Each (IsTruePiece blocks) pieces → count_by is_passed pieces ≡ 0 → piece_count pieces b ≡ 1
     → lines_at pieces b ≡ failing (block_at blocks b)
 whole_row blocks pieces b h none one =
     let full = none_counted pieces none in

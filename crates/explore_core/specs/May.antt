@@ -1,7 +1,7 @@
 -- When an event may change the state (docs/PROVED.md, Threads and the cache).
 use Rattle.std.specs.Prelude.{ℕ, ◌≡◌, ◌<◌, ◌⊎◌, true, false, List, length, Some, slice_get}
 use Rattle.explore_core.specs.declared.job.Job.{Job}
-use Rattle.explore_core.specs.declared.hand.Hand.TheVariants.{Idle, Holding}
+use Rattle.explore_core.specs.declared.hand.WorkerHand.TheVariants.{Idle, Holding}
 use Rattle.explore_core.specs.declared.event.Event.{Event}
 use Rattle.explore_core.specs.declared.lists.Drawn.{Drawn}
 use Rattle.explore_core.specs.declared.event.Event.TheVariants.{Draw, Take, Look, Put, Post, Pass, Done, Quit}

@@ -2,14 +2,14 @@
 -- (docs/PROVED.md, Threads and the cache).
 use Rattle.std.specs.Prelude.{ℕ, ◌+◌, ◌-◌, ◌==◌, nat_lt, min, Bool, true, false, if◌then◌else◌, List, [], ◌∷◌, ◌++◌, length, replicate, Option, None, Some, slice_get, slice_set, unwrap_or}
 use Rattle.explore_core.specs.declared.job.Job.{Job}
-use Rattle.explore_core.specs.declared.hand.Hand.{Hand}
-use Rattle.explore_core.specs.declared.hand.Hand.TheVariants.{Idle, Holding, Ended, Lost}
-use Rattle.explore_core.specs.declared.piece.Piece.{Piece}
-use Rattle.explore_core.specs.declared.piece.Found.TheVariants.{Lines, Passed}
+use Rattle.explore_core.specs.declared.hand.WorkerHand.{WorkerHand}
+use Rattle.explore_core.specs.declared.hand.WorkerHand.TheVariants.{Idle, Holding, Ended, Lost}
+use Rattle.explore_core.specs.declared.piece.HandedBlock.{HandedBlock}
+use Rattle.explore_core.specs.declared.piece.BlockFindings.TheVariants.{Lines, Passed}
 use Rattle.explore_core.specs.declared.event.Event.{Event}
 use Rattle.explore_core.specs.declared.event.Event.TheVariants.{Draw, Take, Look, Put, Post, Pass, Done, Quit}
 use Rattle.explore_core.specs.Jobs.{block_at, failing, first_failing_image, lies_after}
-use Rattle.explore_core.specs.declared.cache.Entry.{Entry}
+use Rattle.explore_core.specs.declared.cache.CacheEntry.{CacheEntry}
 use Rattle.explore_core.specs.Cache.{cache_outcome, without}
 use Rattle.explore_core.specs.declared.lists.Drawn.{Drawn}
 use Rattle.explore_core.specs.Lists.{listed_under, lists_without}
@@ -28,11 +28,11 @@ pub record State : Type 0 where
   -- the least image that was posted
   pub least : Option ℕ
   -- outcomes by key
-  pub cache : List Entry
+  pub cache : List CacheEntry
   -- what was handed over
-  pub pieces : List Piece
+  pub pieces : List HandedBlock
   -- what each worker has in hand
-  pub hands : List Hand
+  pub hands : List WorkerHand
 
 -- nothing is drawn, and every worker is idle
 abbrev pub start : List (List Job) → ℕ → Bool → State
@@ -40,13 +40,13 @@ start blocks workers first =
     record { blocks = blocks; first = first; next = 0; late = replicate workers false; lists = []; least = None; cache = []; pieces = []; hands = replicate workers Idle }
 
 -- the state with another hand of that worker
-abbrev pub with_hand : State → ℕ → Hand → State
+abbrev pub with_hand : State → ℕ → WorkerHand → State
 with_hand s w hand = record s { hands = slice_set s.hands w hand }
 
 -- Draw: a worker that hasn't ended puts the next block into its list; where none is left, it draws no more
 
 -- whether a worker may draw, by its hand, and by whether it found no block left
-abbrev pub may_draw : Option Hand → Option Bool → Bool
+abbrev pub may_draw : Option WorkerHand → Option Bool → Bool
 may_draw (Some Idle) (Some false) = true
 may_draw (Some (Holding block judged)) (Some false) = true
 may_draw hand late = false
@@ -65,33 +65,33 @@ after_draw s w false = s
 
 -- Take: an idle worker gets a block out of a worker's list
 
-abbrev pub after_steal : State → ℕ → ℕ → ℕ → Option Hand → Bool → State
+abbrev pub after_steal : State → ℕ → ℕ → ℕ → Option WorkerHand → Bool → State
 after_steal s w from block (Some Idle) true = record s { lists = lists_without from block s.lists; hands = slice_set s.hands w (Holding block []) }
 after_steal s w from block hand after_list = s
 
 -- Look: a worker takes the outcome of the next job of its block
 
 -- the job with the outcome that the cache has for its key, or else with its own
-abbrev pub job_by_cache : List Entry → Job → Job
+abbrev pub job_by_cache : List CacheEntry → Job → Job
 job_by_cache cache job = record job { outcome = unwrap_or (cache_outcome cache job.key) job.outcome }
 
 -- the first job of the block in hand that isn't judged yet, if there is one
-abbrev pub next_job : List (List Job) → Option Hand → Option Job
+abbrev pub next_job : List (List Job) → Option WorkerHand → Option Job
 next_job blocks (Some (Holding block judged)) = slice_get (block_at blocks block) (length judged)
 next_job blocks hand = None
 
 -- the hand with one more judged job
-abbrev pub judging : Job → Hand → Hand
+abbrev pub judging : Job → WorkerHand → WorkerHand
 judging job (Holding block judged) = Holding block (judged ++ job ∷ [])
 judging job hand = hand
 
-abbrev pub after_look : State → ℕ → Option Hand → Option Job → State
+abbrev pub after_look : State → ℕ → Option WorkerHand → Option Job → State
 after_look s w (Some hand) (Some job) = with_hand s w (judging (job_by_cache s.cache job) hand)
 after_look s w hand job = s
 
 -- Put: the pair of what a worker judged last enters the cache, and then pairs leave it
 
-abbrev pub last_judged : Option Hand → Option Job
+abbrev pub last_judged : Option WorkerHand → Option Job
 last_judged (Some (Holding block judged)) = slice_get judged (length judged - 1)
 last_judged hand = None
 
@@ -107,31 +107,31 @@ lower_image least None = least
 lower_image None (Some image) = Some image
 lower_image (Some least) (Some image) = Some (min least image)
 
-abbrev pub after_post : State → Option Hand → State
+abbrev pub after_post : State → Option WorkerHand → State
 after_post s (Some (Holding block judged)) = record s { least = lower_image s.least (first_failing_image judged) }
 after_post s hand = s
 
 -- Pass and Done: a worker hands over a piece of its block, and is idle
 
-abbrev pub handed_over : State → ℕ → Option Piece → State
+abbrev pub handed_over : State → ℕ → Option HandedBlock → State
 handed_over s w (Some piece) = record s { pieces = s.pieces ++ piece ∷ []; hands = slice_set s.hands w Idle }
 handed_over s w None = s
 
 -- with `first`: the piece that names the least image, where the block in hand lies wholly after it
-abbrev pub piece_passed : List (List Job) → Bool → Option ℕ → Option Hand → Option Piece
+abbrev pub piece_passed : List (List Job) → Bool → Option ℕ → Option WorkerHand → Option HandedBlock
 piece_passed blocks true (Some image) (Some (Holding block judged)) =
     if lies_after image (block_at blocks block) then Some (record { block = block; found = Passed image }) else None
 piece_passed blocks first least hand = None
 
 -- the piece with the failing jobs of the block in hand, where it is wholly judged
-abbrev pub piece_done : List (List Job) → Option Hand → Option Piece
+abbrev pub piece_done : List (List Job) → Option WorkerHand → Option HandedBlock
 piece_done blocks (Some (Holding block judged)) =
     if length judged == length (block_at blocks block) then Some (record { block = block; found = Lines (failing judged) }) else None
 piece_done blocks hand = None
 
 -- Quit: a worker ends, and the block in its hand is lost
 
-abbrev pub quit : State → ℕ → Option Hand → State
+abbrev pub quit : State → ℕ → Option WorkerHand → State
 quit s w (Some Idle) = with_hand s w Ended
 quit s w (Some (Holding block judged)) = with_hand s w (Lost block)
 quit s w hand = s

@@ -4,15 +4,15 @@ ghost use Rattle.std.specs.Prelude.{◌≡◌, ◌<◌, IfOk, OnOk, OnErr, slice
 ghost use Rattle.explore_core.specs.Jobs.{lies_after};
 ghost use Rattle.explore_core.specs.Sound.{IsSound};
 ghost use Rattle.explore_core.specs.Lists.{listed_under};
-ghost use Rattle.explore_core.specs.declared.piece.Found.TheVariants.{Passed};
+ghost use Rattle.explore_core.specs.declared.piece.BlockFindings.TheVariants.{Passed};
 ghost use Rattle.explore_core.specs.State.{start, after, after_all, job_by_cache, lower_image, may_draw, after_list, after_draw, after_steal, next_job, after_look, last_judged, after_put, after_post, piece_passed, piece_done, handed_over, quit};
 
-use crate::cache::{Entry, cache_outcome, take_out};
+use crate::cache::{CacheEntry, cache_outcome, take_out};
 use crate::event::Event;
-use crate::hand::Hand;
+use crate::hand::WorkerHand;
 use crate::job::{Job, JobList, Jobs, first_failing_image, lies_after};
 use crate::lists::{Drawn, listed_under, unlist};
-use crate::piece::{Found, Piece};
+use crate::piece::{BlockFindings, HandedBlock};
 use std::alloc::{AllocError, Global};
 use std::marker::Model;
 use std::mem;
@@ -26,9 +26,9 @@ pub struct Explore<'a> {
     late: Vec<bool>,
     lists: Vec<Drawn>,
     least: Option<u64>,
-    cache: Vec<Entry>,
-    pieces: Vec<Piece>,
-    hands: Vec<Hand>,
+    cache: Vec<CacheEntry>,
+    pieces: Vec<HandedBlock>,
+    hands: Vec<WorkerHand>,
 }
 
 impl<'a> Model for Explore<'a> {
@@ -57,7 +57,7 @@ impl<'a> Explore<'a> {
         let mut hands = Vec::new(alloc);
         let mut late = Vec::new(alloc);
         for _worker in 0..workers {
-            hands.push(Hand::Idle)?;
+            hands.push(WorkerHand::Idle)?;
             late.push(false)?;
         }
         Ok(Explore {
@@ -88,7 +88,7 @@ impl<'a> Explore<'a> {
     }
 
     /// What was handed over so far, in the order of time.
-    pub fn pieces(&self) -> &[Piece]
+    pub fn pieces(&self) -> &[HandedBlock]
         ensures { result.now ≡ self.now.pieces }
     {
         self.pieces.as_slice()
@@ -100,10 +100,10 @@ impl<'a> Explore<'a> {
         ensures within { result ≡ true → worker < length self.now.late }
     {
         match (self.hands.get(worker), self.late.get(worker)) {
-            (Some(Hand::Idle), Some(late)) => !late,
+            (Some(WorkerHand::Idle), Some(late)) => !late,
             (
                 Some(
-                    Hand::Holding {
+                    WorkerHand::Holding {
                         block: _,
                         judged: _,
                     },
@@ -152,10 +152,10 @@ impl<'a> Explore<'a> {
             return;
         }
         match self.hands.get(taker) {
-            Some(Hand::Idle) => unlist(&mut self.lists, owner, block),
+            Some(WorkerHand::Idle) => unlist(&mut self.lists, owner, block),
             _ => return,
         }
-        self.hands[taker] = Hand::Holding {
+        self.hands[taker] = WorkerHand::Holding {
             block,
             judged: JobList::new(alloc),
         };
@@ -167,7 +167,7 @@ impl<'a> Explore<'a> {
         ensures within { OnSome result (worker < length self.now.hands) }
     {
         match self.hands.get(worker) {
-            Some(Hand::Holding { block, judged }) => {
+            Some(WorkerHand::Holding { block, judged }) => {
                 self.jobs
                     .block(*block)
                     .get(judged.as_slice().len())
@@ -194,7 +194,7 @@ impl<'a> Explore<'a> {
         ensures { result ≡ last_judged (slice_get self.now.hands worker) }
     {
         match self.hands.get(worker) {
-            Some(Hand::Holding { block: _, judged }) => judged.as_slice().last().copied(),
+            Some(WorkerHand::Holding { block: _, judged }) => judged.as_slice().last().copied(),
             _ => None,
         }
     }
@@ -206,7 +206,7 @@ impl<'a> Explore<'a> {
         let Some(job) = self.last_judged(worker) else {
             return Ok(());
         };
-        self.cache.push(Entry {
+        self.cache.push(CacheEntry {
             key: job.key,
             outcome: job.outcome,
         })?;
@@ -218,14 +218,16 @@ impl<'a> Explore<'a> {
         ensures { self.new ≡ after_post self.old (slice_get self.old.hands worker) }
     {
         let image = match self.hands.get(worker) {
-            Some(Hand::Holding { block: _, judged }) => first_failing_image(judged.as_slice()),
+            Some(WorkerHand::Holding { block: _, judged }) => first_failing_image(
+                judged.as_slice(),
+            ),
             _ => return,
         };
         self.least = lower_image(self.least, image);
     }
 
     /// The piece by which a worker may pass over its block, if it may.
-    fn piece_passed(&self, worker: usize) -> Option<Piece>
+    fn piece_passed(&self, worker: usize) -> Option<HandedBlock>
         ensures piece { result ≡ piece_passed self.now.blocks self.now.first self.now.least (slice_get self.now.hands worker) }
         ensures within { OnSome result (worker < length self.now.hands) }
     {
@@ -233,7 +235,7 @@ impl<'a> Explore<'a> {
             return None;
         }
         match (self.least, self.hands.get(worker)) {
-            (Some(image), Some(Hand::Holding { block, judged: _ })) => passed_by(
+            (Some(image), Some(WorkerHand::Holding { block, judged: _ })) => passed_by(
                 image,
                 *block,
                 self.jobs.block(*block),
@@ -250,7 +252,7 @@ impl<'a> Explore<'a> {
             return Ok(());
         };
         self.pieces.push(piece)?;
-        self.hands[worker] = Hand::Idle;
+        self.hands[worker] = WorkerHand::Idle;
         Ok(())
     }
 
@@ -260,7 +262,7 @@ impl<'a> Explore<'a> {
         ensures within { result ≡ true → worker < length self.now.hands }
     {
         match self.hands.get(worker) {
-            Some(Hand::Holding { block, judged }) => {
+            Some(WorkerHand::Holding { block, judged }) => {
                 judged.as_slice().len() == self.jobs.block(*block).len()
             }
             _ => false,
@@ -275,11 +277,11 @@ impl<'a> Explore<'a> {
             return Ok(());
         }
         self.pieces.reserve(1)?;
-        let hand = mem::replace(&mut self.hands[worker], Hand::Idle);
-        if let Hand::Holding { block, judged } = hand {
-            self.pieces.push(Piece {
+        let hand = mem::replace(&mut self.hands[worker], WorkerHand::Idle);
+        if let WorkerHand::Holding { block, judged } = hand {
+            self.pieces.push(HandedBlock {
                 block,
-                found: Found::Lines(judged.into_failing()),
+                found: BlockFindings::Lines(judged.into_failing()),
             })?;
         }
         Ok(())
@@ -289,8 +291,8 @@ impl<'a> Explore<'a> {
         ensures { self.new ≡ quit self.old worker (slice_get self.old.hands worker) }
     {
         let left = match self.hands.get(worker) {
-            Some(Hand::Idle) => Hand::Ended,
-            Some(Hand::Holding { block, judged: _ }) => Hand::Lost { block: *block },
+            Some(WorkerHand::Idle) => WorkerHand::Ended,
+            Some(WorkerHand::Holding { block, judged: _ }) => WorkerHand::Lost { block: *block },
             _ => return,
         };
         self.hands[worker] = left;
@@ -343,13 +345,13 @@ pub fn run<'a>(
 }
 
 /// The piece that names that image, where the jobs of the block lie wholly after it.
-fn passed_by(image: u64, block: usize, jobs: &[Job]) -> Option<Piece>
+fn passed_by(image: u64, block: usize, jobs: &[Job]) -> Option<HandedBlock>
     ensures { result ≡ (if lies_after image jobs.now then Some (record { block = block; found = Passed image }) else None) }
 {
     if lies_after(image, jobs) {
-        Some(Piece {
+        Some(HandedBlock {
             block,
-            found: Found::Passed(image),
+            found: BlockFindings::Passed(image),
         })
     } else {
         None
@@ -357,7 +359,7 @@ fn passed_by(image: u64, block: usize, jobs: &[Job]) -> Option<Piece>
 }
 
 /// The job with the outcome that the cache has for its key, or else with its own.
-fn job_by_cache(cache: &[Entry], job: Job) -> Job
+fn job_by_cache(cache: &[CacheEntry], job: Job) -> Job
     ensures { result ≡ job_by_cache cache.now job }
 {
     Job {

@@ -8,7 +8,7 @@ use std::alloc::AllocError;
 
 /// What a worker has in hand.
 #[derive(Drop)]
-pub enum Hand {
+pub enum WorkerHand {
     /// Nothing: it may take a block.
     Idle,
     /// A block, and its jobs that are judged so far, each with the outcome that was taken for it.
@@ -19,14 +19,14 @@ pub enum Hand {
     Lost { block: usize },
 }
 
-impl Hand {
+impl WorkerHand {
     /// Adds a judged job to those of the block in hand. Where memory is wanting, nothing changes.
     pub(crate) fn judge(&mut self, job: Job) -> Result<(), AllocError>
         ensures judged { OnOk result (self.new ≡ judging job self.old) }
         ensures kept { OnErr result (self.new ≡ self.old) }
     {
         match self {
-            Hand::Holding { block: _, judged } => judged.push(job),
+            WorkerHand::Holding { block: _, judged } => judged.push(job),
             _ => Ok(()),
         }
     }

@@ -84,8 +84,8 @@ mod piece;
 
 pub use event::{Event, Keys};
 pub use explore::{Explore, run, step};
-pub use hand::Hand;
+pub use hand::WorkerHand;
 pub use job::{Job, JobList, Jobs};
 pub use laws::{every_run_is_sound, unless_it_may, whole_begins_with_first, whole_is_failing};
 pub use lists::Drawn;
-pub use piece::{Found, Piece};
+pub use piece::{BlockFindings, HandedBlock};

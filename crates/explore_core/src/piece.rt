@@ -4,7 +4,7 @@ use crate::job::JobList;
 
 /// What was found in a block.
 #[derive(Drop)]
-pub enum Found {
+pub enum BlockFindings {
     /// Its failing jobs.
     Lines(JobList),
     /// Nothing: the block was passed over, since this failing image comes before all of it.
@@ -13,9 +13,9 @@ pub enum Found {
 
 /// What a worker handed over of a block.
 #[derive(Drop)]
-pub struct Piece {
+pub struct HandedBlock {
     /// The number of the block.
     pub block: usize,
     /// What was found in it.
-    pub found: Found,
+    pub found: BlockFindings,
 }

@@ -15,7 +15,7 @@ use Rattle.images.specs.Whole.{length_view}
 use Rattle.export.specs.Export.{AskedValue, device_at, is_same, first_same, is_new, initial_device, last_new, records_at, new_count}
 use Rattle.std.specs.Option.{option_map}
 use Rattle.std.proofs.lemmas.Bool.{eq-eqb, ne_eqb}
-use Rattle.export.specs.declared.walk.Held.{Held}
+use Rattle.export.specs.declared.walk.KeptImage.{KeptImage}
 use Rattle.export.specs.Kept.{weight, weight_at, sum_of, key_at, key_after, firsts, IsIndex, IsFree, IsNext, AreRecords, IsKept}
 use Rattle.export.proofs.First.{none_first}
 use Rattle.export.proofs.Same.{same_if, told_first, new_flag, same_flag}
@@ -26,7 +26,7 @@ use Rattle.export.proofs.Index.{none_kept, index_stays, index_more, free_is_new}
 use Rattle.export.proofs.Readers.{unchanged, new_shows, same_shows, length-device}
 
 -- before the first image
-pub first_kept : (a : AskedValue) (shown near : ViewValue) (own fresh : ℕ) (at : ℕ → Option Held) → shown ≡ record { log = a.plan.log; cut = 0; departures = [] }
+pub first_kept : (a : AskedValue) (shown near : ViewValue) (own fresh : ℕ) (at : ℕ → Option KeptImage) → shown ≡ record { log = a.plan.log; cut = 0; departures = [] }
     → near.log ≡ a.plan.log → own ≡ sum_of (sectors_of near) → fresh ≡ 0 → ((k : ℕ) → at k ≡ None) → IsKept a 0 shown near own fresh at
 unfolding initial_device last_new new_count
 first_kept a shown near own fresh at is beside sum none empty = record {
@@ -37,7 +37,7 @@ first_kept a shown near own fresh at is beside sum none empty = record {
   count = none;
   few = omega (arith, none);
   held = record {
-    index = none_kept a (firsts at) (λ k. ap (option_map (λ (h : Held). h.first)) (empty k));
+    index = none_kept a (firsts at) (λ k. ap (option_map (λ (h : KeptImage). h.first)) (empty k));
     recent = λ k h there. absurd (let bad : None ≡ Some h = sym (empty k) ∙ there in cc);
   };
 }
@@ -139,24 +139,24 @@ same_itself : (a : AskedValue) (i : ℕ) → is_same a i i ≡ true
 same_itself a i = same_if a i i refl refl
 
 -- what stands at a key after one was put there
-put_first : (at : ℕ → Option Held) (key q : ℕ) (held : Held) (b : Bool) → option_map (λ (h : Held). h.first) (cond b (Some held) (at q)) ≡ cond b (Some held.first) (firsts at q)
+put_first : (at : ℕ → Option KeptImage) (key q : ℕ) (held : KeptImage) (b : Bool) → option_map (λ (h : KeptImage). h.first) (cond b (Some held) (at q)) ≡ cond b (Some held.first) (firsts at q)
 put_first at key q held true = refl
 put_first at key q held false = refl
 
-stays_first : (at : ℕ → Option Held) (key q : ℕ) (held : Held) → firsts at key ≡ Some held.first → cond (key == q) (Some held.first) (firsts at q) ≡ firsts at q
+stays_first : (at : ℕ → Option KeptImage) (key q : ℕ) (held : KeptImage) → firsts at key ≡ Some held.first → cond (key == q) (Some held.first) (firsts at q) ≡ firsts at q
 stays_first at key q held there = elim (eqb_tells key q) [
   | inl same ↦ ap (λ b. cond b (Some held.first) (firsts at q)) (eq-eqb key q same.1) ∙ sym there ∙ ap (firsts at) same.1
   | inr other ↦ ap (λ b. cond b (Some held.first) (firsts at q)) (ne_eqb key q other.1)
 ]
 
 -- one is the last that is the same as the first
-recent_put : (a : AskedValue) (i key : ℕ) (at after : ℕ → Option Held) (held : Held) → ((q : ℕ) → after q ≡ cond (key == q) (Some held) (at q))
-    → ((k : ℕ) (h : Held) → at k ≡ Some h → (h.last < i) × (is_same a h.last h.first ≡ true)) → held.last ≡ i → is_same a i held.first ≡ true
-    → (k : ℕ) (h : Held) → after k ≡ Some h → (h.last < i + 1) × (is_same a h.last h.first ≡ true)
+recent_put : (a : AskedValue) (i key : ℕ) (at after : ℕ → Option KeptImage) (held : KeptImage) → ((q : ℕ) → after q ≡ cond (key == q) (Some held) (at q))
+    → ((k : ℕ) (h : KeptImage) → at k ≡ Some h → (h.last < i) × (is_same a h.last h.first ≡ true)) → held.last ≡ i → is_same a i held.first ≡ true
+    → (k : ℕ) (h : KeptImage) → after k ≡ Some h → (h.last < i + 1) × (is_same a h.last h.first ≡ true)
 recent_put a i key at after held put recent last same k h there = elim (eqb_tells key k) [
   | inl here ↦
       let is : held ≡ h = same_Some held h (sym (put k ∙ ap (λ b. cond b (Some held) (at k)) (eq-eqb key k here.1)) ∙ there) in
-      let P : Held → Type 0 = λ x. (x.last < i + 1) × (is_same a x.last x.first ≡ true) in
+      let P : KeptImage → Type 0 = λ x. (x.last < i + 1) × (is_same a x.last x.first ≡ true) in
       subst P is (omega (arith, last), ap (λ n. is_same a n held.first) last ∙ same)
   | inr other ↦
       let was = recent k h (sym (put k ∙ ap (λ b. cond b (Some held) (at k)) (ne_eqb key k other.1)) ∙ there) in
@@ -165,14 +165,14 @@ recent_put a i key at after held put recent last same k h there = elim (eqb_tell
 ]
 
 -- after an image that isn't new
-pub kept_same : (a : AskedValue) (i key : ℕ) (shown near new : ViewValue) (own sum fresh marks : ℕ) (at after : ℕ → Option Held) (held : Held)
+pub kept_same : (a : AskedValue) (i key : ℕ) (shown near new : ViewValue) (own sum fresh marks : ℕ) (at after : ℕ → Option KeptImage) (held : KeptImage)
     → IsKept a i shown near own fresh at → IsNext a i new marks sum → held.last ≡ i → first_same a i ≡ Some held.first → firsts at key ≡ Some held.first
     → ((q : ℕ) → after q ≡ cond (key == q) (Some held) (at q)) → IsKept a (i + 1) shown new sum fresh after
 kept_same a i key shown near new own sum fresh marks at after held is next last same there put =
     let stays : last_new a (i + 1) ≡ last_new a i = ap (last_new a) (add-one i) ∙ same_shows a i held.first same in
     let few = is.few in
     let alike : firsts at ≡ firsts after =
-    λ j q. sym (ap (option_map (λ (h : Held). h.first)) (put q) ∙ put_first at key q held (key == q) ∙ stays_first at key q held there) j in
+    λ j q. sym (ap (option_map (λ (h : KeptImage). h.first)) (put q) ∙ put_first at key q held (key == q) ∙ stays_first at key q held there) j in
     record {
       log = is.log;
       device = is.device ∙ sym stays;
@@ -187,7 +187,7 @@ kept_same a i key shown near new own sum fresh marks at after held is next last 
     }
 
 -- after one that is
-pub kept_new : (a : AskedValue) (i key : ℕ) (shown near new next_shown : ViewValue) (own sum fresh marks : ℕ) (at after : ℕ → Option Held) (held : Held)
+pub kept_new : (a : AskedValue) (i key : ℕ) (shown near new next_shown : ViewValue) (own sum fresh marks : ℕ) (at after : ℕ → Option KeptImage) (held : KeptImage)
     → IsKept a i shown near own fresh at → IsNext a i new marks sum → next_shown.log ≡ a.plan.log → sectors_of next_shown ≡ device_at a i
     → IsFree a i (firsts at) key → held.first ≡ i → held.last ≡ i
     → ((q : ℕ) → after q ≡ cond (key == q) (Some held) (at q)) → IsKept a (i + 1) next_shown new sum (fresh + 1) after
@@ -208,7 +208,7 @@ kept_new a i key shown near new next_shown own sum fresh marks at after held is 
       few = omega (arith, few);
       held = record {
         index = index_more a i (firsts at) (firsts after) steps is.held.index free.2 none
-            (λ q. ap (option_map (λ (h : Held). h.first)) (put q) ∙ put_first at key q held (key == q) ∙ ap (λ n. cond (key == q) (Some n) (firsts at q)) first
+            (λ q. ap (option_map (λ (h : KeptImage). h.first)) (put q) ∙ put_first at key q held (key == q) ∙ ap (λ n. cond (key == q) (Some n) (firsts at q)) first
             ∙ ap (λ k. cond (k == q) (Some i) (firsts at q)) here);
         recent = recent_put a i key at after held put is.held.recent last (ap (is_same a i) first ∙ same_itself a i);
       };
@@ -233,5 +233,5 @@ few_of_range p count xs is =
         by (p a)
 
 -- a map without entries
-pub none_at : {S : Type 0} (m : HashMap ℕ Held S) → IsEmpty m → (k : ℕ) → get nat_eq m k ≡ None
+pub none_at : {S : Type 0} (m : HashMap ℕ KeptImage S) → IsEmpty m → (k : ℕ) → get nat_eq m k ≡ None
 none_at m empty k = rw empty refl

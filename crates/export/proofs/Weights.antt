@@ -3,6 +3,7 @@ use Rattle.std.proofs.Common.{ℕ, zero, suc, slice_get, Some, ◌≡◌, ◌+�
 use Rattle.std.specs.List.{range_with_len}
 use Rattle.std.proofs.lemmas.List.Sums.{sum_by-cons, sum_by_push}
 use Rattle.std.proofs.lemmas.List.FromFn.{length-range_with_len}
+use Rattle.base.specs.Sizes.{most_sectors}
 use Rattle.base.proofs.Lists.{range_with_len-more}
 use Rattle.std.proofs.lemmas.Option.{get_or_from_slice_get}
 use Rattle.images.specs.Views.{ViewValue, sectors_of}
@@ -10,11 +11,11 @@ use Rattle.images.specs.Keys.{content_at}
 use Rattle.images.specs.Whole.{length_view}
 use Rattle.export.specs.Kept.{spread, weight, weight_at, sum_of}
 
-weight_small : (n : ℕ) (sector : List ℕ) → weight n sector ≤ 8796093022207
+weight_small : (n : ℕ) (sector : List ℕ) → weight n sector ≤ 274877906943
 unfolding weight spread
 weight_small n sector = omega arith
 
-pub sums_small : (device : List (List ℕ)) (ns : List ℕ) → sum_by (weight_at device) ns ≤ 8796093022207 * length ns
+pub sums_small : (device : List (List ℕ)) (ns : List ℕ) → sum_by (weight_at device) ns ≤ 274877906943 * length ns
 unfolding weight_at
 sums_small device [] = omega arith
 sums_small device (n ∷ ns) =
@@ -42,12 +43,12 @@ unfolding sum_of
 sum_all view n sum is all = is ∙ ap (λ k. sum_by (weight_at (sectors_of view)) (range_with_len 0 k)) (all ∙ sym (length_view view))
 
 -- a sum is small
-pub sum_fits : (device : List (List ℕ)) (ns : List ℕ) (sum count : ℕ) → sum ≡ sum_by (weight_at device) ns → length ns ≤ count → count ≤ 1048576 → sum < 2 ^ 63
+pub sum_fits : (device : List (List ℕ)) (ns : List ℕ) (sum count : ℕ) → sum ≡ sum_by (weight_at device) ns → length ns ≤ count → count ≤ most_sectors → sum < 2 ^ 63
 sum_fits device ns sum count is few limit =
     let small = sums_small device ns in
     omega (arith, is, small, few, limit)
 
-pub weight_fits : (n : ℕ) (sector : List ℕ) (w : ℕ) → w ≡ weight n sector → w ≤ 8796093022207
+pub weight_fits : (n : ℕ) (sector : List ℕ) (w : ℕ) → w ≡ weight n sector → w ≤ 274877906943
 weight_fits n sector w is = let small = weight_small n sector in omega (arith, is, small)
 
 pub take_short : (xs : List ℕ) (i : ℕ) → length (take i xs) ≤ length xs
@@ -56,7 +57,7 @@ take_short [] (suc i) = omega arith
 take_short (x ∷ xs) zero = omega arith
 take_short (x ∷ xs) (suc i) = let rest = take_short xs i in omega (arith, rest)
 
-pub whole_fits : (view : ViewValue) (sum : ℕ) → sum ≡ sum_of (sectors_of view) → view.log.sectors ≤ 1048576 → sum < 2 ^ 63
+pub whole_fits : (view : ViewValue) (sum : ℕ) → sum ≡ sum_of (sectors_of view) → view.log.sectors ≤ most_sectors → sum < 2 ^ 63
 unfolding sum_of
 whole_fits view sum is limit =
     let long = length-range_with_len 0 (length (sectors_of view)) in

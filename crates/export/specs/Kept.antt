@@ -13,9 +13,9 @@ use Rattle.logfmt.specs.declared.entry.Entry.{Entry}
 use Rattle.choices.specs.declared.choice.Departure.{Departure}
 use Rattle.export.specs.Export.{AskedValue, device_at, marks_before, is_same, first_same, last_new, records_at, record_text, image_text, new_count}
 use Rattle.export.specs.Streaming.{StreamValue, Puts}
-use Rattle.export.specs.declared.walk.Held.{Held}
-use Rattle.export.specs.declared.walk.Found.{Found}
-use Rattle.export.specs.declared.walk.Found.TheVariants as found
+use Rattle.export.specs.declared.walk.KeptImage.{KeptImage}
+use Rattle.export.specs.declared.walk.KeyPlace.{KeyPlace}
+use Rattle.export.specs.declared.walk.KeyPlace.TheVariants as found
 
 -- what can be asked for
 pub record IsAsked (a : AskedValue) : Type 0 where
@@ -40,9 +40,9 @@ factor = 11400714819323198485
 unfoldable pub spread : ℕ → ℕ
 spread n = bit_xor n (n / 2 ^ 32) * factor % 2 ^ 64
 
--- what a sector adds to the sum of an image, below 2 ^ 43: so no sum of at most 2 ^ 20 sectors passes 2 ^ 63
+-- what a sector adds to the sum of an image, below 2 ^ 38: so no sum of at most 2 ^ 25 sectors passes 2 ^ 63
 unfoldable pub weight : ℕ → List ℕ → ℕ
-weight n sector = spread (spread ((mix sector + factor * n % 2 ^ 64) % 2 ^ 64)) / 2 ^ 21
+weight n sector = spread (spread ((mix sector + factor * n % 2 ^ 64) % 2 ^ 64)) / 2 ^ 26
 
 -- of a sector of a device
 unfoldable pub weight_at : List (List ℕ) → ℕ → ℕ
@@ -73,13 +73,13 @@ pub record IsIndex (a : AskedValue) (n : ℕ) (at : ℕ → Option ℕ) : Type 0
       → (t : ℕ) × (at (key_after (key_at a j) t) ≡ Some j) × ((s : ℕ) → s < t → at (key_after (key_at a j) s) ≡ None → ⊥)
 
 -- of what is kept at each key the first place
-abbrev pub firsts : (ℕ → Option Held) → ℕ → Option ℕ
-firsts at k = option_map (λ (h : Held). h.first) (at k)
+abbrev pub firsts : (ℕ → Option KeptImage) → ℕ → Option ℕ
+firsts at k = option_map (λ (h : KeptImage). h.first) (at k)
 
 -- each new image of the first n is kept, with the place of an image that is the same
-pub record IsHeld (a : AskedValue) (n : ℕ) (at : ℕ → Option Held) : Type 0 where
+pub record IsHeld (a : AskedValue) (n : ℕ) (at : ℕ → Option KeptImage) : Type 0 where
   pub index : IsIndex a n (firsts at)
-  pub recent : (k : ℕ) (h : Held) → at k ≡ Some h → (h.last < n) × (is_same a h.last h.first ≡ true)
+  pub recent : (k : ℕ) (h : KeptImage) → at k ≡ Some h → (h.last < n) × (is_same a h.last h.first ≡ true)
 
 -- a sector is one of that many from one on
 abbrev pub Spans : ℕ → ℕ → ℕ → Type 0
@@ -125,7 +125,7 @@ pub record AreRecords (a : AskedValue) (i : ℕ) (image : ViewValue) (numbers : 
   pub none : numbers ≡ [] → last_new a i ≡ device_at a i
 
 -- what is kept after the first n images: the last new one, any one with its sum, how many were new, and where these are
-pub record IsKept (a : AskedValue) (n : ℕ) (shown near : ViewValue) (own fresh : ℕ) (at : ℕ → Option Held) : Type 0 where
+pub record IsKept (a : AskedValue) (n : ℕ) (shown near : ViewValue) (own fresh : ℕ) (at : ℕ → Option KeptImage) : Type 0 where
   pub log : shown.log ≡ a.plan.log
   pub device : sectors_of shown ≡ last_new a n
   pub beside : near.log ≡ a.plan.log
@@ -139,7 +139,7 @@ unfoldable pub IsFree : AskedValue → ℕ → (ℕ → Option ℕ) → ℕ → 
 IsFree a i at key = (steps : ℕ) × (key ≡ key_after (key_at a i) steps) × AreOthers a i at steps × (at key ≡ None)
 
 -- what a search for an image ends in
-unfoldable pub IsFound : AskedValue → ℕ → (ℕ → Option Held) → Found → Type 0
+unfoldable pub IsFound : AskedValue → ℕ → (ℕ → Option KeptImage) → KeyPlace → Type 0
 IsFound a i at (found.Free key) = IsFree a i (firsts at) key
 IsFound a i at (found.Same key place) = (first_same a i ≡ Some place) × (firsts at key ≡ Some place)
 

@@ -9,7 +9,7 @@ use std::marker::Model;
 
 /// How the images of a plan are numbered, and which of them are wanted.
 #[derive(Clone, Copy)]
-pub struct Wanted {
+pub struct WantedImages {
     /// What is lost or torn as one, as the plan has it.
     pub by: By,
     /// How many parts may depart.
@@ -26,13 +26,13 @@ pub struct Wanted {
 ///
 /// Contracts see the plan, and how its images are numbered.
 #[derive(Drop)]
-pub struct Asked<'a> {
+pub struct PlannedImages<'a> {
     log: &'a Log,
     plan: &'a Plan<'a>,
-    wanted: Wanted,
+    wanted: WantedImages,
 }
 
-impl<'a> Model for Asked<'a> {
+impl<'a> Model for PlannedImages<'a> {
     ghost use Rattle.std.specs.Prelude.{◌≡◌};
     ghost use Rattle.export.specs.Export.{AskedValue};
     ghost use Rattle.export.specs.Kept.{IsAsked};
@@ -45,11 +45,11 @@ impl<'a> Model for Asked<'a> {
         × IsAsked (record { plan = a.plan.now; bound = a.wanted.bound; tears = a.wanted.tears; from = a.wanted.from; to = a.wanted.to }) };
 }
 
-impl<'a> Asked<'a> {
+impl<'a> PlannedImages<'a> {
     ghost use Rattle.export.specs.Kept.{IsAsked};
 
     /// The images of a plan of a log that are wanted.
-    pub fn of(log: &'a Log, plan: &'a Plan<'a>, wanted: Wanted) -> Asked<'a>
+    pub fn of(log: &'a Log, plan: &'a Plan<'a>, wanted: WantedImages) -> PlannedImages<'a>
         requires log { plan.now.log ≡ log.now }
         requires by { wanted.by ≡ plan.now.by }
         requires bound { wanted.bound ≤ 3 }
@@ -59,7 +59,7 @@ impl<'a> Asked<'a> {
         requires few { wanted.to ≤ wanted.from + 16777216 }
         ensures { result ≡ record { plan = plan.now; bound = wanted.bound; tears = wanted.tears; from = wanted.from; to = wanted.to } }
     {
-        Asked { log, plan, wanted }
+        PlannedImages { log, plan, wanted }
     }
 
     /// The log.

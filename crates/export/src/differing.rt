@@ -10,7 +10,7 @@ ghost use Rattle.images.specs.Table.{AreParts};
 ghost use Rattle.images.specs.Views.{sectors_of};
 ghost use Rattle.export.specs.Kept.{Spans, IsDeparting, IsWrittenBy, IsWritten, listed, Lists, OfOneLog};
 
-use crate::image::Image;
+use crate::image::ExportedImage;
 use choices::Departure;
 use std::alloc::AllocError;
 
@@ -48,7 +48,7 @@ fn put_number(numbers: &mut Vec<u32>, number: u32) -> Result<(), AllocError>
 }
 
 /// Whether two images differ in a sector.
-fn is_different(one: &Image<'_>, other: &Image<'_>, number: u32) -> bool
+fn is_different(one: &ExportedImage<'_>, other: &ExportedImage<'_>, number: u32) -> bool
     requires log { OfOneLog one.now other.now }
     requires number { number < one.now.log.sectors }
     ensures { result ≡ differs (sectors_of one.now) (sectors_of other.now) number }
@@ -60,8 +60,8 @@ fn is_different(one: &Image<'_>, other: &Image<'_>, number: u32) -> bool
 /// Puts a sector into the list where the images differ in it.
 fn put_sector(
     numbers: &mut Vec<u32>,
-    one: &Image<'_>,
-    other: &Image<'_>,
+    one: &ExportedImage<'_>,
+    other: &ExportedImage<'_>,
     number: u32,
 ) -> Result<(), AllocError>
     requires log { OfOneLog one.now other.now }
@@ -78,8 +78,8 @@ fn put_sector(
 /// Puts that many sectors from one on into the list, of them those in which the images differ.
 fn put_sectors(
     numbers: &mut Vec<u32>,
-    one: &Image<'_>,
-    other: &Image<'_>,
+    one: &ExportedImage<'_>,
+    other: &ExportedImage<'_>,
     first: u32,
     count: u32,
 ) -> Result<(), AllocError>
@@ -97,8 +97,8 @@ fn put_sectors(
 /// Puts the sectors of departures into the list.
 fn put_departing(
     numbers: &mut Vec<u32>,
-    one: &Image<'_>,
-    other: &Image<'_>,
+    one: &ExportedImage<'_>,
+    other: &ExportedImage<'_>,
     departures: &[Departure],
 ) -> Result<(), AllocError>
     requires log { OfOneLog one.now other.now }
@@ -115,8 +115,8 @@ fn put_departing(
 /// Puts what an entry writes or discards into the list.
 fn put_entry(
     numbers: &mut Vec<u32>,
-    one: &Image<'_>,
-    other: &Image<'_>,
+    one: &ExportedImage<'_>,
+    other: &ExportedImage<'_>,
     entry: u32,
 ) -> Result<(), AllocError>
     requires log { OfOneLog one.now other.now }
@@ -134,8 +134,8 @@ fn put_entry(
 /// Puts what the entries between two cuts write or discard into the list.
 fn put_written(
     numbers: &mut Vec<u32>,
-    one: &Image<'_>,
-    other: &Image<'_>,
+    one: &ExportedImage<'_>,
+    other: &ExportedImage<'_>,
     first: u32,
     last: u32,
 ) -> Result<(), AllocError>
@@ -154,8 +154,8 @@ fn put_written(
 /// between their cuts.
 pub(crate) fn put_differing(
     numbers: &mut Vec<u32>,
-    one: &Image<'_>,
-    other: &Image<'_>,
+    one: &ExportedImage<'_>,
+    other: &ExportedImage<'_>,
 ) -> Result<(), AllocError>
     requires log { OfOneLog one.now other.now }
     ensures { OnOk result (numbers.new.items ≡ filter (differs (sectors_of one.now) (sectors_of other.now)) (range_with_len 0 one.now.log.sectors)) }

@@ -14,7 +14,7 @@ use std::marker::Model;
 ///
 /// Contracts see a log, a cut and departures.
 #[derive(Drop)]
-pub(crate) struct Image<'a> {
+pub(crate) struct ExportedImage<'a> {
     log: &'a Log,
     /// The crash image; none of what the device held before entry 0.
     view: Option<View<'a>>,
@@ -22,7 +22,7 @@ pub(crate) struct Image<'a> {
     departures: ArrayVec<Departure, 3>,
 }
 
-impl<'a> Model for Image<'a> {
+impl<'a> Model for ExportedImage<'a> {
     ghost use Rattle.images.specs.Views.{ViewValue};
     ghost use Rattle.export.specs.Kept.{IsImage};
 
@@ -33,17 +33,17 @@ impl<'a> Model for Image<'a> {
     ghost invariant = { λ i. IsImage (record { log = i.log.now; cut = i.cut; departures = i.departures.items }) i.view };
 }
 
-impl<'a> Image<'a> {
+impl<'a> ExportedImage<'a> {
     ghost use Rattle.logfmt.specs.Bounds.{IsLog};
     ghost use Rattle.images.specs.Table.{AreParts};
     ghost use Rattle.images.specs.Views.{IsMember, sectors_of, view_of};
 
     /// What the device held before entry 0.
-    pub(crate) fn initial(log: &'a Log) -> Image<'a>
+    pub(crate) fn initial(log: &'a Log) -> ExportedImage<'a>
         ensures { result ≡ record { log = log.now; cut = 0; departures = [] } }
     {
         let _sectors = log.sectors();
-        Image {
+        ExportedImage {
             log,
             view: None,
             cut: 0,
@@ -57,14 +57,14 @@ impl<'a> Image<'a> {
         log: &'a Log,
         history: &'a History<'a>,
         choice: &Choice,
-    ) -> Result<Image<'a>, AllocError>
+    ) -> Result<ExportedImage<'a>, AllocError>
         requires log { history.now.log ≡ log.now }
         requires member { IsMember history.now choice.now }
         ensures { IfOk result (λ image. image ≡ view_of history.now choice.now) }
     {
         let _sectors = log.sectors();
         let view = history.view(alloc, choice)?;
-        Ok(Image {
+        Ok(ExportedImage {
             log,
             view: Some(view),
             cut: choice.cut(),

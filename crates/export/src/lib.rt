@@ -91,8 +91,8 @@ mod text;
 mod walk;
 mod writing;
 
-pub use asked::{Asked, Wanted};
+pub use asked::{PlannedImages, WantedImages};
 pub use laws::exports_are_images;
-pub use stream::Fault;
+pub use stream::StreamFault;
 pub use walk::export;
 pub use writing::{Output, emit};

@@ -12,7 +12,7 @@ const PIECE: usize = 65536;
 
 /// Why a text isn't written whole.
 #[derive(Clone, Copy)]
-pub enum Fault {
+pub enum StreamFault {
     /// Memory was refused.
     Memory,
     /// The writer took no more.
@@ -57,11 +57,11 @@ impl<W: Write> Stream<W> {
     }
 
     /// Why it is closed.
-    pub(crate) fn fault(&self) -> Fault {
+    pub(crate) fn fault(&self) -> StreamFault {
         if self.is_short {
-            Fault::Memory
+            StreamFault::Memory
         } else {
-            Fault::Unwritten
+            StreamFault::Unwritten
         }
     }
 
@@ -135,7 +135,7 @@ impl<W: Write> Stream<W> {
     }
 
     /// Writes all that waits, and says whether all that was put is written.
-    pub(crate) fn finish(&mut self) -> Result<(), Fault>
+    pub(crate) fn finish(&mut self) -> Result<(), StreamFault>
         ensures all { OnOk result (PutsAll (stream_of (W.contents self.old.output.writer) self.old.waiting.items self.old.output.has_failed) (stream_of (W.contents self.new.output.writer) self.new.waiting.items self.new.output.has_failed) []) }
         ensures part { OnErr result (Puts (stream_of (W.contents self.old.output.writer) self.old.waiting.items self.old.output.has_failed) (stream_of (W.contents self.new.output.writer) self.new.waiting.items self.new.output.has_failed) [] × (self.new.output.has_failed ≡ true)) }
     {

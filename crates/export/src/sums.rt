@@ -4,16 +4,16 @@ ghost use Rattle.std.specs.Prelude.{◌≡◌, ◌<◌, ◌≤◌, ◌^◌, ℕ,
 ghost use Rattle.images.specs.Views.{sectors_of};
 ghost use Rattle.export.specs.Kept.{spread, weight, weight_at, sum_of, key_by};
 
-use crate::image::Image;
+use crate::image::ExportedImage;
 
 /// By which numbers are spread, an odd one near 2^64 by the golden ratio.
 const FACTOR: u64 = 0x9e37_79b9_7f4a_7c15;
 
 /// How many bits of a sector's weight are left away, so that no sum wraps.
-const SPARE: u32 = 21;
+const SPARE: u32 = 26;
 
 /// A number in which each bit depends on many of another's.
-#[tactic(auto, unfolding(crate::specs::Kept::spread))]
+#[tactic(auto, unfolding(crate::specs::KeptImages::spread))]
 fn spread(number: u64) -> u64
     ensures { result ≡ spread number }
 {
@@ -21,7 +21,7 @@ fn spread(number: u64) -> u64
 }
 
 /// What a sector adds to the sum of an image. It isn't linear in the mix, so that images with few bytes seldom have one sum.
-#[tactic(auto, unfolding(crate::specs::Kept::weight))]
+#[tactic(auto, unfolding(crate::specs::KeptImages::weight))]
 fn weight(number: u32, sector: &[u8; 512]) -> u64
     ensures { result ≡ weight number sector.now }
 {
@@ -30,7 +30,7 @@ fn weight(number: u32, sector: &[u8; 512]) -> u64
 }
 
 /// What some sectors add to the sum of an image.
-pub(crate) fn sum_over(image: &Image<'_>, numbers: &[u32]) -> u64
+pub(crate) fn sum_over(image: &ExportedImage<'_>, numbers: &[u32]) -> u64
     requires few { length numbers.now ≤ image.now.log.sectors }
     requires inside { (i n : ℕ) → slice_get numbers.now i ≡ Some n → n < image.now.log.sectors }
     ensures { result ≡ sum_by (weight_at (sectors_of image.now)) numbers.now }
@@ -44,7 +44,7 @@ pub(crate) fn sum_over(image: &Image<'_>, numbers: &[u32]) -> u64
 }
 
 /// What all sectors add up to.
-pub(crate) fn sum_of(image: &Image<'_>) -> u64
+pub(crate) fn sum_of(image: &ExportedImage<'_>) -> u64
     ensures { result ≡ sum_of (sectors_of image.now) }
 {
     let mut sum = 0;
@@ -55,7 +55,7 @@ pub(crate) fn sum_of(image: &Image<'_>) -> u64
 }
 
 /// The key of an image by its sum and how many marks stand before its cut.
-#[tactic(auto, unfolding(crate::specs::Kept::key_by))]
+#[tactic(auto, unfolding(crate::specs::KeptImages::key_by))]
 pub(crate) fn key_of(sum: u64, marks: u32) -> u64
     ensures { result ≡ key_by sum marks }
 {

@@ -10,8 +10,8 @@ ghost use Rattle.export.specs.Export.{head_text, record_text, total_text};
 ghost use Rattle.export.specs.Kept.{place_text, same_text};
 ghost use Rattle.export.specs.Streaming.{stream_of, Puts};
 
-use crate::asked::Asked;
-use crate::image::Image;
+use crate::asked::PlannedImages;
+use crate::image::ExportedImage;
 use crate::stream::Stream;
 use byteorder::{ByteOrder, LittleEndian};
 use choices::Choice;
@@ -38,7 +38,7 @@ fn put_place(
 /// Appends which image it is, and its choice.
 pub(crate) fn put_head(
     out: &mut String,
-    asked: &Asked<'_>,
+    asked: &PlannedImages<'_>,
     place: u32,
     choice: &Choice,
 ) -> Result<(), AllocError>
@@ -69,7 +69,7 @@ fn bytes_of(number: u64) -> [u8; 8]
 }
 
 /// Puts a sector: its number, and its bytes.
-fn put_record<W: Write>(out: &mut Stream<W>, image: &Image<'_>, number: u32)
+fn put_record<W: Write>(out: &mut Stream<W>, image: &ExportedImage<'_>, number: u32)
     requires { number < image.now.log.sectors }
     ensures { Puts (stream_of (W.contents out.old.output.writer) out.old.waiting.items out.old.output.has_failed) (stream_of (W.contents out.new.output.writer) out.new.waiting.items out.new.output.has_failed) (record_text (with_content (sectors_of image.now) number)) }
 {
@@ -79,7 +79,7 @@ fn put_record<W: Write>(out: &mut Stream<W>, image: &Image<'_>, number: u32)
 }
 
 /// Puts sectors of an image.
-pub(crate) fn put_records<W: Write>(out: &mut Stream<W>, image: &Image<'_>, numbers: &[u32])
+pub(crate) fn put_records<W: Write>(out: &mut Stream<W>, image: &ExportedImage<'_>, numbers: &[u32])
     requires { (i n : ℕ) → slice_get numbers.now i ≡ Some n → n < image.now.log.sectors }
     ensures { Puts (stream_of (W.contents out.old.output.writer) out.old.waiting.items out.old.output.has_failed) (stream_of (W.contents out.new.output.writer) out.new.waiting.items out.new.output.has_failed) (flat_map record_text (map (with_content (sectors_of image.now)) numbers.now)) }
 {
@@ -92,7 +92,7 @@ pub(crate) fn put_records<W: Write>(out: &mut Stream<W>, image: &Image<'_>, numb
 pub(crate) fn put_new<W: Write>(
     out: &mut Stream<W>,
     line: &[u8],
-    image: &Image<'_>,
+    image: &ExportedImage<'_>,
     numbers: &[u32],
 )
     requires { (i n : ℕ) → slice_get numbers.now i ≡ Some n → n < image.now.log.sectors }

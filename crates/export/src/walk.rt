@@ -9,12 +9,12 @@ ghost use Rattle.images.specs.Views.{sectors_of};
 ghost use Rattle.export.specs.Export.{device_at, marks_before, is_same, first_same, new_count, image_text, record_text, export_text};
 ghost use Rattle.std.specs.Io.KnownBytes.{Appends};
 ghost use Rattle.export.specs.Streaming.{stream_of, Puts, PutsAll, PutsPart, TakesPart};
-ghost use Rattle.export.specs.Kept.{OfOneLog, sum_of, firsts, IsHeld, IsNext, IsFree, IsFound, IsKept, PutsImages};
+ghost use Rattle.export.specs.KeptImages.{OfOneLog, sum_of, firsts, IsHeld, IsNext, IsFree, IsFound, IsKept, PutsImages};
 
-use crate::asked::Asked;
+use crate::asked::PlannedImages;
 use crate::differing::put_differing;
-use crate::image::Image;
-use crate::stream::{Fault, Stream};
+use crate::image::ExportedImage;
+use crate::stream::{Stream, StreamFault};
 use crate::sums::{key_of, sum_of, sum_over};
 use crate::text::{end_new, end_same, put_head, put_new, total_line};
 use crate::writing::Output;
@@ -27,8 +27,8 @@ use std::marker::Model;
 
 /// What images are made of.
 #[derive(Drop)]
-struct Source<'a> {
-    asked: &'a Asked<'a>,
+struct ImageSource<'a> {
+    asked: &'a PlannedImages<'a>,
     history: &'a History<'a>,
     starts: &'a Starts<'a>,
 }
@@ -36,7 +36,7 @@ struct Source<'a> {
 /// An image, and what it is found by.
 #[derive(Drop)]
 struct Next<'a> {
-    image: Image<'a>,
+    image: ExportedImage<'a>,
     /// How many marks stand before its cut.
     marks: u32,
     /// Its sum.
@@ -45,31 +45,31 @@ struct Next<'a> {
 
 /// Where an image belongs: a free key, or the key and the place of the first image that is the same.
 #[derive(Clone, Copy)]
-pub(crate) enum Found {
+pub(crate) enum KeyPlace {
     Free(u64),
     Same(u64, u32),
 }
 
 /// A new image that is kept: its place, and that of the last one that is the same.
 #[derive(Clone, Copy)]
-pub(crate) struct Held {
+pub(crate) struct KeptImage {
     pub(crate) first: u32,
     pub(crate) last: u32,
 }
 
 /// What is kept of the images so far.
 #[derive(Drop)]
-struct Kept<'a> {
+struct KeptImages<'a> {
     /// The last new image.
-    shown: Image<'a>,
+    shown: ExportedImage<'a>,
     /// The last image, from which the next one differs little.
-    near: Image<'a>,
+    near: ExportedImage<'a>,
     /// The sum of the last image.
     sum: u64,
     /// How many were new.
     fresh: u64,
     /// Each new image, by the first key from its own on that was free.
-    places: HashMap<u64, Held>,
+    places: HashMap<u64, KeptImage>,
 }
 
 /// What is written over for each image.
@@ -80,7 +80,7 @@ struct Scratch {
     compared: Vec<u32>,
 }
 
-impl<'a> Model for Source<'a> {
+impl<'a> Model for ImageSource<'a> {
     ghost use Rattle.std.specs.Prelude.{◌≡◌};
     ghost use Rattle.export.specs.Export.{AskedValue};
 
@@ -92,15 +92,15 @@ impl<'a> Model for Source<'a> {
         × (s.starts.now ≡ record { plan = s.asked.now.plan; bound = s.asked.now.bound; tears = s.asked.now.tears }) };
 }
 
-impl<'a> Kept<'a> {
+impl<'a> KeptImages<'a> {
     /// What is kept before the first image.
-    fn new(alloc: Global, asked: &Asked<'a>) -> Kept<'a>
+    fn new(alloc: Global, asked: &PlannedImages<'a>) -> KeptImages<'a>
         ensures { IsKept asked.now 0 result.shown result.near result.sum result.fresh (get nat_eq result.places) }
     {
-        let shown = Image::initial(asked.log());
-        let near = Image::initial(asked.log());
+        let shown = ExportedImage::initial(asked.log());
+        let near = ExportedImage::initial(asked.log());
         let sum = sum_of(&near);
-        Kept {
+        KeptImages {
             shown,
             near,
             sum,
@@ -110,7 +110,7 @@ impl<'a> Kept<'a> {
     }
 
     /// The sum of an image that differs from the last one in these sectors.
-    fn sum_with(&self, image: &Image<'a>, differing: &[u32]) -> u64
+    fn sum_with(&self, image: &ExportedImage<'a>, differing: &[u32]) -> u64
         requires log { OfOneLog self.now.near image.now }
         requires differing { differing.now ≡ filter (differs (sectors_of self.now.near) (sectors_of image.now)) (range_with_len 0 self.now.near.log.sectors) }
         requires sum { self.now.sum ≡ sum_of (sectors_of self.now.near) }
@@ -123,7 +123,7 @@ impl<'a> Kept<'a> {
     }
 }
 
-impl<'a> Source<'a> {
+impl<'a> ImageSource<'a> {
     /// The choice of the image at a place.
     fn choice(&self, place: u32) -> Choice
         requires { self.now.from + place < self.now.to }
@@ -133,12 +133,17 @@ impl<'a> Source<'a> {
     }
 
     /// The image of a choice.
-    fn image(&self, alloc: Global, place: u32, choice: &Choice) -> Result<Image<'a>, AllocError>
+    fn image(
+        &self,
+        alloc: Global,
+        place: u32,
+        choice: &Choice,
+    ) -> Result<ExportedImage<'a>, AllocError>
         requires { slice_get (ranked_choices self.now.plan self.now.bound self.now.tears) (self.now.from + place) ≡ Some choice.now }
         ensures log { IfOk result (λ image. image.log ≡ self.now.plan.log) }
         ensures device { IfOk result (λ image. sectors_of image ≡ device_at self.now place) }
     {
-        let image = Image::of(alloc, self.asked.log(), self.history, choice)?;
+        let image = ExportedImage::of(alloc, self.asked.log(), self.history, choice)?;
         Ok(image)
     }
 
@@ -182,11 +187,11 @@ impl<'a> Source<'a> {
     fn find(
         &self,
         alloc: Global,
-        places: &HashMap<u64, Held>,
+        places: &HashMap<u64, KeptImage>,
         compared: &mut Vec<u32>,
         place: u32,
         next: &Next<'a>,
-    ) -> Result<Found, AllocError>
+    ) -> Result<KeyPlace, AllocError>
         requires place { self.now.from + place < self.now.to }
         requires next { IsNext self.now place next.now.image next.now.marks next.now.sum }
         requires held { IsHeld self.now place (get nat_eq places.now) }
@@ -196,10 +201,10 @@ impl<'a> Source<'a> {
         for step in 0..u64::MAX {
             let at = key.wrapping_add(step);
             let Some(held) = places.get(&at) else {
-                return Ok(Found::Free(at));
+                return Ok(KeyPlace::Free(at));
             };
             if self.is_same(alloc, compared, place, next, held.last)? {
-                return Ok(Found::Same(at, held.first));
+                return Ok(KeyPlace::Same(at, held.first));
             }
         }
         Err(AllocError)
@@ -209,7 +214,7 @@ impl<'a> Source<'a> {
     fn next(
         &self,
         alloc: Global,
-        kept: &Kept<'a>,
+        kept: &KeptImages<'a>,
         differing: &mut Vec<u32>,
         place: u32,
         choice: &Choice,
@@ -228,7 +233,7 @@ impl<'a> Source<'a> {
     /// Keeps an image that isn't new, as the last one that is the same as the new one at a key.
     fn keep_same(
         &self,
-        kept: &mut Kept<'a>,
+        kept: &mut KeptImages<'a>,
         place: u32,
         next: Next<'a>,
         key: u64,
@@ -240,7 +245,7 @@ impl<'a> Source<'a> {
         requires there { firsts (get nat_eq kept.old.places) key ≡ Some first }
         ensures { OnOk result (IsKept self.now (place + 1) kept.new.shown kept.new.near kept.new.sum kept.new.fresh (get nat_eq kept.new.places)) }
     {
-        kept.places.insert(key, Held { first, last: place })?;
+        kept.places.insert(key, KeptImage { first, last: place })?;
         kept.near = next.image;
         kept.sum = next.sum;
         Ok(())
@@ -250,7 +255,7 @@ impl<'a> Source<'a> {
     fn keep_new(
         &self,
         alloc: Global,
-        kept: &mut Kept<'a>,
+        kept: &mut KeptImages<'a>,
         place: u32,
         choice: &Choice,
         next: Next<'a>,
@@ -266,7 +271,7 @@ impl<'a> Source<'a> {
         let shown = self.image(alloc, place, choice)?;
         kept.places.insert(
             key,
-            Held {
+            KeptImage {
                 first: place,
                 last: place,
             },
@@ -282,7 +287,7 @@ impl<'a> Source<'a> {
     fn tell(
         &self,
         alloc: Global,
-        kept: &mut Kept<'a>,
+        kept: &mut KeptImages<'a>,
         scratch: &mut Scratch,
         place: u32,
         choice: &Choice,
@@ -300,13 +305,13 @@ impl<'a> Source<'a> {
         put_head(&mut scratch.line, self.asked, place, choice)?;
         let found = self.find(alloc, &kept.places, &mut scratch.compared, place, &next)?;
         match found {
-            Found::Same(key, first) => {
+            KeyPlace::Same(key, first) => {
                 let number = self.asked.from() + u64::from(first);
                 end_same(&mut scratch.line, number)?;
                 self.keep_same(kept, place, next, key, first)?;
                 Ok(())
             }
-            Found::Free(key) => {
+            KeyPlace::Free(key) => {
                 put_differing(&mut scratch.differing, &kept.shown, &next.image)?;
                 end_new(&mut scratch.line, scratch.differing.len())?;
                 self.keep_new(alloc, kept, place, choice, next, key)?;
@@ -317,13 +322,13 @@ impl<'a> Source<'a> {
 
     /// Puts the text of each image, and answers how many are new.
     #[tactic(auto, using(crate::proofs::Streaming::puts_nothing))]
-    fn put_each<W: Write>(&self, alloc: Global, out: &mut Stream<W>) -> Result<u64, Fault>
+    fn put_each<W: Write>(&self, alloc: Global, out: &mut Stream<W>) -> Result<u64, StreamFault>
         ensures text { OnOk result (Puts (stream_of (W.contents out.old.output.writer) out.old.waiting.items out.old.output.has_failed) (stream_of (W.contents out.new.output.writer) out.new.waiting.items out.new.output.has_failed) (flat_map (image_text self.now) (range_with_len 0 (self.now.to - self.now.from)))) }
         ensures fresh { IfOk result (λ fresh. fresh ≡ new_count self.now (self.now.to - self.now.from)) }
         ensures part { OnErr result (PutsImages self.now (stream_of (W.contents out.old.output.writer) out.old.waiting.items out.old.output.has_failed) (stream_of (W.contents out.new.output.writer) out.new.waiting.items out.new.output.has_failed)) }
     {
         let asked = self.asked;
-        let mut kept = Kept::new(alloc, asked);
+        let mut kept = KeptImages::new(alloc, asked);
         let count = asked.count();
         if count == 0 {
             return Ok(0);
@@ -340,7 +345,7 @@ impl<'a> Source<'a> {
             }
             match self.tell(alloc, &mut kept, &mut scratch, place, &choice) {
                 Ok(()) => {}
-                Err(_error) => return Err(Fault::Memory),
+                Err(_error) => return Err(StreamFault::Memory),
             }
             let line = scratch.line.as_bytes();
             put_new(out, line, &kept.near, scratch.differing.as_slice());
@@ -350,7 +355,7 @@ impl<'a> Source<'a> {
     }
 
     /// Puts the text of all images.
-    fn put_all<W: Write>(&self, alloc: Global, out: &mut Stream<W>) -> Result<(), Fault>
+    fn put_all<W: Write>(&self, alloc: Global, out: &mut Stream<W>) -> Result<(), StreamFault>
         ensures all { OnOk result (Puts (stream_of (W.contents out.old.output.writer) out.old.waiting.items out.old.output.has_failed) (stream_of (W.contents out.new.output.writer) out.new.waiting.items out.new.output.has_failed) (export_text self.now)) }
         ensures part { OnErr result (PutsPart (stream_of (W.contents out.old.output.writer) out.old.waiting.items out.old.output.has_failed) (stream_of (W.contents out.new.output.writer) out.new.waiting.items out.new.output.has_failed) (export_text self.now)) }
     {
@@ -363,12 +368,12 @@ impl<'a> Source<'a> {
                 out.put(line.as_bytes());
                 Ok(())
             }
-            Err(_error) => Err(Fault::Memory),
+            Err(_error) => Err(StreamFault::Memory),
         }
     }
 
     /// Writes the text of all images.
-    fn write_all<W: Write>(&self, alloc: Global, out: &mut Stream<W>) -> Result<(), Fault>
+    fn write_all<W: Write>(&self, alloc: Global, out: &mut Stream<W>) -> Result<(), StreamFault>
         ensures all { OnOk result (PutsAll (stream_of (W.contents out.old.output.writer) out.old.waiting.items out.old.output.has_failed) (stream_of (W.contents out.new.output.writer) out.new.waiting.items out.new.output.has_failed) (export_text self.now)) }
         ensures part { OnErr result (PutsPart (stream_of (W.contents out.old.output.writer) out.old.waiting.items out.old.output.has_failed) (stream_of (W.contents out.new.output.writer) out.new.waiting.items out.new.output.has_failed) (export_text self.now)) }
     {
@@ -382,21 +387,21 @@ impl<'a> Source<'a> {
 /// Writes the text of the images that are asked for.
 fn write_images<W: Write>(
     alloc: Global,
-    asked: &Asked<'_>,
+    asked: &PlannedImages<'_>,
     out: &mut Stream<W>,
-) -> Result<(), Fault>
+) -> Result<(), StreamFault>
     ensures all { OnOk result (PutsAll (stream_of (W.contents out.old.output.writer) out.old.waiting.items out.old.output.has_failed) (stream_of (W.contents out.new.output.writer) out.new.waiting.items out.new.output.has_failed) (export_text asked.now)) }
     ensures part { OnErr result (PutsPart (stream_of (W.contents out.old.output.writer) out.old.waiting.items out.old.output.has_failed) (stream_of (W.contents out.new.output.writer) out.new.waiting.items out.new.output.has_failed) (export_text asked.now)) }
 {
     let history = match History::new(alloc, asked.plan(), asked.log()) {
         Ok(history) => history,
-        Err(_error) => return Err(Fault::Memory),
+        Err(_error) => return Err(StreamFault::Memory),
     };
     let starts = match Starts::new(alloc, asked.plan(), asked.bound(), asked.tears()) {
         Ok(starts) => starts,
-        Err(_error) => return Err(Fault::Memory),
+        Err(_error) => return Err(StreamFault::Memory),
     };
-    let source = Source {
+    let source = ImageSource {
         asked,
         history: &history,
         starts: &starts,
@@ -412,9 +417,9 @@ fn write_images<W: Write>(
 /// Want of memory, or that the writer takes no more: of the text the first bytes were written, and not all.
 pub fn export<W: Write>(
     alloc: Global,
-    asked: &Asked<'_>,
+    asked: &PlannedImages<'_>,
     output: Output<W>,
-) -> (Result<(), Fault>, Output<W>)
+) -> (Result<(), StreamFault>, Output<W>)
     requires going { output.has_failed ≡ false }
     ensures all { OnOk result.0 (Appends (W.contents output.writer) (W.contents result.1.writer) (export_text asked.now)) }
     ensures part { OnErr result.0 (TakesPart (W.contents output.writer) (W.contents result.1.writer) (export_text asked.now)) }

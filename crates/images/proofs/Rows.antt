@@ -1,23 +1,24 @@
--- The version table: its rows as they are filled, and the units of a row before a cut.
-use Rattle.std.proofs.Common.{ℕ, zero, suc, ◌≡◌, ◌≢◌, ◌+◌, ◌-◌, ◌/◌, ◌%◌, ◌<◌, ◌≤◌, ◌==◌, Bool, true, cond, List, [], ◌∷◌, ◌++◌, length, map, filter, take, slice_get, slice_set, slice_index_or, Some, refl, sym, subst, ◌∙◌, ap, inl, inr, arith, append_assoc}
-use Rattle.std.specs.List.{range_with_len, All}
-use Rattle.std.specs.List.Sorted.{IsNonDecreasingBy}
-use Rattle.std.specs.Option.{option_map}
+-- The version table: the units of a sector in it, and those of them before a cut.
+use Rattle.std.proofs.Common.{ℕ, zero, suc, ◌≡◌, ◌≢◌, ◌+◌, ◌*◌, ◌-◌, ◌<◌, ◌≤◌, ◌==◌, ◌&&◌, not, Bool, true, cond, List, [], ◌∷◌, ◌++◌, length, filter, take, drop, slice_get, slice_index_or, Some, refl, sym, subst, ◌∙◌, ap, inl, inr, arith, append_assoc}
+use Rattle.std.specs.Cmp.{nat_cmp_is}
+use Rattle.std.specs.List.{slice_range, All}
+use Rattle.std.specs.List.Sorted.{IsNonDecreasingBy, IsStableByKey, ties}
+use Rattle.std.specs.Ordering.{is_lt, nat_cmp}
+use Rattle.std.specs.declared.cmp.Ordering.TheVariants.{Less, Equal, Greater}
 use Rattle.std.proofs.Math.Seq.{take-append_seam}
 use Rattle.std.proofs.lemmas.Bool.{cases_lt, eq-eqb, eqb-true, ne_eqb}
-use Rattle.std.proofs.lemmas.Bool.Decides.{eqb_tells}
-use Rattle.std.proofs.lemmas.List.{get_or_default, get_or_past, length-append, length-map, get_or_append_left, get_or-append_right, get_or-set_same, get_or-set_other, append-nil, map-append, map-set}
+use Rattle.std.proofs.lemmas.List.{length-append, length-drop, length-take-le, get_or_append_left, get_or-append_right, get_or_default, get_or-drop, get_or-take, take-append-drop, append-nil}
 use Rattle.std.proofs.lemmas.List.Elements.{filter-append, filter_passes, All-filter}
 use Rattle.std.proofs.lemmas.List.FromFn.{length-map-range_with_len, get_or-map-range_with_len}
 use Rattle.std.proofs.lemmas.List.Kept.{IsNonDecreasingBy-filter}
-use Rattle.std.proofs.lemmas.Option.{slice_get-map, slice_get_within, slice_get_cases, slice_get-get_or, get_or_from_slice_get}
+use Rattle.std.proofs.lemmas.Option.{slice_get_within, slice_get_cases, get_or_from_slice_get}
 use Rattle.logfmt.specs.declared.entry.Entry.{Entry}
 use Rattle.logfmt.specs.Bounds.{LogValue, IsLog}
 use Rattle.epochs.specs.declared.unit.Unit.{Unit as LogUnit}
 use Rattle.epochs.specs.Units.{unit_of, units_of_entry, units_before}
 use Rattle.epochs.specs.Plan.{IsUnit}
 use Rattle.epochs.proofs.Growth.{units_before-next}
-use Rattle.images.specs.Table.{covering, row_of, HasMore, HasRows, HaveSameRows, versions}
+use Rattle.images.specs.Table.{covering, versions, AreStarts, Divides}
 use Rattle.images.proofs.Entries.{unit_of_entry}
 
 -- one unit more
@@ -25,121 +26,194 @@ pub covering-push : (s : ℕ) (us : List LogUnit) (u : LogUnit) → covering s (
 unfolding covering
 covering-push s us u = filter-append (λ (v : LogUnit). v.sector == s) us (u ∷ [])
 
--- a unit of another sector changes nothing
-covering_other : (s : ℕ) (us : List LogUnit) (u : LogUnit) → s ≢ u.sector → covering s us ≡ covering s (us ++ u ∷ [])
-covering_other s us u other =
-    sym (covering-push s us u ∙ ap (λ b. covering s us ++ cond b (u ∷ []) []) (ne_eqb u.sector s (λ e. other (sym e)))
-    ∙ append-nil (covering s us))
-
-one_empty : {A : Type 0} (x : List A) (k : ℕ) → slice_index_or (x ∷ []) k x ≡ x
-one_empty x zero = refl
-one_empty x (suc k) = refl
-
--- an empty row or page more changes nothing
-padded : {A : Type 0} (xs : List (List A)) (n : ℕ) → slice_index_or (xs ++ [] ∷ []) n [] ≡ slice_index_or xs n []
-padded xs n = elim (cases_lt n (length xs)) [
-  | inl inside ↦ get_or_append_left xs ([] ∷ []) [] n inside
-  | inr past ↦ get_or-append_right xs ([] ∷ []) (length xs) n [] refl past ∙ one_empty [] (n - length xs) ∙ sym (get_or_past xs n [] past)
-]
-
--- nothing is written
-pub no_units : HasRows [] []
+-- of units of which none covers a sector none does, and of units that all cover it all do
+none_covered : (us : List LogUnit) (n : ℕ) → ((k : ℕ) (d : LogUnit) → k < length us → (slice_index_or us k d).sector ≢ n) → covering n us ≡ []
 unfolding covering
-no_units s = refl
+none_covered [] n other = refl
+none_covered (u ∷ us) n other =
+    rw (ne_eqb u.sector n (other 0 u (omega arith))) (none_covered us n (λ k d lt. other (suc k) d (omega (arith, lt))))
 
--- an empty row, or an empty page, was added
-pub one_more_empty : {A : Type 0} (xs new : List (List A)) (x : List A) (old : List (List A)) (n : ℕ) → new ≡ xs ++ x ∷ [] → x ≡ []
-    → (length xs ≡ n) × HaveSameRows xs old → (length new ≡ n + 1) × HaveSameRows new old
-one_more_empty {A} xs new x old n is none was =
-    let long : length new ≡ length xs + 1 = ap (λ (ys : List (List A)). length ys) is ∙ length-append xs (x ∷ []) in
-    let count = was.0 in (
+all_covered : (us : List LogUnit) (n : ℕ) → ((k : ℕ) (d : LogUnit) → k < length us → (slice_index_or us k d).sector ≡ n) → covering n us ≡ us
+unfolding covering
+all_covered [] n same = refl
+all_covered (u ∷ us) n same =
+    rw (eq-eqb u.sector n (same 0 u (omega arith))) (ap (λ (vs : List LogUnit). u ∷ vs) (all_covered us n (λ k d lt. same (suc k) d (omega (arith, lt)))))
+
+covering-append : (n : ℕ) (us vs : List LogUnit) → covering n (us ++ vs) ≡ covering n us ++ covering n vs
+unfolding covering
+covering-append n us vs = filter-append (λ (v : LogUnit). v.sector == n) us vs
+
+-- in a table that rises the units of a sector stand between those before it and those after it
+pub covering_between : (us : List LogUnit) (n first end : ℕ) → first ≤ length us → end ≤ length us
+    → ((k : ℕ) (d : LogUnit) → k < first → (slice_index_or us k d).sector < n)
+    → ((k : ℕ) (d : LogUnit) → first ≤ k → k < length us → n ≤ (slice_index_or us k d).sector)
+    → ((k : ℕ) (d : LogUnit) → k < end → (slice_index_or us k d).sector < n + 1)
+    → ((k : ℕ) (d : LogUnit) → end ≤ k → k < length us → n + 1 ≤ (slice_index_or us k d).sector)
+    → (first ≤ end) × (slice_range us first end ≡ covering n us)
+covering_between us n first end short bound low from below above =
+    let d : LogUnit = record { entry = 0; place = 0; sector = 0 } in
+    let order : first ≤ end = elim (cases_lt end first) [
+      | inl less ↦
+          let small = low end d less in
+          let large = above end d (omega arith) (omega (arith, less, short)) in
+          absurd (omega (arith, small, large))
+      | inr more ↦ more
+    ] in
+    let front : List LogUnit = take first us in
+    let back : List LogUnit = drop first us in
+    let middle : List LogUnit = take (end - first) back in
+    let rest : List LogUnit = drop (end - first) back in
+    let front_long : length front ≡ first = length-take-le first us short in
+    let back_long : length back ≡ length us - first = length-drop first us in
+    let middle_long : length middle ≡ end - first = length-take-le (end - first) back (omega (arith, back_long, bound, order)) in
+    let rest_long : length rest ≡ length back - (end - first) = length-drop (end - first) back in
+    let none_before : covering n front ≡ [] = none_covered front n (λ k e lt same.
+    let inside : k < first = omega (arith, lt, front_long) in
+    let at = ap (λ (u : LogUnit). u.sector) (get_or-take first us k e inside) in
+    let small = low k e inside in
+    absurd (omega (arith, at, small, same))) in
+    let none_after : covering n rest ≡ [] = none_covered rest n (λ k e lt same.
+    let place : first + ((end - first) + k) ≡ end + k = omega (arith, order) in
+    let at = ap (λ (u : LogUnit). u.sector) (get_or-drop (end - first) back k e ∙ get_or-drop first us ((end - first) + k) e ∙ ap (λ i. slice_index_or us i e) place) in
+    let large = above (end + k) e (omega arith) (omega (arith, lt, rest_long, back_long, order, bound, short)) in
+    absurd (omega (arith, at, large, same))) in
+    let all_between : covering n middle ≡ middle = all_covered middle n (λ k e lt.
+    let inside : k < end - first = omega (arith, lt, middle_long) in
+    let at = ap (λ (u : LogUnit). u.sector) (get_or-take (end - first) back k e inside ∙ get_or-drop first us k e) in
+    let large = from (first + k) e (omega arith) (omega (arith, inside, bound, order)) in
+    let small = below (first + k) e (omega (arith, inside, order)) in
+    omega (arith, at, large, small)) in
+    let whole : us ≡ front ++ (middle ++ rest) = sym (take-append-drop first us) ∙ ap (λ (vs : List LogUnit). front ++ vs) (sym (take-append-drop (end - first) back)) in
+    let parts : covering n us ≡ covering n front ++ (covering n middle ++ covering n rest) =
+    ap (covering n) whole ∙ covering-append n front (middle ++ rest) ∙ ap (λ (vs : List LogUnit). covering n front ++ vs) (covering-append n middle rest) in
+    (order, sym (parts ∙ (rw (none_before, none_after, all_between) (append-nil middle))))
+
+-- where the sectors of pages begin: none yet, and one more
+pub no_starts : (us : List LogUnit) → (length {A = ℕ} [] ≡ 0) × AreStarts us []
+no_starts us = (refl, λ p d lt. absurd (omega (arith, lt)))
+
+pub one_start_more : (us : List LogUnit) (starts : List ℕ) (page place : ℕ) → (length starts ≡ page) × AreStarts us starts → Divides us (64 * page) place
+    → (length (starts ++ place ∷ []) ≡ page + 1) × AreStarts us (starts ++ place ∷ [])
+one_start_more us starts page place so next =
+    let long = length-append starts (place ∷ []) in
+    let count = so.0 in (
       omega (arith, long, count),
-      λ k. ap (λ (ys : List (List A)). slice_index_or ys k []) (is ∙ ap (λ (y : List A). xs ++ y ∷ []) none) ∙ padded xs k ∙ was.1 k,
+      λ p d lt. elim (cases_lt p (length starts)) [
+        | inl old ↦ subst (λ n. Divides us (64 * p) n) (sym (get_or_append_left starts (place ∷ []) d p old)) (so.1 p d old)
+        | inr new ↦
+            let same : p ≡ page = omega (arith, lt, long, new, count) in
+            let last : slice_index_or (starts ++ place ∷ []) p d ≡ place =
+            get_or-append_right starts (place ∷ []) (length starts) p d refl new ∙ ap (λ n. slice_index_or (place ∷ []) n d) (let none : p - length starts ≡ 0 = omega (arith, same, count) in none) in
+            subst (λ n. Divides us (64 * p) n) (sym last) (subst (λ n. Divides us (64 * n) place) (sym same) next)
+      ],
     )
 
-pub one_row_more : {R : Type 0} (f : R → List LogUnit) (rs new : List R) (r : R) (old : List (List LogUnit)) (n : ℕ) → new ≡ rs ++ r ∷ [] → f r ≡ []
-    → (length rs ≡ n) × HaveSameRows (map f rs) old → (length new ≡ n + 1) × HaveSameRows (map f new) old
-one_row_more f rs new r old n is none was =
-    let short = length-map rs f in
-    let long = length-map new f in
-    let count = was.0 in
-    let more = one_more_empty (map f rs) (map f new) (f r) old n (ap (map f) is ∙ map-append f rs (r ∷ [])) none (omega (arith, short, count), was.1) in
-    let all = more.0 in
-    (omega (arith, long, all), more.1)
+-- a search by halves, between two places
+pub record Narrows (us : List LogUnit) (s low high first last : ℕ) : Type 0 where
+  pub from : low ≤ first
+  pub order : first ≤ last
+  pub to : last ≤ high
+  pub bound : high ≤ length us
+  pub before : (k : ℕ) (d : LogUnit) → k < first → (slice_index_or us k d).sector < s
+  pub beyond : (k : ℕ) (d : LogUnit) → last ≤ k → k < length us → s ≤ (slice_index_or us k d).sector
 
--- a row of a page, as it is read
-mapped_there : {R : Type 0} (f : R → List LogUnit) (rs : List R) (n : ℕ) (r : R) → n < length rs → f (slice_index_or rs n r) ≡ slice_index_or (map f rs) n []
-mapped_there f rs n r lt =
-    let there = slice_get-get_or rs n r lt in
-    sym (get_or_from_slice_get (map f rs) n (f (slice_index_or rs n r)) [] (slice_get-map f rs n ∙ ap (option_map f) there))
+pub narrow_begins : (us : List LogUnit) (s low high : ℕ) → low ≤ high → high ≤ length us
+    → ((k : ℕ) (d : LogUnit) → k < low → (slice_index_or us k d).sector < s)
+    → ((k : ℕ) (d : LogUnit) → high ≤ k → k < length us → s ≤ (slice_index_or us k d).sector)
+    → Narrows us s low high low high
+narrow_begins us s low high order bound before beyond = record { from = omega arith; order = order; to = omega arith; bound = bound; before = before; beyond = beyond }
 
-pub row_there : {R : Type 0} (f : R → List LogUnit) (rs same : List R) (rows : List (List LogUnit)) (n : ℕ) (r : R) (row : List LogUnit) → same ≡ rs → map f rs ≡ rows
-    → n < length same → r ≡ slice_index_or same n r → row ≡ f r → row ≡ slice_index_or rows n []
-row_there {R} f rs same rows n r row there is lt read found =
-    found ∙ ap f read ∙ mapped_there f same n r lt ∙ ap (λ (xs : List R). slice_index_or (map f xs) n []) there ∙ ap (λ xs. slice_index_or xs n []) is
+pub goes_up : (us : List LogUnit) (s low high first last middle : ℕ) (e : LogUnit) → IsNonDecreasingBy (λ (v : LogUnit). v.sector) us → Narrows us s low high first last
+    → first ≤ middle → middle < last → (slice_index_or us middle e).sector < s → Narrows us s low high (middle + 1) last
+goes_up us s low high first last middle e rise so ge lt small =
+    let from = so.from in
+    let to = so.to in
+    let bound = so.bound in
+    let inside : middle < length us = omega (arith, lt, to, bound) in
+    record {
+      from = omega (arith, from, ge);
+      order = omega (arith, lt);
+      to = to;
+      bound = bound;
+      before = λ k d less.
+          let up = rise k middle d (omega (arith, less)) inside in
+          let same = ap (λ (v : LogUnit). v.sector) (get_or_default us middle d e inside) in
+          omega (arith, up, same, small);
+      beyond = so.beyond;
+    }
 
-pub no_row_there : {R : Type 0} (f : R → List LogUnit) (rs same : List R) (rows : List (List LogUnit)) (n : ℕ) → same ≡ rs → map f rs ≡ rows → length same ≤ n
-    → [] ≡ slice_index_or rows n []
-no_row_there {R} f rs same rows n there is past =
-    let short = ap (λ (xs : List R). length xs) there in
-    let long = length-map rs f in
-    sym (get_or_past (map f rs) n [] (omega (arith, short, long, past))) ∙ ap (λ xs. slice_index_or xs n []) is
+pub goes_down : (us : List LogUnit) (s low high first last middle : ℕ) (e : LogUnit) → IsNonDecreasingBy (λ (v : LogUnit). v.sector) us → Narrows us s low high first last
+    → first ≤ middle → middle < last → s ≤ (slice_index_or us middle e).sector → Narrows us s low high first middle
+goes_down us s low high first last middle e rise so ge lt large =
+    let to = so.to in
+    record {
+      from = so.from;
+      order = ge;
+      to = omega (arith, lt, to);
+      bound = so.bound;
+      before = so.before;
+      beyond = λ k d more within.
+          let inside : middle < length us = omega (arith, more, within) in
+          let up = rise middle k d more within in
+          let same = ap (λ (v : LogUnit). v.sector) (get_or_default us middle d e inside) in
+          omega (arith, up, same, large);
+    }
 
--- the row of a sector, by its page
-pub row_of_page : (pages : List (List (List LogUnit))) (n : ℕ) (page : List (List LogUnit)) (row : List LogUnit) → n / 64 < length pages
-    → page ≡ slice_index_or pages (n / 64) page → row ≡ slice_index_or page (n % 64) [] → row ≡ row_of pages n
-row_of_page pages n page row lt read found =
-    found ∙ ap (λ (rows : List (List LogUnit)). slice_index_or rows (n % 64) []) (read ∙ get_or_default pages (n / 64) page [] lt)
+pub narrowed : (us : List LogUnit) (s low high first last : ℕ) → Narrows us s low high first last → last ≤ first → Divides us s first
+narrowed us s low high first last so done =
+    let to = so.to in
+    let bound = so.bound in
+    let order = so.order in
+    record {
+      bound = omega (arith, to, bound, order);
+      before = so.before;
+      beyond = λ k d more within. so.beyond k d (omega (arith, more, done)) within;
+    }
 
-pub no_page : (pages : List (List (List LogUnit))) (n : ℕ) → length pages ≤ n / 64 → [] ≡ row_of pages n
-no_page pages n past = sym (ap (λ (rows : List (List LogUnit)). slice_index_or rows (n % 64) []) (get_or_past pages (n / 64) [] past))
-
--- a unit was put into a row of a page
-pub put_in_row : {R : Type 0} (f : R → List LogUnit) (old : List (List LogUnit)) (rs : List R) (place : ℕ) (was new : R) (u : LogUnit) → place < length rs
-    → HaveSameRows (map f rs) old → was ≡ slice_index_or rs place was → f new ≡ f was ++ u ∷ []
-    → HasMore (map f (slice_set rs place new)) old place u
-put_in_row f old rs place was new u lt same read more = λ n.
-    let long = length-map rs f in
-    let at = ap (λ (xs : List (List LogUnit)). slice_index_or xs n []) (map-set f rs place new) in
-    elim (eqb_tells place n) [
-      | inl here ↦
-          at ∙ ap (λ k. slice_index_or (slice_set (map f rs) place (f new)) k []) (sym here.1)
-          ∙ get_or-set_same (map f rs) place (f new) [] (omega (arith, long, lt)) ∙ more
-          ∙ ap (λ row. row ++ u ∷ []) (ap f read ∙ mapped_there f rs place was lt ∙ ap (λ k. slice_index_or (map f rs) k []) here.1 ∙ same n)
-          ∙ ap (λ b. slice_index_or old n [] ++ cond b (u ∷ []) []) (sym here.0)
-      | inr other ↦
-          at ∙ get_or-set_other (map f rs) place n (f new) [] (λ e. other.1 (sym e)) ∙ same n ∙ sym (append-nil (slice_index_or old n []))
-          ∙ ap (λ b. slice_index_or old n [] ++ cond b (u ∷ []) []) (sym other.0)
-    ]
-
--- sectors of one page are the same where their places in it are
-same_place : (a b : ℕ) → a / 64 ≡ b / 64 → (a % 64 == b % 64) ≡ (a == b)
-same_place a b page = elim (eqb_tells (a % 64) (b % 64)) [
-  | inl same ↦ same.0 ∙ sym (eq-eqb a b (let at = same.1 in omega (arith, page, at)))
-  | inr other ↦ other.0 ∙ sym (ne_eqb a b (λ e. other.1 (ap (λ (n : ℕ). n % 64) e)))
+-- a place that is below one number, and one that is no less than another, of which the first is no greater
+pub in_order : (us : List LogUnit) (s t low high : ℕ) → s ≤ t → low ≤ length us → high ≤ length us
+    → ((k : ℕ) (d : LogUnit) → k < low → (slice_index_or us k d).sector < s)
+    → ((k : ℕ) (d : LogUnit) → high ≤ k → k < length us → t ≤ (slice_index_or us k d).sector) → low ≤ high
+in_order us s t low high le short bound before beyond = elim (cases_lt high low) [
+  | inl less ↦
+      let d : LogUnit = record { entry = 0; place = 0; sector = 0 } in
+      let small = before high d less in
+      let large = beyond high d (omega arith) (omega (arith, less, short)) in
+      absurd (omega (arith, small, large, le))
+  | inr more ↦ more
 ]
 
--- a unit was put into the page of its sector
-pub put_in_page : (old pages : List (List (List LogUnit))) (us : List LogUnit) (u : LogUnit) (was page : List (List LogUnit)) → u.sector / 64 < length pages
-    → HaveSameRows pages old → HasRows old us → was ≡ slice_index_or pages (u.sector / 64) was → HasMore page was (u.sector % 64) u
-    → HasRows (slice_set pages (u.sector / 64) page) (us ++ u ∷ [])
-put_in_page old pages us u was page lt same is read more = λ s.
-    let P : ℕ = u.sector / 64 in
-    let there : was ≡ slice_index_or pages P [] = read ∙ get_or_default pages P was [] lt in
-    let row : List (List LogUnit) → List LogUnit = λ rows. slice_index_or rows (s % 64) [] in
-    let known : row (slice_index_or pages (s / 64) []) ≡ covering s us = ap row (same (s / 64)) ∙ is s in
-    elim (eqb_tells (s / 64) P) [
-      | inl here ↦
-          ap (λ n. row (slice_index_or (slice_set pages P page) n [])) here.1
-          ∙ ap row (get_or-set_same pages P page [] lt) ∙ more (s % 64)
-          ∙ ap (λ rows. row rows ++ cond (u.sector % 64 == s % 64) (u ∷ []) []) there
-          ∙ ap (λ n. row (slice_index_or pages n []) ++ cond (u.sector % 64 == s % 64) (u ∷ []) []) (sym here.1)
-          ∙ ap (λ xs. xs ++ cond (u.sector % 64 == s % 64) (u ∷ []) []) known
-          ∙ ap (λ b. covering s us ++ cond b (u ∷ []) []) (same_place u.sector s (sym here.1)) ∙ sym (covering-push s us u)
-      | inr other ↦
-          ap row (get_or-set_other pages P (s / 64) page [] other.1) ∙ known
-          ∙ covering_other s us u (λ e. other.1 (ap (λ (n : ℕ). n / 64) e))
-    ]
+-- a stable sort by sector keeps the units of a sector in their order
+ties_tell : (n m : ℕ) → (not (is_lt (nat_cmp n m)) && not (is_lt (nat_cmp m n))) ≡ (m == n)
+ties_tell n m = elim (cases_lt n m) [
+  | inl less ↦
+      let one : nat_cmp n m ≡ Less = sym (nat_cmp_is n m Less less) in
+      rw (one, ne_eqb m n (λ e. omega (arith, e, less))) refl
+  | inr past ↦ elim (cases_lt m n) [
+    | inl more ↦
+        let one : nat_cmp n m ≡ Greater = sym (nat_cmp_is n m Greater more) in
+        let other : nat_cmp m n ≡ Less = sym (nat_cmp_is m n Less more) in
+        rw (one, other, ne_eqb m n (λ e. omega (arith, e, more))) refl
+    | inr least ↦
+        let same : n ≡ m = omega (arith, past, least) in
+        let one : nat_cmp n m ≡ Equal = sym (nat_cmp_is n m Equal same) in
+        let other : nat_cmp m n ≡ Equal = sym (nat_cmp_is m n Equal (sym same)) in
+        rw (one, other, eq-eqb m n (sym same)) refl
+  ]
+]
+
+filter_alike : (p q : LogUnit → Bool) → ((u : LogUnit) → p u ≡ q u) → (us : List LogUnit) → filter p us ≡ filter q us
+filter_alike p q same [] = refl
+filter_alike p q same (u ∷ us) = rw (same u, filter_alike p q same us) refl
+
+pub covering_sorted : (us sorted : List LogUnit) (s : ℕ) → IsStableByKey (λ (u : LogUnit). u.sector) nat_cmp us sorted → covering s sorted ≡ covering s us
+unfolding covering
+covering_sorted us sorted s stable =
+    let d : LogUnit = record { entry = 0; place = 0; sector = s } in
+    let p : LogUnit → Bool = ties (λ (x y : LogUnit). is_lt (nat_cmp x.sector y.sector)) d in
+    let q : LogUnit → Bool = λ u. u.sector == s in
+    let same : (u : LogUnit) → p u ≡ q u = λ u. ties_tell s u.sector in
+    sym (filter_alike p q same sorted) ∙ stable d ∙ filter_alike p q same us
 
 -- what holds of each unit of two lists
 all_of_both : (P : LogUnit → Type 0) (xs ys : List LogUnit) → All P xs → All P ys → All P (xs ++ ys)

@@ -1,7 +1,8 @@
 -- The version table of a log: for each sector of the device the units that cover it, in order; and what a view keeps
 -- beside its log, cut and departures.
-use Rattle.std.specs.Prelude.{ℕ, ◌-◌, ◌*◌, ◌/◌, ◌%◌, ◌++◌, ◌==◌, nat_lt, ◌≡◌, ◌<◌, ◌≤◌, Bool, true, false, if◌then◌else◌, List, [], ◌∷◌, length, filter, slice_get, slice_index_or, Option, Some, None}
+use Rattle.std.specs.Prelude.{ℕ, ◌-◌, ◌*◌, ◌/◌, ◌==◌, nat_lt, ◌≡◌, ◌<◌, ◌≤◌, Bool, true, false, if◌then◌else◌, List, [], ◌∷◌, length, filter, slice_get, slice_index_or, Option, Some, None}
 use Rattle.std.specs.List.{last_or}
+use Rattle.std.specs.List.Sorted.{IsNonDecreasingBy}
 use Rattle.std.specs.Option.{option_map_or, is_some}
 use Rattle.logfmt.specs.declared.entry.Entry.{Entry}
 use Rattle.logfmt.specs.Bounds.{LogValue, IsLog}
@@ -20,26 +21,28 @@ use Rattle.images.specs.Views.{ViewValue, context_at, ContextFits}
 unfoldable pub covering : ℕ → List LogUnit → List LogUnit
 covering s us = filter (λ (u : LogUnit). u.sector == s) us
 
--- the rows of a table stand in pages of 64; what stands for sector s is row s % 64 of page s / 64, and nothing where there is none
-abbrev pub row_of : List (List (List LogUnit)) → ℕ → List LogUnit
-row_of pages s = slice_index_or (slice_index_or pages (s / 64) []) (s % 64) []
-
--- for each sector, the units of a list that cover it
-abbrev pub HasRows : List (List (List LogUnit)) → List LogUnit → Type 0
-HasRows pages us = (s : ℕ) → row_of pages s ≡ covering s us
-
--- two lists of rows, or of pages, have the same in each place, where an empty one stands for what isn't there
-abbrev pub HaveSameRows : {A : Type 0} → List (List A) → List (List A) → Type 0
-HaveSameRows more rows = (n : ℕ) → slice_index_or more n [] ≡ slice_index_or rows n []
-
--- one page has a unit more than another, in the row at a place
-abbrev pub HasMore : List (List LogUnit) → List (List LogUnit) → ℕ → LogUnit → Type 0
-HasMore more rows place u = (n : ℕ) → slice_index_or more n [] ≡ slice_index_or rows n [] ++ (if place == n then u ∷ [] else [])
-
--- the rows of all units of a log
-pub record IsTable (log : LogValue) (pages : List (List (List LogUnit))) : Type 0 where
+-- the units of a log, in the order of the sectors that they cover; those of one sector are in the order of the log
+pub record AreUnits (log : LogValue) (units : List LogUnit) : Type 0 where
   pub bounds : IsLog log
-  pub filled : HasRows pages (units_before log.entries (length log.entries))
+  pub rising : IsNonDecreasingBy (λ (u : LogUnit). u.sector) units
+  pub filled : (s : ℕ) → covering s units ≡ covering s (units_before log.entries (length log.entries))
+
+-- the units before a place cover sectors before s, and no other does
+pub record Divides (units : List LogUnit) (s place : ℕ) : Type 0 where
+  pub bound : place ≤ length units
+  pub before : (k : ℕ) (d : LogUnit) → k < place → (slice_index_or units k d).sector < s
+  pub beyond : (k : ℕ) (d : LogUnit) → place ≤ k → k < length units → s ≤ (slice_index_or units k d).sector
+
+-- where every 64th sector begins
+abbrev pub AreStarts : List LogUnit → List ℕ → Type 0
+AreStarts units starts = (p d : ℕ) → p < length starts → Divides units (64 * p) (slice_index_or starts p d)
+
+-- the table of a log
+pub record IsTable (log : LogValue) (units : List LogUnit) (places : List ℕ) : Type 0 where
+  pub bounds : IsLog log
+  pub rising : IsNonDecreasingBy (λ (u : LogUnit). u.sector) units
+  pub filled : (s : ℕ) → covering s units ≡ covering s (units_before log.entries (length log.entries))
+  pub starts : AreStarts units places
 
 -- the units before cut k that cover sector s
 abbrev pub versions : List Entry → ℕ → ℕ → List LogUnit

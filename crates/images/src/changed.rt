@@ -5,7 +5,7 @@ ghost use Rattle.std.specs.Cmp.{partial_equiv_from_equiv};
 ghost use Rattle.lanes.specs.Sector.{mix};
 ghost use Rattle.images.specs.Equal.{same_sector, sector_input, sector_equivalence, sector_alike};
 
-use crate::content::Content;
+use crate::content::SectorContent;
 use crate::image::Sector;
 use std::alloc::{AllocError, Global};
 use std::hash::{Hash, Hasher};
@@ -18,7 +18,7 @@ use std::marker::Model;
 #[derive(Drop)]
 pub struct ChangedSector<'a> {
     number: u32,
-    content: Content<'a>,
+    content: SectorContent<'a>,
     /// The mix of the bytes.
     mixed: u64,
 }
@@ -44,7 +44,7 @@ impl<'a> ChangedSector<'a> {
     {
         ChangedSector {
             number,
-            content: Content::Lent(sector),
+            content: SectorContent::Lent(sector),
             mixed: lanes::mix(sector),
         }
     }
@@ -60,7 +60,7 @@ impl<'a> ChangedSector<'a> {
     {
         Ok(ChangedSector {
             number,
-            content: Content::Torn(Box::new(alloc, *sector)?),
+            content: SectorContent::Torn(Box::new(alloc, *sector)?),
             mixed: lanes::mix(sector),
         })
     }

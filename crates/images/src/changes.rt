@@ -31,7 +31,7 @@ const MOST_CHANGED: usize = 64;
 /// What the images of a cut have in common: the sectors in which the image where nothing departs
 /// differs from the base.
 #[derive(Drop)]
-struct Known<'a> {
+struct SharedChanges<'a> {
     epoch: u32,
     /// The last flush entry before the cut, or 0.
     flush: u32,
@@ -46,7 +46,7 @@ struct Known<'a> {
 #[derive(Drop)]
 pub struct Changes<'a> {
     versions: Versions<'a>,
-    known: Known<'a>,
+    known: SharedChanges<'a>,
 }
 
 impl<'a> Model for Changes<'a> {
@@ -105,11 +105,11 @@ impl<'a> Changes<'a> {
 }
 
 /// What is known of cut 0 of a log: no sector differs.
-fn nothing<'a>(alloc: Global, versions: &Versions<'a>) -> Known<'a>
+fn nothing<'a>(alloc: Global, versions: &Versions<'a>) -> SharedChanges<'a>
     ensures { IsKnown versions.now result.epoch result.flush result.cut result.sectors.items }
 {
     let _versions = versions;
-    Known {
+    SharedChanges {
         epoch: 0,
         flush: 0,
         cut: 0,
@@ -121,16 +121,16 @@ fn nothing<'a>(alloc: Global, versions: &Versions<'a>) -> Known<'a>
 fn known_at<'a>(
     alloc: Global,
     versions: &Versions<'a>,
-    known: Known<'a>,
+    known: SharedChanges<'a>,
     cut: u32,
     epoch: u32,
-) -> Result<Known<'a>, AllocError>
+) -> Result<SharedChanges<'a>, AllocError>
     requires known { IsKnown versions.now known.epoch known.flush known.cut known.sectors.items }
     requires cut { cut ≤ length versions.now.entries }
     requires epoch { epoch ≡ epoch_at versions.now.entries cut }
     ensures { IfOk result (λ more. (more.cut ≡ cut) × IsKnown versions.now more.epoch more.flush more.cut more.sectors.items) }
 {
-    let Known {
+    let SharedChanges {
         epoch: old,
         flush,
         cut: first,
@@ -138,7 +138,7 @@ fn known_at<'a>(
     } = known;
     if old == epoch && first <= cut {
         let sectors = changes_of_cut(versions, sectors, flush, first, cut)?;
-        return Ok(Known {
+        return Ok(SharedChanges {
             epoch,
             flush,
             cut,
@@ -147,7 +147,7 @@ fn known_at<'a>(
     }
     let flush = last_flush(versions.log().entries(), cut);
     let sectors = changes_of_cut(versions, Vec::new(alloc), flush, flush, cut)?;
-    Ok(Known {
+    Ok(SharedChanges {
         epoch,
         flush,
         cut,

@@ -2,9 +2,9 @@
 
 ghost use Rattle.std.specs.Prelude.{◌≡◌, IfOk, IsOk};
 
-use crate::pages::Page;
+use crate::table::{Table, table_of};
 use crate::torn::{put_torn, tear_any};
-use crate::versions::{Versions, pages_of};
+use crate::versions::Versions;
 use crate::view::View;
 use arrayvec::ArrayVec;
 use choices::Choice;
@@ -22,7 +22,7 @@ use std::marker::Model;
 pub struct History<'a> {
     plan: &'a Plan<'a>,
     log: &'a Log,
-    pages: Vec<Page>,
+    table: Table,
 }
 
 impl<'a> Model for History<'a> {
@@ -34,27 +34,26 @@ impl<'a> Model for History<'a> {
 
     ghost view = { λ h. h.plan.now };
 
-    ghost invariant = { λ h. (h.plan.now.log ≡ h.log.now) × IsTable h.log.now h.pages.items };
+    ghost invariant = { λ h. (h.plan.now.log ≡ h.log.now) × IsTable h.log.now h.table.units.items h.table.starts.items };
 }
 
 impl<'a> History<'a> {
     ghost use Rattle.images.specs.Views.{IsMember, view_of};
 
-    /// The crash images of a plan's log. It takes time and memory for each unit, and for each
-    /// 64 sectors of the device up to the last that is written.
+    /// The crash images of a plan's log. It takes memory for each unit, and the time of a sort.
     pub fn new(alloc: Global, plan: &'a Plan<'a>, log: &'a Log) -> Result<History<'a>, AllocError>
         requires { plan.now.log ≡ log.now }
         ensures { IfOk result (λ history. history ≡ plan.now) }
     {
-        let pages = pages_of(alloc, log)?;
-        Ok(History { plan, log, pages })
+        let table = table_of(alloc, log)?;
+        Ok(History { plan, log, table })
     }
 
     /// The units that cover each sector.
     pub(crate) fn versions(&self) -> Versions<'_>
         ensures { result ≡ self.now.log }
     {
-        Versions::of(&*self.log, self.pages.as_slice())
+        Versions::of(&*self.log, &self.table)
     }
 
     /// The crash image of a choice of the plan, as a device. It borrows the sectors of the log, takes
@@ -66,7 +65,7 @@ impl<'a> History<'a> {
         ensures always { IsOk result }
     {
         let cut = choice.cut();
-        let versions = Versions::of(&*self.log, self.pages.as_slice());
+        let versions = Versions::of(&*self.log, &self.table);
         let own = choice.departures();
         let departures = choice.departures_owned();
         let context = Context {

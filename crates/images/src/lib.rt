@@ -84,10 +84,10 @@
 //!
 //! # How it is written
 //!
-//! A history keeps a version table (`versions`): for each sector that is written a row, the units that
-//! cover it in their order (`specs/Table.antt`). It has no content, and is filled in one pass over the
-//! entries. The rows stand in pages of 64 (`pages`), and those of a page that nothing writes aren't kept,
-//! so a large device costs what is written to it. A search by halves finds the units of a row before a cut.
+//! A history keeps a version table (`table`): all units of the log by the sectors that they cover, and those of one sector in their
+//! order (`specs/Table.antt`). It has no content, and is sorted once; a word for every 64 sectors says where they begin.
+//! So a large device costs little but what is written to it. Searches by halves find the units of a sector, and those of them before a
+//! cut.
 //!
 //! A view borrows the table. A sector of it is the content of the last of those units that is not
 //! dropped, where it lies in the log, or that of the initial content, which the log keeps, or a sector of
@@ -162,10 +162,8 @@
 //! - Prove `Decides (eq a b) (a ≡ b)` once in specs/. Then the laws of `Eq` take four lines and `respects_eq` of
 //!   `Hash` is one `ap` (`images/specs/Equal.antt`). `eq` and `hash` over `unfoldable` words are auto with
 //!   `unfolding(..)` on the method, the generic hasher included.
-//! - **A table that grows on demand is stated by what is read of it.** `HasRows pages units` says of each sector,
-//!   however large, that reading its row gives its units, and an empty row stands for one that isn't there
-//!   (`images/specs/Table.antt`). A page or a row more then changes nothing that is read (`HaveSameRows`), no size
-//!   stands in the invariant, and filling it needs no list of empty rows before.
+//! - **A table is stated by what is read of it.** `IsTable log units` says of each sector, however large, that its units in the table
+//!   are those of the log, in order, which is what a stable sort promises; and that the table rises, which a search needs.
 #![tactic(auto)]
 
 mod changed;
@@ -177,7 +175,7 @@ mod key;
 mod laws;
 mod listing;
 mod number;
-mod pages;
+mod table;
 mod torn;
 mod versions;
 mod view;

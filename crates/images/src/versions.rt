@@ -1,18 +1,16 @@
-//! The version table of a log: for each sector of the device the units that cover it, in order.
+//! The units of a log by the sectors that they cover, and what shows in a sector.
 
-ghost use Rattle.std.specs.Prelude.{◌≡◌, ◌+◌, ◌<◌, ◌≤◌, ℕ, [], length, slice_index_or, IfOk, OnOk};
+ghost use Rattle.std.specs.Prelude.{◌≡◌, ◌<◌, ◌≤◌, ℕ, [], length, slice_index_or};
 ghost use Rattle.std.specs.List.Sorted.{IsNonDecreasingBy};
 ghost use Rattle.epochs.specs.declared.unit.Unit.{Unit as LogUnit};
-ghost use Rattle.epochs.specs.Plan.{IsUnit};
 ghost use Rattle.epochs.specs.Units.{units_before};
-ghost use Rattle.images.specs.Table.{HasRows, IsTable};
+ghost use Rattle.images.specs.Table.{IsTable};
 
 use crate::image::{Sector, content_of, fate_at, form_sector, initial_of, showing};
-use crate::pages::{Page, put_unit, row_of};
+use crate::table::Table;
 use choices::Departure;
 use epochs::Unit;
 use logfmt::Log;
-use std::alloc::{AllocError, Global};
 use std::marker::Model;
 
 /// The units of a log that cover each sector of its device.
@@ -21,7 +19,7 @@ use std::marker::Model;
 #[derive(Drop)]
 pub(crate) struct Versions<'a> {
     log: &'a Log,
-    pages: &'a [Page],
+    table: &'a Table,
 }
 
 impl<'a> Model for Versions<'a> {
@@ -32,7 +30,7 @@ impl<'a> Model for Versions<'a> {
 
     ghost view = { λ v. v.log.now };
 
-    ghost invariant = { λ v. IsTable v.log.now v.pages.now };
+    ghost invariant = { λ v. IsTable v.log.now v.table.now.units.items v.table.now.starts.items };
 }
 
 impl<'a> Versions<'a> {
@@ -42,21 +40,21 @@ impl<'a> Versions<'a> {
     ghost use Rattle.images.specs.Images.{sector_after};
     ghost use Rattle.images.specs.Table.{versions, is_torn, DepartOnce};
 
-    /// The units of a log by these pages.
-    pub(crate) fn of(log: &'a Log, pages: &'a [Page]) -> Versions<'a>
-        requires { IsTable log.now pages.now }
+    /// The units of a log by this table.
+    pub(crate) fn of(log: &'a Log, table: &'a Table) -> Versions<'a>
+        requires { IsTable log.now table.now.units.items table.now.starts.items }
         ensures { result ≡ log.now }
     {
-        Versions { log, pages }
+        Versions { log, table }
     }
 
-    /// A copy, which lends the log and the pages once more.
+    /// A copy, which lends the log and the table once more.
     pub(crate) fn same(&self) -> Versions<'a>
         ensures { result ≡ self.now }
     {
         Versions {
             log: self.log,
-            pages: self.pages,
+            table: self.table,
         }
     }
 
@@ -68,13 +66,13 @@ impl<'a> Versions<'a> {
         self.log
     }
 
-    /// The units before a cut that cover a sector, in order. It takes a search by halves.
+    /// The units before a cut that cover a sector, in order. It takes three searches by halves.
     fn before(&self, number: u32, cut: u32) -> &'a [Unit]
         requires number { number < self.now.sectors }
         requires cut { cut ≤ length self.now.entries }
         ensures { result.now ≡ versions self.now.entries cut number }
     {
-        let row = row_of(self.pages, number);
+        let row = self.table.row(number);
         &row[..count_before(row, cut)]
     }
 
@@ -131,33 +129,4 @@ fn count_before(row: &[Unit], cut: u32) -> usize
     ensures beyond { (k : ℕ) (d : LogUnit) → result ≤ k → k < length row.now → cut ≤ (slice_index_or row.now k d).entry }
 {
     row.partition_point(|unit| unit.entry < cut)
-}
-
-/// Adds the units of an entry to the rows of the units before it.
-fn put_entry(pages: &mut Vec<Page>, alloc: Global, log: &Log, number: u32) -> Result<(), AllocError>
-    requires entry { number < length log.now.entries }
-    requires rows { HasRows pages.old.items (units_before log.now.entries number) }
-    ensures { OnOk result (HasRows pages.new.items (units_before log.now.entries (number + 1))) }
-{
-    let entry = &log.entries()[number as usize];
-    for place in 0..entry.count {
-        let unit = Unit {
-            entry: number,
-            place: place as u32,
-            sector: (entry.sector + place) as u32,
-        };
-        put_unit(pages, alloc, unit)?;
-    }
-    Ok(())
-}
-
-/// The rows of all units of a log, in pages. It takes time about linear in the number of its units, and of pages up to the last.
-pub(crate) fn pages_of(alloc: Global, log: &Log) -> Result<Vec<Page>, AllocError>
-    ensures { IfOk result (λ pages. IsTable log.now pages.items) }
-{
-    let mut pages = Vec::new(alloc);
-    for number in 0..log.entries().len() as u32 {
-        put_entry(&mut pages, alloc, log, number)?;
-    }
-    Ok(pages)
 }

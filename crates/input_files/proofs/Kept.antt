@@ -78,11 +78,11 @@ raw_kept k xs ys es raw =
 
 pub imported_alike : RawIsImportedAlike
 imported_alike bytes text sectors limits made =
-    let all : read_raw bytes ++ drop (needed_length bytes) bytes ≡ bytes = take-append-drop (needed_length bytes) bytes in
+    let all : read_raw limits bytes ++ drop (needed_length limits bytes) bytes ≡ bytes = take-append-drop (needed_length limits bytes) bytes in
     record {
       k = made.k;
       entries = made.entries;
-      raw = subst (λ (xs : List ℕ). RawText made.k xs made.entries) all (raw_kept made.k (read_raw bytes) (drop (needed_length bytes) bytes) made.entries made.raw);
+      raw = subst (λ (xs : List ℕ). RawText made.k xs made.entries) all (raw_kept made.k (read_raw limits bytes) (drop (needed_length limits bytes) bytes) made.entries made.raw);
       importable = made.importable;
       same = made.same;
     }

@@ -5,8 +5,9 @@ use Rattle.std.proofs.lemmas.Int.{clamps}
 use Rattle.std.proofs.lemmas.Bool.{cases_lt}
 use Rattle.std.proofs.lemmas.Option.{same_Some}
 use Rattle.std.proofs.lemmas.List.{length-take, length-take-le, take-append-drop, take_all}
-use Rattle.base.specs.Sizes.{byte_limit}
+use Rattle.base.specs.Sizes.{byte_limit, raw_limit}
 use Rattle.base.specs.declared.limits.Limits.{Limits}
+use Rattle.base.specs.declared.limits.Limits.TheVariants as limits
 use Rattle.base.specs.Check.{Check, check, first_failing}
 use Rattle.base.specs.Numbers.{number_at}
 use Rattle.base.specs.declared.causes.LogCause.{LogCause}
@@ -56,52 +57,61 @@ pub up_to : (k : ℕ) (bytes : List ℕ) (i n : ℕ) → i ≤ n → header k by
 up_to k bytes i n h = let e : i + (n - i) ≡ n = omega (arith, h) in rw (← e) (later k bytes i (n - i))
 
 -- what is needed, where the size of sectors is known
-pub needed_known : (bytes : List ℕ) → is_known bytes ≡ true → needed_length bytes ≡ min 201326592 (header (times_at bytes) bytes (entries_of bytes))
+pub needed_known : (limits : Limits) (bytes : List ℕ) → is_known bytes ≡ true → needed_length limits bytes ≡ min (raw_limit limits) (header (times_at bytes) bytes (entries_of bytes))
 unfolding needed_length
-needed_known bytes known = rw known refl
+needed_known limits bytes known = rw known refl
 
-needed_unknown : (bytes : List ℕ) → is_known bytes ≡ false → needed_length bytes ≡ 512
+needed_unknown : (limits : Limits) (bytes : List ℕ) → is_known bytes ≡ false → needed_length limits bytes ≡ 512
 unfolding needed_length
-needed_unknown bytes unknown = rw unknown refl
+needed_unknown limits bytes unknown = rw unknown refl
 
-pub some_needed : (bytes : List ℕ) → 512 ≤ needed_length bytes
-some_needed bytes =
-    let by_size : (b : Bool) → is_known bytes ≡ b → 512 ≤ needed_length bytes =
-    λ b. elim b as (λ v. is_known bytes ≡ v → 512 ≤ needed_length bytes) [
+-- some bytes may always be needed
+pub raw_limit_most : (limits : Limits) → raw_limit limits ≤ 1073741824
+raw_limit_most limits.Usual = omega arith
+raw_limit_most limits.Large = omega arith
+
+pub raw_limit_some : (limits : Limits) → 4096 ≤ raw_limit limits
+raw_limit_some limits.Usual = omega arith
+raw_limit_some limits.Large = omega arith
+
+pub some_needed : (limits : Limits) (bytes : List ℕ) → 512 ≤ needed_length limits bytes
+some_needed limits bytes =
+    let by_size : (b : Bool) → is_known bytes ≡ b → 512 ≤ needed_length limits bytes =
+    λ b. elim b as (λ v. is_known bytes ≡ v → 512 ≤ needed_length limits bytes) [
       | true ↦ λ e.
-          let is = needed_known bytes e in
+          let is = needed_known limits bytes e in
           let first : header (times_at bytes) bytes 0 ≡ 1 * size_at bytes = sectors_in bytes 1 e in
           let beyond = up_to (times_at bytes) bytes 0 (entries_of bytes) (omega arith) in
           let size = (sizes bytes e).0 in
-          omega (arith, clamps, is, first, beyond, size)
-      | false ↦ λ e. let is = needed_unknown bytes e in omega (arith, is)
+          omega (arith, clamps, is, first, beyond, size, raw_limit_some limits)
+      | false ↦ λ e. let is = needed_unknown limits bytes e in omega (arith, is)
     ] in
     by_size (is_known bytes) refl
 
-needed_most : (bytes : List ℕ) → needed_length bytes ≤ 201326592
-needed_most bytes =
-    let by_size : (b : Bool) → is_known bytes ≡ b → needed_length bytes ≤ 201326592 =
-    λ b. elim b as (λ v. is_known bytes ≡ v → needed_length bytes ≤ 201326592) [
-      | true ↦ λ e. let is = needed_known bytes e in omega (arith, clamps, is)
-      | false ↦ λ e. let is = needed_unknown bytes e in omega (arith, is)
+needed_most : (limits : Limits) (bytes : List ℕ) → needed_length limits bytes ≤ raw_limit limits
+needed_most limits bytes =
+    let by_size : (b : Bool) → is_known bytes ≡ b → needed_length limits bytes ≤ raw_limit limits =
+    λ b. elim b as (λ v. is_known bytes ≡ v → needed_length limits bytes ≤ raw_limit limits) [
+      | true ↦ λ e. let is = needed_known limits bytes e in omega (arith, clamps, is)
+      | false ↦ λ e. let is = needed_unknown limits bytes e in omega (arith, is, raw_limit_some limits)
     ] in
     by_size (is_known bytes) refl
 
 pub read_short : ReadRawIsShort
-read_short bytes =
-    let long : length (read_raw bytes) ≡ min (needed_length bytes) (length bytes) = length-take (needed_length bytes) bytes in
-    let most = needed_most bytes in
+read_short limits bytes =
+    let long : length (read_raw limits bytes) ≡ min (needed_length limits bytes) (length bytes) = length-take (needed_length limits bytes) bytes in
+    let most = needed_most limits bytes in
     omega (arith, clamps, long, most)
 
 pub no_more : NoMoreIsRead
 no_more k sectors limits bytes es raw can =
     let known : is_known bytes ≡ true = known_size k bytes es raw in
     let times : times_at bytes ≡ k = told k bytes es raw in
-    let is = needed_known bytes known in
+    let is = needed_known limits bytes known in
     let count : entries_of bytes ≡ length es = raw.super.entries in
     let same : header (times_at bytes) bytes (entries_of bytes) ≡ header k bytes (length es) = rw (times, count) refl in
     let placed : header k bytes (length es) ≡ bytes_in k (place es (length es)) = header_place k bytes es (length es) raw.stands (omega arith) in
-    let long : length (read_raw bytes) ≡ min (needed_length bytes) (length bytes) = length-take (needed_length bytes) bytes in
+    let long : length (read_raw limits bytes) ≡ min (needed_length limits bytes) (length bytes) = length-take (needed_length limits bytes) bytes in
     omega (arith, clamps, is, same, placed, long)
 
 -- checks of which none fails
@@ -142,14 +152,14 @@ super_alike xs ys long whole =
     by_size (is_known xs) refl
 
 -- the checks of an entry that ends within the first bytes, or after what may be needed
-entry_alike : (k sectors : ℕ) (xs ys : List ℕ) (s u w : ℕ) → 1 ≤ k → (s + bytes_in k 1 ≤ 201326592 → s + bytes_in k 1 ≤ length xs)
-    → (s + bytes_in k 1 ≤ length xs → s + bytes_in k (1 + data_sectors xs s) ≤ 201326592 → s + bytes_in k (1 + data_sectors xs s) ≤ length xs)
-    → first_failing (raw_entry_checks k xs sectors s u w) ≡ first_failing (raw_entry_checks k (xs ++ ys) sectors s u w)
+entry_alike : (k sectors : ℕ) (limits : Limits) (xs ys : List ℕ) (s u w : ℕ) → 1 ≤ k → (s + bytes_in k 1 ≤ raw_limit limits → s + bytes_in k 1 ≤ length xs)
+    → (s + bytes_in k 1 ≤ length xs → s + bytes_in k (1 + data_sectors xs s) ≤ raw_limit limits → s + bytes_in k (1 + data_sectors xs s) ≤ length xs)
+    → first_failing (raw_entry_checks k xs sectors limits s u w) ≡ first_failing (raw_entry_checks k (xs ++ ys) sectors limits s u w)
 unfolding raw_entry_checks
-entry_alike k sectors xs ys s u w some reaches ends =
+entry_alike k sectors limits xs ys s u w some reaches ends =
     let more = length-append xs ys in
-    let by_header : (b : Bool) → nat_le (s + bytes_in k 1) 201326592 ≡ b → first_failing (raw_entry_checks k xs sectors s u w) ≡ first_failing (raw_entry_checks k (xs ++ ys) sectors s u w) =
-    λ b. elim b as (λ v. nat_le (s + bytes_in k 1) 201326592 ≡ v → first_failing (raw_entry_checks k xs sectors s u w) ≡ first_failing (raw_entry_checks k (xs ++ ys) sectors s u w)) [
+    let by_header : (b : Bool) → nat_le (s + bytes_in k 1) (raw_limit limits) ≡ b → first_failing (raw_entry_checks k xs sectors limits s u w) ≡ first_failing (raw_entry_checks k (xs ++ ys) sectors limits s u w) =
+    λ b. elim b as (λ v. nat_le (s + bytes_in k 1) (raw_limit limits) ≡ v → first_failing (raw_entry_checks k xs sectors limits s u w) ≡ first_failing (raw_entry_checks k (xs ++ ys) sectors limits s u w)) [
       | false ↦ λ far. rw far refl
       | true ↦ λ near.
           let within : s + bytes_in k 1 ≤ length xs = reaches (grind (arith, nat_tests, near)) in
@@ -159,8 +169,8 @@ entry_alike k sectors xs ys s u w some reaches ends =
           let count = number_kept 8 (s + 8) xs ys (omega (arith, some, within)) in
           let word = number_kept 8 (s + 16) xs ys (omega (arith, some, within)) in
           let text = number_kept 8 (s + 24) xs ys (omega (arith, some, within)) in
-          let by_end : (b : Bool) → nat_le (s + bytes_in k (1 + data_sectors xs s)) 201326592 ≡ b → first_failing (raw_entry_checks k xs sectors s u w) ≡ first_failing (raw_entry_checks k (xs ++ ys) sectors s u w) =
-          λ b. elim b as (λ v. nat_le (s + bytes_in k (1 + data_sectors xs s)) 201326592 ≡ v → first_failing (raw_entry_checks k xs sectors s u w) ≡ first_failing (raw_entry_checks k (xs ++ ys) sectors s u w)) [
+          let by_end : (b : Bool) → nat_le (s + bytes_in k (1 + data_sectors xs s)) (raw_limit limits) ≡ b → first_failing (raw_entry_checks k xs sectors limits s u w) ≡ first_failing (raw_entry_checks k (xs ++ ys) sectors limits s u w) =
+          λ b. elim b as (λ v. nat_le (s + bytes_in k (1 + data_sectors xs s)) (raw_limit limits) ≡ v → first_failing (raw_entry_checks k xs sectors limits s u w) ≡ first_failing (raw_entry_checks k (xs ++ ys) sectors limits s u w)) [
             | false ↦ λ far. rw (sector, count, word, text, near, here, there, far) refl
             | true ↦ λ close.
                 let whole : s + bytes_in k (1 + data_sectors xs s) ≤ length xs = ends within (grind (arith, nat_tests, close)) in
@@ -168,9 +178,9 @@ entry_alike k sectors xs ys s u w some reaches ends =
                 let below : nat_le (s + bytes_in k (1 + data_sectors xs s)) (length (xs ++ ys)) ≡ true = grind (arith, nat_tests, whole, more) in
                 rw (sector, count, word, text, near, here, there, close, inside, below) refl
           ] in
-          by_end (nat_le (s + bytes_in k (1 + data_sectors xs s)) 201326592) refl
+          by_end (nat_le (s + bytes_in k (1 + data_sectors xs s)) (raw_limit limits)) refl
     ] in
-    by_header (nat_le (s + bytes_in k 1) 201326592) refl
+    by_header (nat_le (s + bytes_in k 1) (raw_limit limits)) refl
 
 -- the headers, as far as the entries pass
 header_alike : (k sectors : ℕ) (limits : Limits) (n : ℕ) (xs ys : List ℕ) → 1 ≤ k → ((i : ℕ) → i < n → raw_entry_fault k xs sectors limits i ≡ None)
@@ -181,18 +191,18 @@ header_alike k sectors limits (suc n) xs ys some pass =
     let before = header_alike k sectors limits n xs ys some (λ i h. pass i (omega (arith, h))) in
     let s : ℕ = header k xs n in
     let there : nat_le (s + bytes_in k 1) (length xs) ≡ true =
-    passes (raw_entry_checks k xs sectors s (units_before k xs n) (byte_limit limits - written_before k xs n)) 1 (check cause.CutShort (nat_le (s + bytes_in k 1) (length xs))) (pass n (omega arith)) refl in
+    passes (raw_entry_checks k xs sectors limits s (units_before k xs n) (byte_limit limits - written_before k xs n)) 1 (check cause.CutShort (nat_le (s + bytes_in k 1) (length xs))) (pass n (omega arith)) refl in
     let within : s + bytes_in k 1 ≤ length xs = grind (arith, nat_tests, there) in
     let count = number_kept 8 (s + 8) xs ys (omega (arith, some, within)) in
     let word = number_kept 8 (s + 16) xs ys (omega (arith, some, within)) in
     (rw (before.0, count, word) refl, rw (before.0, before.1, count) refl, rw (before.0, before.2, count, word) refl)
 
 -- first bytes that are as many as are needed
-record AreFirst (xs ys : List ℕ) : Type 0 where
+record AreFirst (limits : Limits) (xs ys : List ℕ) : Type 0 where
   pub some : 512 ≤ length xs
-  pub known : is_known xs ≡ true → length xs ≡ min 201326592 (header (times_at xs) (xs ++ ys) (entries_of xs))
+  pub known : is_known xs ≡ true → length xs ≡ min (raw_limit limits) (header (times_at xs) (xs ++ ys) (entries_of xs))
 
-fault_alike : (sectors : ℕ) (limits : Limits) (i : ℕ) (xs ys : List ℕ) → AreFirst xs ys → is_known xs ≡ true → i < entries_of xs → EntriesPass xs sectors limits i
+fault_alike : (sectors : ℕ) (limits : Limits) (i : ℕ) (xs ys : List ℕ) → AreFirst limits xs ys → is_known xs ≡ true → i < entries_of xs → EntriesPass xs sectors limits i
     → raw_entry_fault (times_at xs) xs sectors limits i ≡ raw_entry_fault (times_at xs) (xs ++ ys) sectors limits i
 fault_alike sectors limits i xs ys first known lt pass =
     let k : ℕ = times_at xs in
@@ -202,17 +212,17 @@ fault_alike sectors limits i xs ys first known lt pass =
     let long = first.known known in
     let beyond : header k (xs ++ ys) (suc i) ≤ header k (xs ++ ys) (entries_of xs) = up_to k (xs ++ ys) (suc i) (entries_of xs) (omega (arith, lt)) in
     let next : header k (xs ++ ys) (suc i) ≡ s + bytes_in k (1 + data_sectors (xs ++ ys) s) = rw (same.0) refl in
-    let reaches : s + bytes_in k 1 ≤ 201326592 → s + bytes_in k 1 ≤ length xs = λ h. omega (arith, clamps, h, long, beyond, next) in
-    let ends : s + bytes_in k 1 ≤ length xs → s + bytes_in k (1 + data_sectors xs s) ≤ 201326592 → s + bytes_in k (1 + data_sectors xs s) ≤ length xs =
+    let reaches : s + bytes_in k 1 ≤ raw_limit limits → s + bytes_in k 1 ≤ length xs = λ h. omega (arith, clamps, h, long, beyond, next) in
+    let ends : s + bytes_in k 1 ≤ length xs → s + bytes_in k (1 + data_sectors xs s) ≤ raw_limit limits → s + bytes_in k (1 + data_sectors xs s) ≤ length xs =
     λ within h.
     let count = number_kept 8 (s + 8) xs ys (omega (arith, some, within)) in
     let word = number_kept 8 (s + 16) xs ys (omega (arith, some, within)) in
     let told : data_sectors (xs ++ ys) s ≡ data_sectors xs s = rw (count, word) refl in
     let end : header k (xs ++ ys) (suc i) ≡ s + bytes_in k (1 + data_sectors xs s) = next ∙ ap (λ d. s + bytes_in k (1 + d)) told in
     omega (arith, clamps, h, long, beyond, end) in
-    entry_alike k sectors xs ys s (units_before k xs i) (byte_limit limits - written_before k xs i) some reaches ends ∙ (rw (same.0, same.1, same.2) refl)
+    entry_alike k sectors limits xs ys s (units_before k xs i) (byte_limit limits - written_before k xs i) some reaches ends ∙ (rw (same.0, same.1, same.2) refl)
 
-refused_first : (sectors : ℕ) (limits : Limits) (xs ys : List ℕ) (c : LogCause) (at : ℕ) → AreFirst xs ys → (is_known xs ≡ true → size_at xs ≤ length xs)
+refused_first : (sectors : ℕ) (limits : Limits) (xs ys : List ℕ) (c : LogCause) (at : ℕ) → AreFirst limits xs ys → (is_known xs ≡ true → size_at xs ≤ length xs)
     → FirstRawFault xs sectors limits c at → FirstRawFault (xs ++ ys) sectors limits c at
 unfolding raw_super_checks
 refused_first sectors limits xs ys _ _ first whole (in_super c h) = in_super c (sym (super_alike xs ys first.some whole) ∙ h)
@@ -228,28 +238,28 @@ refused_first sectors limits xs ys _ _ first whole (in_entry c at clean lt pass 
     (alike at lt pass ∙ h)
 
 pub refused_alike : RawIsRefusedAlike
-refused_alike bytes sectors limits c at fault = elim (cases_lt (needed_length bytes) (length bytes)) [
+refused_alike bytes sectors limits c at fault = elim (cases_lt (needed_length limits bytes) (length bytes)) [
   | inl more ↦
-      let xs : List ℕ = read_raw bytes in
-      let ys : List ℕ = drop (needed_length bytes) bytes in
-      let all : xs ++ ys ≡ bytes = take-append-drop (needed_length bytes) bytes in
-      let long : length xs ≡ needed_length bytes = length-take-le (needed_length bytes) bytes (omega (arith, more)) in
-      let some : 512 ≤ length xs = let least = some_needed bytes in omega (arith, least, long) in
+      let xs : List ℕ = read_raw limits bytes in
+      let ys : List ℕ = drop (needed_length limits bytes) bytes in
+      let all : xs ++ ys ≡ bytes = take-append-drop (needed_length limits bytes) bytes in
+      let long : length xs ≡ needed_length limits bytes = length-take-le (needed_length limits bytes) bytes (omega (arith, more)) in
+      let some : 512 ≤ length xs = let least = some_needed limits bytes in omega (arith, least, long) in
       let size : size_at bytes ≡ size_at xs = ap (λ zs. number_at 4 24 zs) (sym all) ∙ number_kept 4 24 xs ys (omega (arith, some)) in
       let count : entries_of bytes ≡ entries_of xs = ap (λ zs. number_at 8 16 zs) (sym all) ∙ number_kept 8 16 xs ys (omega (arith, some)) in
       let tells : is_known bytes ≡ is_known xs = ap (λ n. (n == 512) || (n == 4096)) size in
-      let first : AreFirst xs ys = record {
+      let first : AreFirst limits xs ys = record {
         some = some;
-        known = λ e. long ∙ needed_known bytes (tells ∙ e) ∙ ap (λ n. min 201326592 (header (n / 512) bytes (entries_of bytes))) size
-            ∙ ap (λ n. min 201326592 (header (times_at xs) bytes n)) count ∙ ap (λ zs. min 201326592 (header (times_at xs) zs (entries_of xs))) (sym all);
+        known = λ e. long ∙ needed_known limits bytes (tells ∙ e) ∙ ap (λ n. min (raw_limit limits) (header (n / 512) bytes (entries_of bytes))) size
+            ∙ ap (λ n. min (raw_limit limits) (header (times_at xs) bytes n)) count ∙ ap (λ zs. min (raw_limit limits) (header (times_at xs) zs (entries_of xs))) (sym all);
       } in
       let whole : is_known xs ≡ true → size_at xs ≤ length xs = λ e.
       let k_known : is_known bytes ≡ true = tells ∙ e in
-      let is = needed_known bytes k_known in
+      let is = needed_known limits bytes k_known in
       let begins : header (times_at bytes) bytes 0 ≡ 1 * size_at bytes = sectors_in bytes 1 k_known in
       let beyond = up_to (times_at bytes) bytes 0 (entries_of bytes) (omega arith) in
       let most = (sizes bytes k_known).1 in
-      omega (arith, clamps, long, is, begins, beyond, size, most) in
+      omega (arith, clamps, long, is, begins, beyond, size, most, raw_limit_some limits) in
       subst (λ zs. FirstRawFault zs sectors limits c at) all (refused_first sectors limits xs ys c at first whole fault)
-  | inr less ↦ subst (λ zs. FirstRawFault zs sectors limits c at) (take_all (needed_length bytes) bytes (omega (arith, less))) fault
+  | inr less ↦ subst (λ zs. FirstRawFault zs sectors limits c at) (take_all (needed_length limits bytes) bytes (omega (arith, less))) fault
 ]

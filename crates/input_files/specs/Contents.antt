@@ -20,7 +20,7 @@ long_length (Some said) n = if nat_le (read_of kind.Program) said then said else
 
 -- the bytes that are read of a file of that kind with these bytes
 abbrev pub read_bytes : FileKind → List ℕ → List ℕ
-read_bytes kind.Raw bytes = read_raw bytes
+read_bytes (kind.Raw limits) bytes = read_raw limits bytes
 read_bytes (kind.Part left) bytes = part_read (left + 1) bytes
 read_bytes k bytes = take (read_of k) bytes
 

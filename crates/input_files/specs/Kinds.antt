@@ -1,6 +1,6 @@
 -- What a command takes a file for, and how much of it is read (docs/COMMANDS.md, How files are read).
 use Rattle.std.specs.Prelude.{ℕ, ◌==◌, ◌+◌, ◌-◌, ◌*◌, Bool, true, false, min, nat_le, nat_lt, ◌&&◌, ◌||◌, if◌then◌else◌, List, bytes_eq, codes, Option, None, Some}
-use Rattle.base.specs.Sizes.{byte_limit, sector_limit}
+use Rattle.base.specs.Sizes.{byte_limit, raw_limit, sector_limit}
 use Rattle.base.specs.declared.limits.Limits.{Limits}
 use Rattle.base.specs.declared.causes.AsmCause.TheVariants as asm
 use Rattle.base.specs.declared.causes.CodeCause.TheVariants as code
@@ -28,7 +28,7 @@ most_of_parts = 1024 * 1024 * 1024
 abbrev pub kind_of : List ℕ → ℕ → Limits → ℕ → FileKind
 kind_of command place limits left =
     if bytes_eq command (codes "asm") then kind.Text
-    else if bytes_eq command (codes "import") then kind.Raw
+    else if bytes_eq command (codes "import") then kind.Raw limits
     else if bytes_eq command (codes "verify") || bytes_eq command (codes "list") then kind.Program
     else if bytes_eq command (codes "check") then checked_kind place limits
     else if bytes_eq command (codes "join") then kind.Part left
@@ -39,7 +39,7 @@ kind_of command place limits left =
 -- how many bytes a file has at most
 abbrev pub most_of : FileKind → ℕ
 most_of (kind.Log limits) = byte_limit limits
-most_of kind.Raw = 192 * 1024 * 1024
+most_of (kind.Raw limits) = raw_limit limits
 most_of kind.Program = 8 * 4096
 most_of kind.Text = 16 * 1024 * 1024
 most_of (kind.Image limits) = 512 * sector_limit limits
@@ -50,7 +50,7 @@ most_of kind.Report = 1024 * 1024 * 1024
 -- how many bytes are read at most: one more, or of a program a slot more; of a raw log no more
 abbrev pub read_of : FileKind → ℕ
 read_of kind.Program = most_of kind.Program + 8
-read_of kind.Raw = most_of kind.Raw
+read_of (kind.Raw limits) = most_of (kind.Raw limits)
 read_of k = most_of k + 1
 
 -- how many bytes are read of what a device of that many sectors held: one more than it has; there is no larger device than the limits
@@ -65,7 +65,7 @@ number_of place = if nat_le 1 place && nat_le place 256 then Some (place - 1) el
 -- want of memory for the file at a place
 abbrev pub memory_of : FileKind → ℕ → Refusal
 memory_of (kind.Log limits) place = record { code = Log log.Memory; at = 0; program = None }
-memory_of kind.Raw place = record { code = Log log.Memory; at = 0; program = None }
+memory_of (kind.Raw limits) place = record { code = Log log.Memory; at = 0; program = None }
 memory_of kind.Program place = record { code = Code code.Memory; at = 0; program = number_of place }
 memory_of kind.Text place = record { code = Asm asm.Memory; at = 0; program = None }
 memory_of (kind.Image limits) place = memory_refusal

@@ -18,8 +18,8 @@ pub(crate) const MOST_OF_PARTS: u32 = 1_073_741_824;
 pub enum FileKind {
     /// A log within these limits.
     Log(Limits),
-    /// A raw log, or a log device.
-    Raw,
+    /// A raw log, or a log device, of which the entries may need as many bytes as these limits say.
+    Raw(Limits),
     Program,
     /// An assembly text.
     Text,
@@ -40,7 +40,7 @@ impl FileKind {
     {
         match command {
             "asm" => FileKind::Text,
-            "import" => FileKind::Raw,
+            "import" => FileKind::Raw(limits),
             "verify" | "list" => FileKind::Program,
             "check" => checked_kind(place, limits),
             "join" => FileKind::Part(left),
@@ -50,14 +50,14 @@ impl FileKind {
         }
     }
 
-    /// How many bytes a file of this kind has at most: what the limits allow of a log and of an image, 192 MiB, 4,096 slots,
+    /// How many bytes a file of this kind has at most: what the limits allow of a log, a raw log and an image, 4,096 slots,
     /// 16 MiB, 1 MiB, what is left for parts. Of a raw log that is how many its entries may need.
     pub fn most(self) -> usize
         ensures { result ≡ most_of self }
     {
         match self {
             FileKind::Log(limits) => limits.bytes(),
-            FileKind::Raw => 201_326_592,
+            FileKind::Raw(limits) => limits.raw_bytes(),
             FileKind::Program => 32_768,
             FileKind::Text => 16_777_216,
             FileKind::Image(limits) => 512 * limits.sectors() as usize,
@@ -74,7 +74,7 @@ impl FileKind {
     {
         match self {
             FileKind::Log(limits) => limits.bytes() + 1,
-            FileKind::Raw => 201_326_592,
+            FileKind::Raw(limits) => limits.raw_bytes(),
             FileKind::Program => 32_776,
             FileKind::Text => 16_777_217,
             FileKind::Image(limits) => 512 * limits.sectors() as usize + 1,
@@ -90,7 +90,9 @@ impl FileKind {
         ensures { result ≡ memory_of self place }
     {
         match self {
-            FileKind::Log(_) | FileKind::Raw => { refusal_of(Cause::Log(LogCause::Memory), None) }
+            FileKind::Log(_) | FileKind::Raw(_) => {
+                refusal_of(Cause::Log(LogCause::Memory), None)
+            }
             FileKind::Program => refusal_of(Cause::Code(CodeCause::Memory), program_at(place)),
             FileKind::Text => refusal_of(Cause::Asm(AsmCause::Memory), None),
             FileKind::Image(_) | FileKind::Lines | FileKind::Report => Refusal::of_memory(),

@@ -37,7 +37,7 @@ pub fn no_more_is_read()
     ensures { NoMoreIsRead }
 {}
 
-/// Of no file more is read as a raw log than 192 MiB.
+/// Of no file more is read as a raw log than the limit: 192 MiB, with `--large` 1 GiB.
 pub fn read_raw_is_short()
     ensures { ReadRawIsShort }
 {}

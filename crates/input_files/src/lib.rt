@@ -12,8 +12,8 @@
 //!
 //! | File | Is read to | What is longer |
 //! |---|---|---|
-//! | a log | 64 MiB and a byte; with `--large` 192 MiB and a byte | has the refusal of what is read, 10 at 0, whatever it holds |
-//! | a raw log | where its last entry ends, as its headers tell, at most 192 MiB | changes no answer |
+//! | a log | 64 MiB and a byte; with `--large` 1 GiB and a byte | has the refusal of what is read, 10 at 0, whatever it holds |
+//! | a raw log | where its last entry ends, as its headers tell, at most 192 MiB; with `--large` 1 GiB | changes no answer |
 //! | a program | 4,097 slots, 32,776 bytes | stands for itself by a prefix of more than 4,096 slots which cuts a slot as it does |
 //! | an assembly text | 16 MiB and a byte | can't be read |
 //! | what a device held before | the device's size and a byte | is refused, 13 at 14 |
@@ -33,7 +33,7 @@
 //! what is read of it. A program that isn't too long stands for itself; what stands for a longer one has a fault; and that is
 //! the first fault of the longer one, at the place that `refusal_of_whole` makes of it. What is imported of the bytes that are
 //! read of a raw log is imported of all of it, and their first fault is its first fault; of one that can be imported no more
-//! is read than its entries need, and of none more than 192 MiB. A file that is read no further than its first bytes as a part isn't the
+//! is read than its entries need, and of none more than 192 MiB, with `--large` 1 GiB. A file that is read no further than its first bytes as a part isn't the
 //! text of one, and neither are these bytes (`part_is_read_alike`).
 //!
 //! `Inputs::read` reads the files in their order, each from the file that was opened by its name, as its kind and within the limits of
@@ -64,7 +64,7 @@
 //!   `short_log_is_read`.
 //! - What is read of a long log, program, raw log or part has the answer of the whole file. A long log and a long
 //!   program are refused alike, at the place in the whole file. A raw log is imported or refused alike, and at most
-//!   192 MiB of it are read. A text of which only its first bytes are read is no part. A program is never cut and
+//!   192 MiB of it are read, with `--large` 1 GiB. A text of which only its first bytes are read is no part. A program is never cut and
 //!   run: `no_more_is_read`, `read_raw_is_short`, `short_stands_for_itself`, `long_is_refused`,
 //!   `long_is_refused_alike`.
 //!

@@ -130,14 +130,14 @@ fn read_on<F: Read>(
 }
 
 /// The first bytes of a raw log, as many as its entries need.
-fn read_raw<F: Read>(alloc: Global, file: &mut F) -> io::Result<Vec<u8>>
-    ensures { IfOk result (λ bytes. IfSome (F.remaining file.old) (λ xs. bytes.items ≡ read_raw xs)) }
+fn read_raw<F: Read>(alloc: Global, file: &mut F, limits: Limits) -> io::Result<Vec<u8>>
+    ensures { IfOk result (λ bytes. IfSome (F.remaining file.old) (λ xs. bytes.items ≡ read_raw limits xs)) }
 {
     let mut bytes = Vec::new(alloc);
     if !read_on(alloc, file, &mut bytes, SECTOR)? {
         return Ok(bytes);
     }
-    let mut reach = RawReach::of_super(bytes.as_slice());
+    let mut reach = RawReach::of_super(bytes.as_slice(), limits);
     loop {
         if !read_on(alloc, file, &mut bytes, reach.needed as usize)? {
             return Ok(bytes);
@@ -261,11 +261,11 @@ fn read_part_piece<F: Read>(
 }
 
 /// Reads a raw log.
-fn read_raw_piece<F: Read>(alloc: Global, file: &mut F) -> io::Result<ReadFile>
-    ensures held { IfOk result (λ piece. IfSome (F.remaining file.old) (λ xs. (piece.length ≡ length (read_raw xs)) × (option_map (λ b. b.items) piece.bytes ≡ Some (read_raw xs)))) }
+fn read_raw_piece<F: Read>(alloc: Global, file: &mut F, limits: Limits) -> io::Result<ReadFile>
+    ensures held { IfOk result (λ piece. IfSome (F.remaining file.old) (λ xs. (piece.length ≡ length (read_raw limits xs)) × (option_map (λ b. b.items) piece.bytes ≡ Some (read_raw limits xs)))) }
     ensures some { IfOk result (λ piece. IsSome piece.bytes) }
 {
-    let bytes = read_raw(alloc, file)?;
+    let bytes = read_raw(alloc, file, limits)?;
     let length = bytes.len() as u64;
     Ok(ReadFile {
         bytes: Some(bytes),
@@ -362,7 +362,7 @@ fn read_piece<F: Read>(
 {
     let (most, expected) = (kind.most_read(), expected_of(kind, said));
     match kind {
-        FileKind::Raw => read_raw_piece(alloc, file),
+        FileKind::Raw(limits) => read_raw_piece(alloc, file, limits),
         FileKind::Part(_) => read_part_piece(alloc, file, most, expected),
         FileKind::Program => read_program(alloc, file, said),
         FileKind::Text => read_text(alloc, file, expected),

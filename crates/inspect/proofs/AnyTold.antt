@@ -21,8 +21,8 @@ use Rattle.request.specs.declared.settings.Settings.{Settings}
 use Rattle.inspect.specs.Said.{NoneIsSaid, IsLostSo}
 use Rattle.inspect.specs.Lost.{IsLostOf}
 use Rattle.inspect.specs.AnyImage.{cut_of, NoneIsMeant, IsToldSo, any_text_in}
-use Rattle.inspect.specs.declared.looks.image_command.Form.{Form}
-use Rattle.inspect.specs.declared.looks.image_command.Form.TheVariants as form
+use Rattle.inspect.specs.declared.looks.image_command.ImageForm.{ImageForm}
+use Rattle.inspect.specs.declared.looks.image_command.ImageForm.TheVariants as form
 use Rattle.inspect.specs.Image.{sector_bytes}
 use Rattle.epochs.specs.Plan.{PlanValue}
 use Rattle.request.specs.Source.{plan_of}
@@ -89,7 +89,7 @@ pub no_choice : (s : Settings) (value : LogValue) (cut : ℕ) (said : List ℕ) 
 no_choice s value cut said none = record { none = λ ds is. none.none ds is.is }
 
 -- one is, and the bytes tell its image
-pub told_so : (kind : Form) (s : Settings) (value : LogValue) (cut number : ℕ) (at : CutValue) (said : List ℕ) (sets : List ℕ) (ds : List Departure) (bytes : List ℕ)
+pub told_so : (kind : ImageForm) (s : Settings) (value : LogValue) (cut number : ℕ) (at : CutValue) (said : List ℕ) (sets : List ℕ) (ds : List Departure) (bytes : List ℕ)
     → at ≡ cut_of s value number → number ≡ cut → (place : ℕ) × (slice_get (cuts_of s.cuts value.entries) place ≡ Some cut) → IsLostSo at s.tears said sets ds
     → bytes ≡ any_text_in kind s value at.cut ds → IsToldSo kind s value cut said bytes
 told_so kind s value cut number at said sets ds bytes is same wanted lost told =

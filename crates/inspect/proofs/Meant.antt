@@ -15,7 +15,7 @@ use Rattle.request.specs.declared.command.Which.TheVariants as which
 use Rattle.request.specs.Settings.{option_refusal}
 use Rattle.request.specs.Source.{Recording, plan_of, HasImages}
 use Rattle.inspect.specs.Which.{IsPrinted, IsMeant, IsOnly, NoneIs, which_place}
-use Rattle.inspect.specs.declared.looks.image_command.Form.{Form}
+use Rattle.inspect.specs.declared.looks.image_command.ImageForm.{ImageForm}
 use Rattle.inspect.specs.Image.{text_in, IsImageIn, RefusesImage, for_number, for_memory}
 
 -- the choice of a number is the one that is meant by it
@@ -49,7 +49,7 @@ choice_refused text s value plan w r has same why =
     ]
 
 -- what is answered where one is
-pub image_is : (form : Form) (text : Recording) (s : Settings) (value : LogValue) (plan : PlanValue) (w : Which) (c : ChoiceValue) (bytes : List ℕ) → HasImages text s value
+pub image_is : (form : ImageForm) (text : Recording) (s : Settings) (value : LogValue) (plan : PlanValue) (w : Which) (c : ChoiceValue) (bytes : List ℕ) → HasImages text s value
     → plan ≡ plan_of s value → IsOnly (IsMeant plan s.bound s.tears w) c → bytes ≡ text_in form s plan c → IsImageIn form text s w bytes
 image_is form text s value plan w c bytes has same meant shown = record {
   value = value;

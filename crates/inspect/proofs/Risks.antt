@@ -4,6 +4,7 @@ use Rattle.std.specs.List.{range_with_len}
 use Rattle.std.proofs.lemmas.List.Elements.{All-map, All-same}
 use Rattle.std.proofs.lemmas.List.Sums.{length-filter, count_by-le-length, sum_by-cons, sum_by-take-le}
 use Rattle.std.proofs.lemmas.List.FromFn.{length-map-range_with_len, length-range_with_len}
+use Rattle.base.specs.Sizes.{most_units}
 use Rattle.logfmt.specs.declared.entry.Entry.{Entry}
 use Rattle.logfmt.specs.Bounds.{LogValue, IsLog, units_of}
 use Rattle.epochs.specs.declared.part.Part.{Part}
@@ -39,7 +40,7 @@ kept : {X : Type 0} (p : X → Bool) (xs : List X) → length (filter p xs) ≤ 
 kept p xs = let long = length-filter p xs in let fewer = count_by-le-length p xs in omega (arith, long, fewer)
 
 -- no cut has more parts at risk than a log has units
-pub few_at_risk : (at : CutValue) → IsLog at.log → length (parts_of at) ≤ 262144
+pub few_at_risk : (at : CutValue) → IsLog at.log → length (parts_of at) ≤ most_units
 unfolding parts_at_risk
 few_at_risk at log =
     let some = kept (λ (p : Part). is_at_risk at.log.entries at.cut p.entry) (parts_before at.way at.log.entries at.cut) in

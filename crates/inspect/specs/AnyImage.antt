@@ -12,8 +12,8 @@ use Rattle.request.specs.declared.settings.Settings.{Settings}
 use Rattle.request.specs.declared.settings.OptionPlace.TheVariants as place
 use Rattle.request.specs.Settings.{option_refusal}
 use Rattle.request.specs.Source.{Recording, plan_of, IsLogOf, RefusesLog}
-use Rattle.inspect.specs.declared.looks.image_command.Form.{Form}
-use Rattle.inspect.specs.declared.looks.image_command.Form.TheVariants as form
+use Rattle.inspect.specs.declared.looks.image_command.ImageForm.{ImageForm}
+use Rattle.inspect.specs.declared.looks.image_command.ImageForm.TheVariants as form
 use Rattle.inspect.specs.Image.{sector_bytes}
 use Rattle.inspect.specs.Said.{IsSaid}
 
@@ -32,19 +32,19 @@ pub record NoneIsMeant (s : Settings) (value : LogValue) (cut : ℕ) (said : Lis
 
 -- the crash image of what is lost and torn at a cut: its sectors one after the other; or in words, beside the image of the cut where
 -- nothing is
-abbrev pub any_text_in : Form → Settings → LogValue → ℕ → List Departure → List ℕ
+abbrev pub any_text_in : ImageForm → Settings → LogValue → ℕ → List Departure → List ℕ
 any_text_in form.Bytes s value cut ds = sector_bytes (crash_image value cut ds)
 any_text_in form.Words s value cut ds = any_shown_text (plan_of s value) s.tears cut ds (crash_image value cut []) (crash_image value cut ds)
 
 -- of what a choice loses and tears that is meant, and no other is, the bytes tell the image
-pub record IsToldSo (form : Form) (s : Settings) (value : LogValue) (cut : ℕ) (said : List ℕ) (bytes : List ℕ) : Type 0 where
+pub record IsToldSo (form : ImageForm) (s : Settings) (value : LogValue) (cut : ℕ) (said : List ℕ) (bytes : List ℕ) : Type 0 where
   pub departures : List Departure
   pub meant : IsMeantLoss s value cut said departures
   pub only : (others : List Departure) → IsMeantLoss s value cut said others → others ≡ departures
   pub told : bytes ≡ any_text_in form s value cut departures
 
 -- the bytes tell the image that is meant
-pub record IsAnyImage (form : Form) (text : Recording) (s : Settings) (cut : ℕ) (said : List ℕ) (bytes : List ℕ) : Type 0 where
+pub record IsAnyImage (form : ImageForm) (text : Recording) (s : Settings) (cut : ℕ) (said : List ℕ) (bytes : List ℕ) : Type 0 where
   pub value : LogValue
   pub reads : IsLogOf text s value
   pub shown : IsToldSo form s value cut said bytes

@@ -11,8 +11,8 @@ use Rattle.crash_text.specs.Shown.{shown_text}
 use Rattle.request.specs.declared.command.Which.{Which}
 use Rattle.request.specs.declared.settings.Settings.{Settings}
 use Rattle.request.specs.Settings.{option_refusal}
-use Rattle.inspect.specs.declared.looks.image_command.Form.{Form}
-use Rattle.inspect.specs.declared.looks.image_command.Form.TheVariants as form
+use Rattle.inspect.specs.declared.looks.image_command.ImageForm.{ImageForm}
+use Rattle.inspect.specs.declared.looks.image_command.ImageForm.TheVariants as form
 use Rattle.inspect.specs.Which.{IsMeant, IsOnly, NoneIs, which_place}
 use Rattle.request.specs.Source.{Recording, plan_of, HasImages, RefusesSource}
 
@@ -25,12 +25,12 @@ abbrev pub whole_view : LogValue → ℕ → ViewValue
 whole_view log cut = record { log = log; cut = cut; departures = [] }
 
 -- the image of a choice: its sectors one after the other; or in words, beside the image of its cut where nothing departs
-abbrev pub text_in : Form → Settings → PlanValue → ChoiceValue → List ℕ
+abbrev pub text_in : ImageForm → Settings → PlanValue → ChoiceValue → List ℕ
 text_in form.Bytes s plan choice = sector_bytes (sectors_of (view_of plan choice))
 text_in form.Words s plan choice = shown_text plan s.bound s.tears choice (sectors_of (whole_view plan.log choice.cut)) (sectors_of (view_of plan choice))
 
 -- the bytes tell the image that is meant
-pub record IsImageIn (form : Form) (text : Recording) (s : Settings) (which : Which) (bytes : List ℕ) : Type 0 where
+pub record IsImageIn (form : ImageForm) (text : Recording) (s : Settings) (which : Which) (bytes : List ℕ) : Type 0 where
   pub value : LogValue
   pub source : HasImages text s value
   pub choice : ChoiceValue

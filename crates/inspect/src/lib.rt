@@ -114,7 +114,7 @@
 //!
 //! - `verify --list` prints the lines of `list --slots`: an instruction with its slot has one form on standard
 //!   output, which can be looked for in the listing.
-//! - A file that isn't 1 to 16,384 whole sectors, with `--large` to 1,048,576, is refused 14 at 1, as one that can't
+//! - A file that isn't 1 to 16,384 whole sectors, with `--large` to 33,554,432, is refused 14 at 1, as one that can't
 //!   be read, before the program is decoded: as with a source that is too long. The files are tested before what they
 //!   say, and the verifier has to know the size.
 //! - Without `--checked` the verifier is asked, and its budget is the limit; with it the program is only decoded: a

@@ -30,7 +30,7 @@ pub use asm_command::assemble;
 pub use cut_layout::CutRange;
 pub use cuts_command::survey_cuts;
 pub use export_command::{Stopped, export_images, write_images};
-pub use image_command::{Form, image};
+pub use image_command::{ImageForm, image};
 pub use images_command::survey;
 pub use import_command::import;
 pub use laws::{choices_are_short, cut_parts_are_run, parts_are_even, report_prints_choices};

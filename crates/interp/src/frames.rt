@@ -10,14 +10,14 @@ ghost use Rattle.interp.specs.Cells.{filled_stack, stack_with};
 ghost use Rattle.interp.specs.Frames.{called_frame, caller_value, AreLong};
 
 use crate::called_stack::CalledStack;
-use crate::caller::Caller;
+use crate::caller::CheckedCaller;
 use std::marker::Model;
 
 /// The most frames above the first.
 const MOST_CALLED: usize = 3;
 
 /// What stands in a place for a frame that was not entered yet.
-const NO_CALLER: Caller = Caller {
+const NO_CALLER: CheckedCaller = CheckedCaller {
     slot: 0,
     r6: None,
     r7: None,
@@ -31,7 +31,7 @@ const NO_CALLER: Caller = Caller {
 #[derive(Drop)]
 pub(crate) struct Frames {
     stacks: [CalledStack; 3],
-    callers: [Caller; 3],
+    callers: [CheckedCaller; 3],
     count: usize,
 }
 
@@ -69,7 +69,7 @@ impl Frames {
     }
 
     /// Opens a frame with an unset stack, and answers its number, 1 to 3, if there is a place for it.
-    pub(crate) fn enter(&mut self, caller: Caller) -> Option<usize>
+    pub(crate) fn enter(&mut self, caller: CheckedCaller) -> Option<usize>
         ensures number { result ≡ (if nat_lt (length self.old) 3 then Some (length self.old + 1) else None) }
         ensures entered { self.new ≡ (if nat_lt (length self.old) 3 then self.old ++ called_frame unset_stack caller ∷ [] else self.old) }
     {
@@ -83,7 +83,7 @@ impl Frames {
     }
 
     /// Closes the last frame, if one is open, and answers what its call saved.
-    pub(crate) fn leave(&mut self) -> Option<Caller>
+    pub(crate) fn leave(&mut self) -> Option<CheckedCaller>
         ensures caller { option_map caller_value result ≡ caller_of self.old }
         ensures left { self.new ≡ take (length self.old - 1) self.old }
         ensures none { IfNone result (self.new ≡ self.old) }

@@ -14,8 +14,8 @@ ghost use Rattle.interp.specs.Reading.{reading, fault_of, write_fault};
 
 use crate::frames::Frames;
 use crate::stack::{Stack, read_plain};
-use crate::state::{CONTEXT_START, Machine, STACK_START};
-use crate::step::World;
+use crate::state::{CONTEXT_START, CheckedMachine, STACK_START};
+use crate::step::CheckedWorld;
 use base::causes::MachineFault;
 use bpf_isa::instr::Size;
 use helpers::Device;
@@ -28,7 +28,7 @@ const BLOCK: u64 = 512;
 const CONTEXT: u64 = 32;
 
 /// The sector at an address, where there is one.
-fn sector_at<'w, D: Device>(world: &World<'w, D>, address: u64) -> Option<&'w [u8; 512]>
+fn sector_at<'w, D: Device>(world: &CheckedWorld<'w, D>, address: u64) -> Option<&'w [u8; 512]>
     requires { sector_start ≤ address }
     ensures sector { option_map (λ s. s.now) result ≡ slice_get (D.content world.now.device.now) ((address - sector_start) / 1024) }
     ensures number { IfSome result (λ _. (address - sector_start) / 1024 < 2 ^ 32) }
@@ -63,8 +63,8 @@ fn spot_within(spot: Spot, count: u64) -> Result<Spot, MachineFault>
 
 /// Reads an access that begins at the sectors or after them.
 fn read_sector<D: Device, const COUNTS: usize, const FRAMES: usize>(
-    machine: &Machine<COUNTS, FRAMES>,
-    world: &World<D>,
+    machine: &CheckedMachine<COUNTS, FRAMES>,
+    world: &CheckedWorld<D>,
     address: u64,
     size: Size,
 ) -> Result<u64, MachineFault>
@@ -91,8 +91,8 @@ fn plain_fault(within: bool) -> MachineFault
 
 /// The fault of bytes that are written from the sectors or after them on.
 fn sector_fault<D: Device, const COUNTS: usize, const FRAMES: usize>(
-    machine: &Machine<COUNTS, FRAMES>,
-    world: &World<D>,
+    machine: &CheckedMachine<COUNTS, FRAMES>,
+    world: &CheckedWorld<D>,
     address: u64,
     count: u64,
 ) -> MachineFault
@@ -110,8 +110,8 @@ fn sector_fault<D: Device, const COUNTS: usize, const FRAMES: usize>(
 
 /// The fault of bytes that are written to the context, or from the sectors or after them on.
 fn block_fault<D: Device, const COUNTS: usize, const FRAMES: usize>(
-    machine: &Machine<COUNTS, FRAMES>,
-    world: &World<D>,
+    machine: &CheckedMachine<COUNTS, FRAMES>,
+    world: &CheckedWorld<D>,
     address: u64,
     count: u64,
 ) -> Option<MachineFault>
@@ -168,12 +168,12 @@ fn write_above(called: &mut [Frames], number: usize, place: usize, bytes: &[u8])
     called[0].write(number, place, bytes);
 }
 
-impl<const COUNTS: usize, const FRAMES: usize> Machine<COUNTS, FRAMES> {
+impl<const COUNTS: usize, const FRAMES: usize> CheckedMachine<COUNTS, FRAMES> {
     /// Reads an access.
     #[inline(always)]
     pub(crate) fn read<D: Device>(
         &self,
-        world: &World<D>,
+        world: &CheckedWorld<D>,
         address: u64,
         size: Size,
     ) -> Result<u64, MachineFault>
@@ -195,7 +195,7 @@ impl<const COUNTS: usize, const FRAMES: usize> Machine<COUNTS, FRAMES> {
     #[inline(never)]
     fn read_outside<D: Device>(
         &self,
-        world: &World<D>,
+        world: &CheckedWorld<D>,
         address: u64,
         size: Size,
     ) -> Result<u64, MachineFault>
@@ -232,7 +232,7 @@ impl<const COUNTS: usize, const FRAMES: usize> Machine<COUNTS, FRAMES> {
     #[inline(always)]
     pub(crate) fn writable<D: Device>(
         &self,
-        world: &World<D>,
+        world: &CheckedWorld<D>,
         address: u64,
         count: u64,
     ) -> Result<Spot, MachineFault>
@@ -262,7 +262,7 @@ impl<const COUNTS: usize, const FRAMES: usize> Machine<COUNTS, FRAMES> {
     #[inline(never)]
     fn writable_outside<D: Device>(
         &self,
-        world: &World<D>,
+        world: &CheckedWorld<D>,
         address: u64,
         count: u64,
     ) -> Result<Spot, MachineFault>
@@ -280,7 +280,12 @@ impl<const COUNTS: usize, const FRAMES: usize> Machine<COUNTS, FRAMES> {
 
     /// The fault of bytes that are written and don't begin in the first stack, where it is the only one.
     #[inline(never)]
-    fn fault_outside<D: Device>(&self, world: &World<D>, address: u64, count: u64) -> MachineFault
+    fn fault_outside<D: Device>(
+        &self,
+        world: &CheckedWorld<D>,
+        address: u64,
+        count: u64,
+    ) -> MachineFault
         requires some { 0 < count }
         requires few { count ≤ 512 }
         requires first { (address < stack_start) ⊎ (stack_start + 512 ≤ address) }

@@ -7,7 +7,7 @@ ghost use Rattle.machine.specs.Memory.{byte_count};
 ghost use Rattle.machine.specs.Step.{address};
 ghost use Rattle.interp.specs.Looks.{reads_by};
 
-use crate::state::Machine;
+use crate::state::CheckedMachine;
 use bpf_isa::instr::Size;
 use bpf_isa::ready::Code::*;
 use bpf_isa::ready::Ready;
@@ -27,7 +27,7 @@ fn bytes_of(size: Size) -> u8
     }
 }
 
-impl<const COUNTS: usize, const FRAMES: usize> Machine<COUNTS, FRAMES> {
+impl<const COUNTS: usize, const FRAMES: usize> CheckedMachine<COUNTS, FRAMES> {
     /// Notes at which sectors a helper looks.
     #[tactic(auto, unfolding(machine::specs::Footprint::call_reads))]
     fn note_call<D: Device, const ROOM: usize>(

@@ -2,12 +2,12 @@
 use Rattle.std.proofs.Common.{ℕ, ◌≡◌, ◌≢◌, ◌+◌, ◌<◌, ◌≤◌, ◌^◌, nat_lt, ◌↔◌, IsTrue, true, false, List, map, ◌∷◌, ◌++◌, length, length-append, append_assoc, codes, refl, sym, subst, ◌∙◌, ap, arith}
 use Rattle.std.specs.Fmt.{decimal}
 use Rattle.std.proofs.lemmas.Bool.Decides.{nat_tests}
-use Rattle.report.specs.declared.lines.marks.Mark.{Mark}
+use Rattle.report.specs.declared.lines.marks.LineMark.{LineMark}
 use Rattle.report.specs.Line.{FailingLine}
 use Rattle.report.specs.MarkReading.{lacks, ReadsField}
 use Rattle.report.specs.LineText.{line_text}
 use Rattle.report.proofs.Back.{lacks_both, end_lacks, words_of as line_words}
-use Rattle.join.specs.declared.line.Words.{Words}
+use Rattle.join.specs.declared.line.LineWords.{LineWords}
 use Rattle.epochs.specs.declared.part.By.{By}
 use Rattle.choices.specs.Named.{name_of}
 use Rattle.report.specs.ChoiceText.{AreNames}
@@ -17,7 +17,7 @@ use Rattle.join.specs.Reading.{words_text, words_of, body_text, ReadsWords, Fit,
 use Rattle.join.proofs.Texts.{one_cut, cancel, has_it}
 use Rattle.join.proofs.Spans.{line_lacks, blank_lacks, SaysNumber}
 
-pub by_words : (w : Words) (more : List ℕ)
+pub by_words : (w : LineWords) (more : List ℕ)
     → words_text w ++ more
     ≡ codes "image" ++ 32 ∷ (decimal w.image ++ 32 ∷ (codes "cut" ++ 32 ∷ (decimal w.cut ++ 32 ∷ (codes "program" ++ 32 ∷ (decimal w.program ++ 32 ∷ more)))))
 unfolding words_text
@@ -28,7 +28,7 @@ pub words_read : (line image after_image at after_cut program rest : List ℕ) (
     → SaysNumber image i → SaysNumber at k → SaysNumber program p → ReadsWords line (record { image = i; cut = k; program = p })
 words_read line image after_image at after_cut program rest i k p f1 f2 f3 n1 n2 n3 = record { read = reads }
   where
-    reads : (w : Words) (more : List ℕ) → w.image < 2 ^ 64 → w.cut < 2 ^ 64 → w.program < 2 ^ 64 → line ≡ words_text w ++ more → record { image = i; cut = k; program = p } ≡ w
+    reads : (w : LineWords) (more : List ℕ) → w.image < 2 ^ 64 → w.cut < 2 ^ 64 → w.program < 2 ^ 64 → line ≡ words_text w ++ more → record { image = i; cut = k; program = p } ≡ w
     reads w more s1 s2 s3 e =
         let p1 = f1.read (codes "image") (decimal w.image) _ refl (blank_lacks w.image s1) (e ∙ by_words w more) in
         let p2 = f2.read (codes "cut") (decimal w.cut) _ refl (blank_lacks w.cut s2) p1.1 in
@@ -39,14 +39,14 @@ words_read line image after_image at after_cut program rest i k p f1 f2 f3 n1 n2
         rw (e1, e2, e3) refl
 
 -- the numbers of a line are those of its words
-of_line : (line : List ℕ) (words : Words) → ReadsWords line words → (l : FailingLine) → IsPrintable l → line ≡ body_text l → words ≡ words_of l
+of_line : (line : List ℕ) (words : LineWords) → ReadsWords line words → (l : FailingLine) → IsPrintable l → line ≡ body_text l → words ≡ words_of l
 of_line line words reads l small e =
     let image = small.image in
     let at = small.cut in
     let program = small.program in
     reads.read (words_of l) (end_text l.ending l.by l.departures) (omega (arith, image)) (omega (arith, at)) (omega (arith, program)) e
 
-pub too_large : (h : HeadValue) (line : List ℕ) (words : Words) → ReadsWords line words → (Fit words → ⊥) → NoBody h line
+pub too_large : (h : HeadValue) (line : List ℕ) (words : LineWords) → ReadsWords line words → (Fit words → ⊥) → NoBody h line
 too_large h line words reads large = record {
   none = λ l small own e.
       let same = of_line line words reads l small e in
@@ -54,7 +54,7 @@ too_large h line words reads large = record {
 }
 
 -- where the cut is within its range, the program's test tells whether the words fit
-pub fit_by_program : (words : Words) → words.cut < 2 ^ 32 → IsTrue (nat_lt words.program 256) ↔ Fit words
+pub fit_by_program : (words : LineWords) → words.cut < 2 ^ 32 → IsTrue (nat_lt words.program 256) ↔ Fit words
 fit_by_program words small = (
   λ test. let yes : nat_lt words.program 256 ≡ true = test in record { cut = small; program = grind (arith, nat_tests, yes) },
   λ f.
@@ -63,7 +63,7 @@ fit_by_program words small = (
       yes,
 )
 
-pub unfit : (words : Words) → 2 ^ 32 ≤ words.cut → IsTrue (nat_lt words.cut (2 ^ 32)) ↔ Fit words
+pub unfit : (words : LineWords) → 2 ^ 32 ≤ words.cut → IsTrue (nat_lt words.cut (2 ^ 32)) ↔ Fit words
 unfit words large = (
   λ test.
       let yes : nat_lt words.cut (2 ^ 32) ≡ true = test in
@@ -72,7 +72,7 @@ unfit words large = (
   λ f. let small = f.cut in absurd (omega (arith, large, small)),
 )
 
-pub not_there : (h : HeadValue) (line : List ℕ) (words : Words) → ReadsWords line words → has_program_and_cut h words.cut words.program ≡ false → NoBody h line
+pub not_there : (h : HeadValue) (line : List ℕ) (words : LineWords) → ReadsWords line words → has_program_and_cut h words.cut words.program ≡ false → NoBody h line
 not_there h line words reads lack = record {
   none = λ l small own e.
       let same = of_line line words reads l small e in
@@ -80,18 +80,18 @@ not_there h line words reads lack = record {
       absurd (let bad : true ≡ false = sym there ∙ lack in cc);
 }
 
-pub other_words : (h : HeadValue) (line printed : List ℕ) (words : Words) → ReadsWords line words → printed ≡ words_text words → ((rest : List ℕ) → line ≢ printed ++ rest) → NoBody h line
+pub other_words : (h : HeadValue) (line printed : List ℕ) (words : LineWords) → ReadsWords line words → printed ≡ words_text words → ((rest : List ℕ) → line ≢ printed ++ rest) → NoBody h line
 other_words h line printed words reads is none = record {
   none = λ l small own e.
       let same = of_line line words reads l small e in
-      none (end_text l.ending l.by l.departures) (e ∙ ap (λ (bs : List ℕ). bs ++ end_text l.ending l.by l.departures) (ap (λ (w : Words). words_text w) (sym same) ∙ sym is));
+      none (end_text l.ending l.by l.departures) (e ∙ ap (λ (bs : List ℕ). bs ++ end_text l.ending l.by l.departures) (ap (λ (w : LineWords). words_text w) (sym same) ∙ sym is));
 }
 
-pub other_end : (h : HeadValue) (line printed end : List ℕ) (words : Words) → ReadsWords line words → printed ≡ words_text words → line ≡ printed ++ end → (IsEnd h words.cut end → ⊥) → NoBody h line
+pub other_end : (h : HeadValue) (line printed end : List ℕ) (words : LineWords) → ReadsWords line words → printed ≡ words_text words → line ≡ printed ++ end → (IsEnd h words.cut end → ⊥) → NoBody h line
 other_end h line printed end words reads is parts none = record {
   none = λ l small own e.
       let same = of_line line words reads l small e in
-      let front : words_text (words_of l) ≡ printed = ap (λ (w : Words). words_text w) (sym same) ∙ sym is in
+      let front : words_text (words_of l) ≡ printed = ap (λ (w : LineWords). words_text w) (sym same) ∙ sym is in
       let whole : printed ++ end ≡ printed ++ end_text l.ending l.by l.departures = sym parts ∙ e ∙ ap (λ (bs : List ℕ). bs ++ end_text l.ending l.by l.departures) front in
       let way = own.way in
       none (record {
@@ -100,12 +100,12 @@ other_end h line printed end words reads is parts none = record {
         within = small.ending;
         failing = own.failing;
         names = subst (λ (w : By). AreNames w (map name_of l.departures)) way small.names;
-        of_run = subst (λ (w : Words). are_names_of_run h w.cut (map name_of l.departures) ≡ true) (sym same) own.names;
+        of_run = subst (λ (w : LineWords). are_names_of_run h w.cut (map name_of l.departures) ≡ true) (sym same) own.names;
         is = cancel printed _ _ whole ∙ ap (λ (w : By). end_text l.ending w l.departures) way;
       });
 }
 
-pub is_body : (h : HeadValue) (line printed end : List ℕ) (words : Words) → words.image < 2 ^ 64 → Fit words → has_program_and_cut h words.cut words.program ≡ true → printed ≡ words_text words → line ≡ printed ++ end
+pub is_body : (h : HeadValue) (line printed end : List ℕ) (words : LineWords) → words.image < 2 ^ 64 → Fit words → has_program_and_cut h words.cut words.program ≡ true → printed ≡ words_text words → line ≡ printed ++ end
     → IsEnd h words.cut end → IsBody h line (record { image = words.image; program = words.program })
 is_body h line printed end words small fit there is parts e = record {
   line = record { image = words.image; cut = words.cut; program = words.program; ending = e.ending; by = h.by; departures = e.departures };
@@ -147,7 +147,7 @@ no_body_no_line h text line more cut lack = record {
       lack.none l small own (one_cut 10 line (body_text l) more rest cut.first (body_lacks l small) same).0;
 }
 
-pub body_is_line : (h : HeadValue) (text line more : List ℕ) (mark : Mark) → IsCut 10 text line more → IsBody h line mark → IsLine h text mark more
+pub body_is_line : (h : HeadValue) (text line more : List ℕ) (mark : LineMark) → IsCut 10 text line more → IsBody h line mark → IsLine h text mark more
 body_is_line h text line more mark cut body = record {
   line = body.line;
   printable = body.printable;

@@ -3,6 +3,7 @@ use Rattle.std.proofs.Common.{ℕ, ◌≡◌, ◌≢◌, ◌<◌, ◌≤◌, ◌
 use Rattle.std.specs.Fmt.{decimal}
 use Rattle.std.specs.List.{All}
 use Rattle.std.proofs.lemmas.Bool.Decides.{nat_tests}
+use Rattle.base.specs.Sizes.{most_sectors}
 use Rattle.epochs.specs.declared.part.By.{By}
 use Rattle.epochs.specs.declared.part.By.TheVariants as by
 use Rattle.epochs.specs.Flushes.{places_of}
@@ -244,7 +245,7 @@ unbounded_printed v printed =
       numbers = record { sectors = n.sectors; entries = n.entries; bound = omega arith; from = n.from; to = n.to; flushes = n.flushes; base = n.base; programs = n.programs };
       some = printed.some;
       few = printed.few;
-      options = unbound_options (nat_le 1 v.sectors) (nat_le v.sectors 1048576) (nat_le v.entries 65536) (nat_le v.bound 3) (are_cuts_of_run v.entries v.cuts) printed.options;
+      options = unbound_options (nat_le 1 v.sectors) (nat_le v.sectors most_sectors) (nat_le v.entries 65536) (nat_le v.bound 3) (are_cuts_of_run v.entries v.cuts) printed.options;
       programs = printed.programs;
     }
 

@@ -2,6 +2,7 @@
 use Rattle.std.proofs.Common.{ℕ, ◌≡◌, ◌+◌, ◌<◌, ◌≤◌, ◌^◌, ◌==◌, ◌&&◌, nat_le, Bool, true, false, if◌then◌else◌, List, [], ◌∷◌, ◌++◌, length, append_assoc, append-nil, codes, Option, None, Some, unwrap_or, refl, sym, subst, ap, ◌∙◌, arith}
 use Rattle.std.specs.Fmt.{decimal}
 use Rattle.std.proofs.lemmas.Bool.Decides.{nat_tests}
+use Rattle.base.specs.Sizes.{most_sectors}
 use Rattle.epochs.specs.Cuts.{is_before_last}
 use Rattle.epochs.specs.Flushes.{places_of}
 use Rattle.report.specs.MarkReading.{lacks, IsCutAt}
@@ -137,9 +138,9 @@ pub record IsWithinLog (h : HeadValue) : Type 0 where
 
 pub within_log : (h : HeadValue) → IsPrintedHead h → IsWithinLog h
 within_log h printed =
-    let all = and_both (nat_le 1 h.sectors && nat_le h.sectors 1048576 && nat_le h.entries 65536 && nat_le h.bound 3) (are_cuts_of_run h.entries h.cuts) printed.options in
-    let sizes = and_both (nat_le 1 h.sectors && nat_le h.sectors 1048576 && nat_le h.entries 65536) (nat_le h.bound 3) all.0 in
-    let entries = (and_both (nat_le 1 h.sectors && nat_le h.sectors 1048576) (nat_le h.entries 65536) sizes.0).1 in
+    let all = and_both (nat_le 1 h.sectors && nat_le h.sectors most_sectors && nat_le h.entries 65536 && nat_le h.bound 3) (are_cuts_of_run h.entries h.cuts) printed.options in
+    let sizes = and_both (nat_le 1 h.sectors && nat_le h.sectors most_sectors && nat_le h.entries 65536) (nat_le h.bound 3) all.0 in
+    let entries = (and_both (nat_le 1 h.sectors && nat_le h.sectors most_sectors) (nat_le h.entries 65536) sizes.0).1 in
     let cuts = and_both (are_entries_of_run h.entries (places_of h.cuts.flushes) && nat_le (unwrap_or h.cuts.from 0) h.entries && nat_le (unwrap_or h.cuts.to 0) h.entries) (is_before_last h.cuts.to (unwrap_or h.cuts.from 0)) all.1 in
     let ends = and_both (are_entries_of_run h.entries (places_of h.cuts.flushes) && nat_le (unwrap_or h.cuts.from 0) h.entries) (nat_le (unwrap_or h.cuts.to 0) h.entries) cuts.0 in
     let begins = and_both (are_entries_of_run h.entries (places_of h.cuts.flushes)) (nat_le (unwrap_or h.cuts.from 0) h.entries) ends.0 in

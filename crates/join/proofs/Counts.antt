@@ -3,7 +3,7 @@ use Rattle.std.proofs.Common.{ℕ, zero, suc, ◌≡◌, ◌+◌, ◌<◌, ◌�
 use Rattle.std.proofs.lemmas.Bool.{eq-eqb}
 use Rattle.std.proofs.lemmas.Bool.Decides.{nat_tests, eqb_tells}
 use Rattle.std.specs.List.Sorted.{IsNonDecreasing}
-use Rattle.report.specs.declared.lines.marks.Mark.{Mark}
+use Rattle.report.specs.declared.lines.marks.LineMark.{LineMark}
 use Rattle.report.specs.Line.{FailingLine, first_lines}
 use Rattle.report.specs.Marks.{mark_of, marks_of}
 use Rattle.report.specs.Images.{images_of, failing_images, first_image, changes_after, is_same}
@@ -13,7 +13,7 @@ use Rattle.join.specs.declared.tally.Tally.{Tally}
 use Rattle.join.specs.Order.{is_after, follows, in_order}
 use Rattle.join.specs.Reading.{is_new, first_of, none_read, one_more, tallied}
 
-pub tallied_push : (s : Span) (t : Tally) (ms : List Mark) (m : Mark) → tallied s t (ms ++ m ∷ []) ≡ one_more s (tallied s t ms) m
+pub tallied_push : (s : Span) (t : Tally) (ms : List LineMark) (m : LineMark) → tallied s t (ms ++ m ∷ []) ≡ one_more s (tallied s t ms) m
 unfolding tallied
 tallied_push s t [] m = refl
 tallied_push s t (l ∷ ms) m = tallied_push s (one_more s t l) ms m
@@ -23,17 +23,17 @@ unfolding tallied
 tallied_none s t = refl
 
 -- how many lines
-lines_from : (s : Span) (t : Tally) (ms : List Mark) → (tallied s t ms).lines ≡ t.lines + length ms
+lines_from : (s : Span) (t : Tally) (ms : List LineMark) → (tallied s t ms).lines ≡ t.lines + length ms
 unfolding tallied
 lines_from s t [] = omega arith
 lines_from s t (m ∷ ms) = let rest = lines_from s (one_more s t m) ms in omega (arith, rest)
 
 -- the last image, of the last line
-abbrev last_image : Option Mark → Option ℕ
+abbrev last_image : Option LineMark → Option ℕ
 last_image None = None
 last_image (Some m) = Some m.image
 
-new_image : (last : Option Mark) (image : ℕ) → ◌≡◌ {A = ℕ} (if is_new last image then 1 else 0) (if is_same (last_image last) (Some image) then 0 else 1)
+new_image : (last : Option LineMark) (image : ℕ) → ◌≡◌ {A = ℕ} (if is_new last image then 1 else 0) (if is_same (last_image last) (Some image) then 0 else 1)
 new_image None image = refl
 new_image (Some m) image = elim (m.image == image) as (λ v. ◌≡◌ {A = ℕ} (if not v then 1 else 0) (if v then 0 else 1)) [ true ↦ refl | false ↦ refl ]
 
@@ -51,7 +51,7 @@ and_assoc true b c = refl
 and_assoc false b c = refl
 
 -- whether they are in their order
-ordered_from : (s : Span) (t : Tally) (ms : List Mark) → (tallied s t ms).ordered ≡ (t.ordered && in_order s.from s.to t.last ms)
+ordered_from : (s : Span) (t : Tally) (ms : List LineMark) → (tallied s t ms).ordered ≡ (t.ordered && in_order s.from s.to t.last ms)
 unfolding tallied
 ordered_from s t [] = elim t.ordered as (λ v. v ≡ (v && true)) [ true ↦ refl | false ↦ refl ]
 ordered_from s t (m ∷ ms) =
@@ -77,13 +77,13 @@ both : (a b : Bool) → (a && b) ≡ true → (a ≡ true) × (b ≡ true)
 both true b e = (refl, e)
 both false b e = absurd (let lack : false ≡ true = e in cc)
 
-pub record IsNext (from to : ℕ) (last : Option Mark) (m : Mark) (ms : List Mark) : Type 0 where
+pub record IsNext (from to : ℕ) (last : Option LineMark) (m : LineMark) (ms : List LineMark) : Type 0 where
   pub low : from ≤ m.image
   pub high : m.image < to
   pub beyond : follows last m ≡ true
   pub rest : in_order from to (Some m) ms ≡ true
 
-pub next_is : (from to : ℕ) (last : Option Mark) (m : Mark) (ms : List Mark) → in_order from to last (m ∷ ms) ≡ true → IsNext from to last m ms
+pub next_is : (from to : ℕ) (last : Option LineMark) (m : LineMark) (ms : List LineMark) → in_order from to last (m ∷ ms) ≡ true → IsNext from to last m ms
 next_is from to last m ms e =
     let one = both (nat_le from m.image && nat_lt m.image to && follows last m) (in_order from to (Some m) ms) e in
     let two = both (nat_le from m.image && nat_lt m.image to) (follows last m) one.0 in
@@ -92,7 +92,7 @@ next_is from to last m ms e =
     let below = three.1 in
     record { low = grind (arith, nat_tests, at); high = grind (arith, nat_tests, below); beyond = two.1; rest = one.1 }
 
-not_before : (last m : Mark) → is_after last m ≡ true → last.image ≤ m.image
+not_before : (last m : LineMark) → is_after last m ≡ true → last.image ≤ m.image
 not_before last m e = by_test (nat_lt last.image m.image) (last.image == m.image) refl refl e
   where
     by_test : (a b : Bool) → nat_lt last.image m.image ≡ a → (last.image == m.image) ≡ b → (a || (b && nat_lt last.program m.program)) ≡ true → last.image ≤ m.image
@@ -100,7 +100,7 @@ not_before last m e = by_test (nat_lt last.image m.image) (last.image == m.image
     by_test false true less same all = grind (arith, nat_tests, same)
     by_test false false less same all = absurd (let lack : false ≡ true = all in cc)
 
-pub rising : (from to : ℕ) (last : Option Mark) (ls : List FailingLine) → in_order from to last (marks_of ls) ≡ true → IsNonDecreasing (images_of ls)
+pub rising : (from to : ℕ) (last : Option LineMark) (ls : List FailingLine) → in_order from to last (marks_of ls) ≡ true → IsNonDecreasing (images_of ls)
 rising from to last [] e = λ i j d le small. absurd (omega (arith, small))
 rising from to last (l ∷ ls) e =
     let next = next_is from to last (mark_of l) (marks_of ls) e in
@@ -130,7 +130,7 @@ counted_lines s ls = let own = lines_from s none_read (marks_of ls) in let long 
     length_map [] = refl
     length_map (l ∷ ls) = ap suc (length_map ls)
 
-pub counted_order : (s : Span) (ms : List Mark) → (tallied s none_read ms).ordered ≡ in_order s.from s.to None ms
+pub counted_order : (s : Span) (ms : List LineMark) → (tallied s none_read ms).ordered ≡ in_order s.from s.to None ms
 counted_order s ms = ordered_from s none_read ms
 
 pub counted_images : (s : Span) (ls : List FailingLine) → in_order s.from s.to None (marks_of ls) ≡ true → (tallied s none_read (marks_of ls)).images ≡ failing_images ls

@@ -7,7 +7,7 @@ use Rattle.machine.specs.Outcome.{OutOfSteps}
 use Rattle.epochs.specs.declared.part.By.TheVariants as by
 use Rattle.choices.specs.Sums.{StartsValue}
 use Rattle.report.specs.declared.head.ProgramHead.{ProgramHead}
-use Rattle.report.specs.declared.lines.marks.Mark.{Mark}
+use Rattle.report.specs.declared.lines.marks.LineMark.{LineMark}
 use Rattle.report.specs.declared.span.Span.{Span}
 use Rattle.report.specs.Line.{FailingLine}
 use Rattle.report.specs.Marks.{marks_of}
@@ -31,7 +31,7 @@ line_for t = record { image = t.mark.image; cut = 0; program = t.mark.program; e
 marks_for : (ts : List ToldLine) → marks_of (map line_for ts) ≡ marks_told ts
 unfolding line_for
 marks_for [] = refl
-marks_for (t ∷ ts) = ap (λ (ms : List Mark). t.mark ∷ ms) (marks_for ts)
+marks_for (t ∷ ts) = ap (λ (ms : List LineMark). t.mark ∷ ms) (marks_for ts)
 
 images_for : (ts : List ToldLine) → images_of (map line_for ts) ≡ images_told ts
 unfolding line_for
@@ -56,9 +56,9 @@ totals_told images ts order =
     let ls = map line_for ts in
     let own : in_order 0 images None (marks_of ls) ≡ true = ap (in_order 0 images None) (marks_for ts) ∙ order in
     let failing : (tallied (whole_span images) none_read (marks_told ts)).images ≡ distinct_count (images_told ts) =
-    ap (λ (ms : List Mark). (tallied (whole_span images) none_read ms).images) (sym (marks_for ts)) ∙ counted_images (whole_span images) ls own ∙ ap distinct_count (images_for ts) in
+    ap (λ (ms : List LineMark). (tallied (whole_span images) none_read ms).images) (sym (marks_for ts)) ∙ counted_images (whole_span images) ls own ∙ ap distinct_count (images_for ts) in
     let many : (tallied (whole_span images) none_read (marks_told ts)).lines ≡ length ts =
-    ap (λ (ms : List Mark). (tallied (whole_span images) none_read ms).lines) (sym (marks_for ts)) ∙ counted_lines (whole_span images) ls ∙ long_for ts in
+    ap (λ (ms : List LineMark). (tallied (whole_span images) none_read ms).lines) (sym (marks_for ts)) ∙ counted_lines (whole_span images) ls ∙ long_for ts in
     rw (failing, many) refl
 
 -- the last line by its words

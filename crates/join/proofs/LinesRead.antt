@@ -4,7 +4,7 @@ use Rattle.std.specs.Fmt.{decimal}
 use Rattle.std.specs.List.{flat_map}
 use Rattle.std.proofs.lemmas.Fmt.{decimal_injective}
 use Rattle.std.proofs.lemmas.List.{map-append}
-use Rattle.report.specs.declared.lines.marks.Mark.{Mark}
+use Rattle.report.specs.declared.lines.marks.LineMark.{LineMark}
 use Rattle.report.specs.Line.{FailingLine}
 use Rattle.report.specs.Marks.{mark_of, marks_of}
 use Rattle.report.specs.LineText.{line_text}
@@ -44,7 +44,7 @@ one_or_none : (b : Bool) → (if b then 1 else 0) ≤ 1
 one_or_none true = omega arith
 one_or_none false = omega arith
 
-pub one_is_read : (v : HeadValue) (s : Span) (text rest more : List ℕ) (t : Tally) (m : Mark) → AreRead v s text t rest → IsLine v rest m more → length more < length rest → AreRead v s text (one_more s t m) more
+pub one_is_read : (v : HeadValue) (s : Span) (text rest more : List ℕ) (t : Tally) (m : LineMark) → AreRead v s text t rest → IsLine v rest m more → length more < length rest → AreRead v s text (one_more s t m) more
 one_is_read v s text rest more t m h line less = record {
   lines = h.lines ++ line.line ∷ [];
   printable = each_push IsPrintable h.lines line.line h.printable line.printable;

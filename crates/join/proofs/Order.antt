@@ -2,7 +2,7 @@
 use Rattle.std.proofs.Common.{ℕ, ◌≡◌, ◌+◌, ◌<◌, ◌≤◌, ◌==◌, nat_lt, nat_le, true, inl, inr, List, [], ◌∷◌, ◌++◌, filter, append-nil, Option, Some, None, refl, ◌∙◌, ap, arith}
 use Rattle.std.proofs.lemmas.Bool.Decides.{nat_tests, eqb_tells}
 use Rattle.std.proofs.lemmas.List.Elements.{filter-append}
-use Rattle.report.specs.declared.lines.marks.Mark.{Mark}
+use Rattle.report.specs.declared.lines.marks.LineMark.{LineMark}
 use Rattle.report.specs.Line.{FailingLine, first_lines}
 use Rattle.report.specs.Marks.{mark_of, marks_of}
 use Rattle.report.specs.Images.{failing_images, changes_after}
@@ -11,7 +11,7 @@ use Rattle.join.specs.Order.{follows, in_order}
 use Rattle.join.proofs.Counts.{next_is, rising, all_of_first}
 
 -- a mark before an image
-abbrev Before : ℕ → Option Mark → Type 0
+abbrev Before : ℕ → Option LineMark → Type 0
 Before image None = Unit {0}
 Before image (Some last) = last.image < image
 
@@ -20,7 +20,7 @@ abbrev pub AreFrom : ℕ → List FailingLine → Type 0
 AreFrom from [] = Unit {0}
 AreFrom from (l ∷ ls) = (from ≤ l.image) × AreFrom from ls
 
-pub are_from : (from to : ℕ) (last : Option Mark) (ls : List FailingLine) → in_order from to last (marks_of ls) ≡ true → AreFrom from ls
+pub are_from : (from to : ℕ) (last : Option LineMark) (ls : List FailingLine) → in_order from to last (marks_of ls) ≡ true → AreFrom from ls
 are_from from to last [] e = tt
 are_from from to last (l ∷ ls) e =
     let next = next_is from to last (mark_of l) (marks_of ls) e in
@@ -31,7 +31,7 @@ abbrev pub AreBelow : ℕ → List FailingLine → Type 0
 AreBelow to [] = Unit {0}
 AreBelow to (l ∷ ls) = (l.image < to) × AreBelow to ls
 
-pub are_below : (from to : ℕ) (last : Option Mark) (ls : List FailingLine) → in_order from to last (marks_of ls) ≡ true → AreBelow to ls
+pub are_below : (from to : ℕ) (last : Option LineMark) (ls : List FailingLine) → in_order from to last (marks_of ls) ≡ true → AreBelow to ls
 are_below from to last [] e = tt
 are_below from to last (l ∷ ls) e =
     let next = next_is from to last (mark_of l) (marks_of ls) e in
@@ -47,29 +47,29 @@ low_is a b le = grind (arith, nat_tests, le)
 high_is : (a b : ℕ) → a < b → nat_lt a b ≡ true
 high_is a b lt = grind (arith, nat_tests, lt)
 
-beyond_is : (image : ℕ) (last : Option Mark) (m : Mark) → Before image last → image ≤ m.image → follows last m ≡ true
+beyond_is : (image : ℕ) (last : Option LineMark) (m : LineMark) → Before image last → image ≤ m.image → follows last m ≡ true
 beyond_is image None m before le = refl
 beyond_is image (Some last) m before le = let less : nat_lt last.image m.image ≡ true = high_is last.image m.image (omega (arith, before, le)) in rw less refl
 
-pub next_back : (from to : ℕ) (last : Option Mark) (m : Mark) (ms : List Mark) → from ≤ m.image → m.image < to → follows last m ≡ true → in_order from to (Some m) ms ≡ true → in_order from to last (m ∷ ms) ≡ true
+pub next_back : (from to : ℕ) (last : Option LineMark) (m : LineMark) (ms : List LineMark) → from ≤ m.image → m.image < to → follows last m ≡ true → in_order from to (Some m) ms ≡ true → in_order from to last (m ∷ ms) ≡ true
 next_back from to last m ms low high beyond rest =
     let a = low_is from m.image low in
     let b = high_is m.image to high in
     rw (a, b, beyond, rest) refl
 
 -- lines of images up to `mid`, and then lines from there on
-pub in_order-append : (from mid to : ℕ) (last : Option Mark) (ls more : List FailingLine) → from ≤ mid → mid ≤ to → Before mid last
+pub in_order-append : (from mid to : ℕ) (last : Option LineMark) (ls more : List FailingLine) → from ≤ mid → mid ≤ to → Before mid last
     → in_order from mid last (marks_of ls) ≡ true → in_order mid to None (marks_of more) ≡ true → in_order from to last (marks_of (ls ++ more)) ≡ true
 in_order-append from mid to last [] more le up at e f = from_there last more at f
   where
-    from_there : (last : Option Mark) (more : List FailingLine) → Before mid last → in_order mid to None (marks_of more) ≡ true → in_order from to last (marks_of more) ≡ true
+    from_there : (last : Option LineMark) (more : List FailingLine) → Before mid last → in_order mid to None (marks_of more) ≡ true → in_order from to last (marks_of more) ≡ true
     from_there last [] at f = refl
     from_there last (k ∷ ks) at f =
         let next = next_is mid to None (mark_of k) (marks_of ks) f in
         let low = next.low in
         next_back from to last (mark_of k) (marks_of ks) (omega (arith, le, low)) next.high (beyond_is mid last (mark_of k) at low) (rest_there (mark_of k) ks next.rest)
       where
-        rest_there : (m : Mark) (ks : List FailingLine) → in_order mid to (Some m) (marks_of ks) ≡ true → in_order from to (Some m) (marks_of ks) ≡ true
+        rest_there : (m : LineMark) (ks : List FailingLine) → in_order mid to (Some m) (marks_of ks) ≡ true → in_order from to (Some m) (marks_of ks) ≡ true
         rest_there m [] g = refl
         rest_there m (j ∷ js) g =
             let next = next_is mid to (Some m) (mark_of j) (marks_of js) g in

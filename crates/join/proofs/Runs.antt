@@ -4,7 +4,7 @@ use Rattle.std.specs.Fmt.{decimal}
 use Rattle.std.specs.List.{flat_map, range_with_len}
 use Rattle.std.proofs.lemmas.Bool.Decides.{eqb_tells}
 use Rattle.std.proofs.lemmas.Fmt.{decimal_injective}
-use Rattle.report.specs.declared.lines.marks.Mark.{Mark}
+use Rattle.report.specs.declared.lines.marks.LineMark.{LineMark}
 use Rattle.report.specs.Line.{FailingLine, first_lines}
 use Rattle.report.specs.Marks.{mark_of, marks_of}
 use Rattle.report.specs.Images.{failing_images, changes_after, leading_of, leading}
@@ -57,7 +57,7 @@ between_of_run : (r : RunValue) → IsRun r → (a b : ℕ) → AreLinesOfRun r.
 between_of_run r run a b = row_each (IsLineOfRun r.head) r run.of_run a (b - a)
 
 -- the first lines are in their order too, and of one image
-leading_order : (v a b : ℕ) (last : Option Mark) (ls : List FailingLine) → in_order a b last (marks_of ls) ≡ true → in_order a b last (marks_of (leading_of v ls)) ≡ true
+leading_order : (v a b : ℕ) (last : Option LineMark) (ls : List FailingLine) → in_order a b last (marks_of ls) ≡ true → in_order a b last (marks_of (leading_of v ls)) ≡ true
 leading_order v a b last [] e = refl
 leading_order v a b last (l ∷ ls) e = elim (eqb_tells v l.image) [
   | inl same ↦

@@ -9,12 +9,12 @@ use Rattle.std.proofs.lemmas.List.{map-append}
 use Rattle.epochs.specs.declared.part.By.{By}
 use Rattle.choices.specs.Choices.{ChoiceValue, ranked_choices}
 use Rattle.choices.specs.Sums.{StartsValue}
-use Rattle.report.specs.declared.lines.marks.Mark.{Mark}
+use Rattle.report.specs.declared.lines.marks.LineMark.{LineMark}
 use Rattle.report.specs.declared.span.Span.{Span}
 use Rattle.report.specs.ChoiceText.{departures_text}
 use Rattle.report.specs.MarkReading.{lacks}
 use Rattle.report.proofs.Back.{lacks_both}
-use Rattle.join.specs.declared.line.Words.{Words}
+use Rattle.join.specs.declared.line.LineWords.{LineWords}
 use Rattle.join.specs.declared.tally.Tally.{Tally}
 use Rattle.join.specs.Endings.{IsAtChoice, NoChoice}
 use Rattle.join.specs.Reading.{words_text, ReadsWords, IsCut, NoCut, none_read, one_more, is_new}
@@ -27,7 +27,7 @@ use Rattle.join.proofs.Counts.{tallied_push, tallied_none}
 use Rattle.join.proofs.Outsides.{cancel_back, choice_lacks, outcome_lacks, outcome_lacks_h}
 
 -- the words of a line of an image with that choice
-abbrev pub words_told : ToldLine → ChoiceValue → Words
+abbrev pub words_told : ToldLine → ChoiceValue → LineWords
 words_told t c = record { image = t.mark.image; cut = c.cut; program = t.mark.program }
 
 abbrev pub end_told : By → ToldLine → ChoiceValue → List ℕ
@@ -37,48 +37,48 @@ pub body_is : (s : StartsValue) (t : ToldLine) (c : ChoiceValue) → slice_get (
 body_is s t c there = ap (λ (o : Option ChoiceValue). option_map_or (chosen_told s.plan.by t) o []) there
 
 -- the numbers of a line are those of its words
-of_told : (outside : Bool) (programs : ℕ) (s : StartsValue) (line : List ℕ) (words : Words) → programs ≤ 8 → ReadsWords line words
+of_told : (outside : Bool) (programs : ℕ) (s : StartsValue) (line : List ℕ) (words : LineWords) → programs ≤ 8 → ReadsWords line words
     → (t : ToldLine) (told : IsTold outside programs s t) → line ≡ told_body s t → words ≡ words_told t told.choice
 of_told outside programs s line words few reads t told e =
     let small = told.small in
     let own = told.program in
     reads.read (words_told t told.choice) (end_told s.plan.by t told.choice) told.image (omega (arith, small)) (omega (arith, own, few)) (e ∙ body_is s t told.choice told.there)
 
-pub image_past : (outside : Bool) (programs images : ℕ) (s : StartsValue) (line : List ℕ) (words : Words) → programs ≤ 8 → images ≡ length (ranked_choices s.plan s.bound s.tears)
+pub image_past : (outside : Bool) (programs images : ℕ) (s : StartsValue) (line : List ℕ) (words : LineWords) → programs ≤ 8 → images ≡ length (ranked_choices s.plan s.bound s.tears)
     → ReadsWords line words → images ≤ words.image → NoToldBody outside programs s line
 image_past outside programs images s line words few all reads past = record {
   none = λ t told e.
-      let same = ap (λ (w : Words). w.image) (of_told outside programs s line words few reads t told e) in
+      let same = ap (λ (w : LineWords). w.image) (of_told outside programs s line words few reads t told e) in
       let within = slice_get_within (ranked_choices s.plan s.bound s.tears) t.mark.image told.choice told.there in
       omega (arith, same, within, past, all);
 }
 
-pub program_past : (outside : Bool) (programs : ℕ) (s : StartsValue) (line : List ℕ) (words : Words) → programs ≤ 8 → ReadsWords line words → programs ≤ words.program → NoToldBody outside programs s line
+pub program_past : (outside : Bool) (programs : ℕ) (s : StartsValue) (line : List ℕ) (words : LineWords) → programs ≤ 8 → ReadsWords line words → programs ≤ words.program → NoToldBody outside programs s line
 program_past outside programs s line words few reads past = record {
   none = λ t told e.
-      let same = ap (λ (w : Words). w.program) (of_told outside programs s line words few reads t told e) in
+      let same = ap (λ (w : LineWords). w.program) (of_told outside programs s line words few reads t told e) in
       let own = told.program in
       omega (arith, same, own, past);
 }
 
-pub words_differ : (outside : Bool) (programs : ℕ) (s : StartsValue) (line printed : List ℕ) (words : Words) → programs ≤ 8 → ReadsWords line words → printed ≡ words_text words
+pub words_differ : (outside : Bool) (programs : ℕ) (s : StartsValue) (line printed : List ℕ) (words : LineWords) → programs ≤ 8 → ReadsWords line words → printed ≡ words_text words
     → ((rest : List ℕ) → line ≢ printed ++ rest) → NoToldBody outside programs s line
 words_differ outside programs s line printed words few reads is none = record {
   none = λ t told e.
       let same = of_told outside programs s line words few reads t told e in
       none (end_told s.plan.by t told.choice)
-      (e ∙ body_is s t told.choice told.there ∙ ap (λ (w : Words). words_text w ++ end_told s.plan.by t told.choice) (sym same) ∙ ap (λ (bs : List ℕ). bs ++ end_told s.plan.by t told.choice) (sym is));
+      (e ∙ body_is s t told.choice told.there ∙ ap (λ (w : LineWords). words_text w ++ end_told s.plan.by t told.choice) (sym same) ∙ ap (λ (bs : List ℕ). bs ++ end_told s.plan.by t told.choice) (sym is));
 }
 
 -- what stands after the words
-end_is : (outside : Bool) (programs : ℕ) (s : StartsValue) (line printed end : List ℕ) (words : Words) → programs ≤ 8 → ReadsWords line words → printed ≡ words_text words → line ≡ printed ++ end
+end_is : (outside : Bool) (programs : ℕ) (s : StartsValue) (line printed end : List ℕ) (words : LineWords) → programs ≤ 8 → ReadsWords line words → printed ≡ words_text words → line ≡ printed ++ end
     → (t : ToldLine) (told : IsTold outside programs s t) → line ≡ told_body s t → end ≡ end_told s.plan.by t told.choice
 end_is outside programs s line printed end words few reads is parts t told e =
     let same = of_told outside programs s line words few reads t told e in
     cancel (words_text words) end (end_told s.plan.by t told.choice)
-    (ap (λ (bs : List ℕ). bs ++ end) (sym is) ∙ sym parts ∙ e ∙ body_is s t told.choice told.there ∙ ap (λ (w : Words). words_text w ++ end_told s.plan.by t told.choice) (sym same))
+    (ap (λ (bs : List ℕ). bs ++ end) (sym is) ∙ sym parts ∙ e ∙ body_is s t told.choice told.there ∙ ap (λ (w : LineWords). words_text w ++ end_told s.plan.by t told.choice) (sym same))
 
-pub choice_lacking : (outside : Bool) (programs : ℕ) (s : StartsValue) (line printed end : List ℕ) (words : Words) → programs ≤ 8 → ReadsWords line words → printed ≡ words_text words → line ≡ printed ++ end
+pub choice_lacking : (outside : Bool) (programs : ℕ) (s : StartsValue) (line printed end : List ℕ) (words : LineWords) → programs ≤ 8 → ReadsWords line words → printed ≡ words_text words → line ≡ printed ++ end
     → NoChoice end → NoToldBody outside programs s line
 choice_lacking outside programs s line printed end words few reads is parts lack = record {
   none = λ t told e.
@@ -87,13 +87,13 @@ choice_lacking outside programs s line printed end words few reads is parts lack
 }
 
 -- the two halves of what stands there
-halves : (outside : Bool) (programs : ℕ) (s : StartsValue) (line printed end outcome choice : List ℕ) (words : Words) → programs ≤ 8 → ReadsWords line words → printed ≡ words_text words → line ≡ printed ++ end
+halves : (outside : Bool) (programs : ℕ) (s : StartsValue) (line printed end outcome choice : List ℕ) (words : LineWords) → programs ≤ 8 → ReadsWords line words → printed ≡ words_text words → line ≡ printed ++ end
     → IsAtChoice end outcome choice → (t : ToldLine) (told : IsTold outside programs s t) → line ≡ told_body s t → (outcome ≡ t.outcome) × (choice ≡ departures_text s.plan.by told.choice.departures)
 halves outside programs s line printed end outcome choice words few reads is parts at t told e =
     at.only t.outcome (departures_text s.plan.by told.choice.departures) (outcome_lacks_h outside t.outcome told.outcome)
     (end_is outside programs s line printed end words few reads is parts t told e)
 
-pub outcome_differs : (outside : Bool) (programs : ℕ) (s : StartsValue) (line printed end outcome choice : List ℕ) (words : Words) → programs ≤ 8 → ReadsWords line words → printed ≡ words_text words → line ≡ printed ++ end
+pub outcome_differs : (outside : Bool) (programs : ℕ) (s : StartsValue) (line printed end outcome choice : List ℕ) (words : LineWords) → programs ≤ 8 → ReadsWords line words → printed ≡ words_text words → line ≡ printed ++ end
     → IsAtChoice end outcome choice → (IsOutcome outside outcome → ⊥) → NoToldBody outside programs s line
 outcome_differs outside programs s line printed end outcome choice words few reads is parts at none = record {
   none = λ t told e.
@@ -101,19 +101,19 @@ outcome_differs outside programs s line printed end outcome choice words few rea
       none (subst (λ (bs : List ℕ). IsOutcome outside bs) (sym both.0) told.outcome);
 }
 
-pub choice_differs : (outside : Bool) (programs : ℕ) (s : StartsValue) (line printed end outcome choice : List ℕ) (words : Words) → programs ≤ 8 → ReadsWords line words → printed ≡ words_text words → line ≡ printed ++ end
+pub choice_differs : (outside : Bool) (programs : ℕ) (s : StartsValue) (line printed end outcome choice : List ℕ) (words : LineWords) → programs ≤ 8 → ReadsWords line words → printed ≡ words_text words → line ≡ printed ++ end
     → IsAtChoice end outcome choice → (IsChoiceOf s words.image words.cut choice → ⊥) → NoToldBody outside programs s line
 choice_differs outside programs s line printed end outcome choice words few reads is parts at none = record {
   none = λ t told e.
       let both = halves outside programs s line printed end outcome choice words few reads is parts at t told e in
       let same = of_told outside programs s line words few reads t told e in
-      none (subst (λ (w : Words). IsChoiceOf s w.image w.cut choice) (sym same) (record { choice = told.choice; there = told.there; small = told.small; at = refl; is = both.1 }));
+      none (subst (λ (w : LineWords). IsChoiceOf s w.image w.cut choice) (sym same) (record { choice = told.choice; there = told.there; small = told.small; at = refl; is = both.1 }));
 }
 
-pub body_found : (outside : Bool) (programs : ℕ) (s : StartsValue) (line printed end outcome choice : List ℕ) (words : Words) (mark : Mark) → words.image < 2 ^ 64 → words.program < programs
+pub body_found : (outside : Bool) (programs : ℕ) (s : StartsValue) (line printed end outcome choice : List ℕ) (words : LineWords) (mark : LineMark) → words.image < 2 ^ 64 → words.program < programs
     → printed ≡ words_text words → line ≡ printed ++ end → IsAtChoice end outcome choice → IsOutcome outside outcome → IsChoiceOf s words.image words.cut choice
     → mark ≡ record { image = words.image; program = words.program } → IsToldBody outside programs s line (record { mark = mark; outcome = outcome })
-body_found outside programs s line printed end outcome choice words mark fits own is parts at said c marked = subst (λ (m : Mark). IsToldBody outside programs s line (record { mark = m; outcome = outcome })) (sym marked) found
+body_found outside programs s line printed end outcome choice words mark fits own is parts at said c marked = subst (λ (m : LineMark). IsToldBody outside programs s line (record { mark = m; outcome = outcome })) (sym marked) found
   where
     told : IsTold outside programs s (record { mark = record { image = words.image; program = words.program }; outcome = outcome })
     told = record { choice = c.choice; there = c.there; small = c.small; image = fits; program = own; outcome = said }
@@ -125,7 +125,7 @@ body_found outside programs s line printed end outcome choice words mark fits ow
     found = record {
       told = told;
       is =
-          parts ∙ ap (λ (bs : List ℕ). bs ++ end) is ∙ ap (λ (w : Words). words_text w ++ end) same
+          parts ∙ ap (λ (bs : List ℕ). bs ++ end) is ∙ ap (λ (w : LineWords). words_text w ++ end) same
           ∙ ap (λ (bs : List ℕ). words_text (record { image = words.image; cut = c.choice.cut; program = words.program }) ++ bs) (at.is ∙ ap (λ (bs : List ℕ). outcome ++ codes " choice " ++ bs) c.is)
           ∙ sym (body_is s (record { mark = record { image = words.image; program = words.program }; outcome = outcome }) c.choice c.there);
     }

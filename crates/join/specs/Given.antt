@@ -9,11 +9,11 @@ use Rattle.epochs.specs.declared.part.By.{By}
 use Rattle.choices.specs.Choices.{ChoiceValue, ranked_choices}
 use Rattle.choices.specs.Sums.{StartsValue}
 use Rattle.report.specs.declared.head.ProgramHead.{ProgramHead}
-use Rattle.report.specs.declared.lines.marks.Mark.{Mark}
+use Rattle.report.specs.declared.lines.marks.LineMark.{LineMark}
 use Rattle.report.specs.ChoiceText.{departures_text}
 use Rattle.report.specs.Images.{distinct_count}
 use Rattle.report.specs.Report.{program_lines}
-use Rattle.join.specs.declared.given.told.Told.{Told}
+use Rattle.join.specs.declared.given.told.ToldLine.{ToldLine}
 use Rattle.join.specs.Endings.{IsEnding}
 use Rattle.join.specs.Heads.{IsProgramHead, are_programs_of_run}
 use Rattle.join.specs.Order.{in_order}
@@ -21,14 +21,14 @@ use Rattle.join.specs.Reading.{words_text}
 
 -- what a line says: of which image and program it is, and what the program ended in
 pub record ToldLine : Type 0 where
-  pub mark : Mark
+  pub mark : LineMark
   pub outcome : List ℕ
 
 -- what a line of the code says
-abbrev pub line_told : Told → ToldLine
+abbrev pub line_told : ToldLine → ToldLine
 line_told t = record { mark = t.mark; outcome = t.outcome.now }
 
-abbrev pub marks_told : List ToldLine → List Mark
+abbrev pub marks_told : List ToldLine → List LineMark
 marks_told ts = map (λ (t : ToldLine). t.mark) ts
 
 abbrev pub images_told : List ToldLine → List ℕ

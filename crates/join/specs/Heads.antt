@@ -3,6 +3,7 @@ use Rattle.std.specs.Prelude.{ℕ, ◌+◌, ◌≡◌, ◌≢◌, ◌<◌, ◌�
 use Rattle.std.specs.Fmt.{decimal}
 use Rattle.std.specs.List.{All, flat_map}
 use Rattle.std.specs.Option.{option_map_or}
+use Rattle.base.specs.Sizes.{most_sectors}
 use Rattle.epochs.specs.declared.flushes.Flushes.{Flushes}
 use Rattle.epochs.specs.declared.cuts.CutKind.{CutKind}
 use Rattle.epochs.specs.declared.part.By.{By}
@@ -68,9 +69,9 @@ are_cuts_of_run entries cuts =
     are_entries_of_run entries (places_of cuts.flushes) && nat_le (unwrap_or cuts.from 0) entries && nat_le (unwrap_or cuts.to 0) entries
     && is_before_last cuts.to (unwrap_or cuts.from 0)
 
--- the options of a run: 1 to 1,048,576 sectors, at most 65,536 entries, and at most 3 lost or torn parts
+-- the options of a run: 1 to 33,554,432 sectors, at most 65,536 entries, and at most 3 lost or torn parts
 abbrev pub are_options_of_run : HeadValue → Bool
-are_options_of_run h = nat_le 1 h.sectors && nat_le h.sectors 1048576 && nat_le h.entries 65536 && nat_le h.bound 3 && are_cuts_of_run h.entries h.cuts
+are_options_of_run h = nat_le 1 h.sectors && nat_le h.sectors most_sectors && nat_le h.entries 65536 && nat_le h.bound 3 && are_cuts_of_run h.entries h.cuts
 
 -- a head as a run can have it: each number within its range, and one program to eight
 pub record IsPrintedHead (h : HeadValue) : Type 0 where

@@ -2,14 +2,14 @@
 use Rattle.std.specs.Prelude.{ℕ, ◌+◌, ◌≡◌, ◌<◌, ◌≤◌, ◌^◌, ◌==◌, ◌&&◌, nat_lt, nat_le, not, Bool, true, false, if◌then◌else◌, List, [], ◌∷◌, ◌++◌, codes, length, Option, None, Some}
 use Rattle.std.specs.Fmt.{decimal}
 use Rattle.std.specs.List.{flat_map}
-use Rattle.report.specs.declared.lines.marks.Mark.{Mark}
+use Rattle.report.specs.declared.lines.marks.LineMark.{LineMark}
 use Rattle.report.specs.Line.{FailingLine}
 use Rattle.report.specs.Marks.{mark_of, marks_of}
 use Rattle.report.specs.MarkReading.{lacks}
 use Rattle.report.specs.LineText.{line_text}
 use Rattle.report.specs.Report.{HeadValue, image_text}
 use Rattle.report.specs.declared.span.Span.{Span}
-use Rattle.join.specs.declared.line.Words.{Words}
+use Rattle.join.specs.declared.line.LineWords.{LineWords}
 use Rattle.join.specs.declared.tally.Tally.{Tally}
 use Rattle.join.specs.Printable.{IsPrintable, ArePrintable, IsLineOfRun, AreLinesOfRun, end_text}
 use Rattle.join.specs.Order.{follows}
@@ -49,26 +49,26 @@ pub record NoSpan (text : List ℕ) : Type 0 where
   pub none : (s : Span) (more : List ℕ) → IsSmall s → text ≡ span_text s ++ more → ⊥
 
 -- what a line says before its outcome
-unfoldable pub words_text : Words → List ℕ
+unfoldable pub words_text : LineWords → List ℕ
 words_text w = codes "image " ++ decimal w.image ++ codes " cut " ++ decimal w.cut ++ codes " program " ++ decimal w.program ++ codes " "
 
-abbrev pub words_of : FailingLine → Words
+abbrev pub words_of : FailingLine → LineWords
 words_of l = record { image = l.image; cut = l.cut; program = l.program }
 
 -- a line without its newline
 abbrev pub body_text : FailingLine → List ℕ
 body_text l = words_text (words_of l) ++ end_text l.ending l.by l.departures
 
-pub record ReadsWords (line : List ℕ) (words : Words) : Type 0 where
-  pub read : (w : Words) (more : List ℕ) → w.image < 2 ^ 64 → w.cut < 2 ^ 64 → w.program < 2 ^ 64 → line ≡ words_text w ++ more → words ≡ w
+pub record ReadsWords (line : List ℕ) (words : LineWords) : Type 0 where
+  pub read : (w : LineWords) (more : List ℕ) → w.image < 2 ^ 64 → w.cut < 2 ^ 64 → w.program < 2 ^ 64 → line ≡ words_text w ++ more → words ≡ w
 
 -- the words are within the ranges of a line
-pub record Fit (w : Words) : Type 0 where
+pub record Fit (w : LineWords) : Type 0 where
   pub cut : w.cut < 2 ^ 32
   pub program : w.program < 2 ^ 8
 
 -- a text is a line without its newline, of a run with that head, and has that mark
-pub record IsBody (h : HeadValue) (text : List ℕ) (mark : Mark) : Type 0 where
+pub record IsBody (h : HeadValue) (text : List ℕ) (mark : LineMark) : Type 0 where
   pub line : FailingLine
   pub printable : IsPrintable line
   pub of_run : IsLineOfRun h line
@@ -79,7 +79,7 @@ pub record NoBody (h : HeadValue) (text : List ℕ) : Type 0 where
   pub none : (l : FailingLine) → IsPrintable l → IsLineOfRun h l → text ≡ body_text l → ⊥
 
 -- a text begins with a line of a run with that head, that has that mark
-pub record IsLine (h : HeadValue) (text : List ℕ) (mark : Mark) (rest : List ℕ) : Type 0 where
+pub record IsLine (h : HeadValue) (text : List ℕ) (mark : LineMark) (rest : List ℕ) : Type 0 where
   pub line : FailingLine
   pub printable : IsPrintable line
   pub of_run : IsLineOfRun h line
@@ -91,7 +91,7 @@ pub record NoLine (P : FailingLine → Type 0) (text : List ℕ) : Type 0 where
   pub none : (l : FailingLine) (more : List ℕ) → IsPrintable l → P l → text ≡ line_text l ++ more → ⊥
 
 -- whether a line is of another image than the last
-abbrev pub is_new : Option Mark → ℕ → Bool
+abbrev pub is_new : Option LineMark → ℕ → Bool
 is_new None image = true
 is_new (Some last) image = not (last.image == image)
 
@@ -103,7 +103,7 @@ first_of (Some first) image = Some first
 abbrev pub none_read : Tally
 none_read = record { last = None; first = None; lines = 0; images = 0; ordered = true }
 
-abbrev pub one_more : Span → Tally → Mark → Tally
+abbrev pub one_more : Span → Tally → LineMark → Tally
 one_more s t m = record {
   last = Some m;
   first = first_of t.first m.image;
@@ -112,7 +112,7 @@ one_more s t m = record {
   ordered = t.ordered && (nat_le s.from m.image && nat_lt m.image s.to && follows t.last m);
 }
 
-unfoldable pub tallied : Span → Tally → List Mark → Tally
+unfoldable pub tallied : Span → Tally → List LineMark → Tally
 tallied s t [] = t
 tallied s t (m ∷ ms) = tallied s (one_more s t m) ms
 

@@ -11,5 +11,5 @@ mod told;
 mod whole;
 
 pub use run::ReportRun;
-pub use told::Told;
+pub use told::ToldLine;
 pub use whole::{Given, read_report};

@@ -9,6 +9,7 @@ use crate::line::is_before_last;
 use crate::options::options_said;
 use crate::programs::{MOST_PROGRAMS, programs_said};
 use crate::words::{beyond, cut, parts};
+use base::limits::Limits;
 use epochs::Cuts;
 use report::{Head, ProgramHead, put_options};
 use std::alloc::{AllocError, Global};
@@ -104,7 +105,7 @@ fn are_options_of_run(head: &Head) -> bool
     ensures { result ≡ are_options_of_run head.now }
 {
     head.sectors >= 1
-        && head.sectors <= 1_048_576
+        && head.sectors <= Limits::Large.sectors()
         && head.entries <= 65_536
         && head.bound <= 3
         && are_cuts_of_run(head.entries, &head.cuts)

@@ -7,7 +7,7 @@ ghost use Rattle.join.specs.Joining.{ArePartTexts, IsFirstOther, IsFirstLong, Is
 ghost use Rattle.join.specs.Rows.{IsRowText, IsSpanOfRow, IsWritten, NoneIsStrange, IsSortedText, IsSortedApart, WhyNoRow, WhyNotJoined};
 
 use crate::fault::JoinFault;
-use crate::part::{Part, put_last, read_part};
+use crate::part::{RunPart, put_last, read_part};
 use crate::row::{first_strange, put_in_order, row_fault};
 use crate::tally::Tally;
 use base::causes::JoinCause;
@@ -53,7 +53,7 @@ pub(crate) fn first_long(files: &[Vec<u8>]) -> Option<usize>
 }
 
 /// The part of a file.
-fn part_of<'t>(alloc: Global, file: u32, bytes: &'t [u8]) -> Result<Part<'t>, JoinFault>
+fn part_of<'t>(alloc: Global, file: u32, bytes: &'t [u8]) -> Result<RunPart<'t>, JoinFault>
     requires { length bytes.now ≤ 2 ^ 30 }
     ensures part { IfOk result (λ part. IsPartText bytes.now part × (part.file ≡ file)) }
     ensures refused { IfErr result (λ f. (f ≡ record { cause = cause.Memory; file = 0 }) ⊎ ((f ≡ record { cause = cause.NotPart; file = file }) × NoPartText bytes.now)) }
@@ -69,7 +69,7 @@ fn part_of<'t>(alloc: Global, file: u32, bytes: &'t [u8]) -> Result<Part<'t>, Jo
 }
 
 /// Appends a part.
-fn push_part<'t>(parts: &mut Vec<Part<'t>>, part: Part<'t>) -> Result<(), JoinFault>
+fn push_part<'t>(parts: &mut Vec<RunPart<'t>>, part: RunPart<'t>) -> Result<(), JoinFault>
     ensures pushed { OnOk result (parts.new.items ≡ parts.old.items ++ part.entry ∷ []) }
     ensures refused { IfErr result (λ f. f ≡ record { cause = cause.Memory; file = 0 }) }
 {
@@ -80,7 +80,7 @@ fn push_part<'t>(parts: &mut Vec<Part<'t>>, part: Part<'t>) -> Result<(), JoinFa
 }
 
 /// The parts of all files, in their order.
-fn parts_of<'t>(alloc: Global, files: &'t [Vec<u8>]) -> Result<Vec<Part<'t>>, JoinFault>
+fn parts_of<'t>(alloc: Global, files: &'t [Vec<u8>]) -> Result<Vec<RunPart<'t>>, JoinFault>
     requires few { length files.now ≤ 4096 }
     requires small { All (λ f. length f.items ≤ 2 ^ 30) files.now }
     ensures parts { IfOk result (λ parts. ArePartTexts 0 (map (λ f. f.items) files.now) parts.items) }
@@ -121,7 +121,7 @@ fn sum_of(tally: Tally, other: Tally) -> Tally
 }
 
 /// What is counted of all parts together.
-fn total_of(parts: &[Part<'_>]) -> Tally
+fn total_of(parts: &[RunPart<'_>]) -> Tally
     requires few { length parts.now ≤ 4096 }
     requires lines { All (λ r. r.tally.lines ≤ 2 ^ 30) parts.now }
     requires images { All (λ r. r.tally.images ≤ 2 ^ 30) parts.now }
@@ -135,7 +135,7 @@ fn total_of(parts: &[Part<'_>]) -> Tally
 }
 
 /// Appends the lines of all parts.
-fn put_all(out: &mut Vec<u8>, parts: &[Part<'_>]) -> Result<(), AllocError>
+fn put_all(out: &mut Vec<u8>, parts: &[RunPart<'_>]) -> Result<(), AllocError>
     ensures { OnOk result (out.new.items ≡ out.old.items ++ shown_bytes false parts.now) }
 {
     for part in parts {
@@ -146,7 +146,7 @@ fn put_all(out: &mut Vec<u8>, parts: &[Part<'_>]) -> Result<(), AllocError>
 
 /// Appends the lines of the first part that has some.
 #[tactic(auto, using(crate::proofs::Joins::some_next, crate::proofs::Joins::some_found, crate::proofs::Joins::none_found))]
-fn put_first_some(out: &mut Vec<u8>, parts: &[Part<'_>]) -> Result<(), AllocError>
+fn put_first_some(out: &mut Vec<u8>, parts: &[RunPart<'_>]) -> Result<(), AllocError>
     ensures { OnOk result (out.new.items ≡ out.old.items ++ first_some parts.now) }
 {
     for part in parts {
@@ -158,7 +158,7 @@ fn put_first_some(out: &mut Vec<u8>, parts: &[Part<'_>]) -> Result<(), AllocErro
 }
 
 /// Appends the lines that are shown.
-fn put_shown(out: &mut Vec<u8>, first: bool, parts: &[Part<'_>]) -> Result<(), AllocError>
+fn put_shown(out: &mut Vec<u8>, first: bool, parts: &[RunPart<'_>]) -> Result<(), AllocError>
     ensures { OnOk result (out.new.items ≡ out.old.items ++ shown_bytes first parts.now) }
 {
     if first {
@@ -199,7 +199,7 @@ fn last_line(alloc: Global, first: bool, images: u64, tally: Tally) -> Result<St
 
 /// The text of the images of a span, of parts in a row.
 #[tactic(auto, using(crate::proofs::Joins::written_found, crate::proofs::Joins::there))]
-fn row_text(alloc: Global, span: Span, parts: &[Part<'_>]) -> Result<Vec<u8>, AllocError>
+fn row_text(alloc: Global, span: Span, parts: &[RunPart<'_>]) -> Result<Vec<u8>, AllocError>
     requires some { 0 < length parts.now }
     requires few { length parts.now ≤ 4096 }
     requires lines { All (λ r. r.tally.lines ≤ 2 ^ 30) parts.now }
@@ -217,7 +217,7 @@ fn row_text(alloc: Global, span: Span, parts: &[Part<'_>]) -> Result<Vec<u8>, Al
 }
 
 /// The span of parts in a row.
-fn span_of(parts: &[Part<'_>]) -> Span
+fn span_of(parts: &[RunPart<'_>]) -> Span
     requires { 0 < length parts.now }
     ensures { IsSpanOfRow parts.now result }
 {
@@ -232,7 +232,7 @@ fn span_of(parts: &[Part<'_>]) -> Span
 }
 
 /// The text of parts of one run, in the order of their images, if they stand in a row and are the whole run, or may be a part of it.
-fn join_row(alloc: Global, part: bool, parts: &[Part<'_>]) -> Result<JoinedText, JoinFault>
+fn join_row(alloc: Global, part: bool, parts: &[RunPart<'_>]) -> Result<JoinedText, JoinFault>
     requires some { 0 < length parts.now }
     requires few { length parts.now ≤ 4096 }
     requires lines { All (λ r. r.tally.lines ≤ 2 ^ 30) parts.now }
@@ -255,7 +255,11 @@ fn join_row(alloc: Global, part: bool, parts: &[Part<'_>]) -> Result<JoinedText,
 
 /// The text of parts of one run, if they stand in a row once they are in the order of their images, and are the whole run, or may be a
 /// part of it.
-fn join_run(alloc: Global, part: bool, parts: &mut Vec<Part<'_>>) -> Result<JoinedText, JoinFault>
+fn join_run(
+    alloc: Global,
+    part: bool,
+    parts: &mut Vec<RunPart<'_>>,
+) -> Result<JoinedText, JoinFault>
     requires some { 0 < length parts.old.items }
     requires few { length parts.old.items ≤ 4096 }
     requires lines { All (λ r. r.tally.lines ≤ 2 ^ 30) parts.old.items }
@@ -270,7 +274,11 @@ fn join_run(alloc: Global, part: bool, parts: &mut Vec<Part<'_>>) -> Result<Join
 }
 
 /// The text of parts, if they are of one run and stand in a row, and are the whole run, or may be a part of it.
-fn join_parts(alloc: Global, part: bool, parts: &mut Vec<Part<'_>>) -> Result<JoinedText, JoinFault>
+fn join_parts(
+    alloc: Global,
+    part: bool,
+    parts: &mut Vec<RunPart<'_>>,
+) -> Result<JoinedText, JoinFault>
     requires some { 0 < length parts.old.items }
     requires few { length parts.old.items ≤ 4096 }
     requires lines { All (λ r. r.tally.lines ≤ 2 ^ 30) parts.old.items }

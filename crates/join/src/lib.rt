@@ -136,6 +136,6 @@ mod words;
 
 pub use case_parts::{CasesFault, join_cases};
 pub use fault::JoinFault;
-pub use given::{Given, ReportRun, Told, read_report};
+pub use given::{Given, ReportRun, ToldLine, read_report};
 pub use joining::{JoinedText, join};
 pub use laws::{cases_are_joined, join_is_cases, join_is_run, parts_are_joined};

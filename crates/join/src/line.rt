@@ -9,12 +9,12 @@ ghost use Rattle.join.specs.Reading.{words_text, ReadsWords, Fit, IsBody, NoBody
 use crate::ending::is_end;
 use crate::words::{beyond, cut, number, parts};
 use report::Head;
-use report::lines::Mark;
+use report::lines::LineMark;
 use std::alloc::{AllocError, Global};
 
 /// What a line says before its outcome.
 #[derive(Clone, Copy, Drop)]
-pub struct Words {
+pub struct LineWords {
     pub(crate) image: u64,
     pub(crate) cut: u64,
     pub(crate) program: u64,
@@ -29,13 +29,13 @@ fn field(text: &str) -> (&str, &str)
 }
 
 /// What a line says before its outcome, and something where it is no line.
-pub(crate) fn words_said(line: &str) -> Words
+pub(crate) fn words_said(line: &str) -> LineWords
     ensures { ReadsWords line.now result }
 {
     let (image, after_image) = field(line);
     let (at, after_cut) = field(after_image);
     let (program, _after_program) = field(after_cut);
-    Words {
+    LineWords {
         image: number(image),
         cut: number(at),
         program: number(program),
@@ -43,7 +43,7 @@ pub(crate) fn words_said(line: &str) -> Words
 }
 
 /// Whether the numbers of a cut and a program are within their ranges.
-fn is_fit(words: Words) -> bool
+fn is_fit(words: LineWords) -> bool
     ensures { IsTrue result ↔ Fit words }
 {
     words.cut < 4_294_967_296 && words.program < 256
@@ -51,7 +51,7 @@ fn is_fit(words: Words) -> bool
 
 /// The words of a line before its outcome.
 #[tactic(auto, unfolding(crate::specs::Reading::words_text))]
-pub(crate) fn words_text(alloc: Global, words: Words) -> Result<String, AllocError>
+pub(crate) fn words_text(alloc: Global, words: LineWords) -> Result<String, AllocError>
     ensures { IfOk result (λ out. string_bytes out ≡ words_text words) }
 {
     let mut out = String::new(alloc);
@@ -94,7 +94,7 @@ pub(crate) fn has_place(head: &Head, cut: u64, program: u64) -> bool
 }
 
 /// The mark of a line without its newline, if it is one of a run with that head, to the byte.
-fn mark_of(alloc: Global, head: &Head, line: &str) -> Result<Option<Mark>, AllocError>
+fn mark_of(alloc: Global, head: &Head, line: &str) -> Result<Option<LineMark>, AllocError>
     ensures { IfOk result (λ found. MatchOption found (NoBody head.now line.now) (λ mark. IsBody head.now line.now mark)) }
 {
     let words = words_said(line);
@@ -111,7 +111,7 @@ fn mark_of(alloc: Global, head: &Head, line: &str) -> Result<Option<Mark>, Alloc
     if !is_end(alloc, head, words.cut, end)? {
         return Ok(None);
     }
-    Ok(Some(Mark {
+    Ok(Some(LineMark {
         image: words.image,
         program: words.program as u8,
     }))
@@ -123,7 +123,7 @@ pub(crate) fn read_line<'t>(
     alloc: Global,
     head: &Head,
     text: &'t str,
-) -> Result<Option<(Mark, &'t str)>, AllocError>
+) -> Result<Option<(LineMark, &'t str)>, AllocError>
     ensures line { IfOk result (λ found. MatchOption found (NoLine (IsLineOfRun head.now) text.now) (λ x. IsLine head.now text.now x.0 x.1.now)) }
     ensures shorter { IfOk result (λ found. IfSome found (λ x. length x.1.now < length text.now)) }
 {

@@ -17,7 +17,7 @@ use std::str;
 
 /// A part of a run, as its text tells it.
 #[derive(Drop)]
-pub struct Part<'t> {
+pub struct RunPart<'t> {
     /// Which images of which run it is of.
     pub(crate) span: Span,
     /// The lines of its options and its programs.
@@ -32,7 +32,7 @@ pub struct Part<'t> {
     pub(crate) file: u32,
 }
 
-impl<'t> Model for Part<'t> {
+impl<'t> Model for RunPart<'t> {
     ghost use Rattle.join.specs.Reading.{PartRead};
 
     ghost Value = { PartRead };
@@ -142,7 +142,7 @@ fn is_whole(span: Span, first: bool, tally: Tally) -> bool
 
 /// The part of which a text is that, to the byte; none where it is that of no part.
 #[tactic(auto, using(crate::proofs::Parts::lines_after_head, crate::proofs::Parts::head_in_front, crate::proofs::Parts::lines_in_front))]
-fn read_text<'t>(alloc: Global, file: u32, text: &'t str) -> Result<Option<Part<'t>>, AllocError>
+fn read_text<'t>(alloc: Global, file: u32, text: &'t str) -> Result<Option<RunPart<'t>>, AllocError>
     requires { length text.now ≤ 2 ^ 30 }
     ensures { IfOk result (λ found. MatchOption found (NoPartText text.now) (λ part. IsPartText text.now part × (part.file ≡ file))) }
 {
@@ -166,7 +166,7 @@ fn read_text<'t>(alloc: Global, file: u32, text: &'t str) -> Result<Option<Part<
     if !is_whole(span, first, tally) {
         return Ok(None);
     }
-    Ok(Some(Part {
+    Ok(Some(RunPart {
         span,
         head: front,
         first,
@@ -186,7 +186,7 @@ pub(crate) fn read_part<'t>(
     alloc: Global,
     file: u32,
     bytes: &'t [u8],
-) -> Result<Option<Part<'t>>, AllocError>
+) -> Result<Option<RunPart<'t>>, AllocError>
     requires { length bytes.now ≤ 2 ^ 30 }
     ensures { IfOk result (λ found. MatchOption found (NoPartText bytes.now) (λ part. IsPartText bytes.now part × (part.file ≡ file))) }
 {

@@ -8,12 +8,12 @@ ghost use Rattle.join.specs.Joining.{IsOfRun};
 ghost use Rattle.join.specs.Rows.{IsStrangeAt, NoneIsStrange, IsApart, IsApartAt, NoneIsApart, IsRow, IsRowShort, IsRowWhole, WhyNoRow};
 
 use crate::fault::JoinFault;
-use crate::part::Part;
+use crate::part::RunPart;
 use base::causes::JoinCause;
 use std::alloc::AllocError;
 
 /// Whether two parts are of one run.
-fn is_of_run(run: &Part<'_>, part: &Part<'_>) -> bool
+fn is_of_run(run: &RunPart<'_>, part: &RunPart<'_>) -> bool
     ensures { IsTrue result ↔ IsOfRun run.now part.now }
 {
     part.head == run.head
@@ -24,7 +24,7 @@ fn is_of_run(run: &Part<'_>, part: &Part<'_>) -> bool
 
 /// The place of the first part that is of another run than the first.
 #[tactic(auto, using(crate::proofs::Joins::none_alike, crate::proofs::Joins::alike_more, crate::proofs::Joins::all_alike, crate::proofs::Joins::there))]
-pub(crate) fn first_strange(parts: &[Part<'_>]) -> Option<usize>
+pub(crate) fn first_strange(parts: &[RunPart<'_>]) -> Option<usize>
     requires { 0 < length parts.now }
     ensures { MatchOption result (NoneIsStrange parts.now) (λ place. IsStrangeAt parts.now place) }
 {
@@ -37,7 +37,7 @@ pub(crate) fn first_strange(parts: &[Part<'_>]) -> Option<usize>
 }
 
 /// Puts parts into the order of their first images. Those that begin alike keep their order.
-pub(crate) fn put_in_order(parts: &mut Vec<Part<'_>>) -> Result<(), AllocError>
+pub(crate) fn put_in_order(parts: &mut Vec<RunPart<'_>>) -> Result<(), AllocError>
     ensures order { IsPermutation parts.old.items parts.new.items }
     ensures rising { OnOk result (IsNonDecreasingBy (λ r. r.span.from) parts.new.items) }
     ensures stable { OnOk result (IsStableByKey (λ r. r.span.from) nat_cmp parts.old.items parts.new.items) }
@@ -47,7 +47,7 @@ pub(crate) fn put_in_order(parts: &mut Vec<Part<'_>>) -> Result<(), AllocError>
 }
 
 /// The refusal of a part that doesn't begin where the one before it ends.
-fn apart(left: &Part<'_>, right: &Part<'_>) -> JoinFault
+fn apart(left: &RunPart<'_>, right: &RunPart<'_>) -> JoinFault
     requires { left.now.span.to ≢ right.now.span.from }
     ensures file { result.file ≡ right.now.file }
     ensures kind { IsApart left.now right.now result.cause }
@@ -65,7 +65,7 @@ fn apart(left: &Part<'_>, right: &Part<'_>) -> JoinFault
 
 /// The first part in a row that doesn't begin where the one before it ends, as its refusal.
 #[tactic(auto, using(crate::proofs::Joins::none_joined, crate::proofs::Joins::joined_more, crate::proofs::Joins::all_joined, crate::proofs::Joins::there))]
-pub(crate) fn first_apart(parts: &[Part<'_>]) -> Option<JoinFault>
+pub(crate) fn first_apart(parts: &[RunPart<'_>]) -> Option<JoinFault>
     ensures { MatchOption result (NoneIsApart parts.now) (λ fault. IsApartAt parts.now fault) }
 {
     for place in 1..parts.len() {
@@ -91,7 +91,7 @@ fn gap_at(file: u32) -> JoinFault
 /// Why parts in a row haven't all images of their run, as a refusal: of the first of them where images are missing before it, and else
 /// of a file after all others.
 #[tactic(auto, using(crate::proofs::Joins::starts_late, crate::proofs::Joins::ends_early, crate::proofs::Joins::row_whole, crate::proofs::Joins::there))]
-fn lacking(parts: &[Part<'_>]) -> Option<JoinFault>
+fn lacking(parts: &[RunPart<'_>]) -> Option<JoinFault>
     requires some { 0 < length parts.now }
     requires few { length parts.now ≤ 4096 }
     ensures { MatchOption result (IsRowWhole parts.now) (λ fault. IsRowShort parts.now fault) }
@@ -110,7 +110,7 @@ fn lacking(parts: &[Part<'_>]) -> Option<JoinFault>
 /// Why parts in the order of their images aren't joined, as a refusal: the first that doesn't begin where the one before it ends, or that
 /// they haven't all images of their run, unless they may be a part of it.
 #[tactic(auto, using(crate::proofs::Joins::row_breaks, crate::proofs::Joins::row_lacks, crate::proofs::Joins::row_joined))]
-pub(crate) fn row_fault(part: bool, parts: &[Part<'_>]) -> Option<JoinFault>
+pub(crate) fn row_fault(part: bool, parts: &[RunPart<'_>]) -> Option<JoinFault>
     requires some { 0 < length parts.now }
     requires few { length parts.now ≤ 4096 }
     ensures { MatchOption result (IsRow part parts.now) (λ fault. WhyNoRow part parts.now fault) }

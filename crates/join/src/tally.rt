@@ -5,13 +5,13 @@ ghost use Rattle.join.specs.Order.{is_after, follows};
 ghost use Rattle.join.specs.Reading.{is_new, first_of, none_read, one_more};
 
 use report::Span;
-use report::lines::Mark;
+use report::lines::LineMark;
 
 /// What is counted of some lines.
 #[derive(Clone, Copy, Drop)]
 pub struct Tally {
     /// The last line.
-    pub(crate) last: Option<Mark>,
+    pub(crate) last: Option<LineMark>,
     /// The image of the first line.
     pub(crate) first: Option<u64>,
     /// How many lines there are.
@@ -23,14 +23,14 @@ pub struct Tally {
 }
 
 /// Whether a line stands after another: by image, and then by program.
-fn is_after(last: Mark, mark: Mark) -> bool
+fn is_after(last: LineMark, mark: LineMark) -> bool
     ensures { result ≡ is_after last mark }
 {
     last.image < mark.image || (last.image == mark.image && last.program < mark.program)
 }
 
 /// Whether a line stands after the last one, if there is one.
-fn follows(last: Option<Mark>, mark: Mark) -> bool
+fn follows(last: Option<LineMark>, mark: LineMark) -> bool
     ensures { result ≡ follows last mark }
 {
     match last {
@@ -40,7 +40,7 @@ fn follows(last: Option<Mark>, mark: Mark) -> bool
 }
 
 /// Whether a line is of another image than the last one.
-fn is_new(last: Option<Mark>, image: u64) -> bool
+fn is_new(last: Option<LineMark>, image: u64) -> bool
     ensures { result ≡ is_new last image }
 {
     match last {
@@ -74,7 +74,7 @@ impl Tally {
     }
 
     /// That of one more line.
-    pub(crate) fn more(self, span: Span, mark: Mark) -> Tally
+    pub(crate) fn more(self, span: Span, mark: LineMark) -> Tally
         requires lines { self.lines + 1 < 2 ^ 64 }
         requires images { self.images + 1 < 2 ^ 64 }
         ensures { result ≡ one_more span self mark }

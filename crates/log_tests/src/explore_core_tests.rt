@@ -1,6 +1,6 @@
 //! Lists of events with what they come to.
 
-use explore_core::{Event, Explore, Found, Job, Jobs, Keys, Piece, run, step};
+use explore_core::{BlockFindings, Event, Explore, HandedBlock, Job, Jobs, Keys, run, step};
 use std::alloc::{AllocError, Global};
 use std::test::Fail;
 
@@ -46,15 +46,15 @@ fn told(alloc: Global, explore: &Explore) -> Result<String, Fail> {
     Ok(text)
 }
 
-fn write_piece(text: &mut String, piece: &Piece) -> Result<(), Fail> {
+fn write_piece(text: &mut String, piece: &HandedBlock) -> Result<(), Fail> {
     match &piece.found {
-        Found::Lines(lines) => {
+        BlockFindings::Lines(lines) => {
             write!(text, " | {}:", piece.block)?;
             for line in lines.as_slice() {
                 write!(text, " {}", line.image)?;
             }
         }
-        Found::Passed(image) => write!(text, " | {} passed {}", piece.block, image)?,
+        BlockFindings::Passed(image) => write!(text, " | {} passed {}", piece.block, image)?,
     }
     Ok(())
 }

@@ -1,9 +1,9 @@
 //! A run by two workers, whose order of blocks is replayed as events of `explore_core`.
 
 use crate::log_text::{FLUSH, text_of};
-use crate::whole_runs::{Way, work_of};
+use crate::whole_runs::{RunWay, work_of};
 use base::limits::Limits;
-use explore_core::{Event, Explore, Found, Job, Jobs, run};
+use explore_core::{BlockFindings, Event, Explore, Job, Jobs, run};
 use logfmt::read;
 use report::lines::Lines;
 use std::alloc::{AllocError, Global};
@@ -25,7 +25,7 @@ const BY_70: [u8; 24] = [
 /// Keeps the calls that it is told of in their order: 2b before block b, and 2b + 1 after it. It holds
 /// block 0 until another block has ended, or for a million turns.
 #[derive(Drop)]
-struct Recording {
+struct RecordingGate {
     calls: Vec<AtomicU64>,
     /// The worker that took each block.
     takers: Vec<AtomicU64>,
@@ -42,9 +42,9 @@ fn zeros(alloc: Global, count: u64) -> Result<Vec<AtomicU64>, AllocError> {
     Ok(zeros)
 }
 
-impl Recording {
-    fn new(alloc: Global) -> Result<Recording, AllocError> {
-        Ok(Recording {
+impl RecordingGate {
+    fn new(alloc: Global) -> Result<RecordingGate, AllocError> {
+        Ok(RecordingGate {
             calls: zeros(alloc, 8)?,
             takers: zeros(alloc, 4)?,
             count: AtomicU64::new(0),
@@ -68,7 +68,7 @@ impl Recording {
     }
 }
 
-impl Gate for Recording {
+impl Gate for RecordingGate {
     fn before(&self, worker: u8, block: u32) {
         if let Some(taker) = self.takers.get(block as usize) {
             taker.store(u64::from(worker), Ordering::SeqCst);
@@ -96,13 +96,13 @@ impl Gate for Recording {
 fn judged<R: Threads + Wait + Sync>(
     rt: &R,
     alloc: Global,
-    gate: &Recording,
+    gate: &RecordingGate,
 ) -> Result<Lines, Fail> {
     let bytes = text_of(alloc, &[(0, 0, FLUSH, 0); 255])?;
     let log = read(alloc, bytes.as_slice(), 1, Limits::Usual)
         .ok()
         .ok_or("a log")?;
-    let way = Way {
+    let way = RunWay {
         workers: 2,
         cache: 0,
         first: false,
@@ -132,7 +132,7 @@ fn jobs(alloc: Global) -> Result<Jobs, Fail> {
 /// The events of the run: each block is drawn by its worker, and taken out of its list, before anything is
 /// told of it or of a later one, and at its end all its jobs were looked at and its first failing image posted. Then both workers
 /// find no block left.
-fn events_of(alloc: Global, told: &Recording, jobs: &Jobs) -> Result<Vec<Event>, AllocError> {
+fn events_of(alloc: Global, told: &RecordingGate, jobs: &Jobs) -> Result<Vec<Event>, AllocError> {
     let mut events = Vec::new(alloc);
     let mut drawn = 0;
     for call in told.calls.iter() {
@@ -171,8 +171,8 @@ fn images_of(alloc: Global, explore: &Explore) -> Result<Vec<u64>, AllocError> {
     Ok(images)
 }
 
-fn push_images(images: &mut Vec<u64>, found: &Found) -> Result<(), AllocError> {
-    if let Found::Lines(lines) = found {
+fn push_images(images: &mut Vec<u64>, found: &BlockFindings) -> Result<(), AllocError> {
+    if let BlockFindings::Lines(lines) = found {
         for line in lines.as_slice() {
             images.push(line.image)?;
         }
@@ -196,7 +196,7 @@ fn wanted_lines(alloc: Global, images: &[u64]) -> Result<String, AllocError> {
 #[test]
 fn a_run_is_a_list_of_events(rt: HostRuntime) -> Result<(), Fail> {
     let alloc = rt.alloc();
-    let told = Recording::new(alloc)?;
+    let told = RecordingGate::new(alloc)?;
     let lines = judged(&rt, alloc, &told)?;
     assert_eq!(rt; told.count.load(Ordering::SeqCst), 8);
     let jobs = jobs(alloc)?;

@@ -3,7 +3,7 @@
 ghost use Rattle.std.specs.Prelude.{◌≤◌};
 
 use crate::log_text::{FLUSH, text_of};
-use crate::whole_runs::{Way, work_of};
+use crate::whole_runs::{RunWay, work_of};
 use base::limits::Limits;
 use logfmt::read;
 use std::alloc::Global;
@@ -81,7 +81,7 @@ fn failing<R: Threads + Wait + Sync>(
     let log = read(alloc, bytes.as_slice(), 1, Limits::Usual)
         .ok()
         .ok_or("a log")?;
-    let way = Way {
+    let way = RunWay {
         workers,
         cache: 0,
         first: false,

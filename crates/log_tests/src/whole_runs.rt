@@ -12,12 +12,12 @@ use std::alloc::Global;
 use std::sync::Wait;
 use std::test::Fail;
 use std::thread::Threads;
-use workers::{Asked, Gate, Input, Work, explore_all};
+use workers::{AskedRun, Gate, Input, Work, explore_all};
 
 /// By how many workers a run is judged, how many outcomes they keep, and whether the first failing image is all that
 /// is asked for. Image `from` is the first that is judged, if there is one of that number.
 #[derive(Drop)]
-pub(crate) struct Way {
+pub(crate) struct RunWay {
     pub(crate) workers: u8,
     pub(crate) cache: u32,
     pub(crate) first: bool,
@@ -31,7 +31,7 @@ pub(crate) fn work_of<G: Gate + Sync, R: Threads + Wait + Sync>(
     gate: &G,
     log: &Log,
     program: &[u8],
-    way: &Way,
+    way: &RunWay,
 ) -> Result<Work, Fail>
     requires workers { (1 ≤ way.now.workers) × (way.now.workers ≤ 64) }
     requires cache { way.now.cache ≤ 65536 }
@@ -42,7 +42,7 @@ pub(crate) fn work_of<G: Gate + Sync, R: Threads + Wait + Sync>(
     let checkers = [Checker::limited(&program, 3)];
     let images = count(&plan, 0, false).ok().ok_or("few images")?;
     let starts = Starts::new(alloc, &plan, 0, false)?;
-    let asked = Asked {
+    let asked = AskedRun {
         bound: 0,
         tears: false,
         from: way.from.min(images),

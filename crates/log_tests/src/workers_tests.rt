@@ -6,7 +6,7 @@ ghost use Rattle.workers.specs.Input.{IsRunOf};
 ghost use Rattle.workers.specs.Pieces.{block_count};
 
 use crate::log_text::{FLUSH, text_of};
-use crate::whole_runs::{Way, work_of};
+use crate::whole_runs::{RunWay, work_of};
 use base::limits::Limits;
 use base::refusal::Refusal;
 use bpf_isa::codec::decode;
@@ -21,7 +21,7 @@ use std::sync::{Mutex, Wait};
 use std::test::Fail;
 use std::thread::Threads;
 use verdict_cache::{Run, Shard, shards};
-use workers::{Asked, Input, OpenGate, Piece, collect, judge_block};
+use workers::{AskedRun, Input, OpenGate, Piece, collect, judge_block};
 
 /// Answers 1.
 const ANSWER_1: [u8; 16] = [0xb7, 0, 0, 0, 1, 0, 0, 0, 0x95, 0, 0, 0, 0, 0, 0, 0];
@@ -126,7 +126,7 @@ fn collected<R: Wait>(
         &history,
         &checkers,
         By::Sector,
-        Asked {
+        AskedRun {
             bound: 0,
             tears: false,
             from: 0,
@@ -195,7 +195,7 @@ fn explored<R: Threads + Wait + Sync>(
     alloc: Global,
     log: &Log,
     program: &[u8],
-    way: Way,
+    way: RunWay,
 ) -> Result<(bool, u64), Fail>
     requires workers { (1 ≤ way.workers) × (way.workers ≤ 64) }
     requires cache { way.cache ≤ 65536 }
@@ -205,11 +205,11 @@ fn explored<R: Threads + Wait + Sync>(
 }
 
 /// By that many workers, who keep that many outcomes.
-fn way(workers: u8, cache: u32, first: bool) -> Way
+fn way(workers: u8, cache: u32, first: bool) -> RunWay
     ensures workers { result.workers ≡ workers }
     ensures cache { result.cache ≡ cache }
 {
-    Way {
+    RunWay {
         workers,
         cache,
         first,
@@ -244,7 +244,7 @@ fn explores_a_part_of_the_images(rt: HostRuntime) -> Result<(), Fail> {
         (FROM_70.as_slice(), true, 1, 70),
     ];
     for (program, first, lines, image) in rows {
-        let part = Way {
+        let part = RunWay {
             workers: 1,
             cache: 0,
             first,

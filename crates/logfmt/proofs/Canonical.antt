@@ -6,6 +6,7 @@ use Rattle.std.proofs.lemmas.List.Concat.{flat_map-append}
 use Rattle.std.proofs.lemmas.List.Sums.{get_or-le-sum_by}
 use Rattle.std.proofs.lemmas.Option.{slice_get_within, get_or_from_slice_get}
 use Rattle.base.specs.Numbers.{number_at, number_bytes, zeros}
+use Rattle.base.specs.Sizes.{most_units}
 use Rattle.base.proofs.Lists.{split_at_place, number_at-number_bytes, length-number_bytes, length-zeros}
 use Rattle.logfmt.specs.declared.entry.Entry.{Entry}
 use Rattle.logfmt.specs.Flags.{flag_word}
@@ -50,7 +51,7 @@ slice_range-between front part rest i j before to =
     rw (gap, drop_at front (part ++ rest) i before) (take_at part rest (length part) refl)
 
 -- an entry's sectors after 512 * p bytes stand in sector p
-stands_after : (sectors : ℕ) (front rest : List ℕ) (p : ℕ) (e : Entry) → IsEntry sectors e → e.count ≤ 262144
+stands_after : (sectors : ℕ) (front rest : List ℕ) (p : ℕ) (e : Entry) → IsEntry sectors e → e.count ≤ most_units
     → length front ≡ 512 * p → StandsAt (front ++ (entry_sectors e ++ rest)) p e
 unfolding header_sector
 stands_after sectors front rest p e is few before =
@@ -115,7 +116,7 @@ front_length sectors (e ∷ es) (suc i) are h =
     omega (arith, rest, long, both, placed)
 
 -- an entry is no larger than the limit of units
-count_fits : (es : List Entry) (i : ℕ) (e : Entry) → slice_get es i ≡ Some e → units_of es ≤ 262144 → e.count ≤ 262144
+count_fits : (es : List Entry) (i : ℕ) (e : Entry) → slice_get es i ≡ Some e → units_of es ≤ most_units → e.count ≤ most_units
 count_fits es i e here units =
     let within = slice_get_within es i e here in
     let part = get_or-le-sum_by (λ (x : Entry). x.count) es i e within in
@@ -123,7 +124,7 @@ count_fits es i e here units =
     let counts : (get_or es i e).count ≡ e.count = ap (λ (x : Entry). x.count) is in
     omega (arith, part, counts, units)
 
-all_stand : (sectors : ℕ) (es : List Entry) → AreEntries sectors es → units_of es ≤ 262144 → AllStand (canonical_text es) es
+all_stand : (sectors : ℕ) (es : List Entry) → AreEntries sectors es → units_of es ≤ most_units → AllStand (canonical_text es) es
 all_stand sectors es are units i e here =
     let front : List ℕ = super_sector (length es) ++ flat_map entry_sectors (take i es) in
     let rest : List ℕ = flat_map entry_sectors (drop (suc i) es) in

@@ -4,7 +4,7 @@ use Rattle.std.proofs.lemmas.Bool.Decides.{nat_tests}
 use Rattle.std.proofs.lemmas.List.Sums.{sum_by_more, sum_by_more_le}
 use Rattle.std.proofs.lemmas.Option.{slice_get_cases}
 use Rattle.base.specs.Check.{first_failing}
-use Rattle.base.specs.Sizes.{byte_limit}
+use Rattle.base.specs.Sizes.{byte_limit, unit_limit}
 use Rattle.base.specs.declared.limits.Limits.{Limits}
 use Rattle.base.specs.Numbers.{number_at}
 use Rattle.logfmt.specs.declared.entry.Entry.{Entry}
@@ -63,16 +63,16 @@ mark_passes bytes sectors p e stands is recorded =
     ] in
     rw bit (by_kind e.flags.mark refl)
 
-entry_passes : (bytes : List ℕ) (sectors p units : ℕ) (e : Entry) → StandsAt bytes p e → IsEntry sectors e
-    → (e.flags.mark ≡ true → e.flags.flush ≡ false) → units + e.count ≤ 262144
-    → first_failing (entry_checks bytes sectors p units) ≡ None
+entry_passes : (bytes : List ℕ) (sectors : ℕ) (limits : Limits) (p units : ℕ) (e : Entry) → StandsAt bytes p e → IsEntry sectors e
+    → (e.flags.mark ≡ true → e.flags.flush ≡ false) → units + e.count ≤ unit_limit limits
+    → first_failing (entry_checks bytes sectors limits p units) ≡ None
 unfolding entry_checks
-entry_passes bytes sectors p units e stands is recorded few =
+entry_passes bytes sectors limits p units e stands is recorded few =
     let here : nat_le (512 * (p + 1)) (length bytes) ≡ true = grind (arith, nat_tests, stands.whole) in
     let known : nat_lt (word_at bytes p) 32 ≡ true = grind (arith, nat_tests, stands.flags, flag_word-lt e.flags) in
     let inside : ((count_at bytes p == 0) || nat_le (sector_at bytes p + count_at bytes p) sectors) ≡ true =
     grind (arith, nat_tests, stands.count, stands.sector, is.device) in
-    let room : nat_le (units + count_at bytes p) 262144 ≡ true = grind (arith, nat_tests, stands.count, few) in
+    let room : nat_le (units + count_at bytes p) (unit_limit limits) ≡ true = grind (arith, nat_tests, stands.count, few) in
     let beyond : data_of e ≡ data_sectors bytes p = same_data bytes p e stands in
     let whole : nat_le (512 * (p + 1 + data_sectors bytes p)) (length bytes) ≡ true = grind (arith, nat_tests, stands.whole, beyond) in
     rw (here, known, length_passes bytes sectors p e stands is, mark_passes bytes sectors p e stands is recorded, inside, room, whole) refl
@@ -105,8 +105,9 @@ units_so_far bytes es (suc i) stand h =
       | inr past ↦ absurd (omega (arith, past.0, h))
     ]
 
-text_passes : (bytes : List ℕ) (log : LogValue) (i : ℕ) → LogText bytes log → i < length log.entries → entry_fault bytes log.sectors i ≡ None
-text_passes bytes log i text h =
+text_passes : (bytes : List ℕ) (log : LogValue) (limits : Limits) (i : ℕ) → LogText bytes log → units_of log.entries ≤ unit_limit limits
+    → i < length log.entries → entry_fault bytes log.sectors limits i ≡ None
+text_passes bytes log limits i text units h =
     let es : List Entry = log.entries in
     let placed : header bytes i ≡ place es i = header_place bytes es i text.stands (omega (arith, h)) in
     let before : units_before bytes i ≡ units_of (take i es) = units_so_far bytes es i text.stands (omega (arith, h)) in
@@ -114,19 +115,18 @@ text_passes bytes log i text h =
       | inl a ↦
           let part = sum_by_more_le (λ (x : Entry). x.count) es i a.0 h in
           let same : (get_or es i a.0).count ≡ a.0.count = ap (λ (x : Entry). x.count) a.3 in
-          let units = text.bounds.units in
           rw (placed, before)
-          (entry_passes bytes log.sectors (place es i) (units_of (take i es)) a.0 (text.stands i a.0 a.2) (text.bounds.entries i a.0 a.2) (text.recorded i a.0 a.2) (omega (arith, part, same, units)))
+          (entry_passes bytes log.sectors limits (place es i) (units_of (take i es)) a.0 (text.stands i a.0 a.2) (text.bounds.entries i a.0 a.2) (text.recorded i a.0 a.2) (omega (arith, part, same, units)))
       | inr past ↦ absurd (omega (arith, past.0, h))
     ]
 
 -- the two definitions agree: no check fails at a text of a log
 pub text_has_no_fault : TextHasNoFault
-text_has_no_fault bytes log limits cause at text short fault =
+text_has_no_fault bytes log limits cause at text short few fault =
     elim fault as (λ k n _. ⊥) [
       | in_super c failing ↦ let bad : None ≡ Some c = sym (super_passes bytes log limits text short) ∙ failing in cc
       | in_entry c number clean lt pass failing ↦
           let within : number < length log.entries = omega (arith, lt, text.super.entries) in
-          let bad : None ≡ Some c = sym (text_passes bytes log number text within) ∙ failing in
+          let bad : None ≡ Some c = sym (text_passes bytes log limits number text few within) ∙ failing in
           cc
     ]

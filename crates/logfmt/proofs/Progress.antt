@@ -4,8 +4,9 @@ use Rattle.std.proofs.lemmas.List.Sums.{sum_by_push}
 use Rattle.std.proofs.lemmas.Option.{slice_get_within}
 use Rattle.base.proofs.Lists.{slice_get-append_left, slice_get-push, slice_get_of_push}
 use Rattle.base.specs.Check.{first_failing}
-use Rattle.base.specs.Sizes.{most_sectors}
+use Rattle.base.specs.Sizes.{most_sectors, most_units, unit_limit}
 use Rattle.base.specs.declared.limits.Limits.{Limits}
+use Rattle.base.specs.declared.limits.Limits.TheVariants as limits
 use Rattle.logfmt.specs.declared.entry.Entry.{Entry}
 use Rattle.logfmt.specs.Bounds.{IsEntry, AreEntries, AreRecorded, units_of, data_of, place}
 use Rattle.base.specs.Numbers.{number_at}
@@ -17,18 +18,18 @@ use Rattle.logfmt.specs.declared.header.Header.{Header}
 use Rattle.logfmt.specs.Header.{HeaderStands}
 
 -- the first n entries are read, the next header stands in sector p, and the entries have u units
-pub record Progress (bytes : List ℕ) (sectors : ℕ) (es : List Entry) (n p u : ℕ) : Type 0 where
+pub record Progress (bytes : List ℕ) (sectors : ℕ) (limits : Limits) (es : List Entry) (n p u : ℕ) : Type 0 where
   pub count : length es ≡ n
   pub placed : place es n ≡ p
   pub header : header bytes n ≡ p
   pub before : units_before bytes n ≡ u
   pub sum : units_of es ≡ u
   pub inside : 512 * p ≤ length bytes
-  pub within : u ≤ 262144
+  pub within : u ≤ unit_limit limits
   pub stand : AllStand bytes es
   pub entries : AreEntries sectors es
   pub recorded : AreRecorded es
-  pub pass : EntriesPass bytes sectors n
+  pub pass : EntriesPass bytes sectors limits n
 
 -- the header places do not depend on what follows
 pub place-push : (es : List Entry) (e : Entry) (i : ℕ) → i ≤ length es → place (es ++ e ∷ []) i ≡ place es i
@@ -47,8 +48,8 @@ place-last es e =
     rw (here, last) refl
 
 -- before the first entry
-pub start : (bytes : List ℕ) (sectors : ℕ) → 512 ≤ length bytes → Progress bytes sectors [] 0 1 0
-start bytes sectors h = record {
+pub start : (bytes : List ℕ) (sectors : ℕ) (limits : Limits) → 512 ≤ length bytes → Progress bytes sectors limits [] 0 1 0
+start bytes sectors limits h = record {
   count = refl;
   placed = refl;
   header = refl;
@@ -68,13 +69,13 @@ same_data bytes p e stands =
     rw (stands.count, flag_discard e.flags, stands.flags) refl
 
 -- one entry more, whose header passes its checks
-pub go_on : (bytes : List ℕ) (sectors : ℕ) (es : List Entry) (n p u : ℕ) (e : Entry)
-    → Progress bytes sectors es n p u
-    → first_failing (entry_checks bytes sectors p u) ≡ None
+pub go_on : (bytes : List ℕ) (sectors : ℕ) (limits : Limits) (es : List Entry) (n p u : ℕ) (e : Entry)
+    → Progress bytes sectors limits es n p u
+    → first_failing (entry_checks bytes sectors limits p u) ≡ None
     → StandsAt bytes p e → IsEntry sectors e → (e.flags.mark ≡ true → e.flags.flush ≡ false)
-    → (h : Header) → HeaderStands bytes p h → u + h.count ≤ 262144 → (d : ℕ) → d ≡ (if h.flags.discard then 0 else h.count)
-    → Progress bytes sectors (es ++ e ∷ []) (n + 1) (p + (1 + d)) (u + h.count)
-go_on bytes sectors es n p u e so passes stands fits recorded h has room d beyond_is =
+    → (h : Header) → HeaderStands bytes p h → u + h.count ≤ unit_limit limits → (d : ℕ) → d ≡ (if h.flags.discard then 0 else h.count)
+    → Progress bytes sectors limits (es ++ e ∷ []) (n + 1) (p + (1 + d)) (u + h.count)
+go_on bytes sectors limits es n p u e so passes stands fits recorded h has room d beyond_is =
     let count : e.count ≡ h.count = stands.count ∙ sym has.count in
     let beyond : d ≡ data_sectors bytes p = beyond_is ∙ rw (has.discard, has.count) refl in
     let content : data_of e ≡ data_sectors bytes p = same_data bytes p e stands in
@@ -101,20 +102,25 @@ go_on bytes sectors es n p u e so passes stands fits recorded h has room d beyon
       pass = below_more _ n so.pass (rw (so.header, so.before) passes);
     }
 
+-- the limits of any log are the larger ones
+unit_limit_most : (limits : Limits) → unit_limit limits ≤ most_units
+unit_limit_most limits.Usual = omega arith
+unit_limit_most limits.Large = omega arith
+
 -- where all entries are read the bytes are the text of their log
 pub whole_text : (bytes : List ℕ) (sectors : ℕ) (allowed : Limits) (es : List Entry) (n p u : ℕ) → SuperPasses bytes allowed → 1 ≤ sectors → sectors ≤ most_sectors
-    → number_at 8 16 bytes ≡ n → Progress bytes sectors es n p u → LogText bytes (record { sectors = sectors; entries = es; initial = [] })
+    → number_at 8 16 bytes ≡ n → Progress bytes sectors allowed es n p u → LogText bytes (record { sectors = sectors; entries = es; initial = [] })
 whole_text bytes sectors allowed es n p u s some device count so = record {
   size = s.most;
   super = record { whole = s.whole; magic = s.magic; version = s.version; entries = count ∙ sym so.count; sector_size = s.sector_size };
   stands = so.stand;
-  bounds = record { some = some; device = device; count = omega (arith, s.count, count, so.count); units = omega (arith, so.sum, so.within); entries = so.entries; size = rw (so.count, so.placed) (omega (arith, so.inside, s.most)); held = omega arith; initial = λ i. omega arith };
+  bounds = record { some = some; device = device; count = omega (arith, s.count, count, so.count); units = omega (arith, so.sum, so.within, unit_limit_most allowed); entries = so.entries; size = rw (so.count, so.placed) (omega (arith, so.inside, s.most)); held = omega arith; initial = λ i. omega arith };
   recorded = so.recorded;
 }
 
 -- the first fault, at an entry after those that passed
 pub fault_here : (bytes : List ℕ) (sectors : ℕ) (allowed : Limits) (es : List Entry) (n p u : ℕ) (c : LogCause) → first_failing (super_checks bytes allowed) ≡ None
-    → n < number_at 8 16 bytes → Progress bytes sectors es n p u → first_failing (entry_checks bytes sectors p u) ≡ Some c
+    → n < number_at 8 16 bytes → Progress bytes sectors allowed es n p u → first_failing (entry_checks bytes sectors allowed p u) ≡ Some c
     → FirstFault bytes sectors allowed c n
 fault_here bytes sectors allowed es n p u c clean lt so failing =
     in_entry c n clean lt so.pass (rw (so.header, so.before) failing)

@@ -2,7 +2,7 @@
 use Rattle.std.specs.Prelude.{ℕ, zero, suc, ◌+◌, ◌*◌, ◌^◌, ◌≡◌, ◌<◌, ◌≤◌, true, false, if◌then◌else◌, List, [], length, sum_by, slice_get, Some}
 use Rattle.std.specs.List.{slice_index}
 use Rattle.std.specs.Option.{option_map_or}
-use Rattle.base.specs.Sizes.{most_sectors, most_log_bytes}
+use Rattle.base.specs.Sizes.{most_sectors, most_log_bytes, most_units}
 use Rattle.logfmt.specs.declared.entry.Entry.{Entry}
 
 -- a log: the number of sectors of its device, its entries in order, and what the device held before entry 0: its first bytes,
@@ -62,7 +62,7 @@ pub record IsLog (log : LogValue) : Type 0 where
   pub some : 1 ≤ log.sectors
   pub device : log.sectors ≤ most_sectors
   pub count : length log.entries ≤ 65536
-  pub units : units_of log.entries ≤ 262144
+  pub units : units_of log.entries ≤ most_units
   pub entries : AreEntries log.sectors log.entries
   pub size : 512 * place log.entries (length log.entries) ≤ most_log_bytes
   pub held : length log.initial ≤ 512 * log.sectors

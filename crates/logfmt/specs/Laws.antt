@@ -1,9 +1,9 @@
 -- What holds of the texts of logs as a whole: `read` and `write` lead back and forth.
 use Rattle.std.specs.Prelude.{ℕ, ◌≡◌, ◌≤◌, List, length}
-use Rattle.base.specs.Sizes.{byte_limit}
+use Rattle.base.specs.Sizes.{byte_limit, unit_limit}
 use Rattle.base.specs.declared.limits.Limits.{Limits}
 use Rattle.base.specs.declared.causes.LogCause.{LogCause}
-use Rattle.logfmt.specs.Bounds.{LogValue, IsLog, AreRecorded}
+use Rattle.logfmt.specs.Bounds.{LogValue, IsLog, AreRecorded, units_of}
 use Rattle.logfmt.specs.LogText.{LogText, canonical_text}
 use Rattle.logfmt.specs.Faults.{FirstFault}
 
@@ -21,11 +21,11 @@ CanonicalReadsBack =
     (log read : LogValue) → IsLog log → AreRecorded log.entries → LogText (canonical_text log.entries) read → read.sectors ≡ log.sectors
     → read.initial ≡ log.initial → read ≡ log
 
--- no check fails at a text of a log that is no longer than the limits allow
+-- no check fails at a text of a log that is no longer, and has no more units, than the limits allow
 abbrev pub TextHasNoFault : Type 0
 TextHasNoFault =
     (bytes : List ℕ) (log : LogValue) (limits : Limits) (cause : LogCause) (at : ℕ) → LogText bytes log → length bytes ≤ byte_limit limits
-    → ¬ (FirstFault bytes log.sectors limits cause at)
+    → units_of log.entries ≤ unit_limit limits → ¬ (FirstFault bytes log.sectors limits cause at)
 
 -- the first fault of bytes for a device, within the same limits, is one
 abbrev pub OneFault : Type 0

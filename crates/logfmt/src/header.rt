@@ -2,7 +2,7 @@
 
 ghost use Rattle.std.specs.Prelude.{◌≡◌, ◌==◌, ◌≤◌, ◌<◌, ◌+◌, ◌*◌, ◌||◌, ◌↔◌, nat_le, if◌then◌else◌, length, IsTrue, IfOk, MatchResult, Some, None};
 ghost use Rattle.base.specs.Check.{first_failing};
-ghost use Rattle.base.specs.Sizes.{most_log_bytes, most_sectors};
+ghost use Rattle.base.specs.Sizes.{most_log_bytes, most_sectors, unit_limit};
 ghost use Rattle.logfmt.specs.Faults.{entry_checks, has_mark_form};
 ghost use Rattle.logfmt.specs.Flags.{has_bit};
 ghost use Rattle.logfmt.specs.Header.{HeaderStands, HeaderFits, IsMarkHeader};
@@ -10,10 +10,8 @@ ghost use Rattle.logfmt.specs.Header.{HeaderStands, HeaderFits, IsMarkHeader};
 use crate::entry::{MAX_TEXT, SECTOR};
 use crate::flags::Flags;
 use base::causes::LogCause;
+use base::limits::Limits;
 use base::numbers::u64_at;
-
-/// How many units a log may have: one for each sector of a write or a discard.
-const MAX_UNITS: u64 = 262_144;
 
 /// The fields of an entry's header.
 #[derive(Clone, Copy)]
@@ -69,16 +67,17 @@ pub(crate) fn checked_header(
     bytes: &[u8],
     at: usize,
     sectors: u32,
+    limits: Limits,
     units: u64,
 ) -> Result<Header, LogCause>
     requires size { length bytes.now ≤ most_log_bytes }
     requires place { 512 * at ≤ most_log_bytes }
     requires device { sectors ≤ most_sectors }
-    requires units { units ≤ 262144 }
-    ensures exact { MatchResult result (λ _. first_failing (entry_checks bytes.now sectors at units) ≡ None) (λ c. first_failing (entry_checks bytes.now sectors at units) ≡ Some c) }
+    requires units { units ≤ unit_limit limits }
+    ensures exact { MatchResult result (λ _. first_failing (entry_checks bytes.now sectors limits at units) ≡ None) (λ c. first_failing (entry_checks bytes.now sectors limits at units) ≡ Some c) }
     ensures stands { IfOk result (HeaderStands bytes.now at) }
     ensures fits { IfOk result (HeaderFits sectors) }
-    ensures within { IfOk result (λ h. units + h.count ≤ 262144) }
+    ensures within { IfOk result (λ h. units + h.count ≤ unit_limit limits) }
 {
     if SECTOR * (at + 1) > bytes.len() {
         return Err(LogCause::CutShort);
@@ -101,7 +100,8 @@ pub(crate) fn checked_header(
     if !header.is_on_device(sectors) {
         return Err(LogCause::Device);
     }
-    if units + header.count > MAX_UNITS {
+    let most = limits.units();
+    if units + header.count > most {
         return Err(LogCause::Limit);
     }
     if SECTOR * (at + 1 + header.data_sectors() as usize) > bytes.len() {

@@ -80,7 +80,7 @@
 //!   the end of their last sector (`InitialContent`): a byte of it is then an element of one list, and 0 after its
 //!   end; and each sector can be lent whole.
 //! - Entries, units, images and all else are the same with `--large`: these bound the memory and the time of a run.
-//!   192 MiB is more than entries and units can need.
+//!   1 GiB has room for nearly all units as writes.
 //!
 //! # How it is proved
 //!

@@ -2,10 +2,10 @@
 
 ghost use Rattle.std.specs.Prelude.{true, false, ◌≡◌, ◌≤◌, ◌<◌, ◌+◌, ◌*◌, ◌⊎◌, [], length, IfOk, IfErr, IfNone, OnOk, if◌then◌else◌};
 ghost use Rattle.base.specs.Check.{first_failing};
-ghost use Rattle.base.specs.Sizes.{byte_limit, most_log_bytes, most_sectors};
+ghost use Rattle.base.specs.Sizes.{byte_limit, most_log_bytes, most_sectors, unit_limit};
 ghost use Rattle.base.specs.Numbers.{number_at};
 ghost use Rattle.base.specs.declared.causes.LogCause.TheVariants as cause;
-ghost use Rattle.logfmt.specs.Bounds.{AreBytes, IsEntry, data_of};
+ghost use Rattle.logfmt.specs.Bounds.{AreBytes, IsEntry, data_of, units_of};
 ghost use Rattle.std.specs.List.{slice_range};
 ghost use Rattle.logfmt.specs.LogText.{LogText, StandsAt};
 ghost use Rattle.logfmt.specs.Faults.{FirstFault, HasNoFault, super_checks, SuperPasses};
@@ -98,7 +98,7 @@ fn entry_of(
 }
 
 /// Reads a log for a device of `sectors` sectors of 512 bytes (docs/LOG-FORMAT.md), which held zeros before entry 0. The limits
-/// say how many bytes it may have.
+/// say how many bytes and units it may have.
 ///
 /// # Errors
 ///
@@ -109,6 +109,7 @@ pub fn read(alloc: Global, bytes: &[u8], sectors: u32, limits: Limits) -> Result
     requires device { sectors ≤ most_sectors }
     ensures found { IfOk result (LogText bytes.now) }
     ensures size { OnOk result (length bytes.now ≤ byte_limit limits) }
+    ensures units { IfOk result (λ log. units_of log.entries ≤ unit_limit limits) }
     ensures sectors { IfOk result (λ log. log.sectors ≡ sectors) }
     ensures initial { IfOk result (λ log. log.initial ≡ []) }
     ensures clean { OnOk result (HasNoFault bytes.now sectors limits) }
@@ -122,7 +123,7 @@ pub fn read(alloc: Global, bytes: &[u8], sectors: u32, limits: Limits) -> Result
     let mut at = 1;
     let mut units = 0;
     for number in 0..count {
-        let header = match checked_header(bytes, at, sectors, units) {
+        let header = match checked_header(bytes, at, sectors, limits, units) {
             Ok(header) => header,
             Err(code) => return Err(LogFault { code, at: number }),
         };

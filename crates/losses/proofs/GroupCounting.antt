@@ -6,7 +6,7 @@ use Rattle.std.proofs.lemmas.List.{length-replicate, length-set, get_or-set_same
 use Rattle.std.proofs.lemmas.List.Filters.{length-filter_more}
 use Rattle.std.proofs.lemmas.List.Elements.{filter-append}
 use Rattle.base.proofs.Lists.{range_with_len-more}
-use Rattle.losses.specs.declared.why.group.Group.{Group}
+use Rattle.losses.specs.declared.why.group.FailingGroup.{FailingGroup}
 use Rattle.losses.specs.CountedGroups.{times, group_at, has_images}
 
 pub times_few : (k : ℕ) (ns : List ℕ) → times k ns ≤ length ns
@@ -54,12 +54,12 @@ count_more ns counts i place new are lt is within was =
         get_or-set_other counts place k (new + 1) 0 away ∙ omega (arith, own, more, none)
 
 -- the groups of one image more
-pub group_more : (outcomes : List (List ℕ)) (begin : ℕ) (images places : List ℕ) (i : ℕ) (g : Group) (groups more : List Group)
+pub group_more : (outcomes : List (List ℕ)) (begin : ℕ) (images places : List ℕ) (i : ℕ) (g : FailingGroup) (groups more : List FailingGroup)
     → groups ≡ filter has_images (map (group_at outcomes begin images places) (range_with_len 0 i))
     → g ≡ group_at outcomes begin images places i → more ≡ groups ++ filter has_images (g ∷ [])
     → more ≡ filter has_images (map (group_at outcomes begin images places) (range_with_len 0 (i + 1)))
 group_more outcomes begin images places i g groups more are is on =
-    let f : ℕ → Group = group_at outcomes begin images places in
+    let f : ℕ → FailingGroup = group_at outcomes begin images places in
     let zero_first : 0 + i ≡ i = omega arith in
     let ranges = range_with_len-more 0 i ∙ ap (λ k. range_with_len 0 i ++ k ∷ []) zero_first in
     on ∙ ap (λ gs. gs ++ filter has_images (g ∷ [])) are ∙ ap (λ x. filter has_images (map f (range_with_len 0 i)) ++ filter has_images (x ∷ [])) is

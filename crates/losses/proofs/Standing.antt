@@ -11,7 +11,7 @@ use Rattle.epochs.specs.Cuts.{cuts_of}
 use Rattle.choices.specs.Sums.{StartsValue}
 use Rattle.choices.proofs.Plans.{before_none, before_more, before_all}
 use Rattle.losses.specs.Folded.{StandsUnder}
-use Rattle.losses.specs.declared.why.group.Group.{Group}
+use Rattle.losses.specs.declared.why.group.FailingGroup.{FailingGroup}
 use Rattle.losses.specs.declared.why.cut.CutFailures.{CutFailures}
 use Rattle.losses.specs.CountedGroups.{times, group_at, has_images, groups_of}
 use Rattle.losses.specs.Failures.{is_between, first_at, IsCut}
@@ -78,38 +78,38 @@ all_below n (x ∷ xs) below =
     omega (arith, a, b, rest)
 
 -- the numbers of groups without images make no difference
-sum_of_those : (gs : List Group) → sum_by (λ (g : Group). g.failing) (filter has_images gs) ≡ sum_by (λ (g : Group). g.failing) gs
+sum_of_those : (gs : List FailingGroup) → sum_by (λ (g : FailingGroup). g.failing) (filter has_images gs) ≡ sum_by (λ (g : FailingGroup). g.failing) gs
 sum_of_those [] = refl
 sum_of_those (g ∷ gs) = by_test (sum_of_those gs) (g.failing == 0) refl
   where
-    by_test : sum_by (λ (h : Group). h.failing) (filter has_images gs) ≡ sum_by (λ (h : Group). h.failing) gs → (b : Bool) → (g.failing == 0) ≡ b
-        → sum_by (λ (h : Group). h.failing) (cond (not b) (g ∷ filter has_images gs) (filter has_images gs)) ≡ sum_by (λ (h : Group). h.failing) (g ∷ gs)
+    by_test : sum_by (λ (h : FailingGroup). h.failing) (filter has_images gs) ≡ sum_by (λ (h : FailingGroup). h.failing) gs → (b : Bool) → (g.failing == 0) ≡ b
+        → sum_by (λ (h : FailingGroup). h.failing) (cond (not b) (g ∷ filter has_images gs) (filter has_images gs)) ≡ sum_by (λ (h : FailingGroup). h.failing) (g ∷ gs)
     by_test rest true e =
         let none : g.failing ≡ 0 = grind (arith, nat_tests, e) in
-        let all = sum_by-cons (λ (h : Group). h.failing) g gs in
+        let all = sum_by-cons (λ (h : FailingGroup). h.failing) g gs in
         omega (arith, none, rest, all)
     by_test rest false e =
-        let all = sum_by-cons (λ (h : Group). h.failing) g gs in
-        let those = sum_by-cons (λ (h : Group). h.failing) g (filter has_images gs) in
+        let all = sum_by-cons (λ (h : FailingGroup). h.failing) g gs in
+        let those = sum_by-cons (λ (h : FailingGroup). h.failing) g (filter has_images gs) in
         omega (arith, rest, all, those)
 
 -- the groups of the first places
 first_sum : (outcomes : List (List ℕ)) (begin : ℕ) (images places : List ℕ) (n : ℕ)
-    → sum_by (λ (g : Group). g.failing) (map (group_at outcomes begin images places) (range_with_len 0 n)) ≡ length (filter (λ x. nat_lt x n) places)
+    → sum_by (λ (g : FailingGroup). g.failing) (map (group_at outcomes begin images places) (range_with_len 0 n)) ≡ length (filter (λ x. nat_lt x n) places)
 first_sum outcomes begin images places zero = sym (below_none places)
 first_sum outcomes begin images places (suc n) =
-    let f : ℕ → Group = group_at outcomes begin images places in
+    let f : ℕ → FailingGroup = group_at outcomes begin images places in
     let rest = first_sum outcomes begin images places n in
     let more = below_more n places in
     let last : 0 + n ≡ n = omega arith in
     let ranges = range_with_len-push 0 n ∙ ap (λ k. range_with_len 0 n ++ k ∷ []) last in
-    let parts = ap (λ ks. sum_by (λ (g : Group). g.failing) (map f ks)) ranges ∙ ap (λ gs. sum_by (λ (g : Group). g.failing) gs) (map-append f (range_with_len 0 n) (n ∷ [])) in
-    let both = sum_by-append (λ (g : Group). g.failing) (map f (range_with_len 0 n)) (f n ∷ []) in
-    let own = sum_by-cons (λ (g : Group). g.failing) (f n) [] in
+    let parts = ap (λ ks. sum_by (λ (g : FailingGroup). g.failing) (map f ks)) ranges ∙ ap (λ gs. sum_by (λ (g : FailingGroup). g.failing) gs) (map-append f (range_with_len 0 n) (n ∷ [])) in
+    let both = sum_by-append (λ (g : FailingGroup). g.failing) (map f (range_with_len 0 n)) (f n ∷ []) in
+    let own = sum_by-cons (λ (g : FailingGroup). g.failing) (f n) [] in
     parts ∙ omega (arith, rest, more, both, own)
 
 -- what is left of groups stands among them
-pub left_of_groups : (gs : List Group) (i : ℕ) (g : Group) → slice_get (filter has_images gs) i ≡ Some g → (k : ℕ) × (slice_get gs k ≡ Some g) × (has_images g ≡ true)
+pub left_of_groups : (gs : List FailingGroup) (i : ℕ) (g : FailingGroup) → slice_get (filter has_images gs) i ≡ Some g → (k : ℕ) × (slice_get gs k ≡ Some g) × (has_images g ≡ true)
 left_of_groups [] i g at = absurd (let bad : None ≡ Some g = at in cc)
 left_of_groups (h ∷ gs) i g at = by_test (λ j there. left_of_groups gs j g there) (has_images h) refl i at
   where
@@ -120,7 +120,7 @@ left_of_groups (h ∷ gs) i g at = by_test (λ j there. left_of_groups gs j g th
     by_test inner false e i at = let was = inner i at in (suc was.0, was.1, was.2)
 
 -- an element of what is made of a range
-pub of_range : (f : ℕ → Group) (a n i : ℕ) (g : Group) → slice_get (map f (range_with_len a n)) i ≡ Some g → (k : ℕ) × (k < a + n) × (g ≡ f k)
+pub of_range : (f : ℕ → FailingGroup) (a n i : ℕ) (g : FailingGroup) → slice_get (map f (range_with_len a n)) i ≡ Some g → (k : ℕ) × (k < a + n) × (g ≡ f k)
 of_range f a zero i g at = absurd (let bad : None ≡ Some g = at in cc)
 of_range f a (suc n) zero g at = let same : Some (f a) ≡ Some g = at in (a, omega arith, cc)
 of_range f a (suc n) (suc i) g at = let was = of_range f (a + 1) n i g at in let lt = was.1 in (was.0, omega (arith, lt), was.2)
@@ -140,7 +140,7 @@ positive zero h = absurd (let bad : false ≡ true = h in cc)
 positive (suc n) h = omega arith
 
 -- a group with images stands among those that are left
-stands_left : (gs : List Group) (k : ℕ) (g : Group) → slice_get gs k ≡ Some g → has_images g ≡ true → (number : ℕ) × (slice_get (filter has_images gs) number ≡ Some g)
+stands_left : (gs : List FailingGroup) (k : ℕ) (g : FailingGroup) → slice_get gs k ≡ Some g → has_images g ≡ true → (number : ℕ) × (slice_get (filter has_images gs) number ≡ Some g)
 stands_left [] k g at has = absurd (let bad : None ≡ Some g = at in cc)
 stands_left (h ∷ gs) zero g at has =
     let same : Some h ≡ Some g = at in
@@ -155,7 +155,7 @@ stands_left (h ∷ gs) (suc k) g at has = by_test (has_images h) (stands_left gs
     by_test false was = was
 
 -- what is made of a range, at a place
-made_at : (f : ℕ → Group) (a n k : ℕ) → k < n → slice_get (map f (range_with_len a n)) k ≡ Some (f (a + k))
+made_at : (f : ℕ → FailingGroup) (a n k : ℕ) → k < n → slice_get (map f (range_with_len a n)) k ≡ Some (f (a + k))
 made_at f a zero k lt = absurd (omega (arith, lt))
 made_at f a (suc n) zero lt = let same : a ≡ a + 0 = omega arith in ap (λ (i : ℕ). Some (f i)) same
 made_at f a (suc n) (suc k) lt =
@@ -190,37 +190,37 @@ group_is outcomes begin images places k lt =
       same = same_tells outcomes begin places k;
     }
 
-has_group : (outcomes : List (List ℕ)) (begin : ℕ) (images places : List ℕ) (groups : List Group) → groups ≡ groups_of outcomes begin images places
+has_group : (outcomes : List (List ℕ)) (begin : ℕ) (images places : List ℕ) (groups : List FailingGroup) → groups ≡ groups_of outcomes begin images places
     → (i k : ℕ) → slice_get places i ≡ Some k → k < length images → HasGroup outcomes begin images places groups k
 has_group outcomes begin images places groups listed i k at lt =
-    let f : ℕ → Group = group_at outcomes begin images places in
+    let f : ℕ → FailingGroup = group_at outcomes begin images places in
     let zero_first : 0 + k ≡ k = omega arith in
     let made : slice_get (map f (range_with_len 0 (length images))) k ≡ Some (f k) = made_at f 0 (length images) k lt ∙ ap (λ (j : ℕ). Some (f j)) zero_first in
     let left = stands_left (map f (range_with_len 0 (length images))) k (f k) made (not_none (times k places) (stands_there k places i at)) in
     record {
       number = left.0;
       group = f k;
-      there = ap (λ (gs : List Group). slice_get gs left.0) listed ∙ left.1;
+      there = ap (λ (gs : List FailingGroup). slice_get gs left.0) listed ∙ left.1;
       is_of = group_is outcomes begin images places k lt;
     }
 
-has_example : (outcomes : List (List ℕ)) (begin : ℕ) (images : List ℕ) (cs : List (List ℕ)) (places : List ℕ) (groups : List Group)
+has_example : (outcomes : List (List ℕ)) (begin : ℕ) (images : List ℕ) (cs : List (List ℕ)) (places : List ℕ) (groups : List FailingGroup)
     → groups ≡ groups_of outcomes begin images places → ((i k : ℕ) → slice_get places i ≡ Some k → StandsUnder cs i k)
-    → (number : ℕ) (g : Group) → slice_get groups number ≡ Some g → HasExample outcomes begin images places cs g
+    → (number : ℕ) (g : FailingGroup) → slice_get groups number ≡ Some g → HasExample outcomes begin images places cs g
 has_example outcomes begin images cs places groups listed each number g at =
-    let f : ℕ → Group = group_at outcomes begin images places in
-    let left = left_of_groups (map f (range_with_len 0 (length images))) number g (ap (λ (gs : List Group). slice_get gs number) (sym listed) ∙ at) in
+    let f : ℕ → FailingGroup = group_at outcomes begin images places in
+    let left = left_of_groups (map f (range_with_len 0 (length images))) number g (ap (λ (gs : List FailingGroup). slice_get gs number) (sym listed) ∙ at) in
     let made = of_range f 0 (length images) left.0 g left.1 in
     let k : ℕ = made.0 in
     let within : k < length images = let lt = made.1 in omega (arith, lt) in
-    let count : g.failing ≡ times k places = ap (λ (h : Group). h.failing) made.2 in
+    let count : g.failing ≡ times k places = ap (λ (h : FailingGroup). h.failing) made.2 in
     let has = left.2 in
     let some : 0 < g.failing = positive g.failing has in
     let place = some_place k places (omega (arith, some, count)) in
     record {
       place = k;
       smallest = (each place.0 k place.1).example.smallest;
-      is_of = subst (λ (h : Group). IsGroupOf outcomes begin images places k h) (sym made.2) (group_is outcomes begin images places k within);
+      is_of = subst (λ (h : FailingGroup). IsGroupOf outcomes begin images places k h) (sym made.2) (group_is outcomes begin images places k within);
     }
 
 -- an example is one of the choices
@@ -232,7 +232,7 @@ each_stands_once outcomes begin images cs groups are long is =
     let few : (i x : ℕ) → slice_get is.places i ≡ Some x → x < length images = λ i x at.
     let within = example_within cs i x (is.folded.each i x at) in
     omega (arith, within, long) in
-    let sums = ap (λ gs. sum_by (λ (g : Group). g.failing) gs) is.listed
+    let sums = ap (λ gs. sum_by (λ (g : FailingGroup). g.failing) gs) is.listed
     ∙ sum_of_those (map (group_at outcomes begin images is.places) (range_with_len 0 (length images)))
     ∙ first_sum outcomes begin images is.places (length images) ∙ all_below (length images) is.places few in
     let many = is.folded.each_once in

@@ -17,7 +17,7 @@ use Rattle.choices.specs.Sums.{StartsValue}
 use Rattle.losses.specs.declared.flushes.window.Window.{Window}
 use Rattle.losses.specs.Windows.{IsWindow, HasNoWindow}
 use Rattle.losses.specs.Places.{AreWindows}
-use Rattle.report.specs.declared.lines.marks.Mark.{Mark}
+use Rattle.report.specs.declared.lines.marks.LineMark.{LineMark}
 use Rattle.losses.specs.declared.cure.failure.Failure.{Failure}
 use Rattle.losses.specs.FailureWindows.{IsWindowIf, if_window, own_window, windows_in, HoldNoFlush, IsFailureAt, AreFailuresAt}
 
@@ -77,7 +77,7 @@ either way es cut ds None some none = none
 either way es cut ds (Some w) some none = some
 
 -- the failure of a mark
-pub failure_is : RankedIsModel → (s : StartsValue) (m : Mark) (c : ChoiceValue) (way : By) (es : List Entry) (cut : ℕ) (ds : List Departure) (w : Option Window)
+pub failure_is : RankedIsModel → (s : StartsValue) (m : LineMark) (c : ChoiceValue) (way : By) (es : List Entry) (cut : ℕ) (ds : List Departure) (w : Option Window)
     → slice_get (ranked_choices s.plan s.bound s.tears) m.image ≡ Some c → way ≡ s.plan.by → s.plan.log.entries ≡ es → cut ≡ c.cut → ds ≡ c.departures
     → IfSome w (IsWindow way es cut ds) → IfNone w (HasNoWindow way es cut ds) → IsFailureAt s m (record { program = m.program; window = w })
 failure_is law s m c way es cut ds w there ways own cuts departs some none =
@@ -99,7 +99,7 @@ failure_is law s m c way es cut ds w there ways own cuts departs some none =
 windows_more : (fs : List Failure) (f : Failure) → windows_in (fs ++ f ∷ []) ≡ windows_in fs ++ own_window f
 windows_more fs f = flat_map-append own_window fs (f ∷ []) ∙ ap (λ (ws : List Window). windows_in fs ++ ws) (append-nil (own_window f))
 
-pub one_more : (s : StartsValue) (ms : List Mark) (k : ℕ) (m : Mark) (fs : List Failure) (f : Failure) → slice_get ms k ≡ Some m → AreFailuresAt s (take k ms) fs → IsFailureAt s m f
+pub one_more : (s : StartsValue) (ms : List LineMark) (k : ℕ) (m : LineMark) (fs : List Failure) (f : Failure) → slice_get ms k ≡ Some m → AreFailuresAt s (take k ms) fs → IsFailureAt s m f
     → AreFailuresAt s (take (k + 1) ms) (fs ++ f ∷ [])
 one_more s ms k m fs f here was is =
     let more : take (k + 1) ms ≡ take k ms ++ m ∷ [] = ap (λ n. take n ms) (add-one k) ∙ take-suc_place ms k m here in
@@ -113,7 +113,7 @@ one_more s ms k m fs f here was is =
         ]
         | inr end ↦ elim (slice_get_of_push fs f i g own) [
           | inl there ↦ absurd (let lt = slice_get_within fs i g there in let e = end.0 in omega (arith, lt, e, long))
-          | inr last ↦ subst (λ (x : Mark). IsFailureAt s x g) (sym end.1) (subst (λ (x : Failure). IsFailureAt s m x) (sym last.1) is)
+          | inr last ↦ subst (λ (x : LineMark). IsFailureAt s x g) (sym end.1) (subst (λ (x : Failure). IsFailureAt s m x) (sym last.1) is)
         ]
       ];
       inside = λ i w at. elim (slice_get_of_append (windows_in fs) (own_window f) i w (ap (λ (ws : List Window). slice_get ws i) (sym (windows_more fs f)) ∙ at)) [

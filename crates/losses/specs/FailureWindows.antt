@@ -10,7 +10,7 @@ use Rattle.losses.specs.declared.flushes.window.Window.{Window}
 use Rattle.losses.specs.declared.flushes.counted.MissingFlush.{MissingFlush}
 use Rattle.losses.specs.Windows.{IsWindow, HasNoWindow}
 use Rattle.losses.specs.Places.{Holds, AreWindows}
-use Rattle.report.specs.declared.lines.marks.Mark.{Mark}
+use Rattle.report.specs.declared.lines.marks.LineMark.{LineMark}
 use Rattle.report.specs.Line.{FailingLine}
 use Rattle.losses.specs.declared.cure.failure.Failure.{Failure}
 
@@ -56,7 +56,7 @@ abbrev pub calm_entries : List Entry → ℕ
 calm_entries es = length (filter (λ (e : Entry). not e.flags.flush) es)
 
 -- the failure of a mark, by the choice of its image: its window holds no flush entry
-pub record IsFailureAt (s : StartsValue) (m : Mark) (f : Failure) : Type 0 where
+pub record IsFailureAt (s : StartsValue) (m : LineMark) (f : Failure) : Type 0 where
   pub program : f.program ≡ m.program
   pub choice : ChoiceValue
   pub there : slice_get (ranked_choices s.plan s.bound s.tears) m.image ≡ Some choice
@@ -64,8 +64,8 @@ pub record IsFailureAt (s : StartsValue) (m : Mark) (f : Failure) : Type 0 where
   pub inside : AreWindows (length s.plan.log.entries) (if_window f.window)
   pub calm : HoldNoFlush s.plan.log.entries (if_window f.window)
 
-pub record AreFailuresAt (s : StartsValue) (ms : List Mark) (fs : List Failure) : Type 0 where
+pub record AreFailuresAt (s : StartsValue) (ms : List LineMark) (fs : List Failure) : Type 0 where
   pub all : length fs ≡ length ms
-  pub each : (i : ℕ) (m : Mark) (f : Failure) → slice_get ms i ≡ Some m → slice_get fs i ≡ Some f → IsFailureAt s m f
+  pub each : (i : ℕ) (m : LineMark) (f : Failure) → slice_get ms i ≡ Some m → slice_get fs i ≡ Some f → IsFailureAt s m f
   pub inside : AreWindows (length s.plan.log.entries) (windows_in fs)
   pub calm : HoldNoFlush s.plan.log.entries (windows_in fs)

@@ -11,7 +11,7 @@ use Rattle.choices.specs.Sums.{StartsValue}
 use Rattle.epochs.specs.declared.part.By.{By}
 use Rattle.report.specs.ChoiceText.{part_text, departures_text}
 use Rattle.losses.specs.declared.why.cut.CutFailures.{CutFailures}
-use Rattle.losses.specs.declared.why.group.Group.{Group}
+use Rattle.losses.specs.declared.why.group.FailingGroup.{FailingGroup}
 use Rattle.losses.specs.CountedGroups.{ends_at}
 
 -- what became of a part, however much of it is torn
@@ -40,18 +40,18 @@ abbrev pub same_text : Bool → List ℕ
 same_text same = if same then codes ", all " else codes ", some "
 
 -- what a group has in common
-unfoldable pub group_head : By → List Departure → Group → List ℕ
+unfoldable pub group_head : By → List Departure → FailingGroup → List ℕ
 group_head way ds g = codes "group " ++ folded_text way ds ++ codes ": " ++ count_text g.failing ++ same_text g.same
 
 -- its example
-unfoldable pub example_text : By → List Departure → Group → List ℕ
+unfoldable pub example_text : By → List Departure → FailingGroup → List ℕ
 example_text way ds g = codes ", as image " ++ decimal g.image ++ codes " choice " ++ departures_text way ds ++ codes "\n"
 
 -- the line of a group whose example has these departures
-unfoldable pub chosen_line : By → List (List ℕ) → Group → List Departure → List ℕ
+unfoldable pub chosen_line : By → List (List ℕ) → FailingGroup → List Departure → List ℕ
 chosen_line way outcomes g ds = group_head way ds g ++ ends_at outcomes g.line ++ example_text way ds g
 
-abbrev pub group_line : By → StartsValue → List (List ℕ) → Group → List ℕ
+abbrev pub group_line : By → StartsValue → List (List ℕ) → FailingGroup → List ℕ
 group_line way s outcomes g = option_map_or (λ (c : ChoiceValue). chosen_line way outcomes g c.departures) (slice_get (ranked_choices s.plan s.bound s.tears) g.image) []
 
 unfoldable pub cut_head : ℕ → CutFailures → List ℕ
@@ -67,12 +67,12 @@ abbrev pub cuts_text : By → StartsValue → List (List ℕ) → ℕ → List C
 cuts_text way s outcomes program cs = flat_map (cut_text way s outcomes program) cs
 
 -- the images of the groups are images of the run, and have outcomes
-pub record IsNumbered (s : StartsValue) (lines : ℕ) (g : Group) : Type 0 where
+pub record IsNumbered (s : StartsValue) (lines : ℕ) (g : FailingGroup) : Type 0 where
   pub image : g.image < length (ranked_choices s.plan s.bound s.tears)
   pub line : g.line < lines
 
-abbrev pub AreNumbered : StartsValue → ℕ → List Group → Type 0
-AreNumbered s lines groups = (i : ℕ) (g : Group) → slice_get groups i ≡ Some g → IsNumbered s lines g
+abbrev pub AreNumbered : StartsValue → ℕ → List FailingGroup → Type 0
+AreNumbered s lines groups = (i : ℕ) (g : FailingGroup) → slice_get groups i ≡ Some g → IsNumbered s lines g
 
 -- and so are those of all cuts
 abbrev pub AreAllNumbered : StartsValue → ℕ → List CutFailures → Type 0

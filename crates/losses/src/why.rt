@@ -19,6 +19,6 @@ mod text;
 
 pub use cut::CutFailures;
 pub use cuts::failures;
-pub use group::Group;
+pub use group::FailingGroup;
 pub use laws::{all_stand, each_stands_once};
 pub use text::put_cuts;

@@ -30,8 +30,8 @@ use Rattle.intervals.specs.Reducing.{Limits, LimitsWithin, any_sign}
 use Rattle.intervals.specs.SignedResults.{limits_result_of}
 use Rattle.intervals.specs.SignedEdges.{limits_refined}
 use Rattle.intervals.proofs.Outcomes.{refined_fits}
-use Rattle.ranges.specs.declared.place.Place.{Place}
-use Rattle.ranges.specs.declared.place.Place.TheVariants as place
+use Rattle.ranges.specs.declared.place.AccessPlace.{AccessPlace}
+use Rattle.ranges.specs.declared.place.AccessPlace.TheVariants as place
 use Rattle.ranges.specs.Kinds.{Kind, Unset, Word, Num, Ctx, Stack, Sector, SectorOrNull, is_number, is_unknown, is_unset}
 use Rattle.ranges.specs.Groups.{GroupKind, Marked, Spilled, unset_marks, map_places}
 use Rattle.ranges.specs.States.{Abstract, unset_groups, start}
@@ -144,7 +144,7 @@ stored_below k gs hs at n a u = by_test (not (is_unknown k)) (is_group at n) ref
     by_test false c e = written_below at n 0 gs hs u
 
 -- the groups after a store or a copy, where the larger state breaks a rule; x is what the smaller one is left with
-forgotten_place : (x gs hs : List GroupKind) (p q : Place) (n : ℕ) → Each IsGroup x → length x ≡ 64 → (is_inside q ≡ true → p ≡ q)
+forgotten_place : (x gs hs : List GroupKind) (p q : AccessPlace) (n : ℕ) → Each IsGroup x → length x ≡ 64 → (is_inside q ≡ true → p ≡ q)
     → ((at : ℕ) → p ≡ place.Stack at → EachUnder GroupUnder x (map_places (group_forgotten at n) 0 hs)) → EachUnder GroupUnder x (groups_forgotten hs q n)
 unfolding groups_forgotten
 forgotten_place x gs hs p (place.Stack at) n a e same stored = stored at (same refl)
@@ -216,7 +216,7 @@ one_of_three false false x y z = tt
 context_is_word : (sectors at : ℕ) → IsWord (context_word sectors at)
 context_is_word sectors at = one_of_three (at == 0) (at == 8 || at == 16) (any_sign (only sectors)) (any_sign (span 0 65536)) (any_sign (only 0))
 
-loaded_word : (sectors : ℕ) (gs : List GroupKind) (p : Place) (n : ℕ) → Each IsGroup gs → IsWord (loaded_kind sectors gs p n)
+loaded_word : (sectors : ℕ) (gs : List GroupKind) (p : AccessPlace) (n : ℕ) → Each IsGroup gs → IsWord (loaded_kind sectors gs p n)
 unfolding loaded_kind
 loaded_word sectors gs (place.Context at) n a = by_test (is_group at n)
   where
@@ -231,7 +231,7 @@ loaded_word sectors gs (place.Stack at) n a = by_test (is_group at n)
 loaded_word sectors gs place.Outside n a = tt
 loaded_word sectors gs place.Sector n a = tt
 
-loaded_below : (sectors : ℕ) (gs : List GroupKind) (p : Place) (n : Size) → Each IsGroup gs → Under (loaded_kind sectors gs p (byte_count n)) (loosely_loaded n)
+loaded_below : (sectors : ℕ) (gs : List GroupKind) (p : AccessPlace) (n : Size) → Each IsGroup gs → Under (loaded_kind sectors gs p (byte_count n)) (loosely_loaded n)
 unfolding loaded_kind
 loaded_below sectors gs p size.Double a = loaded_word sectors gs p 8 a
 loaded_below sectors gs (place.Context at) size.Byte a = under_self (any_of 1)
@@ -248,7 +248,7 @@ loaded_below sectors gs place.Outside size.Word a = under_self (any_of 4)
 loaded_below sectors gs place.Sector size.Word a = under_self (any_of 4)
 
 -- a load of the program's own memory gives any number, and so does one of no place
-loaded_outside : (sectors : ℕ) (gs : List GroupKind) (p : Place) (n : ℕ) → p ≡ place.Outside → loaded_kind sectors gs p n ≡ any_of n
+loaded_outside : (sectors : ℕ) (gs : List GroupKind) (p : AccessPlace) (n : ℕ) → p ≡ place.Outside → loaded_kind sectors gs p n ≡ any_of n
 unfolding loaded_kind
 loaded_outside sectors gs p n e = rw e refl
 
@@ -287,7 +287,7 @@ same_place : (s t : Abstract) (base : ℕ) (d : ℤ) (n : ℕ) → IsState s →
     → place_of (value s base) d n ≡ place_of (value t base) d n
 same_place s t base d n a u inside = place_under (value s base) (value t base) d n (value_fits s base a) (value_under s t base u) inside
 
-kept_groups : (k : Kind) (gs : List GroupKind) (p : Place) (n : ℕ) → p ≡ place.Outside → stored_groups k gs p n ≡ gs
+kept_groups : (k : Kind) (gs : List GroupKind) (p : AccessPlace) (n : ℕ) → p ≡ place.Outside → stored_groups k gs p n ≡ gs
 unfolding stored_groups
 kept_groups k gs p n e = rw e refl
 
@@ -311,7 +311,7 @@ kept_store s t k n base d a u fits = by (is_own_memory (value t base) d n) refl
         with_groups_under s t (stored_groups k s.groups p n) (groups_forgotten t.groups q n)
         (forgotten_place (stored_groups k s.groups p n) s.groups t.groups p q n fits.groups fits.stack (same_place s t base d n a u) stored) u
 
-copied_below : (s t : Abstract) (p q : Place) (n : ℕ) → IsState (with_groups s (written_at s.groups p n)) → StateUnder s t → (is_inside q ≡ true → p ≡ q)
+copied_below : (s t : Abstract) (p q : AccessPlace) (n : ℕ) → IsState (with_groups s (written_at s.groups p n)) → StateUnder s t → (is_inside q ≡ true → p ≡ q)
     → EachUnder GroupUnder (written_at s.groups p n) (groups_forgotten t.groups q n)
 unfolding groups_after_write
 copied_below s t p q n fits u same =
@@ -366,7 +366,7 @@ unset_fits : Each IsGroup unset_groups × (length unset_groups ≡ 64)
 unfolding start
 unset_fits = (start_fits.groups, start_fits.stack)
 
-loose_fits : (s : Abstract) (p : Place) (n : ℕ) → IsState s → IsState (with_groups s (groups_forgotten s.groups p n))
+loose_fits : (s : Abstract) (p : AccessPlace) (n : ℕ) → IsState s → IsState (with_groups s (groups_forgotten s.groups p n))
 unfolding groups_forgotten
 loose_fits s (place.Stack at) n a = with_groups_fits s (map_places (group_forgotten at n) 0 s.groups) a (forgotten_fits at n 0 s.groups a.groups) (forgotten_long at n 0 s.groups)
 loose_fits s place.Outside n a = with_groups_fits s unset_groups a unset_fits.0 (unset_fits.1 ∙ sym a.stack)
@@ -536,7 +536,7 @@ copied_state_below s t a u long fits =
     by_length n e fits =
         rw (sym e) (by_own (is_own_memory (value t 2) (pos 0) n) refl)
       where
-        unwritten : (p : Place) → p ≡ place.Outside → written_at s.groups p n ≡ s.groups
+        unwritten : (p : AccessPlace) → p ≡ place.Outside → written_at s.groups p n ≡ s.groups
         unwritten p outside = rw outside refl
 
         by_own : (b : Bool) → is_own_memory (value t 2) (pos 0) n ≡ b

@@ -15,7 +15,7 @@ use Rattle.helpers.specs.Queries.{query_arguments}
 use Rattle.helpers.specs.Sums.{checksum_of}
 use Rattle.machine.specs.Memory.{byte_count, plain_size}
 use Rattle.machine.specs.Step.{source_registers, operands}
-use Rattle.ranges.specs.declared.place.Mark.TheVariants as mark
+use Rattle.ranges.specs.declared.place.ByteMark.TheVariants as mark
 use Rattle.ranges.specs.Kinds.{Kind, Unset, Word, is_number, is_unknown, is_unset}
 use Rattle.ranges.specs.States.{Abstract}
 use Rattle.ranges.specs.Places.{place_of, is_inside, is_own_memory}

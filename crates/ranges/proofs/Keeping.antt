@@ -32,8 +32,8 @@ use Rattle.intervals.specs.SignedEdges.{limits_refined}
 use Rattle.intervals.proofs.Reduced.{any_fits}
 use Rattle.intervals.proofs.Outcomes.{refined_fits}
 use Rattle.intervals.proofs.CallerLemmas.{limits_fit, words_are_limits}
-use Rattle.ranges.specs.declared.place.Place.{Place}
-use Rattle.ranges.specs.declared.place.Place.TheVariants as place
+use Rattle.ranges.specs.declared.place.AccessPlace.{AccessPlace}
+use Rattle.ranges.specs.declared.place.AccessPlace.TheVariants as place
 use Rattle.ranges.specs.Kinds.{Kind, Unset, Num, Ctx, Stack, Sector, is_unknown}
 use Rattle.ranges.specs.Groups.{GroupKind, Marked, Spilled, map_places}
 use Rattle.ranges.specs.States.{Abstract, start}
@@ -196,7 +196,7 @@ word_fits sectors at h = by_place (at == 0) (at == 8) (at == 16)
     by_place false false true = up_to_fits 0 65536 (omega arith) (omega arith)
     by_place false false false = up_to_fits 0 0 (omega arith) (omega arith)
 
-loaded_fits : (sectors : ℕ) (groups : List GroupKind) (p : Place) (s : Size) → sectors < 2 ^ 64 → Each IsGroup groups
+loaded_fits : (sectors : ℕ) (groups : List GroupKind) (p : AccessPlace) (s : Size) → sectors < 2 ^ 64 → Each IsGroup groups
     → IsBounded (loaded_kind sectors groups p (byte_count s))
 unfolding loaded_kind
 loaded_fits sectors groups (place.Context at) s h a = by_test (is_group at (byte_count s))
@@ -233,14 +233,14 @@ unfolding map_places
 places_long at n g [] = refl
 places_long at n g (x ∷ xs) = let rest = places_long at n (g + 1) xs in omega (arith, rest)
 
-pub written_fits : (s : Abstract) (p : Place) (n : ℕ) → IsState s → IsState (with_groups s (written_at s.groups p n))
+pub written_fits : (s : Abstract) (p : AccessPlace) (n : ℕ) → IsState s → IsState (with_groups s (written_at s.groups p n))
 unfolding groups_after_write
 written_fits s (place.Stack at) n a = with_groups_fits s (map_places (group_after at n) 0 s.groups) a (places_fit at n 0 s.groups a.groups) (places_long at n 0 s.groups)
 written_fits s place.Outside n a = a
 written_fits s (place.Context at) n a = a
 written_fits s place.Sector n a = a
 
-pub stored_fits : (s : Abstract) (k : Kind) (p : Place) (n : ℕ) → IsBounded k → IsState s → IsState (with_groups s (stored_groups k s.groups p n))
+pub stored_fits : (s : Abstract) (k : Kind) (p : AccessPlace) (n : ℕ) → IsBounded k → IsState s → IsState (with_groups s (stored_groups k s.groups p n))
 unfolding stored_groups
 stored_fits s k (place.Stack at) n h a = by_test (not (is_unknown k)) (is_group at n) refl
   where

@@ -1,16 +1,16 @@
 -- Bytes of the stack, looked at one after the other.
 use Rattle.std.proofs.Common.{◌≡◌, ℕ, suc, ◌+◌, ◌-◌, ◌<◌, ◌≤◌, Bool, true, false, not, ◌&&◌, List, [], ◌∷◌, refl, arith, sym, ◌∙◌}
-use Rattle.ranges.specs.declared.place.Mark.{Mark}
+use Rattle.ranges.specs.declared.place.ByteMark.{ByteMark}
 use Rattle.ranges.specs.Groups.{GroupKind, zip_with}
 use Rattle.ranges.specs.Places.{mark_at, is_mark, none_is}
 
-none_more : (m : Mark) (groups : List GroupKind) (at n : ℕ)
+none_more : (m : ByteMark) (groups : List GroupKind) (at n : ℕ)
     → none_is m groups at (suc n) ≡ (not (is_mark (mark_at groups at) m) && none_is m groups (at + 1) n)
 unfolding none_is
 none_more m groups at n = refl
 
 -- a byte without the mark: the answer is that of the bytes after it
-pub none_next : (m : Mark) (groups : List GroupKind) (at n k : ℕ) (whole : Bool) → k < n
+pub none_next : (m : ByteMark) (groups : List GroupKind) (at n k : ℕ) (whole : Bool) → k < n
     → is_mark (mark_at groups (at + k)) m ≡ false
     → none_is m groups (at + k) (n - k) ≡ whole
     → none_is m groups (at + (k + 1)) (n - (k + 1)) ≡ whole
@@ -23,7 +23,7 @@ none_next m groups at n k whole inside other so =
     rw (← next) so4
 
 -- a byte with the mark: the answer is false
-pub none_here : (m : Mark) (groups : List GroupKind) (at n k : ℕ) (whole : Bool) → k < n
+pub none_here : (m : ByteMark) (groups : List GroupKind) (at n k : ℕ) (whole : Bool) → k < n
     → is_mark (mark_at groups (at + k)) m ≡ true
     → none_is m groups (at + k) (n - k) ≡ whole
     → false ≡ whole
@@ -35,7 +35,7 @@ none_here m groups at n k whole inside same so =
     so4
 
 -- no byte is left: the answer is true
-pub none_ends : (m : Mark) (groups : List GroupKind) (at n k : ℕ) (whole : Bool) → n ≤ k
+pub none_ends : (m : ByteMark) (groups : List GroupKind) (at n k : ℕ) (whole : Bool) → n ≤ k
     → none_is m groups (at + k) (n - k) ≡ whole
     → true ≡ whole
 unfolding none_is

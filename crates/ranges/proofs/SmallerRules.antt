@@ -21,9 +21,9 @@ use Rattle.helpers.specs.Helper.{helper_of}
 use Rattle.helpers.specs.Queries.{query_arguments}
 use Rattle.machine.specs.Memory.{byte_count, plain_size}
 use Rattle.machine.specs.Step.{source_registers, operands}
-use Rattle.ranges.specs.declared.place.Place.{Place}
-use Rattle.ranges.specs.declared.place.Place.TheVariants as place
-use Rattle.ranges.specs.declared.place.Mark.TheVariants as mark
+use Rattle.ranges.specs.declared.place.AccessPlace.{AccessPlace}
+use Rattle.ranges.specs.declared.place.AccessPlace.TheVariants as place
+use Rattle.ranges.specs.declared.place.ByteMark.TheVariants as mark
 use Rattle.ranges.specs.Kinds.{Kind, Unset, Word, Num, Ctx, Stack, Sector, is_number, is_unknown}
 use Rattle.ranges.specs.Groups.{GroupKind, Marked, Spilled, unset_marks}
 use Rattle.ranges.specs.States.{Abstract}
@@ -248,11 +248,11 @@ none_pointer gs hs at (suc n) u e f =
     and_mono (not (is_mark (mark_at gs at) mark.Pointer)) (none_is mark.Pointer gs (at + 1) n) (not (is_mark (mark_at hs at) mark.Pointer)) (none_is mark.Pointer hs (at + 1) n)
     (byte_no_pointer (get_or gs (at / 8) (Marked [])) (get_or hs (at / 8) (Marked [])) (at % 8) (at_group gs hs at u) set) (none_pointer gs hs (at + 1) n u rest) f
 
-no_unset_under : (gs hs : List GroupKind) (p : Place) (n : ℕ) → EachUnder GroupUnder gs hs → has_no mark.Unset hs p n ≡ true → has_no mark.Unset gs p n ≡ true
+no_unset_under : (gs hs : List GroupKind) (p : AccessPlace) (n : ℕ) → EachUnder GroupUnder gs hs → has_no mark.Unset hs p n ≡ true → has_no mark.Unset gs p n ≡ true
 no_unset_under gs hs (place.Stack at) n u e = none_unset gs hs at n u e
 no_unset_under gs hs p n u e = refl
 
-no_pointer_under : (gs hs : List GroupKind) (p : Place) (n : ℕ) → EachUnder GroupUnder gs hs → has_no mark.Unset hs p n ≡ true → has_no mark.Pointer hs p n ≡ true
+no_pointer_under : (gs hs : List GroupKind) (p : AccessPlace) (n : ℕ) → EachUnder GroupUnder gs hs → has_no mark.Unset hs p n ≡ true → has_no mark.Pointer hs p n ≡ true
     → has_no mark.Pointer gs p n ≡ true
 no_pointer_under gs hs (place.Stack at) n u e f = none_pointer gs hs at n u e f
 no_pointer_under gs hs p n u e f = refl

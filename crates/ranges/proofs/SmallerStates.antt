@@ -27,9 +27,9 @@ use Rattle.intervals.specs.SignedResults.{limits_result_of}
 use Rattle.intervals.specs.LimitLaws.{Related}
 use Rattle.intervals.proofs.Outcomes.{any_holds}
 use Rattle.intervals.proofs.CallerLemmas.{limits_monotone, words_are_limits}
-use Rattle.ranges.specs.declared.place.Place.{Place}
-use Rattle.ranges.specs.declared.place.Place.TheVariants as place
-use Rattle.ranges.specs.declared.place.Mark.TheVariants as mark
+use Rattle.ranges.specs.declared.place.AccessPlace.{AccessPlace}
+use Rattle.ranges.specs.declared.place.AccessPlace.TheVariants as place
+use Rattle.ranges.specs.declared.place.ByteMark.TheVariants as mark
 use Rattle.ranges.specs.Kinds.{Kind, Unset, Num, is_number, is_unknown}
 use Rattle.ranges.specs.Groups.{GroupKind, Marked, Spilled, map_places}
 use Rattle.ranges.specs.States.{Abstract}
@@ -166,7 +166,7 @@ pub some_bytes : (at n : ℕ) → is_group at n ≡ true → 0 < n
 some_bytes at zero e = absurd (let bad : false ≡ true = e in cc)
 some_bytes at (suc n) e = omega arith
 
-loaded_under : (sectors : ℕ) (gs hs : List GroupKind) (p : Place) (n : ℕ) → Each IsGroup gs → EachUnder GroupUnder gs hs → has_no mark.Unset hs p n ≡ true
+loaded_under : (sectors : ℕ) (gs hs : List GroupKind) (p : AccessPlace) (n : ℕ) → Each IsGroup gs → EachUnder GroupUnder gs hs → has_no mark.Unset hs p n ≡ true
     → Under (loaded_kind sectors gs p n) (loaded_kind sectors hs p n)
 unfolding loaded_kind
 loaded_under sectors gs hs (place.Stack at) n a u e = by_test (is_group at n) refl
@@ -222,14 +222,14 @@ places_under at n g [] (y ∷ ys) u = absurd u
 places_under at n g (x ∷ xs) [] u = absurd u
 places_under at n g (x ∷ xs) (y ∷ ys) u = (group_after_under at n g x y u.0, places_under at n (g + 1) xs ys u.1)
 
-written_under : (p : Place) (n : ℕ) (gs hs : List GroupKind) → EachUnder GroupUnder gs hs → EachUnder GroupUnder (written_at gs p n) (written_at hs p n)
+written_under : (p : AccessPlace) (n : ℕ) (gs hs : List GroupKind) → EachUnder GroupUnder gs hs → EachUnder GroupUnder (written_at gs p n) (written_at hs p n)
 unfolding groups_after_write
 written_under (place.Stack at) n gs hs u = places_under at n 0 gs hs u
 written_under place.Outside n gs hs u = u
 written_under (place.Context at) n gs hs u = u
 written_under place.Sector n gs hs u = u
 
-stored_under : (k l : Kind) (gs hs : List GroupKind) (p : Place) (n : ℕ) → Under k l → not (is_unknown l) ≡ true → EachUnder GroupUnder gs hs
+stored_under : (k l : Kind) (gs hs : List GroupKind) (p : AccessPlace) (n : ℕ) → Under k l → not (is_unknown l) ≡ true → EachUnder GroupUnder gs hs
     → EachUnder GroupUnder (stored_groups k gs p n) (stored_groups l hs p n)
 unfolding stored_groups groups_after_write
 stored_under k l gs hs (place.Stack at) n v e u = rw (known_under k l v e, e) (by_test (is_group at n))

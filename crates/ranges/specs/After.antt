@@ -19,9 +19,9 @@ use Rattle.machine.specs.Memory.{byte_count}
 use Rattle.intervals.specs.Spans.{span, only}
 use Rattle.intervals.specs.Reducing.{any_sign}
 use Rattle.intervals.specs.SignedResults.{limits_result_of}
-use Rattle.ranges.specs.declared.place.Place.{Place}
-use Rattle.ranges.specs.declared.place.Place.TheVariants as place
-use Rattle.ranges.specs.declared.place.Mark.TheVariants as mark
+use Rattle.ranges.specs.declared.place.AccessPlace.{AccessPlace}
+use Rattle.ranges.specs.declared.place.AccessPlace.TheVariants as place
+use Rattle.ranges.specs.declared.place.ByteMark.TheVariants as mark
 use Rattle.ranges.specs.Kinds.{Kind, Unset, Word, Num, SectorOrNull, is_unknown}
 use Rattle.ranges.specs.Groups.{GroupKind, Marked, Spilled, unset_marks, map_places}
 use Rattle.ranges.specs.States.{Abstract, unset_groups}
@@ -58,7 +58,7 @@ abbrev pub group_value : GroupKind → Kind
 group_value (Marked marks) = any_of 8
 group_value (Spilled k) = k
 
-unfoldable pub loaded_kind : ℕ → List GroupKind → Place → ℕ → Kind
+unfoldable pub loaded_kind : ℕ → List GroupKind → AccessPlace → ℕ → Kind
 loaded_kind sectors groups (place.Context at) n = if is_group at n then context_word sectors at else any_of n
 loaded_kind sectors groups (place.Stack at) n = if is_group at n then group_value (slice_index_or groups (at / 8) (Marked [])) else any_of n
 loaded_kind sectors groups p n = any_of n
@@ -89,12 +89,12 @@ unfoldable pub groups_after_write : ℕ → ℕ → List GroupKind → List Grou
 groups_after_write at n groups = map_places (group_after at n) 0 groups
 
 -- the groups where the bytes of an access are written
-abbrev pub written_at : List GroupKind → Place → ℕ → List GroupKind
+abbrev pub written_at : List GroupKind → AccessPlace → ℕ → List GroupKind
 written_at groups (place.Stack at) n = groups_after_write at n groups
 written_at groups p n = groups
 
 -- a value stored to a group is kept there; other stores make bytes written
-unfoldable pub stored_groups : Kind → List GroupKind → Place → ℕ → List GroupKind
+unfoldable pub stored_groups : Kind → List GroupKind → AccessPlace → ℕ → List GroupKind
 stored_groups k groups (place.Stack at) n =
     if not (is_unknown k) && is_group at n then slice_set groups (at / 8) (Spilled k) else groups_after_write at n groups
 stored_groups k groups p n = groups
@@ -141,7 +141,7 @@ loosely_loaded_at s size base distance = if is_own_memory (value s base) distanc
 abbrev pub group_forgotten : ℕ → ℕ → ℕ → GroupKind → GroupKind
 group_forgotten at n g group = if is_touched at n g then Marked unset_marks else group
 
-unfoldable pub groups_forgotten : List GroupKind → Place → ℕ → List GroupKind
+unfoldable pub groups_forgotten : List GroupKind → AccessPlace → ℕ → List GroupKind
 groups_forgotten groups (place.Stack at) n = map_places (group_forgotten at n) 0 groups
 groups_forgotten groups p n = unset_groups
 

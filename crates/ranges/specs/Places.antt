@@ -2,10 +2,10 @@
 -- 4).
 use Rattle.std.specs.Prelude.{ℕ, zero, suc, ◌≤◌, ◌+◌, ◌-◌, ◌/◌, ◌%◌, ◌==◌, nat_le, ◌&&◌, not, Bool, true, false, if◌then◌else◌, ℤ, pos, ◌+ℤ◌, List, [], slice_index_or, Option, None, is_some}
 use Rattle.std.specs.Option.{option_map_or}
-use Rattle.ranges.specs.declared.place.Place.{Place}
-use Rattle.ranges.specs.declared.place.Place.TheVariants as place
-use Rattle.ranges.specs.declared.place.Mark.{Mark}
-use Rattle.ranges.specs.declared.place.Mark.TheVariants as mark
+use Rattle.ranges.specs.declared.place.AccessPlace.{AccessPlace}
+use Rattle.ranges.specs.declared.place.AccessPlace.TheVariants as place
+use Rattle.ranges.specs.declared.place.ByteMark.{ByteMark}
+use Rattle.ranges.specs.declared.place.ByteMark.TheVariants as mark
 use Rattle.machine.specs.OwnMemory.{memory_start, memory_size}
 use Rattle.ranges.specs.Kinds.{Kind, Num, Ctx, Stack, Sector, is_number}
 use Rattle.ranges.specs.Groups.{GroupKind, Marked, Spilled}
@@ -16,7 +16,7 @@ abbrev pub landing : ℕ → ℕ → ℕ → ℤ → Option ℕ
 landing size n o distance = if nat_le n size then offset_in (size - n) (pos o +ℤ distance) else None
 
 -- where n bytes lie at a distance from a base
-unfoldable pub place_of : Kind → ℤ → ℕ → Place
+unfoldable pub place_of : Kind → ℤ → ℕ → AccessPlace
 place_of (Ctx o) distance n = option_map_or (λ at. place.Context at) (landing 32 n o distance) place.Outside
 place_of (Stack o) distance n = option_map_or (λ at. place.Stack at) (landing 512 n o distance) place.Outside
 place_of (Sector x) distance n =
@@ -32,31 +32,31 @@ is_own_memory (Num x) distance n = in_own x.unsigned.low distance n && in_own x.
 is_own_memory k distance n = false
 
 -- n bytes in the stack lie below its end
-abbrev pub Fits : Place → ℕ → Type 0
+abbrev pub Fits : AccessPlace → ℕ → Type 0
 Fits (place.Stack at) n = at + n ≤ 512
 Fits p n = Unit {0}
 
-abbrev pub is_inside : Place → Bool
+abbrev pub is_inside : AccessPlace → Bool
 is_inside place.Outside = false
 is_inside p = true
 
 -- a byte of a group; those of a number are written bytes to every rule
-abbrev pub mark_in : GroupKind → ℕ → Mark
+abbrev pub mark_in : GroupKind → ℕ → ByteMark
 mark_in (Marked marks) k = if slice_index_or marks k false then mark.Written else mark.Unset
 mark_in (Spilled k) _ = if is_number k then mark.Written else mark.Pointer
 
 -- a byte of the stack
-abbrev pub mark_at : List GroupKind → ℕ → Mark
+abbrev pub mark_at : List GroupKind → ℕ → ByteMark
 mark_at groups at = mark_in (slice_index_or groups (at / 8) (Marked [])) (at % 8)
 
-abbrev pub is_mark : Mark → Mark → Bool
+abbrev pub is_mark : ByteMark → ByteMark → Bool
 is_mark mark.Unset mark.Unset = true
 is_mark mark.Written mark.Written = true
 is_mark mark.Pointer mark.Pointer = true
 is_mark _ _ = false
 
 -- whether none of n bytes from a place on is of a kind
-unfoldable pub none_is : Mark → List GroupKind → ℕ → ℕ → Bool
+unfoldable pub none_is : ByteMark → List GroupKind → ℕ → ℕ → Bool
 none_is m groups at zero = true
 none_is m groups at (suc n) = not (is_mark (mark_at groups at) m) && none_is m groups (at + 1) n
 

@@ -22,10 +22,10 @@ use Rattle.machine.specs.Memory.{byte_count, plain_size}
 use Rattle.machine.specs.Step.{source_registers, operands}
 use Rattle.base.specs.declared.causes.VerifierCause.{VerifierCause}
 use Rattle.base.specs.declared.causes.VerifierCause.TheVariants as cause
-use Rattle.ranges.specs.declared.place.Place.{Place}
-use Rattle.ranges.specs.declared.place.Place.TheVariants as place
-use Rattle.ranges.specs.declared.place.Mark.{Mark}
-use Rattle.ranges.specs.declared.place.Mark.TheVariants as mark
+use Rattle.ranges.specs.declared.place.AccessPlace.{AccessPlace}
+use Rattle.ranges.specs.declared.place.AccessPlace.TheVariants as place
+use Rattle.ranges.specs.declared.place.ByteMark.{ByteMark}
+use Rattle.ranges.specs.declared.place.ByteMark.TheVariants as mark
 use Rattle.ranges.specs.Kinds.{Kind, SectorOrNull, is_number, is_unset, is_unknown}
 use Rattle.ranges.specs.Groups.{GroupKind}
 use Rattle.ranges.specs.States.{Abstract}
@@ -83,12 +83,12 @@ unfoldable pub compares : Abstract → Width → Condition → ℕ → Source �
 compares s w c dst from = is_null_test w c from (value s dst) || (is_number (value s dst) && is_number (second s from))
 
 -- whether none of the bytes of an access is of this kind
-abbrev pub has_no : Mark → List GroupKind → Place → ℕ → Bool
+abbrev pub has_no : ByteMark → List GroupKind → AccessPlace → ℕ → Bool
 has_no m groups (place.Stack at) n = none_is m groups at n
 has_no m groups p n = true
 
 -- whether they are the eight of a group of the stack
-abbrev pub is_whole : Place → ℕ → Bool
+abbrev pub is_whole : AccessPlace → ℕ → Bool
 is_whole (place.Stack at) n = is_group at n
 is_whole p n = false
 

@@ -18,7 +18,7 @@ use crate::bytes::is_group;
 use crate::edges::{is_equal_edge, tested_value};
 use crate::effects::{answer_value, any_of, load_result, number_result, result_value};
 use crate::group::Group;
-use crate::place::{Place, is_own_memory, place_of};
+use crate::place::{AccessPlace, is_own_memory, place_of};
 use crate::rules::is_null_test;
 use crate::spill::Spill;
 use crate::state::State;
@@ -166,7 +166,7 @@ fn bytes_forgotten(state: &State, base: Value, offset: i16, n: u64) -> Stretch
 {
     let _state = state;
     match place_of(base, offset, n) {
-        Place::Stack(at) => Stretch {
+        AccessPlace::Stack(at) => Stretch {
             at,
             n,
             are_set: false,
@@ -207,7 +207,7 @@ fn store(
         return store_loosely(state, base, offset, n);
     }
     match place_of(base, offset, n) {
-        Place::Stack(at) => if value.is_set() && is_group(at, n) {
+        AccessPlace::Stack(at) => if value.is_set() && is_group(at, n) {
             let number = (at / 8) as usize;
             Change::Group(GroupPlace { number }, Group::Spilled(Spill { value }))
         } else {
@@ -276,7 +276,7 @@ fn copy(loose: bool, state: &State) -> Change
         return Change::Copied(bytes_forgotten(state, base, 0, n), answer);
     }
     match place_of(base, 0, n) {
-        Place::Stack(at) => Change::Copied(
+        AccessPlace::Stack(at) => Change::Copied(
             Stretch {
                 at,
                 n,

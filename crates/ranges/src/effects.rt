@@ -17,7 +17,7 @@ use crate::bytes::is_group;
 use crate::change::effect_after;
 use crate::group::Group;
 use crate::moving::lead;
-use crate::place::Place;
+use crate::place::AccessPlace;
 use crate::pointers::move_pointer;
 use crate::state::State;
 use crate::value::Value;
@@ -128,13 +128,13 @@ fn group_value(group: Group) -> Value
 
 /// What a load gives.
 #[tactic(auto, unfolding(crate::specs::After::loaded_kind))]
-pub(crate) fn load_result(state: &State, sectors: u32, place: Place, size: Size) -> Value
+pub(crate) fn load_result(state: &State, sectors: u32, place: AccessPlace, size: Size) -> Value
     requires { Fits place (byte_count size) }
     ensures { kind_of result ≡ loaded_kind sectors (state_of state.now).groups place (byte_count size) }
 {
     match place {
-        Place::Context(at) if is_group(at, byte_count(size)) => context_word(sectors, at),
-        Place::Stack(at) if is_group(at, byte_count(size)) => group_value(state.group(
+        AccessPlace::Context(at) if is_group(at, byte_count(size)) => context_word(sectors, at),
+        AccessPlace::Stack(at) if is_group(at, byte_count(size)) => group_value(state.group(
             (at / 8) as usize,
         )),
         _ => any_of(size),

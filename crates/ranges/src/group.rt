@@ -6,7 +6,7 @@ ghost use Rattle.ranges.specs.Seen.{kind_of};
 ghost use Rattle.ranges.specs.SeenStates.{group_of};
 
 use crate::byte_marks::ByteMarks;
-use crate::place::Mark;
+use crate::place::ByteMark;
 use crate::spill::Spill;
 use crate::value::Value;
 
@@ -148,20 +148,20 @@ impl Group {
     }
 
     /// What is known of byte k.
-    pub(crate) fn mark(self, k: usize) -> Mark
+    pub(crate) fn mark(self, k: usize) -> ByteMark
         requires { k < 8 }
         ensures { result ≡ mark_in (group_of self) k }
     {
         match self {
             Group::Marked(marks) => if marks.written[k] {
-                Mark::Written
+                ByteMark::Written
             } else {
-                Mark::Unset
+                ByteMark::Unset
             },
             Group::Spilled(x) => if x.value.is_number() {
-                Mark::Written
+                ByteMark::Written
             } else {
-                Mark::Pointer
+                ByteMark::Pointer
             },
         }
     }

@@ -9,7 +9,7 @@ ghost use Rattle.ranges.specs.Seen.{kind_of};
 ghost use Rattle.ranges.specs.SeenStates.{state_of};
 ghost use Rattle.ranges.specs.Guards.{is_read_place, is_own_place, is_guarded_call, is_guarded_sum, is_guarded};
 
-use crate::place::{Place, is_own_memory, place_of};
+use crate::place::{AccessPlace, is_own_memory, place_of};
 use crate::state::State;
 use crate::value::Value;
 use arithmetic::{byte_count, plain_size};
@@ -24,7 +24,7 @@ fn is_own_place(base: Value, offset: i16, n: u64) -> bool
     if is_own_memory(base, offset, n) {
         return true;
     }
-    base.is_stack() && !matches!(place_of(base, offset, n), Place::Outside)
+    base.is_stack() && !matches!(place_of(base, offset, n), AccessPlace::Outside)
 }
 
 /// Whether a checksum is guarded.
@@ -59,7 +59,7 @@ fn is_guarded_load(state: &State, base: Register, offset: i16, n: u64) -> bool
     ensures { result ≡ not (is_read_place (value (state_of state.now) base) offset n) }
 {
     let base = state.value(base);
-    matches!(place_of(base, offset, n), Place::Outside) && !is_own_memory(base, offset, n)
+    matches!(place_of(base, offset, n), AccessPlace::Outside) && !is_own_memory(base, offset, n)
 }
 
 /// Whether a slot with an instruction is guarded at a state: it is a load, a store or a call of helper 2 whose place isn't

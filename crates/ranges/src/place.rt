@@ -9,7 +9,7 @@ use crate::value::Value;
 
 /// Where the bytes of an access lie (docs/VERIFIER.md, Rules at a slot).
 #[derive(Clone, Copy)]
-pub enum Place {
+pub enum AccessPlace {
     /// In no region, or not for each offset that the base may have.
     Outside,
     /// In the context, from this offset on.
@@ -22,7 +22,7 @@ pub enum Place {
 
 /// What is known of a byte of the stack.
 #[derive(Clone, Copy)]
-pub enum Mark {
+pub enum ByteMark {
     /// It may be unset.
     Unset,
     /// It is set, and may be one of the eight of a spilled number.
@@ -71,28 +71,28 @@ pub(crate) fn is_own_memory(base: Value, distance: i16, n: u64) -> bool
 
 /// Where n bytes lie at a distance from a base.
 #[tactic(auto, unfolding(crate::specs::Places::place_of))]
-pub(crate) fn place_of(base: Value, distance: i16, n: u64) -> Place
+pub(crate) fn place_of(base: Value, distance: i16, n: u64) -> AccessPlace
     ensures value { result ≡ place_of (kind_of base) distance n }
     ensures fits { Fits result n }
 {
     match base {
         Value::Ctx(o) => match landing(32, n, u64::from(o.offset), distance) {
-            Some(at) => Place::Context(at),
-            None => Place::Outside,
+            Some(at) => AccessPlace::Context(at),
+            None => AccessPlace::Outside,
         },
         Value::Stack(o) => match landing(512, n, u64::from(o.offset), distance) {
-            Some(at) => Place::Stack(at),
-            None => Place::Outside,
+            Some(at) => AccessPlace::Stack(at),
+            None => AccessPlace::Outside,
         },
         Value::Sector(x) => {
             let low = landing(512, n, u64::from(x.low), distance);
             let high = landing(512, n, u64::from(x.high), distance);
             if low.is_some() && high.is_some() {
-                Place::Sector
+                AccessPlace::Sector
             } else {
-                Place::Outside
+                AccessPlace::Outside
             }
         }
-        _ => Place::Outside,
+        _ => AccessPlace::Outside,
     }
 }

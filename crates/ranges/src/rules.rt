@@ -17,7 +17,7 @@ ghost use Rattle.helpers.specs.Queries.{registers_of};
 ghost use Rattle.bpf_isa.specs.declared.instr.Source.TheVariants as operand;
 
 use crate::bytes::{has_no, is_whole};
-use crate::place::{Mark, Place, place_of};
+use crate::place::{AccessPlace, ByteMark, place_of};
 use crate::pointers::move_pointer;
 use crate::reads::{are_both_read, are_operands_read, are_two_read, is_read, is_register_read};
 use crate::state::State;
@@ -101,11 +101,11 @@ fn load_breach(
         return None;
     }
     let place = place_of(state.value(base), offset, n);
-    if matches!(place, Place::Outside) {
+    if matches!(place, AccessPlace::Outside) {
         Some(VerifierCause::OutsideRegion)
-    } else if !has_no(state, Mark::Unset, place, n) {
+    } else if !has_no(state, ByteMark::Unset, place, n) {
         Some(VerifierCause::UnsetByte)
-    } else if !is_whole(place, n) && !has_no(state, Mark::Pointer, place, n) {
+    } else if !is_whole(place, n) && !has_no(state, ByteMark::Pointer, place, n) {
         Some(VerifierCause::PointerAsNumber)
     } else {
         None
@@ -137,7 +137,7 @@ fn store_breach(
         Some(VerifierCause::OutsideRegion)
     } else if !value.is_stack() {
         Some(VerifierCause::ReadOnly)
-    } else if matches!(place, Place::Outside) {
+    } else if matches!(place, AccessPlace::Outside) {
         Some(VerifierCause::OutsideRegion)
     } else if !stored.is_number() && !is_whole(place, n) {
         Some(VerifierCause::PointerAsNumber)
@@ -221,7 +221,12 @@ fn copy_breach(guards: bool, state: &State) -> Option<VerifierCause>
     let may = guards || (from.is_number() && to.is_stack());
     if !may || !length.has_length() {
         Some(VerifierCause::HelperArgument)
-    } else if !guards && matches!(place_of(to, 0, length.words().unsigned.low), Place::Outside) {
+    } else if !guards
+        && matches!(
+            place_of(to, 0, length.words().unsigned.low),
+            AccessPlace::Outside
+        )
+    {
         Some(VerifierCause::OutsideRegion)
     } else {
         None

@@ -8,7 +8,7 @@ ghost use Rattle.ranges.specs.SeenStates.{group_of, state_of};
 
 use crate::byte_marks::ByteMarks;
 use crate::group::{Group, UNSET};
-use crate::place::Mark;
+use crate::place::ByteMark;
 use crate::state::State;
 use crate::stretch::Stretch;
 
@@ -20,7 +20,7 @@ fn mark_after(at: u64, n: u64, g: usize, group: Group, k: usize) -> bool
     ensures { result ≡ mark_after at n g (group_of group) k }
 {
     let byte = 8 * g as u64 + k as u64;
-    (at <= byte && byte < at + n) || !matches!(group.mark(k), Mark::Unset)
+    (at <= byte && byte < at + n) || !matches!(group.mark(k), ByteMark::Unset)
 }
 
 /// Group g where n bytes from a place on are written.

@@ -6,7 +6,7 @@ use Rattle.std.proofs.lemmas.List.{length-map}
 use Rattle.std.proofs.lemmas.List.Sums.{sum_by-cons, sum_by_more, sum_by_more_le}
 use Rattle.std.proofs.lemmas.Option.{slice_get_cases, slice_get-map}
 use Rattle.std.specs.List.{sum_by}
-use Rattle.base.specs.Sizes.{byte_limit}
+use Rattle.base.specs.Sizes.{byte_limit, raw_limit, unit_limit}
 use Rattle.base.specs.declared.limits.Limits.{Limits}
 use Rattle.base.specs.Check.{first_failing}
 use Rattle.base.specs.Numbers.{number_at}
@@ -112,19 +112,19 @@ device_passes k sectors bytes s e times stands is =
     let inside : ((e.count == 0) || nat_le (k * e.sector + k * e.count) sectors) ≡ true = grind (arith, nat_tests, device, less) in
     rw (← stands.sector, ← stands.count, small, inside) refl
 
-entry_passes : (k sectors : ℕ) (bytes : List ℕ) (s units room : ℕ) (e : Entry) → IsTimes k → StandsRaw k bytes s e → IsEntry sectors (entry_of_raw k e)
-    → (e.flags.mark ≡ true → e.flags.flush ≡ false) → units + k * e.count ≤ 262144 → 512 * (1 + k * data_of e) ≤ room
-    → s + bytes_in k (1 + data_of e) ≤ 201326592
-    → first_failing (raw_entry_checks k bytes sectors s units room) ≡ None
+entry_passes : (k sectors : ℕ) (limits : Limits) (bytes : List ℕ) (s units room : ℕ) (e : Entry) → IsTimes k → StandsRaw k bytes s e → IsEntry sectors (entry_of_raw k e)
+    → (e.flags.mark ≡ true → e.flags.flush ≡ false) → units + k * e.count ≤ unit_limit limits → 512 * (1 + k * data_of e) ≤ room
+    → s + bytes_in k (1 + data_of e) ≤ raw_limit limits
+    → first_failing (raw_entry_checks k bytes sectors limits s units room) ≡ None
 unfolding raw_entry_checks
-entry_passes k sectors bytes s units room e times stands is recorded few fitting need =
+entry_passes k sectors limits bytes s units room e times stands is recorded few fitting need =
     let beyond : data_of e ≡ data_sectors bytes s = same_data k s bytes e stands in
-    let first : nat_le (s + bytes_in k 1) 201326592 ≡ true = grind (arith, nat_tests, need) in
+    let first : nat_le (s + bytes_in k 1) (raw_limit limits) ≡ true = grind (arith, nat_tests, need) in
     let here : nat_le (s + bytes_in k 1) (length bytes) ≡ true = grind (arith, nat_tests, stands.whole) in
     let known : nat_lt (word_at bytes s) 32 ≡ true = grind (arith, nat_tests, stands.flags, flag_word-lt e.flags) in
-    let small : nat_le (units + k * count_at bytes s) 262144 ≡ true = rw (← stands.count) (grind (arith, nat_tests, few)) in
+    let small : nat_le (units + k * count_at bytes s) (unit_limit limits) ≡ true = rw (← stands.count) (grind (arith, nat_tests, few)) in
     let fits : nat_le (512 * (1 + k * data_sectors bytes s)) room ≡ true = rw (← beyond) (grind (arith, nat_tests, fitting)) in
-    let within : nat_le (s + bytes_in k (1 + data_sectors bytes s)) 201326592 ≡ true = rw (← beyond) (grind (arith, nat_tests, need)) in
+    let within : nat_le (s + bytes_in k (1 + data_sectors bytes s)) (raw_limit limits) ≡ true = rw (← beyond) (grind (arith, nat_tests, need)) in
     let whole : nat_le (s + bytes_in k (1 + data_sectors bytes s)) (length bytes) ≡ true = rw (← beyond) (grind (arith, nat_tests, stands.whole)) in
     rw (first, here, known, length_passes k sectors bytes s e stands is, mark_passes k sectors bytes s e times stands is recorded, device_passes k sectors bytes s e times stands is, small, fits, within, whole) refl
 
@@ -214,7 +214,7 @@ text_passes k sectors limits bytes es i raw can h =
           let there : slice_get made i ≡ Some (entry_of_raw k a.0) = slice_get-map (entry_of_raw k) es i ∙ rw a.2 refl in
           let part = sum_by_more_le (units k) es i a.0 h in
           let same : units k (get_or es i a.0) ≡ units k a.0 = ap (units k) a.3 in
-          let all : units_of made ≤ 262144 = can.log.units in
+          let all : units_of made ≤ unit_limit limits = can.units in
           let sum = units_divided k es in
           let kept : data_of (entry_of_raw k a.0) ≡ k * data_of a.0 = data_kept k a.0 in
           let next : place made (suc i) ≡ place made i + 1 + k * data_of a.0 = rw (there, kept) refl in
@@ -227,7 +227,7 @@ text_passes k sectors limits bytes es i raw can h =
           let times_up : k * place es (suc i) ≤ k * place es (length es) = mul-le-mul_left k up_raw in
           let spread : k * place es (suc i) ≡ k * (place es i + 1 + data_of a.0) = ap (λ (n : ℕ). k * n) next_raw in
           rw (placed, before, written)
-          (entry_passes k sectors bytes (bytes_in k (place es i)) (sum_by (units k) (take i es)) (byte_limit limits - 512 * place made i) a.0 raw.times (raw.stands i a.0 a.2)
+          (entry_passes k sectors limits bytes (bytes_in k (place es i)) (sum_by (units k) (take i es)) (byte_limit limits - 512 * place made i) a.0 raw.times (raw.stands i a.0 a.2)
           (can.log.entries i (entry_of_raw k a.0) there) (can.recorded i (entry_of_raw k a.0) there) (omega (arith, part, same, all, sum)) (omega (arith, next, up, sized)) (omega (arith, can.need, times_up, spread)))
       | inr past ↦ absurd (omega (arith, past.0, h))
     ]

@@ -1,10 +1,12 @@
 -- A log is a raw log with sectors of 512 bytes, and what is imported is a log.
 use Rattle.std.proofs.Common.{ℕ, ◌≡◌, ◌+◌, ◌*◌, ◌≤◌, List, [], ◌∷◌, length, map, refl, sym, subst, ◌∙◌, ap, inl, arith}
 use Rattle.std.specs.List.{slice_range}
-use Rattle.base.specs.Sizes.{byte_limit}
+use Rattle.base.specs.Sizes.{byte_limit, raw_limit, unit_limit}
+use Rattle.base.specs.declared.limits.Limits.{Limits}
+use Rattle.base.specs.declared.limits.Limits.TheVariants as limits
 use Rattle.base.specs.Numbers.{number_at}
 use Rattle.logfmt.specs.declared.entry.Entry.{Entry}
-use Rattle.logfmt.specs.Bounds.{LogValue, IsLog, AreBytes, AreRecorded, data_of, place}
+use Rattle.logfmt.specs.Bounds.{LogValue, IsLog, AreBytes, AreRecorded, data_of, place, units_of}
 use Rattle.logfmt.specs.Initial.{over}
 use Rattle.logfmt.specs.LogText.{LogText, StandsAt, canonical_text}
 use Rattle.logfmt.proofs.Canonical.{canonical_is_text}
@@ -84,20 +86,25 @@ stands_as_log bytes p e at =
       content = at.content ∙ ap (λ n. slice_range bytes (bytes_in 1 p + bytes_in 1 1) n) ends ∙ ap (λ n. slice_range bytes n (512 * (p + 1 + data_of e))) begins;
     }
 
+-- no less of a raw log may be needed than a log may have
+no_less : (limits : Limits) → byte_limit limits ≤ raw_limit limits
+no_less limits.Usual = omega arith
+no_less limits.Large = omega arith
+
 pub log_is_raw : LogIsRaw
 log_is_raw bytes log limits text =
-    let whole : bytes_in 1 1 ≤ length bytes = omega (arith, text.super.whole) in
-    let size = text.bounds.size in (
+    let whole : bytes_in 1 1 ≤ length bytes = omega (arith, text.super.whole) in (
       record {
         times = inl refl;
         super = record { whole = whole; magic = text.super.magic; version = text.super.version; entries = text.super.entries; sector_size = text.super.sector_size };
         stands = λ i e h. stands_as_raw bytes (place log.entries i) e (text.stands i e h);
       },
-      λ few. record {
+      λ few counted. record {
         log = subst IsLog (sym (same_log log)) (over_nothing log text.bounds);
         size = subst (λ (es : List Entry). 512 * place es (length es) ≤ byte_limit limits) (sym (all_divided log.entries)) few;
+        units = subst (λ (es : List Entry). units_of es ≤ unit_limit limits) (sym (all_divided log.entries)) counted;
         recorded = subst AreRecorded (sym (all_divided log.entries)) text.recorded;
-        need = omega (arith, size);
+        need = omega (arith, few, no_less limits);
       },
     )
 

@@ -4,7 +4,7 @@ use Rattle.std.specs.List.{flat_map, slice_range}
 use Rattle.std.proofs.lemmas.List.{map-append, flat_map_more}
 use Rattle.std.proofs.lemmas.List.Sums.{sum_by_push}
 use Rattle.std.proofs.lemmas.Option.{slice_get_within}
-use Rattle.base.specs.Sizes.{byte_limit, most_log_bytes, most_sectors}
+use Rattle.base.specs.Sizes.{byte_limit, most_log_bytes, most_sectors, most_units, raw_limit, unit_limit}
 use Rattle.base.specs.declared.limits.Limits.{Limits}
 use Rattle.base.specs.declared.limits.Limits.TheVariants as limits
 use Rattle.base.proofs.Lists.{slice_get_of_push}
@@ -16,7 +16,7 @@ use Rattle.logfmt.specs.Bounds.{IsLog, IsEntry, AreEntries, AreRecorded, units_o
 use Rattle.logfmt.specs.LogText.{super_sector, entry_sectors, canonical_text}
 use Rattle.logfmt.proofs.FlagBits.{flag_discard}
 use Rattle.logfmt.proofs.Progress.{place-push, place-last}
-use Rattle.raw_log.specs.declared.header.Header.{Header}
+use Rattle.raw_log.specs.declared.header.RawHeader.{RawHeader}
 use Rattle.raw_log.specs.Raw.{IsTimes, StandsRaw, AllStandRaw, bytes_in}
 use Rattle.raw_log.specs.Faults.{FirstRawFault, in_entry, EntriesPass, raw_super_checks, raw_entry_checks, header, units_before, written_before, data_sectors, times_at}
 use Rattle.raw_log.specs.Header.{SuperStands, HeaderStands, StandsDivided, data_bytes}
@@ -37,8 +37,8 @@ pub record Progress (bytes : List ℕ) (k sectors : ℕ) (limits : Limits) (text
   pub sum : units_of made ≡ u
   pub size : 512 * place made n ≡ length text
   pub canonical : text ≡ super_sector (number_at 8 16 bytes) ++ flat_map entry_sectors made
-  pub need : s ≤ 201326592
-  pub within : u ≤ 262144
+  pub need : s ≤ raw_limit limits
+  pub within : u ≤ unit_limit limits
   pub room : length text ≤ byte_limit limits
   pub stand : AllStandRaw k bytes raw
   pub entries : AreEntries sectors made
@@ -82,7 +82,7 @@ pub same_data : (k s : ℕ) (bytes : List ℕ) (e : Entry) → StandsRaw k bytes
 same_data k s bytes e stands = rw (stands.count, flag_discard e.flags, stands.flags) refl
 
 -- a header and the entry that is made of it tell the same number of bytes of data
-same_bytes : (k s : ℕ) (bytes : List ℕ) (e : Entry) (h : Header) → StandsDivided k bytes s e → HeaderStands k bytes s h → data_bytes h ≡ 512 * data_of e
+same_bytes : (k s : ℕ) (bytes : List ℕ) (e : Entry) (h : RawHeader) → StandsDivided k bytes s e → HeaderStands k bytes s h → data_bytes h ≡ 512 * data_of e
 same_bytes k s bytes e h stands has =
     let flag : e.flags.discard ≡ h.flags.discard = flag_discard e.flags ∙ (rw (stands.flags) (sym has.discard)) in
     let count : e.count ≡ h.count = stands.count ∙ sym has.count in
@@ -92,10 +92,10 @@ same_bytes k s bytes e h stands has =
 pub go_on : (bytes text : List ℕ) (k sectors : ℕ) (limits : Limits) (n s u : ℕ) (e : Entry)
     → times_at bytes ≡ k
     → Progress bytes k sectors limits text n s u
-    → (w : ℕ) → w ≡ byte_limit limits - length text → first_failing (raw_entry_checks k bytes sectors s u w) ≡ None
+    → (w : ℕ) → w ≡ byte_limit limits - length text → first_failing (raw_entry_checks k bytes sectors limits s u w) ≡ None
     → StandsDivided k bytes s e → IsEntry sectors e → (e.flags.mark ≡ true → e.flags.flush ≡ false)
-    → (h : Header) → HeaderStands k bytes s h → u + h.count ≤ 262144
-    → (d : ℕ) → d ≡ data_bytes h → 512 + d ≤ w → s + bytes_in k 1 + d ≤ 201326592
+    → (h : RawHeader) → HeaderStands k bytes s h → u + h.count ≤ unit_limit limits
+    → (d : ℕ) → d ≡ data_bytes h → 512 + d ≤ w → s + bytes_in k 1 + d ≤ raw_limit limits
     → length e.text ≤ 480
     → Progress bytes k sectors limits (text ++ entry_sectors e) (n + 1) (s + (512 * k + d)) (u + h.count)
 go_on bytes text k sectors limits n s u e told so w w_is passes stands fits recorded h has few d d_is room need short =
@@ -152,6 +152,14 @@ byte_limit_most : (limits : Limits) → byte_limit limits ≤ most_log_bytes
 byte_limit_most limits.Usual = omega arith
 byte_limit_most limits.Large = omega arith
 
+unit_limit_most : (limits : Limits) → unit_limit limits ≤ most_units
+unit_limit_most limits.Usual = omega arith
+unit_limit_most limits.Large = omega arith
+
+raw_limit_some : (limits : Limits) → 4096 ≤ raw_limit limits
+raw_limit_some limits.Usual = omega arith
+raw_limit_some limits.Large = omega arith
+
 -- where all entries are imported the text is what was promised
 pub whole : (bytes text : List ℕ) (k sectors : ℕ) (limits : Limits) (n s u : ℕ) → SuperStands bytes k → 1 ≤ sectors → sectors ≤ most_sectors → number_at 8 16 bytes ≡ n
     → Progress bytes k sectors limits text n s u → IsImported bytes sectors limits text
@@ -161,15 +169,16 @@ whole bytes text k sectors limits n s u super some device count so =
       some = some;
       device = omega (arith, device);
       count = omega (arith, super.count, count, so.counted);
-      units = omega (arith, so.sum, so.within);
+      units = omega (arith, so.sum, so.within, unit_limit_most limits);
       entries = so.entries;
       size = rw so.counted (omega (arith, so.size, so.room, byte_limit_most limits));
       held = omega arith;
       initial = λ i. omega arith;
     } in
     let small : 512 * place made (length made) ≤ byte_limit limits = rw so.counted (omega (arith, so.size, so.room)) in
+    let few : units_of made ≤ unit_limit limits = omega (arith, so.sum, so.within) in
     let text_is : text ≡ canonical_text made = so.canonical ∙ ap (λ c. super_sector c ++ flat_map entry_sectors made) (count ∙ sym so.counted) in
-    let need : bytes_in k (place so.raw (length so.raw)) ≤ 201326592 = rw (so.count, so.placed) so.need in
+    let need : bytes_in k (place so.raw (length so.raw)) ≤ raw_limit limits = rw (so.count, so.placed) so.need in
     record {
       k = k;
       entries = so.raw;
@@ -181,6 +190,7 @@ whole bytes text k sectors limits n s u super some device count so =
       importable = record {
         log = subst (λ (es : List Entry). IsLog (record { sectors = sectors; entries = es; initial = [] })) so.divided log;
         size = subst (λ (es : List Entry). 512 * place es (length es) ≤ byte_limit limits) so.divided small;
+        units = subst (λ (es : List Entry). units_of es ≤ unit_limit limits) so.divided few;
         recorded = subst AreRecorded so.divided so.recorded;
         need = need;
       };
@@ -189,7 +199,7 @@ whole bytes text k sectors limits n s u super some device count so =
 
 -- the first fault, at an entry after those that passed
 pub fault_here : (bytes text : List ℕ) (k sectors : ℕ) (limits : Limits) (n s u : ℕ) (c : LogCause) → times_at bytes ≡ k → first_failing (raw_super_checks bytes) ≡ None
-    → n < number_at 8 16 bytes → Progress bytes k sectors limits text n s u → (w : ℕ) → w ≡ byte_limit limits - length text → first_failing (raw_entry_checks k bytes sectors s u w) ≡ Some c
+    → n < number_at 8 16 bytes → Progress bytes k sectors limits text n s u → (w : ℕ) → w ≡ byte_limit limits - length text → first_failing (raw_entry_checks k bytes sectors limits s u w) ≡ Some c
     → FirstRawFault bytes sectors limits c n
 fault_here bytes text k sectors limits n s u c told clean lt so w w_is failing =
     in_entry c n clean lt so.pass (rw (told, so.header, so.before, so.written, ← w_is) failing)
@@ -214,7 +224,7 @@ start bytes old text k sectors limits count times told none appended =
       sum = refl;
       size = sym long;
       canonical = is ∙ ap super_sector told ∙ simp append-nil;
-      need = elim times [ inl one ↦ omega (arith, one) | inr eight ↦ omega (arith, eight) ];
+      need = elim times [ inl one ↦ omega (arith, one, raw_limit_some limits) | inr eight ↦ omega (arith, eight, raw_limit_some limits) ];
       within = omega arith;
       room = omega (arith, long, byte_limit_some limits);
       stand = λ i e h. absurd (let bad : None ≡ Some e = h in cc);

@@ -1,7 +1,7 @@
 -- The first fault of bytes of which no log can be imported, by the order of the checks (docs/LOG-FORMAT.md, Importing a raw log).
 -- It speaks of the bytes alone. Sums and products are of whole numbers and do not wrap.
 use Rattle.std.specs.Prelude.{ℕ, zero, suc, ◌+◌, ◌-◌, ◌*◌, ◌/◌, ◌^◌, ◌≡◌, ◌==◌, ◌<◌, Bool, not, ◌&&◌, ◌||◌, nat_lt, nat_le, if◌then◌else◌, List, [], ◌∷◌, length, Option, None, Some}
-use Rattle.base.specs.Sizes.{byte_limit}
+use Rattle.base.specs.Sizes.{byte_limit, raw_limit, unit_limit}
 use Rattle.base.specs.declared.limits.Limits.{Limits}
 use Rattle.base.specs.Check.{Check, check, first_failing}
 use Rattle.base.specs.Numbers.{number_at}
@@ -65,24 +65,24 @@ is_on_device k sectors sector count = nat_lt (k * sector) (2 ^ 64) && ((count ==
 
 -- the checks of the entry whose header begins at byte s, after entries of that many units, where the log that comes out has room for
 -- that many bytes more
-unfoldable pub raw_entry_checks : ℕ → List ℕ → ℕ → ℕ → ℕ → ℕ → List (Check LogCause)
-raw_entry_checks k bytes sectors s units room =
-    check cause.Limit (nat_le (s + bytes_in k 1) 201326592)
+unfoldable pub raw_entry_checks : ℕ → List ℕ → ℕ → Limits → ℕ → ℕ → ℕ → List (Check LogCause)
+raw_entry_checks k bytes sectors limits s units room =
+    check cause.Limit (nat_le (s + bytes_in k 1) (raw_limit limits))
     ∷ check cause.CutShort (nat_le (s + bytes_in k 1) (length bytes))
     ∷ check cause.Flags (nat_lt (word_at bytes s) 32)
     ∷ check cause.DataLength (has_bit (word_at bytes s) 8 || (length_at bytes s == 0))
     ∷ check cause.MarkForm (not (has_bit (word_at bytes s) 8) || has_mark_form (word_at bytes s) (count_at bytes s) (length_at bytes s))
     ∷ check cause.Device (is_on_device k sectors (sector_at bytes s) (count_at bytes s))
-    ∷ check cause.Limit (nat_le (units + k * count_at bytes s) 262144)
+    ∷ check cause.Limit (nat_le (units + k * count_at bytes s) (unit_limit limits))
     ∷ check cause.Limit (nat_le (512 * (1 + k * data_sectors bytes s)) room)
-    ∷ check cause.Limit (nat_le (s + bytes_in k (1 + data_sectors bytes s)) 201326592)
+    ∷ check cause.Limit (nat_le (s + bytes_in k (1 + data_sectors bytes s)) (raw_limit limits))
     ∷ check cause.CutShort (nat_le (s + bytes_in k (1 + data_sectors bytes s)) (length bytes))
     ∷ []
 
 -- the cause at entry i, if there is one
 abbrev pub raw_entry_fault : ℕ → List ℕ → ℕ → Limits → ℕ → Option LogCause
 raw_entry_fault k bytes sectors limits i =
-    first_failing (raw_entry_checks k bytes sectors (header k bytes i) (units_before k bytes i) (byte_limit limits - written_before k bytes i))
+    first_failing (raw_entry_checks k bytes sectors limits (header k bytes i) (units_before k bytes i) (byte_limit limits - written_before k bytes i))
 
 -- the first n entries pass
 abbrev pub EntriesPass : List ℕ → ℕ → Limits → ℕ → Type 0

@@ -5,7 +5,7 @@ use Rattle.base.specs.Numbers.{number_at}
 use Rattle.logfmt.specs.declared.entry.Entry.{Entry}
 use Rattle.logfmt.specs.Bounds.{data_of}
 use Rattle.logfmt.specs.Flags.{flag_word, has_bit}
-use Rattle.raw_log.specs.declared.header.Header.{Header}
+use Rattle.raw_log.specs.declared.header.RawHeader.{RawHeader}
 use Rattle.raw_log.specs.Raw.{IsTimes, bytes_in}
 use Rattle.raw_log.specs.Faults.{times_at, sector_at, count_at, word_at, length_at, data_sectors}
 
@@ -20,7 +20,7 @@ pub record SuperStands (bytes : List ℕ) (k : ℕ) : Type 0 where
   pub count : number_at 8 16 bytes ≤ 65536
 
 -- a mark of the right form
-pub record IsMarkHeader (h : Header) : Type 0 where
+pub record IsMarkHeader (h : RawHeader) : Type 0 where
   pub flush : h.flags.flush ≡ false
   pub fua : h.flags.fua ≡ false
   pub discard : h.flags.discard ≡ false
@@ -28,11 +28,11 @@ pub record IsMarkHeader (h : Header) : Type 0 where
   pub text : h.text_length ≤ 480
 
 -- a header in sectors of 512 bytes, of which k are one of the raw log
-abbrev pub divided_header : ℕ → Header → Header
+abbrev pub divided_header : ℕ → RawHeader → RawHeader
 divided_header k h = record h { sector = k * h.sector; count = k * h.count }
 
 -- the header, in sectors of 512 bytes, stands in the raw log's sector that begins at byte s, and its data after it
-pub record HeaderStands (k : ℕ) (bytes : List ℕ) (s : ℕ) (h : Header) : Type 0 where
+pub record HeaderStands (k : ℕ) (bytes : List ℕ) (s : ℕ) (h : RawHeader) : Type 0 where
   pub sector : h.sector ≡ k * sector_at bytes s
   pub count : h.count ≡ k * count_at bytes s
   pub flags : flag_word h.flags ≡ word_at bytes s
@@ -41,13 +41,13 @@ pub record HeaderStands (k : ℕ) (bytes : List ℕ) (s : ℕ) (h : Header) : Ty
   pub whole : s + bytes_in k (1 + data_sectors bytes s) ≤ length bytes
 
 -- the header is one for a device of that many sectors
-pub record HeaderFits (sectors : ℕ) (h : Header) : Type 0 where
+pub record HeaderFits (sectors : ℕ) (h : RawHeader) : Type 0 where
   pub mark : h.flags.mark ≡ true → IsMarkHeader h
   pub other : h.flags.mark ≡ false → h.text_length ≡ 0
   pub device : 0 < h.count → h.sector + h.count ≤ sectors
 
 -- the bytes of its data
-abbrev pub data_bytes : Header → ℕ
+abbrev pub data_bytes : RawHeader → ℕ
 data_bytes h = 512 * (if h.flags.discard then 0 else h.count)
 
 -- the entry, in sectors of 512 bytes, has its header in the raw log's sector that begins at byte s, and its data after it

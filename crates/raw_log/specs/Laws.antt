@@ -1,10 +1,10 @@
 -- What holds of raw logs as a whole, and of what is imported of them.
 use Rattle.std.specs.Prelude.{ℕ, ◌*◌, ◌≡◌, ◌≤◌, List, length}
-use Rattle.base.specs.Sizes.{byte_limit, most_log_bytes}
+use Rattle.base.specs.Sizes.{byte_limit, most_log_bytes, unit_limit}
 use Rattle.base.specs.declared.limits.Limits.{Limits}
 use Rattle.base.specs.declared.causes.LogCause.{LogCause}
 use Rattle.logfmt.specs.declared.entry.Entry.{Entry}
-use Rattle.logfmt.specs.Bounds.{LogValue, AreBytes, place}
+use Rattle.logfmt.specs.Bounds.{LogValue, AreBytes, place, units_of}
 use Rattle.logfmt.specs.LogText.{LogText}
 use Rattle.raw_log.specs.Raw.{RawText}
 use Rattle.raw_log.specs.Faults.{FirstRawFault}
@@ -14,11 +14,13 @@ use Rattle.raw_log.specs.Imported.{IsImportable, IsImported, imported_log}
 abbrev pub RawOfOneLog : Type 0
 RawOfOneLog = (bytes : List ℕ) (k l : ℕ) (es fs : List Entry) → RawText k bytes es → RawText l bytes fs → (k ≡ l) × (es ≡ fs)
 
--- a log is a raw log with sectors of 512 bytes, of the same entries, which can be imported where they end within the limits
+-- a log is a raw log with sectors of 512 bytes, of the same entries, which can be imported where they end within the limits and have
+-- no more units
 abbrev pub LogIsRaw : Type 0
 LogIsRaw =
     (bytes : List ℕ) (log : LogValue) (limits : Limits) → LogText bytes log
-    → RawText 1 bytes log.entries × (512 * place log.entries (length log.entries) ≤ byte_limit limits → IsImportable 1 log.sectors limits log.entries)
+    → RawText 1 bytes log.entries × (512 * place log.entries (length log.entries) ≤ byte_limit limits
+    → units_of log.entries ≤ unit_limit limits → IsImportable 1 log.sectors limits log.entries)
 
 -- and of the raw logs with such sectors that can be imported each is a log, if it isn't too long, whatever its device held before
 abbrev pub RawIsLog : Type 0

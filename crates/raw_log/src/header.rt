@@ -1,15 +1,16 @@
 //! The super block and the header of an entry, checked in the order of the checks of a raw log.
 
 ghost use Rattle.std.specs.Prelude.{◌≡◌, ◌==◌, ◌≤◌, ◌<◌, ◌+◌, ◌*◌, ◌||◌, ◌&&◌, ◌^◌, ◌↔◌, nat_le, nat_lt, if◌then◌else◌, length, IsTrue, IsSome, IfOk, IfSome, MatchResult, Some, None};
-ghost use Rattle.base.specs.Sizes.{most_log_bytes, most_sectors};
+ghost use Rattle.base.specs.Sizes.{most_log_bytes, most_sectors, most_units, raw_limit, unit_limit};
 ghost use Rattle.base.specs.Check.{first_failing};
 ghost use Rattle.logfmt.specs.Faults.{has_mark_form};
 ghost use Rattle.logfmt.specs.Flags.{has_bit};
 ghost use Rattle.raw_log.specs.Faults.{raw_super_checks, raw_entry_checks, is_on_device};
 ghost use Rattle.raw_log.specs.Raw.{IsTimes, bytes_in};
-ghost use Rattle.raw_log.specs.Header.{SuperStands, HeaderStands, HeaderFits, IsMarkHeader, divided_header, data_bytes};
+ghost use Rattle.raw_log.specs.RawHeader.{SuperStands, HeaderStands, HeaderFits, IsMarkHeader, divided_header, data_bytes};
 
 use base::causes::LogCause;
+use base::limits::Limits;
 use base::numbers::{u32_at, u64_at};
 use logfmt::{Flags, SECTOR};
 
@@ -21,12 +22,6 @@ pub(crate) const VERSION: u64 = 1;
 
 /// How many entries a log may have.
 const MAX_ENTRIES: u64 = 65_536;
-
-/// How many units a log may have: one for each sector of a write or a discard.
-const MAX_UNITS: u64 = 262_144;
-
-/// How many bytes of a raw log its entries may need: 192 MiB.
-const MAX_NEEDED: usize = 201_326_592;
 
 /// How many bytes of text fit the header of a mark.
 pub(crate) const MAX_TEXT: u64 = 480;
@@ -63,7 +58,7 @@ pub(crate) fn checked_super(raw: &[u8]) -> Result<u64, LogCause>
 
 /// The fields of an entry's header.
 #[derive(Clone, Copy)]
-pub(crate) struct Header {
+pub(crate) struct RawHeader {
     /// The first sector of the device that the entry covers.
     pub sector: u64,
     /// How many sectors it covers.
@@ -74,10 +69,10 @@ pub(crate) struct Header {
     pub text_length: u64,
 }
 
-impl Header {
+impl RawHeader {
     /// How many bytes of data follow the header, where its sectors have 512 bytes.
     pub(crate) fn data_bytes(&self) -> usize
-        requires { self.now.count ≤ 262144 }
+        requires { self.now.count ≤ most_units }
         ensures { result ≡ data_bytes self.now }
     {
         if self.flags.discard {
@@ -101,7 +96,7 @@ impl Header {
 
     /// The header in sectors of 512 bytes, of which `times` are one of the raw log; none where these don't lie on a device of
     /// that many.
-    fn in_sectors_of_512(&self, times: u64, sectors: u32) -> Option<Header>
+    fn in_sectors_of_512(&self, times: u64, sectors: u32) -> Option<RawHeader>
         requires times { IsTimes times }
         ensures known { IsSome result ↔ IsTrue (is_on_device times sectors self.now.sector self.now.count) }
         ensures value { IfSome result (λ h. h ≡ divided_header times self.now) }
@@ -114,7 +109,7 @@ impl Header {
         if count != 0 && sector.checked_add(count)? > u64::from(sectors) {
             return None;
         }
-        Some(Header {
+        Some(RawHeader {
             sector,
             count,
             ..*self
@@ -130,23 +125,26 @@ pub(crate) fn checked_header(
     times: u64,
     start: usize,
     sectors: u32,
+    limits: Limits,
     units: u64,
     room: usize,
-) -> Result<Header, LogCause>
+) -> Result<RawHeader, LogCause>
     requires times { IsTimes times }
-    requires start { start ≤ 201326592 }
+    requires start { start ≤ raw_limit limits }
     requires device { sectors ≤ most_sectors }
-    requires units { units ≤ 262144 }
+    requires units { units ≤ unit_limit limits }
     requires room { room ≤ most_log_bytes }
-    ensures exact { MatchResult result (λ _. first_failing (raw_entry_checks times raw.now sectors start units room) ≡ None) (λ c. first_failing (raw_entry_checks times raw.now sectors start units room) ≡ Some c) }
+    ensures exact { MatchResult result (λ _. first_failing (raw_entry_checks times raw.now sectors limits start units room) ≡ None) (λ c. first_failing (raw_entry_checks times raw.now sectors limits start units room) ≡ Some c) }
     ensures stands { IfOk result (HeaderStands times raw.now start) }
     ensures fits { IfOk result (HeaderFits sectors) }
-    ensures within { IfOk result (λ h. units + h.count ≤ 262144) }
+    ensures within { IfOk result (λ h. units + h.count ≤ unit_limit limits) }
+    ensures few { IfOk result (λ h. h.count ≤ most_units) }
     ensures room { IfOk result (λ h. 512 + data_bytes h ≤ room) }
-    ensures need { IfOk result (λ h. start + bytes_in times 1 + data_bytes h ≤ 201326592) }
+    ensures need { IfOk result (λ h. start + bytes_in times 1 + data_bytes h ≤ raw_limit limits) }
 {
+    let (most_units, most_needed) = (limits.units(), limits.raw_bytes());
     let data = start + SECTOR * times as usize;
-    if data > MAX_NEEDED {
+    if data > most_needed {
         return Err(LogCause::Limit);
     }
     if data > raw.len() {
@@ -155,7 +153,7 @@ pub(crate) fn checked_header(
     let Some(flags) = Flags::of_word(u64_at(raw, start + 16)) else {
         return Err(LogCause::Flags);
     };
-    let header = Header {
+    let header = RawHeader {
         sector: u64_at(raw, start),
         count: u64_at(raw, start + 8),
         flags,
@@ -170,13 +168,13 @@ pub(crate) fn checked_header(
     let Some(header) = header.in_sectors_of_512(times, sectors) else {
         return Err(LogCause::Device);
     };
-    if units + header.count > MAX_UNITS {
+    if units + header.count > most_units {
         return Err(LogCause::Limit);
     }
     if SECTOR + header.data_bytes() > room {
         return Err(LogCause::Limit);
     }
-    if data + header.data_bytes() > MAX_NEEDED {
+    if data + header.data_bytes() > most_needed {
         return Err(LogCause::Limit);
     }
     if data + header.data_bytes() > raw.len() {

@@ -3,15 +3,15 @@
 
 ghost use Rattle.std.specs.Prelude.{true, false, ◌≡◌, ◌≤◌, ◌+◌, ◌-◌, ◌*◌, ◌⊎◌, length, IfOk, IfErr, OnOk};
 ghost use Rattle.std.specs.List.{slice_range};
-ghost use Rattle.base.specs.Sizes.{byte_limit, most_log_bytes, most_sectors};
+ghost use Rattle.base.specs.Sizes.{byte_limit, most_log_bytes, most_sectors, most_units};
 ghost use Rattle.base.specs.declared.causes.LogCause.TheVariants as cause;
 ghost use Rattle.logfmt.specs.Bounds.{AreBytes, IsEntry};
 ghost use Rattle.raw_log.specs.Raw.{IsTimes, bytes_in};
 ghost use Rattle.raw_log.specs.Faults.{FirstRawFault, HasNoRawFault};
-ghost use Rattle.raw_log.specs.Header.{HeaderStands, HeaderFits, StandsDivided, data_bytes};
+ghost use Rattle.raw_log.specs.RawHeader.{HeaderStands, HeaderFits, StandsDivided, data_bytes};
 ghost use Rattle.raw_log.specs.Imported.{IsImported};
 
-use crate::header::{Header, checked_header, checked_super};
+use crate::header::{RawHeader, checked_header, checked_super};
 use crate::writer::{put_entry, put_super};
 use base::bytes::Bytes;
 use base::limits::Limits;
@@ -37,14 +37,14 @@ fn entry_of(
     times: u64,
     start: usize,
     sectors: u32,
-    header: Header,
+    header: RawHeader,
 ) -> Result<Entry, AllocError>
     requires times { IsTimes times }
     requires device { sectors ≤ most_sectors }
     requires stands { HeaderStands times raw.now start header }
     requires fits { HeaderFits sectors header }
-    requires few { header.count ≤ 262144 }
-    requires need { start + bytes_in times 1 + data_bytes header ≤ 201326592 }
+    requires few { header.count ≤ most_units }
+    requires need { start + bytes_in times 1 + data_bytes header ≤ most_log_bytes }
     ensures stands { IfOk result (StandsDivided times raw.now start) }
     ensures fits { IfOk result (IsEntry sectors) }
     ensures recorded { IfOk result (λ e. e.flags.mark ≡ true → e.flags.flush ≡ false) }
@@ -96,7 +96,7 @@ pub fn import(alloc: Global, raw: &[u8], sectors: u32, limits: Limits) -> Result
     let mut units = 0;
     for number in 0..count {
         let room = room_after(limits, out.len());
-        let header = match checked_header(raw, times, start, sectors, units, room) {
+        let header = match checked_header(raw, times, start, sectors, limits, units, room) {
             Ok(header) => header,
             Err(code) => return Err(LogFault { code, at: number }),
         };

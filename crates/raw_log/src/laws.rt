@@ -7,7 +7,8 @@ pub fn raw_of_one_log()
     ensures { RawOfOneLog }
 {}
 
-/// A log is a raw log with sectors of 512 bytes, whose entries can be imported where they end within the limits.
+/// A log is a raw log with sectors of 512 bytes, whose entries can be imported where they end within the limits
+/// and have no more units.
 pub fn log_is_raw()
     ensures { LogIsRaw }
 {}

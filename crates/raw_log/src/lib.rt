@@ -20,13 +20,13 @@
 //! - `RawText k bytes es` says by an equation of positions where each field of each entry stands in a raw log whose sectors have
 //!   512 * k bytes. `imported_log k sectors es` is the log of these entries in sectors of 512 bytes. Where `import` is `Ok`, the bytes are
 //!   a raw log of some entries, these can be imported, and the result is the canonical text of their log (`IsImported`).
-//! - `IsImportable k sectors limits es` has the bounds: what comes out is a log within all its limits, and the entries need at most
-//!   192 MiB of the raw log. What stands after them is not looked at.
+//! - `IsImportable k sectors limits es` has the bounds: what comes out is a log within these limits, and so are the bytes of
+//!   the raw log that the entries need. What stands after them is not looked at.
 //! - `FirstRawFault bytes sectors limits code at` says which check of docs/LOG-FORMAT.md is the first to fail. It speaks of the
 //!   bytes alone. Where `import` is `Err`, that is its fault, or memory ran out. Where it is `Ok`, no check fails.
 //! - Laws (`specs/Laws.antt`) stand above these. Bytes are a raw log of at most one list of entries (`raw_of_one_log`). What is
 //!   imported is a log text of the log of these entries over no initial content (`imported_is_text`), so `logfmt::read` gives
-//!   that log, and one text is imported of bytes (`one_import`). The logs of `logfmt` within the limits are the raw logs with sectors
+//!   that log, and one text is imported of bytes (`one_import`). The logs of `logfmt` within limits are the raw logs with sectors
 //!   of 512 bytes (`log_is_raw`, `raw_is_log`), and importing one gives a text of the same log (`log_is_kept`). No raw log that
 //!   can be imported has a fault (`raw_has_no_fault`, `imported_has_no_fault`), and bytes have at most one first fault
 //!   (`one_raw_fault`).
@@ -53,8 +53,8 @@
 //!
 //! # Choices
 //!
-//! - `import` reads 192 MiB of a raw log, with `--large` and without: the option says what may come out. A raw log of
-//!   headers alone comes out an eighth as long.
+//! - `import` reads 192 MiB of a raw log, where 64 MiB may come out: one of headers alone comes out an eighth as long. With `--large`
+//!   both are 1 GiB.
 #![tactic(auto)]
 
 mod header;

@@ -3,7 +3,7 @@ use Rattle.std.proofs.Common.{ℕ, ◌≡◌, ◌∙◌, ◌<◌, ◌==◌, ◌^
 use Rattle.std.specs.Fmt.{decimal}
 use Rattle.std.proofs.lemmas.Bool.Decides.{nat_tests}
 use Rattle.std.specs.List.{flat_map}
-use Rattle.report.specs.declared.lines.marks.Mark.{Mark}
+use Rattle.report.specs.declared.lines.marks.LineMark.{LineMark}
 use Rattle.report.specs.Line.{FailingLine}
 use Rattle.report.specs.Marks.{mark_of, marks_of}
 use Rattle.report.specs.Kept.{IsSmall, AreSmall}
@@ -30,14 +30,14 @@ line_read text image after_image cut after_cut program after_program said more m
         (λ i. record { image = image_is i; program = program_is i }, four.1)
 
 -- marks were read of a text, of which a rest is still to be read
-pub record StillReads (text : List ℕ) (old : List Mark) (rest : List ℕ) (marks : List Mark) : Type 0 where
+pub record StillReads (text : List ℕ) (old : List LineMark) (rest : List ℕ) (marks : List LineMark) : Type 0 where
   pub reads : (ls : List FailingLine) → AreSmall ls → text ≡ flat_map line_text ls
       → (more : List FailingLine) × AreSmall more × (rest ≡ flat_map line_text more) × (marks ++ marks_of more ≡ old ++ marks_of ls)
 
-pub none_read : (text : List ℕ) (old : List Mark) → StillReads text old text old
+pub none_read : (text : List ℕ) (old : List LineMark) → StillReads text old text old
 none_read text old = record { reads = λ ls small e. (ls, small, e, refl) }
 
-pub one_read : (text rest more : List ℕ) (old marks : List Mark) (mark : Mark) → StillReads text old rest marks → ReadsLine rest mark more → (rest ≡ [] → ⊥)
+pub one_read : (text rest more : List ℕ) (old marks : List LineMark) (mark : LineMark) → StillReads text old rest marks → ReadsLine rest mark more → (rest ≡ [] → ⊥)
     → StillReads text old more (marks ++ mark ∷ [])
 one_read text rest more old marks mark h line some = record { reads = λ ls small e. go ls (h.reads ls small e) }
   where
@@ -46,7 +46,7 @@ one_read text rest more old marks mark h line some = record { reads = λ ls smal
     go ls ([], small, e, same) = absurd (some e)
     go ls (l ∷ left, small, e, same) =
         let own = line.read l (flat_map line_text left) small.0 e in
-        (left, small.1, own.1, append_assoc marks (mark ∷ []) (marks_of left) ∙ ap (λ (m : Mark). marks ++ m ∷ marks_of left) own.0 ∙ same)
+        (left, small.1, own.1, append_assoc marks (mark ∷ []) (marks_of left) ∙ ap (λ (m : LineMark). marks ++ m ∷ marks_of left) own.0 ∙ same)
 
 line_is_some : (l : FailingLine) (more : List ℕ) → [] ≡ line_text l ++ more → ⊥
 unfolding line_text
@@ -54,7 +54,7 @@ line_is_some l more e =
     let long = ap (λ (text : List ℕ). length text) (e ∙ words_of l more) in
     omega (arith, long)
 
-pub all_read : (text rest : List ℕ) (old marks : List Mark) → StillReads text old rest marks → rest ≡ [] → ReadsLines text old marks
+pub all_read : (text rest : List ℕ) (old marks : List LineMark) → StillReads text old rest marks → rest ≡ [] → ReadsLines text old marks
 all_read text rest old marks h none = record { read = λ ls small e. go ls (h.reads ls small e) }
   where
     go : (ls : List FailingLine) → (left : List FailingLine) × AreSmall left × (rest ≡ flat_map line_text left) × (marks ++ marks_of left ≡ old ++ marks_of ls) → marks ≡ old ++ marks_of ls

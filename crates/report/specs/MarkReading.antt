@@ -1,7 +1,7 @@
 -- What reads lines back from their text.
 use Rattle.std.specs.Prelude.{ℕ, ◌≡◌, ◌==◌, Bool, true, false, if◌then◌else◌, List, [], ◌∷◌, ◌++◌}
 use Rattle.std.specs.List.{flat_map}
-use Rattle.report.specs.declared.lines.marks.Mark.{Mark}
+use Rattle.report.specs.declared.lines.marks.LineMark.{LineMark}
 use Rattle.report.specs.Line.{FailingLine}
 use Rattle.report.specs.Marks.{mark_of, marks_of}
 use Rattle.report.specs.Kept.{IsSmall, AreSmall}
@@ -21,9 +21,9 @@ pub record ReadsField (text word rest : List ℕ) : Type 0 where
   pub read : (name own more : List ℕ) → lacks 32 name ≡ true → lacks 32 own ≡ true → text ≡ name ++ 32 ∷ (own ++ 32 ∷ more) → (word ≡ own) × (rest ≡ more)
 
 -- the mark of the line with which a text begins is read
-pub record ReadsLine (text : List ℕ) (mark : Mark) (rest : List ℕ) : Type 0 where
+pub record ReadsLine (text : List ℕ) (mark : LineMark) (rest : List ℕ) : Type 0 where
   pub read : (l : FailingLine) (more : List ℕ) → IsSmall l → text ≡ line_text l ++ more → (mark ≡ mark_of l) × (rest ≡ more)
 
 -- the marks of the lines of a text are read, after those that were read before
-pub record ReadsLines (text : List ℕ) (old found : List Mark) : Type 0 where
+pub record ReadsLines (text : List ℕ) (old found : List LineMark) : Type 0 where
   pub read : (ls : List FailingLine) → AreSmall ls → text ≡ flat_map line_text ls → found ≡ old ++ marks_of ls

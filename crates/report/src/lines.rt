@@ -31,6 +31,6 @@ mod text;
 
 pub use all::Lines;
 pub use line::Line;
-pub use marks::Mark;
-pub use part::Part;
+pub use marks::LineMark;
+pub use part::LinesPart;
 pub use text::put_outcome;

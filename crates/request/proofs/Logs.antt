@@ -1,9 +1,9 @@
 -- What was read of a log, by the settings.
 use Rattle.std.proofs.Common.{ℕ, ◌≡◌, ◌≤◌, ◌*◌, ◌⊎◌, inl, inr, ◌<◌, List, [], length, slice_get, Option, None, Some, true, refl, sym, ap, ◌∙◌, subst, arith}
-use Rattle.base.specs.Sizes.{byte_limit}
+use Rattle.base.specs.Sizes.{byte_limit, unit_limit}
 use Rattle.base.specs.declared.causes.LogCause.TheVariants as log
 use Rattle.logfmt.specs.declared.fault.LogFault.{LogFault}
-use Rattle.logfmt.specs.Bounds.{LogValue, IsLog, AreBytes}
+use Rattle.logfmt.specs.Bounds.{LogValue, IsLog, AreBytes, units_of}
 use Rattle.logfmt.specs.Initial.{over}
 use Rattle.logfmt.proofs.Flushed.{log-flushed}
 use Rattle.logfmt.specs.Faults as log_fault
@@ -38,11 +38,12 @@ text_over text log initial is fits are = record {
   recorded = is.recorded;
 }
 
-pub recorded_over : (r : Recording) (s : Settings) (log : LogValue) → LogText r.text log → log.sectors ≡ s.sectors → length r.text ≤ byte_limit s.limits → FitsDevice r s
-    → AreBytes r.initial → IsRecorded r s (over r.initial log)
-recorded_over r s log is device short fits are = record {
+pub recorded_over : (r : Recording) (s : Settings) (log : LogValue) → LogText r.text log → log.sectors ≡ s.sectors → length r.text ≤ byte_limit s.limits
+    → units_of log.entries ≤ unit_limit s.limits → FitsDevice r s → AreBytes r.initial → IsRecorded r s (over r.initial log)
+recorded_over r s log is device short few fits are = record {
   device = device;
   size = short;
+  units = few;
   of_log = text_over r.text log r.initial is (let fit = fits in omega (arith, fit, device)) are;
   initial = refl;
 }

@@ -11,7 +11,7 @@ use Rattle.base.proofs.Lists.{range_with_len-more}
 use Rattle.logfmt.specs.declared.entry.Entry.{Entry}
 use Rattle.logfmt.specs.Bounds.{LogValue, IsLog}
 use Rattle.request.specs.declared.facts.promises.Promises.{Promises}
-use Rattle.request.specs.declared.facts.promises.Search.{Search}
+use Rattle.request.specs.declared.facts.promises.PromiseSearch.{PromiseSearch}
 use Rattle.request.specs.Promises.{is_unforced, is_since, is_mark, promises_too_much, too_much_before, AreFirst}
 use Rattle.request.specs.Search.{AreWithin, is_last, IsUnforced, NoneIsUnforced, IsJudged, one_more, no_more, IsSearched}
 use Rattle.request.proofs.Between.{any_next, none_next, at_or_above, range_any, range_none}
@@ -142,7 +142,7 @@ low_next : (b : Bool) (k start : ℕ) → start ≤ k → start_by b k start ≤
 low_next b k start low = let was = start_low b k start low in omega (arith, was)
 
 -- an entry that is no mark
-pub pass_other : (es : List Entry) (k : ℕ) (x : Entry) (old new : Search) → slice_get es k ≡ Some x → x.flags.mark ≡ false → IsSearched es k old
+pub pass_other : (es : List Entry) (k : ℕ) (x : Entry) (old new : PromiseSearch) → slice_get es k ≡ Some x → x.flags.mark ≡ false → IsSearched es k old
     → new.stamps.items ≡ old.stamps.items → new.start ≡ start_by x.flags.flush k old.start → new.found ≡ old.found → IsSearched es (k + 1) new
 pass_other es k x old new here mark was stamps start found = record {
   old = subst (λ (ss : List ℕ). (n : ℕ) → get_or ss n 0 ≤ k + 1) (sym stamps) (later_old k old.stamps.items was.old);
@@ -153,7 +153,7 @@ pass_other es k x old new here mark was stamps start found = record {
 }
 
 -- a mark that was judged
-pub pass_mark : (es : List Entry) (k : ℕ) (x : Entry) (old new : Search) → slice_get es k ≡ Some x → x.flags.mark ≡ true → IsSearched es k old
+pub pass_mark : (es : List Entry) (k : ℕ) (x : Entry) (old new : PromiseSearch) → slice_get es k ≡ Some x → x.flags.mark ≡ true → IsSearched es k old
     → ((n : ℕ) → get_or new.stamps.items n 0 ≤ k + 1) → new.start ≡ k → IsJudged es (start_by x.flags.flush k old.start) k (too_much_before es k) new.found
     → IsSearched es (k + 1) new
 pass_mark es k x old new here mark was stamps start judged = record {

@@ -3,7 +3,7 @@ use Rattle.std.specs.Prelude.{ℕ, ◌≡◌, ◌+◌, ◌<◌, ◌≤◌, ◌==
 use Rattle.std.specs.List.{slice_range, list_any}
 use Rattle.logfmt.specs.declared.entry.Entry.{Entry}
 use Rattle.request.specs.declared.facts.promises.Promises.{Promises}
-use Rattle.request.specs.declared.facts.promises.Search.{Search}
+use Rattle.request.specs.declared.facts.promises.PromiseSearch.{PromiseSearch}
 use Rattle.request.specs.Promises.{forces, is_unforced, too_much_before, AreFirst}
 
 -- the sectors of each entry are below that number
@@ -56,7 +56,7 @@ pub data IsJudged (es : List Entry) (start m : ℕ) (marks : List ℕ) (found : 
 
 -- The search stands before entry k: no number of its table is above k; the entries from its start on are those of which none but the first
 -- may be a mark or a flush entry; it has found the marks before.
-pub record IsSearched (es : List Entry) (k : ℕ) (s : Search) : Type 0 where
+pub record IsSearched (es : List Entry) (k : ℕ) (s : PromiseSearch) : Type 0 where
   pub old : (n : ℕ) → slice_index s.stamps.items n ≤ k
   pub low : s.start ≤ k
   pub since : (e : ℕ) → e < k → is_last es k e ≡ nat_le s.start e

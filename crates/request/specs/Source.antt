@@ -1,13 +1,13 @@
 -- What a command reads of a log: the log itself, and the crash images that are asked for of it.
 use Rattle.std.specs.Prelude.{ℕ, ◌≡◌, ◌<◌, ◌≤◌, ◌*◌, ◌++◌, nat_le, nat_lt, true, false, if◌then◌else◌, List, [], ◌∷◌, length, filter, slice_get, Option, None, Some}
-use Rattle.base.specs.Sizes.{byte_limit}
+use Rattle.base.specs.Sizes.{byte_limit, unit_limit}
 use Rattle.base.specs.declared.causes.LogCause.{LogCause}
 use Rattle.base.specs.declared.causes.LogCause.TheVariants as log
 use Rattle.base.specs.declared.causes.RequestCause.TheVariants as request
 use Rattle.base.specs.declared.refusal.Refusal.{Refusal}
 use Rattle.base.specs.Refusals.{memory_refusal}
 use Rattle.base.specs.declared.refusal.Cause.TheVariants.{Log, Request}
-use Rattle.logfmt.specs.Bounds.{LogValue}
+use Rattle.logfmt.specs.Bounds.{LogValue, units_of}
 use Rattle.logfmt.specs.LogText.{LogText}
 use Rattle.logfmt.specs.Faults as log_fault
 use Rattle.logfmt.specs.Flushed.{with_flushes}
@@ -26,11 +26,12 @@ pub record Recording : Type 0 where
   pub text : List ℕ
   pub initial : List ℕ
 
--- the bytes of the log are those of this log, no more than the limits allow, for the device of the settings, over that initial
--- content
+-- the bytes of the log are those of this log, no more of them and no more units than the limits allow, for the device of the settings,
+-- over that initial content
 pub record IsRecorded (r : Recording) (s : Settings) (value : LogValue) : Type 0 where
   pub device : value.sectors ≡ s.sectors
   pub size : length r.text ≤ byte_limit s.limits
+  pub units : units_of value.entries ≤ unit_limit s.limits
   pub of_log : LogText r.text value
   pub initial : value.initial ≡ r.initial
 

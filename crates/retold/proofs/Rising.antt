@@ -5,7 +5,7 @@ use Rattle.std.proofs.lemmas.Option.{slice_get_within}
 use Rattle.std.proofs.lemmas.List.{length-map}
 use Rattle.choices.specs.Choices.{ranked_choices}
 use Rattle.choices.specs.Sums.{StartsValue}
-use Rattle.report.specs.declared.lines.marks.Mark.{Mark}
+use Rattle.report.specs.declared.lines.marks.LineMark.{LineMark}
 use Rattle.losses.specs.Failures.{AreInOrder, AreImages}
 use Rattle.join.specs.Order.{is_after, in_order}
 use Rattle.join.specs.Given.{ToldLine, IsTold, AreToldOf, marks_told}
@@ -13,10 +13,10 @@ use Rattle.join.proofs.Counts.{next_is}
 use Rattle.retold.specs.Told.{is_of, images_told_of, outcomes_told_of, AreOfRun}
 
 -- a line stands after another
-abbrev pub StandsAfter : Mark → Mark → Type 0
+abbrev pub StandsAfter : LineMark → LineMark → Type 0
 StandsAfter a b = (a.image < b.image) ⊎ ((a.image ≡ b.image) × (a.program < b.program))
 
-after_of : (a b : Mark) → is_after a b ≡ true → StandsAfter a b
+after_of : (a b : LineMark) → is_after a b ≡ true → StandsAfter a b
 after_of a b e = by_tests (nat_lt a.image b.image) (a.image == b.image) (nat_lt a.program b.program) refl refl refl e
   where
     by_tests : (p q r : Bool) → nat_lt a.image b.image ≡ p → (a.image == b.image) ≡ q → nat_lt a.program b.program ≡ r → (p || (q && r)) ≡ true → StandsAfter a b
@@ -25,7 +25,7 @@ after_of a b e = by_tests (nat_lt a.image b.image) (a.image == b.image) (nat_lt 
     by_tests false true false x y z all = absurd (let bad : false ≡ true = all in cc)
     by_tests false false r x y z all = absurd (let bad : false ≡ true = all in cc)
 
-after_both : (a b c : Mark) → StandsAfter a b → StandsAfter b c → StandsAfter a c
+after_both : (a b c : LineMark) → StandsAfter a b → StandsAfter b c → StandsAfter a c
 after_both a b c (inl less) (inl more) = inl (omega (arith, less, more))
 after_both a b c (inl less) (inr same) = let at = same.0 in inl (omega (arith, less, at))
 after_both a b c (inr same) (inl more) = let at = same.0 in inl (omega (arith, at, more))
@@ -36,7 +36,7 @@ after_both a b c (inr same) (inr more) =
     let below = more.1 in
     inr (omega (arith, at, as_well), omega (arith, less, below))
 
-later : (from to : ℕ) (m : Mark) (ts : List ToldLine) → in_order from to (Some m) (marks_told ts) ≡ true → (k : ℕ) (t : ToldLine) → slice_get ts k ≡ Some t → StandsAfter m t.mark
+later : (from to : ℕ) (m : LineMark) (ts : List ToldLine) → in_order from to (Some m) (marks_told ts) ≡ true → (k : ℕ) (t : ToldLine) → slice_get ts k ≡ Some t → StandsAfter m t.mark
 later from to m [] e k t there = absurd (let bad : None ≡ Some t = there in cc)
 later from to m (x ∷ ts) e zero t there =
     let is : Some x ≡ Some t = there in
@@ -46,7 +46,7 @@ later from to m (x ∷ ts) e (suc k) t there =
     let next = next_is from to (Some m) x.mark (marks_told ts) e in
     after_both m x.mark t.mark (after_of m x.mark next.beyond) (later from to x.mark ts next.rest k t there)
 
-in_rows : (from to : ℕ) (last : Option Mark) (ts : List ToldLine) → in_order from to last (marks_told ts) ≡ true → (i j : ℕ) (a b : ToldLine) → i < j → slice_get ts i ≡ Some a → slice_get ts j ≡ Some b → StandsAfter a.mark b.mark
+in_rows : (from to : ℕ) (last : Option LineMark) (ts : List ToldLine) → in_order from to last (marks_told ts) ≡ true → (i j : ℕ) (a b : ToldLine) → i < j → slice_get ts i ≡ Some a → slice_get ts j ≡ Some b → StandsAfter a.mark b.mark
 in_rows from to last [] e i j a b lt ati atj = absurd (let bad : None ≡ Some a = ati in cc)
 in_rows from to last (x ∷ ts) e i zero a b lt ati atj = absurd (omega (arith, lt))
 in_rows from to last (x ∷ ts) e zero (suc j) a b lt ati atj =
@@ -131,16 +131,16 @@ are_of_run outside programs images s ts all order = record {
 }
 
 -- a mark is of an image of the run
-pub marks_within : (s : StartsValue) (ts : List ToldLine) → AreOfRun s ts → (k : ℕ) (m : Mark) → slice_get (marks_told ts) k ≡ Some m → m.image < length (ranked_choices s.plan s.bound s.tears)
+pub marks_within : (s : StartsValue) (ts : List ToldLine) → AreOfRun s ts → (k : ℕ) (m : LineMark) → slice_get (marks_told ts) k ≡ Some m → m.image < length (ranked_choices s.plan s.bound s.tears)
 marks_within s ts of_run = each ts of_run.within
   where
-    each : (xs : List ToldLine) → ((i : ℕ) (t : ToldLine) → slice_get xs i ≡ Some t → t.mark.image < length (ranked_choices s.plan s.bound s.tears)) → (k : ℕ) (m : Mark) → slice_get (marks_told xs) k ≡ Some m
+    each : (xs : List ToldLine) → ((i : ℕ) (t : ToldLine) → slice_get xs i ≡ Some t → t.mark.image < length (ranked_choices s.plan s.bound s.tears)) → (k : ℕ) (m : LineMark) → slice_get (marks_told xs) k ≡ Some m
         → m.image < length (ranked_choices s.plan s.bound s.tears)
     each [] within k m there = absurd (let bad : None ≡ Some m = there in cc)
     each (x ∷ xs) within zero m there =
         let is : Some x.mark ≡ Some m = there in
         let same : x.mark ≡ m = cc in
-        subst (λ (y : Mark). y.image < length (ranked_choices s.plan s.bound s.tears)) same (within 0 x refl)
+        subst (λ (y : LineMark). y.image < length (ranked_choices s.plan s.bound s.tears)) same (within 0 x refl)
     each (x ∷ xs) within (suc k) m there = each xs (λ i t at. within (suc i) t at) k m there
 
 -- a program fails on as many images as it has outcomes

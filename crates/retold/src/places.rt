@@ -15,11 +15,11 @@ ghost use Rattle.retold.specs.Told.{AreOfRun, TellsPlaces, beyond_line, count_of
 use crate::missing::missing_of;
 use crate::subject::Subject;
 use epochs::Cuts;
-use join::{Given, Told};
+use join::{Given, ToldLine};
 use losses::cure::{Failure, put_programs, put_round};
 use losses::flushes::MissingFlush;
 use report::choice_text::put_departures;
-use report::lines::Mark;
+use report::lines::LineMark;
 use std::alloc::{AllocError, Global};
 
 /// How many entries `--flush` takes.
@@ -34,7 +34,7 @@ fn first_uncured(failures: &[Failure]) -> Option<usize>
 
 /// Appends of which image, cut and program a line is.
 #[tactic(auto, unfolding(join::specs::Reading::words_text))]
-fn put_words(out: &mut String, mark: Mark, cut: u32) -> Result<(), AllocError>
+fn put_words(out: &mut String, mark: LineMark, cut: u32) -> Result<(), AllocError>
     ensures { OnOk result (string_bytes out.new ≡ string_bytes out.old ++ words_text (record { image = mark.image; cut = cut; program = mark.program })) }
 {
     write!(
@@ -52,7 +52,7 @@ fn put_outcome(out: &mut String, outcome: &str) -> Result<(), AllocError>
 }
 
 /// Appends a line as the report has it.
-fn put_line(out: &mut String, subject: &Subject<'_>, line: &Told<'_>) -> Result<(), AllocError>
+fn put_line(out: &mut String, subject: &Subject<'_>, line: &ToldLine<'_>) -> Result<(), AllocError>
     requires { line.now.mark.image < length (ranked_choices subject.now.starts.now.plan subject.now.starts.now.bound subject.now.starts.now.tears) }
     ensures { OnOk result (string_bytes out.new ≡ string_bytes out.old ++ told_line subject.now.starts.now (line_told line.now)) }
 {
@@ -64,7 +64,7 @@ fn put_line(out: &mut String, subject: &Subject<'_>, line: &Told<'_>) -> Result<
 }
 
 /// The line at a place, where there is one.
-fn line_at<'x>(lines: &'x [Told<'x>], place: usize) -> Option<&'x Told<'x>>
+fn line_at<'x>(lines: &'x [ToldLine<'x>], place: usize) -> Option<&'x ToldLine<'x>>
     ensures { MatchOption result (slice_get lines.now place ≡ None) (λ line. slice_get lines.now place ≡ Some line.now) }
 {
     lines.get(place)
@@ -141,7 +141,7 @@ fn put_untried(out: &mut String, entries: &[u32]) -> Result<(), AllocError>
 }
 
 /// Appends that these are more flushes than a run can be given.
-#[tactic(auto, unfolding(crate::specs::Told::beyond_line))]
+#[tactic(auto, unfolding(crate::specs::ToldLine::beyond_line))]
 fn put_beyond(out: &mut String, count: usize) -> Result<(), AllocError>
     ensures { OnOk result (string_bytes out.new ≡ string_bytes out.old ++ beyond_line count) }
 {

@@ -14,10 +14,10 @@ use Rattle.checker.specs.Checker.{CheckerValue, AreFor}
 use Rattle.report.specs.Report.{HeadValue}
 use Rattle.case_runs.specs.declared.found.Losses.{Losses}
 use Rattle.case_runs.specs.declared.found.CutFound.{CutFound}
-use Rattle.case_runs.specs.declared.found.CasesFault.{CasesFault}
-use Rattle.case_runs.specs.declared.found.CasesFault.TheVariants as fault
+use Rattle.case_runs.specs.declared.found.SearchFault.{SearchFault}
+use Rattle.case_runs.specs.declared.found.SearchFault.TheVariants as fault
 use Rattle.case_runs.specs.Found.{AreFoundIn, cases_in, most_cases, AreTooMany, StopsIn}
-use Rattle.case_runs.specs.declared.found.Found.{Found}
+use Rattle.case_runs.specs.declared.found.FoundCases.{FoundCases}
 use Rattle.case_runs.specs.declared.first.FirstCase.{FirstCase}
 use Rattle.case_runs.specs.declared.first.Sought.{Sought}
 use Rattle.case_runs.specs.declared.leaves.FailingCase.{FailingCase}
@@ -52,7 +52,7 @@ found_within asked log way cuts checkers found n are within k d lt =
     subst (λ m. m ≤ n) (sym own) (within k 0 here)
 
 -- why they aren't told
-pub why_refused : (l : AnyLosses) (t : Task) (cuts : List ℕ) (why : CasesFault) (r : Refusal) → cuts ≡ case_cuts l.at_most t.options.now.cuts t.log.now.entries
+pub why_refused : (l : AnyLosses) (t : Task) (cuts : List ℕ) (why : SearchFault) (r : Refusal) → cuts ≡ case_cuts l.at_most t.options.now.cuts t.log.now.entries
     → StopsIn (losses_of l t.options.now) t.log.now t.options.now.by cuts t.checkers.now why → StopsFor why r → RefusesAll l t r
 why_refused l t cuts fault.Memory r are stops is = inl is
 why_refused l t cuts (fault.TooMany cut) r are stops is =
@@ -65,7 +65,7 @@ all_refused l t r all (inr (cut, is, more)) =
     inr (cut, is, subst (λ b. AreMore b (losses_of l t.options.now) t.log.now t.options.now.by (case_cuts l.at_most t.options.now.cuts t.log.now.entries) t.checkers.now cut) (sym all) more)
 
 -- with what is known of the arguments
-pub stops_so : (asked own : Losses) (log : LogValue) (way by : By) (cuts : List ℕ) (checkers : List CheckerValue) (why : CasesFault) → own ≡ asked → way ≡ by
+pub stops_so : (asked own : Losses) (log : LogValue) (way by : By) (cuts : List ℕ) (checkers : List CheckerValue) (why : SearchFault) → own ≡ asked → way ≡ by
     → StopsIn own log way cuts checkers why → StopsIn asked log by cuts checkers why
 stops_so asked own log way by cuts checkers why same kind stops =
     subst (λ (x : Losses). StopsIn x log by cuts checkers why) same (subst (λ (b : By). StopsIn own log b cuts checkers why) kind stops)
@@ -113,11 +113,11 @@ any_none (c ∷ found) none =
     let rest = any_none found (All-tail (λ (d : CutFound). NoneFailsAt d.programs.items) c found none) in
     λ i. own i || rest i
   where
-    none_at : (fs : List Found) → NoneFailsAt fs → fails_at fs ≡ false
+    none_at : (fs : List FoundCases) → NoneFailsAt fs → fails_at fs ≡ false
     none_at [] all = refl
     none_at (f ∷ fs) all =
-        let here = ap (λ (xs : List FailingCase). length xs) (All-head (λ (g : Found). g.failing.items ≡ []) f fs all) in
-        let rest = none_at fs (All-tail (λ (g : Found). g.failing.items ≡ []) f fs all) in
+        let here = ap (λ (xs : List FailingCase). length xs) (All-head (λ (g : FoundCases). g.failing.items ≡ []) f fs all) in
+        let rest = none_at fs (All-tail (λ (g : FoundCases). g.failing.items ≡ []) f fs all) in
         λ i. not (here i == 0) || rest i
 
 pub tells_none : (l : AnyLosses) (s : Settings) (value : LogValue) (checkers : List CheckerValue) (bytes : List ℕ) (failing : Bool) (found : List CutFound) → NoneFails found
@@ -145,13 +145,13 @@ pub sought_so : (asked own : Losses) (log : LogValue) (way by : By) (cuts : List
 sought_so asked own log way by cuts checkers found same kind are =
     subst (λ (x : Losses). IsSought x log by cuts checkers found) same (subst (λ (b : By). IsSought own log b cuts checkers found) kind are)
 
-pub ends_so : (asked own : Losses) (log : LogValue) (way by : By) (cuts : List ℕ) (checkers : List CheckerValue) (why : CasesFault) → own ≡ asked → way ≡ by
+pub ends_so : (asked own : Losses) (log : LogValue) (way by : By) (cuts : List ℕ) (checkers : List CheckerValue) (why : SearchFault) → own ≡ asked → way ≡ by
     → EndsIn own log way cuts checkers why → EndsIn asked log by cuts checkers why
 ends_so asked own log way by cuts checkers why same kind stops =
     subst (λ (x : Losses). EndsIn x log by cuts checkers why) same (subst (λ (b : By). EndsIn own log b cuts checkers why) kind stops)
 
 -- why it isn't told
-pub first_refused : (l : AnyLosses) (t : Task) (cuts : List ℕ) (why : CasesFault) (r : Refusal) → t.options.now.first ≡ true → cuts ≡ case_cuts l.at_most t.options.now.cuts t.log.now.entries
+pub first_refused : (l : AnyLosses) (t : Task) (cuts : List ℕ) (why : SearchFault) (r : Refusal) → t.options.now.first ≡ true → cuts ≡ case_cuts l.at_most t.options.now.cuts t.log.now.entries
     → EndsIn (losses_of l t.options.now) t.log.now t.options.now.by cuts t.checkers.now why → StopsFor why r → RefusesFor l t r
 first_refused l t cuts fault.Memory r first are stops is = inl is
 first_refused l t cuts (fault.TooMany cut) r first are stops is =

@@ -11,7 +11,7 @@ use Rattle.choices.specs.Choices.{ranked_choices}
 use Rattle.choices.specs.Sums.{StartsValue}
 use Rattle.checker.specs.Checker.{CheckerValue}
 use Rattle.losses.specs.declared.flushes.counted.MissingFlush.{MissingFlush}
-use Rattle.report.specs.declared.lines.marks.Mark.{Mark}
+use Rattle.report.specs.declared.lines.marks.LineMark.{LineMark}
 use Rattle.report.specs.Line.{FailingLine}
 use Rattle.report.specs.Marks.{marks_of}
 use Rattle.losses.specs.ProgramOutcomes.{outcomes_failing, is_marked, AreOutcomes}
@@ -130,7 +130,7 @@ images_rise program (l ∷ ls) order i j n m lt ati atj =
     by_test inner true e (suc i) (suc j) lt ati atj = inner i j n m (omega (arith, lt)) ati atj
 
 -- the images on which a program fails are images of the run, in their order
-pub are_images : LinesAreSet → (s : Settings) (value : LogValue) (checkers : List CheckerValue) (starts : StartsValue) (ls : List FailingLine) (ms : List Mark) (program : ℕ)
+pub are_images : LinesAreSet → (s : Settings) (value : LogValue) (checkers : List CheckerValue) (starts : StartsValue) (ls : List FailingLine) (ms : List LineMark) (program : ℕ)
     → starts ≡ starts_of s value → ls ≡ failing_lines (subject_of s value checkers) → ms ≡ marks_of ls → AreImages starts (images_marked ms program)
 are_images law s value checkers starts ls ms program is found marks =
     let subject : Subject = subject_of s value checkers in
@@ -146,11 +146,11 @@ are_images law s value checkers starts ls ms program is found marks =
           omega (arith, within, image_is);
     } in
     let here : images_failing program (failing_lines subject) ≡ images_marked ms program =
-    ap (images_failing program) (sym found) ∙ sym (marked_are_failing program ls) ∙ ap (λ (ks : List Mark). images_marked ks program) (sym marks) in
+    ap (images_failing program) (sym found) ∙ sym (marked_are_failing program ls) ∙ ap (λ (ks : List LineMark). images_marked ks program) (sym marks) in
     subst (λ (t : StartsValue). AreImages t (images_marked ms program)) (sym is) (subst (AreImages (starts_of s value)) here own)
 
 -- a program fails on as many images as lines are its own
-pub as_many : (program : ℕ) (ms : List Mark) → length (images_marked ms program) ≡ length (filter (is_marked program) ms)
+pub as_many : (program : ℕ) (ms : List LineMark) → length (images_marked ms program) ≡ length (filter (is_marked program) ms)
 as_many program [] = refl
 as_many program (m ∷ ms) = by_test (m.program == program) (as_many program ms)
   where
@@ -160,13 +160,13 @@ as_many program (m ∷ ms) = by_test (m.program == program) (as_many program ms)
     by_test false rest = rest
 
 -- what was appended of the cuts of a program, by what it ends in on its images
-pub tells_program : (s : StartsValue) (ls : List FailingLine) (ms : List Mark) (way : By) (program : ℕ) (text : List ℕ) (images : List ℕ) (given outcomes now : List (List ℕ))
+pub tells_program : (s : StartsValue) (ls : List FailingLine) (ms : List LineMark) (way : By) (program : ℕ) (text : List ℕ) (images : List ℕ) (given outcomes now : List (List ℕ))
     (cuts told : List CutFailures) (old new : List ℕ) → way ≡ s.plan.by → text ≡ flat_map Rattle.report.specs.LineText.line_text ls → ms ≡ marks_of ls
     → images ≡ images_marked ms program → AreOutcomes text ms program outcomes → given ≡ outcomes → now ≡ outcomes → told ≡ cuts → AreCuts s images given cuts
     → new ≡ old ++ cuts_text way s now program told → TellsProgram s ls program old new
 tells_program s ls ms way program text images given outcomes now cuts told old new kind texts marks own read first second same are is =
     let said : outcomes ≡ outcomes_failing program ls = read.read ls texts marks in
-    let mine : images ≡ images_failing program ls = own ∙ ap (λ (ks : List Mark). images_marked ks program) marks ∙ marked_are_failing program ls in
+    let mine : images ≡ images_failing program ls = own ∙ ap (λ (ks : List LineMark). images_marked ks program) marks ∙ marked_are_failing program ls in
     record {
       cuts = cuts;
       is = subst (λ (os : List (List ℕ)). AreCuts s (images_failing program ls) os cuts) (first ∙ said) (subst (λ (ns : List ℕ). AreCuts s ns given cuts) mine are);

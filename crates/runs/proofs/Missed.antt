@@ -10,7 +10,7 @@ use Rattle.choices.specs.Sums.{StartsValue}
 use Rattle.checker.specs.Checker.{CheckerValue}
 use Rattle.losses.specs.Places.{AreWindows}
 use Rattle.report.specs.Line.{FailingLine}
-use Rattle.report.specs.declared.lines.marks.Mark.{Mark}
+use Rattle.report.specs.declared.lines.marks.LineMark.{LineMark}
 use Rattle.report.specs.Marks.{mark_of, marks_of}
 use Rattle.workers.specs.Failing.{failing_lines}
 use Rattle.workers.specs.Laws.{LinesAreSet, ListsFailing}
@@ -22,14 +22,14 @@ use Rattle.runs.specs.Explore.{subject_of}
 use Rattle.runs.specs.Why.{starts_of}
 
 -- the marks of a run's failing lines are of its images
-pub marks_within : LinesAreSet → (s : Settings) (value : LogValue) (checkers : List CheckerValue) (starts : StartsValue) (ls : List FailingLine) (ms : List Mark) (i : ℕ) (m : Mark)
+pub marks_within : LinesAreSet → (s : Settings) (value : LogValue) (checkers : List CheckerValue) (starts : StartsValue) (ls : List FailingLine) (ms : List LineMark) (i : ℕ) (m : LineMark)
     → starts ≡ starts_of s value → ls ≡ failing_lines (subject_of s value checkers) → ms ≡ marks_of ls → slice_get ms i ≡ Some m
     → m.image < length (ranked_choices starts.plan starts.bound starts.tears)
 marks_within law s value checkers starts ls ms i m is found marks there =
     let all : List FailingLine = failing_lines (subject_of s value checkers) in
     let lists : ListsFailing (subject_of s value checkers) all = law (subject_of s value checkers) in
     let here : option_map mark_of (slice_get all i) ≡ Some m =
-    sym (slice_get-map mark_of all i) ∙ ap (λ (ks : List Mark). slice_get ks i) (sym (marks ∙ ap marks_of found)) ∙ there in
+    sym (slice_get-map mark_of all i) ∙ ap (λ (ks : List LineMark). slice_get ks i) (sym (marks ∙ ap marks_of found)) ∙ there in
     subst (λ (t : StartsValue). m.image < length (ranked_choices t.plan t.bound t.tears)) (sym is) (by_line lists (slice_get all i) refl here)
   where
     by_line : ListsFailing (subject_of s value checkers) (failing_lines (subject_of s value checkers)) → (o : Option FailingLine)
@@ -39,7 +39,7 @@ marks_within law s value checkers starts ls ms i m is found marks there =
         let own : mark_of l ≡ m = same_Some (mark_of l) m mark in
         let line = lists.sound i l at in
         let within = slice_get_within (images_of s value) l.image line.choice line.of_image in
-        let image : l.image ≡ m.image = ap (λ (k : Mark). k.image) own in
+        let image : l.image ≡ m.image = ap (λ (k : LineMark). k.image) own in
         omega (arith, within, image)
 
 -- a failure, by the choice of its line's image
@@ -53,7 +53,7 @@ one_failure s l f cut ds program at departs window =
     }
 
 -- the failures of these marks are those of the failing lines
-pub failures_are : LinesAreSet → (s : Settings) (value : LogValue) (checkers : List CheckerValue) (starts : StartsValue) (ls : List FailingLine) (ms : List Mark) (fs : List Failure)
+pub failures_are : LinesAreSet → (s : Settings) (value : LogValue) (checkers : List CheckerValue) (starts : StartsValue) (ls : List FailingLine) (ms : List LineMark) (fs : List Failure)
     → starts ≡ starts_of s value → ls ≡ failing_lines (subject_of s value checkers) → ms ≡ marks_of ls → AreFailuresAt starts ms fs
     → AreFailures starts.plan.by starts.plan.log.entries ls fs
 failures_are law s value checkers starts ls ms fs is found marks at =
@@ -61,7 +61,7 @@ failures_are law s value checkers starts ls ms fs is found marks at =
     let lists : ListsFailing (subject_of s value checkers) all = law (subject_of s value checkers) in
     let t : StartsValue = starts_of s value in
     let own : AreFailuresAt t (marks_of all) fs =
-    subst (λ (u : StartsValue). AreFailuresAt u (marks_of all) fs) is (subst (λ (ks : List Mark). AreFailuresAt starts ks fs) (marks ∙ ap marks_of found) at) in
+    subst (λ (u : StartsValue). AreFailuresAt u (marks_of all) fs) is (subst (λ (ks : List LineMark). AreFailuresAt starts ks fs) (marks ∙ ap marks_of found) at) in
     let are : AreFailures t.plan.by t.plan.log.entries all fs = record {
       all = own.all ∙ length-map all mark_of;
       each = λ i l f there here.
@@ -75,7 +75,7 @@ failures_are law s value checkers starts ls ms fs is found marks at =
     (subst (λ (u : StartsValue). AreFailures u.plan.by u.plan.log.entries all fs) (sym is) are)
 
 -- and their windows lie in the log
-pub windows_within : (s : Settings) (value : LogValue) (starts : StartsValue) (ms : List Mark) (fs : List Failure) → starts ≡ starts_of s value → AreFailuresAt starts ms fs
+pub windows_within : (s : Settings) (value : LogValue) (starts : StartsValue) (ms : List LineMark) (fs : List Failure) → starts ≡ starts_of s value → AreFailuresAt starts ms fs
     → AreWindows (length value.entries) (windows_in fs)
 windows_within s value starts ms fs is at =
     let long : length starts.plan.log.entries ≡ length value.entries = ap (λ (t : StartsValue). length t.plan.log.entries) is in

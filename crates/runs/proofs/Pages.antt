@@ -3,7 +3,7 @@ use Rattle.std.proofs.Common.{ℕ, ◌≡◌, false, List, [], ◌++◌, ◌∙�
 use Rattle.logfmt.specs.Bounds.{LogValue}
 use Rattle.choices.specs.Sums.{StartsValue}
 use Rattle.checker.specs.Checker.{CheckerValue}
-use Rattle.report.specs.declared.lines.marks.Mark.{Mark}
+use Rattle.report.specs.declared.lines.marks.LineMark.{LineMark}
 use Rattle.report.specs.Line.{FailingLine}
 use Rattle.report.specs.Marks.{marks_of}
 use Rattle.report.specs.Report.{HeadValue, options_text, totals_line}
@@ -27,12 +27,12 @@ about_told h ls images none options all empty begins ends same =
     ∙ ap (λ (bs : List ℕ). bs ++ totals_line h.images ls) (begins ∙ ap (λ (bs : List ℕ). bs ++ options_text h) empty)
 
 -- the page by marks is that by the failing lines
-pub page_of_lines : (s : Settings) (value : LogValue) (checkers : List CheckerValue) (head : HeadValue) (starts : StartsValue) (ls : List FailingLine) (ms : List Mark) (bytes : List ℕ)
+pub page_of_lines : (s : Settings) (value : LogValue) (checkers : List CheckerValue) (head : HeadValue) (starts : StartsValue) (ls : List FailingLine) (ms : List LineMark) (bytes : List ℕ)
     → head ≡ head_of (with_first false s) value checkers → starts ≡ starts_of s value → ls ≡ failing_lines (subject_of s value checkers) → ms ≡ marks_of ls
     → IsPageOf head starts (images_marked ms) ls bytes → PageOfLines s value checkers (failing_lines (subject_of s value checkers)) bytes
 page_of_lines s value checkers head starts ls ms bytes heads is found marks tells =
     let failing : images_marked ms ≡ (λ program. images_failing program ls) =
-    λ i program. (ap (λ (ks : List Mark). images_marked ks program) marks ∙ marked_are_failing program ls) i in
+    λ i program. (ap (λ (ks : List LineMark). images_marked ks program) marks ∙ marked_are_failing program ls) i in
     subst (λ (fs : List FailingLine). IsPageOf (head_of (with_first false s) value checkers) (starts_of s value) (λ program. images_failing program fs) fs bytes) found
     (subst (λ (t : StartsValue). IsPageOf (head_of (with_first false s) value checkers) t (λ program. images_failing program ls) ls bytes) is
     (subst (λ (h : HeadValue). IsPageOf h starts (λ program. images_failing program ls) ls bytes) heads

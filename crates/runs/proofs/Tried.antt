@@ -9,7 +9,7 @@ use Rattle.choices.specs.Choices.{limit, IsFirstPast, IsFirstPastOf}
 use Rattle.choices.specs.Sums.{StartsValue}
 use Rattle.checker.specs.Checker.{CheckerValue}
 use Rattle.report.specs.Line.{FailingLine}
-use Rattle.report.specs.declared.lines.marks.Mark.{Mark}
+use Rattle.report.specs.declared.lines.marks.LineMark.{LineMark}
 use Rattle.report.specs.Marks.{marks_of}
 use Rattle.report.specs.Report.{HeadValue, totals_line}
 use Rattle.workers.specs.Laws.{LinesAreSet}
@@ -46,12 +46,12 @@ starts_here s value plan bound tears starts e f g is =
     is ∙ sym same
 
 -- the failures of these marks are those of the run
-pub failures_found : LinesAreSet → (s : Settings) (value : LogValue) (checkers : List CheckerValue) (starts : StartsValue) (ls : List FailingLine) (ms : List Mark) (fs : List Failure)
+pub failures_found : LinesAreSet → (s : Settings) (value : LogValue) (checkers : List CheckerValue) (starts : StartsValue) (ls : List FailingLine) (ms : List LineMark) (fs : List Failure)
     → starts ≡ starts_of s value → ls ≡ run_lines s checkers value → ms ≡ marks_of ls → AreFailuresAt starts ms fs → HasFailures s checkers value fs
 failures_found law s value checkers starts ls ms fs is found marks at =
     let own : AreFailuresAt (starts_of s value) (marks_of (run_lines s checkers value)) fs =
     subst (λ (t : StartsValue). AreFailuresAt t (marks_of (run_lines s checkers value)) fs) is
-    (subst (λ (ks : List Mark). AreFailuresAt starts ks fs) (marks ∙ ap marks_of found) at) in
+    (subst (λ (ks : List LineMark). AreFailuresAt starts ks fs) (marks ∙ ap marks_of found) at) in
     record {
       fail = failures_are law s value checkers (starts_of s value) (run_lines s checkers value) (marks_of (run_lines s checkers value)) fs refl refl refl own;
       inside = own.inside;

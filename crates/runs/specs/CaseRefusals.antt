@@ -2,15 +2,15 @@
 use Rattle.std.specs.Prelude.{ℕ, ◌≡◌, ◌⊎◌}
 use Rattle.base.specs.declared.refusal.Refusal.{Refusal}
 use Rattle.base.specs.Refusals.{memory_refusal}
-use Rattle.case_runs.specs.declared.found.CasesFault.{CasesFault}
-use Rattle.case_runs.specs.declared.found.CasesFault.TheVariants as fault
+use Rattle.case_runs.specs.declared.found.SearchFault.{SearchFault}
+use Rattle.case_runs.specs.declared.found.SearchFault.TheVariants as fault
 use Rattle.request.specs.declared.any_losses.AnyLosses.{AnyLosses}
 use Rattle.request.specs.Source.{images_refusal}
 use Rattle.runs.specs.declared.task.Task.{Task}
 use Rattle.runs.specs.CaseCuts.{HasTooMany, HasMore}
 
 -- the refusal that says why cases weren't found
-abbrev pub StopsFor : CasesFault → Refusal → Type 0
+abbrev pub StopsFor : SearchFault → Refusal → Type 0
 StopsFor fault.Memory r = r ≡ memory_refusal
 StopsFor (fault.TooMany cut) r = r ≡ images_refusal cut
 

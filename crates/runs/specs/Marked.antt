@@ -2,7 +2,7 @@
 use Rattle.std.specs.Prelude.{ℕ, ◌≡◌, ◌==◌, if◌then◌else◌, List, [], ◌∷◌, ◌++◌, length}
 use Rattle.std.specs.List.{flat_map}
 use Rattle.choices.specs.Sums.{StartsValue}
-use Rattle.report.specs.declared.lines.marks.Mark.{Mark}
+use Rattle.report.specs.declared.lines.marks.LineMark.{LineMark}
 use Rattle.report.specs.Line.{FailingLine}
 use Rattle.losses.specs.ProgramOutcomes.{outcomes_failing}
 use Rattle.losses.specs.declared.why.cut.CutFailures.{CutFailures}
@@ -10,10 +10,10 @@ use Rattle.losses.specs.WhyText.{cuts_text}
 use Rattle.runs.specs.Why.{IsCause, AreCauses, causes_from}
 
 -- the image of a mark, if it is of that program
-abbrev pub own_image : ℕ → Mark → List ℕ
+abbrev pub own_image : ℕ → LineMark → List ℕ
 own_image program m = if m.program == program then m.image ∷ [] else []
 
-abbrev pub images_marked : List Mark → ℕ → List ℕ
+abbrev pub images_marked : List LineMark → ℕ → List ℕ
 images_marked ms program = flat_map (own_image program) ms
 
 -- what was appended says what fails of that program at each cut

@@ -15,7 +15,7 @@ use images::History;
 use std::alloc::Global;
 use std::sync::Wait;
 use std::thread::Threads;
-use workers::{Asked, Gate, Input, Work, explore_all};
+use workers::{AskedRun, Gate, Input, Work, explore_all};
 
 /// What the work on a task needs besides: its images by number, and what is written at each cut.
 #[derive(Clone, Copy)]
@@ -51,7 +51,7 @@ pub(crate) fn judge_images<'x, G: Gate + Sync, R: Threads + Wait + Sync>(
         &*history,
         &*checkers,
         options.by(),
-        Asked {
+        AskedRun {
             bound,
             tears,
             from: span.from,

@@ -19,7 +19,7 @@ use arrayvec::ArrayVec;
 use base::causes::RequestCause;
 use base::refusal::{Cause, Refusal};
 use case_runs::{
-    CaseGate, CasesFault, CutFound, FirstCase, Losses, Sought, case_cuts, find_failing, find_first,
+    CaseGate, CutFound, FirstCase, Losses, SearchFault, Sought, case_cuts, find_failing, find_first,
 };
 use case_text::{is_any_failing, left_out, write_cases, write_first, write_why};
 use crash_page::case_page;
@@ -71,12 +71,12 @@ pub(crate) fn cuts_of_cases(
 }
 
 /// The refusal that says why cases weren't found.
-fn refusal_of(fault: CasesFault) -> Refusal
+fn refusal_of(fault: SearchFault) -> Refusal
     ensures { StopsFor fault result }
 {
     match fault {
-        CasesFault::Memory => Refusal::of_memory(),
-        CasesFault::TooMany(cut) => Refusal {
+        SearchFault::Memory => Refusal::of_memory(),
+        SearchFault::TooMany(cut) => Refusal {
             code: Cause::Request(RequestCause::TooManyImages),
             at: u64::from(cut),
             program: None,

@@ -12,12 +12,12 @@ use crate::reading::Reading;
 use losses::cure::{put_missing, put_programs};
 use losses::outcomes::outcomes_of;
 use losses::why::{failures, put_cuts};
-use report::lines::{Lines, Mark};
+use report::lines::{LineMark, Lines};
 use report::{Head, put_options, put_totals};
 use std::alloc::{AllocError, Global};
 
 /// Appends the image of a mark, if it is of that program.
-fn push_image(images: &mut Vec<u64>, program: usize, mark: Mark) -> Result<(), AllocError>
+fn push_image(images: &mut Vec<u64>, program: usize, mark: LineMark) -> Result<(), AllocError>
     ensures { OnOk result (images.new.items ≡ images.old.items ++ own_image program mark) }
 {
     if usize::from(mark.program) == program {
@@ -29,7 +29,7 @@ fn push_image(images: &mut Vec<u64>, program: usize, mark: Mark) -> Result<(), A
 /// The images on which the program of that number fails.
 pub(crate) fn images_of_program(
     alloc: Global,
-    marks: &[Mark],
+    marks: &[LineMark],
     program: usize,
 ) -> Result<Vec<u64>, AllocError>
     ensures { IfOk result (λ images. images.items ≡ images_marked marks.now program) }

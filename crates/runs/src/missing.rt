@@ -11,7 +11,7 @@ ghost use Rattle.runs.specs.Tasks.{lines_of};
 use crate::task::Findings;
 use losses::cure::{Failure, failures_of, windows_of};
 use losses::flushes::{MissingFlush, missing_flushes};
-use report::lines::Mark;
+use report::lines::LineMark;
 use std::alloc::{AllocError, Global};
 use workers::lines_are_set;
 
@@ -26,7 +26,7 @@ pub(crate) struct MissingInRun {
 pub(crate) fn failures_found(
     alloc: Global,
     findings: &Findings<'_>,
-    marks: &[Mark],
+    marks: &[LineMark],
 ) -> Result<Vec<Failure>, AllocError>
     requires lines { findings.now.work.now.lines ≡ lines_of findings.now.task.now }
     requires marks { marks.now ≡ marks_of findings.now.work.now.lines }
@@ -43,7 +43,7 @@ pub(crate) fn failures_found(
 pub(crate) fn missing_of(
     alloc: Global,
     findings: &Findings<'_>,
-    marks: &[Mark],
+    marks: &[LineMark],
 ) -> Result<MissingInRun, AllocError>
     requires lines { findings.now.work.now.lines ≡ lines_of findings.now.task.now }
     requires marks { marks.now ≡ marks_of findings.now.work.now.lines }

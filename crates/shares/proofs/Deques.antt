@@ -7,8 +7,8 @@ use Rattle.std.proofs.lemmas.Bool.Decides.{leb_tells}
 use Rattle.std.proofs.lemmas.List.Elements.{All-append, All-take, All-drop}
 use Rattle.crossbeam_deque.specs.Tasks.{Pushes, Takes, Finds, Forks, Merges}
 use Rattle.crossbeam_deque.proofs.Lists.{at_set, at_snoc}
-use Rattle.shares.specs.declared.deque.Held.{Held}
-use Rattle.shares.specs.declared.deque.Held.TheVariants.{Block, Mark}
+use Rattle.shares.specs.declared.deque.HeldBlocks.{HeldBlocks}
+use Rattle.shares.specs.declared.deque.HeldBlocks.TheVariants.{Block, Mark}
 use Rattle.shares.specs.declared.deque.Port.{Port}
 use Rattle.shares.specs.Steps.{total}
 use Rattle.shares.specs.Seats.{times}
@@ -44,29 +44,29 @@ none_held (b ∷ bs) m e = absurd (omega (arith, ap length e))
 block_beyond : (waiting : List ℕ) (marks b : ℕ) → marks ≡ 0 → blocks_and_marks waiting marks ++ Block b ∷ [] ≡ blocks_and_marks (waiting ++ b ∷ []) marks
 block_beyond [] zero b e = refl
 block_beyond [] (suc m) b e = absurd (omega (arith, e))
-block_beyond (x ∷ xs) marks b e = ap (λ (hs : List Held). Block x ∷ hs) (block_beyond xs marks b e)
+block_beyond (x ∷ xs) marks b e = ap (λ (hs : List HeldBlocks). Block x ∷ hs) (block_beyond xs marks b e)
 
 mark_beyond : (waiting : List ℕ) (marks : ℕ) → blocks_and_marks waiting marks ++ Mark ∷ [] ≡ blocks_and_marks waiting (marks + 1)
 mark_beyond [] zero = refl
-mark_beyond [] (suc m) = let more : suc m + 1 ≡ suc (m + 1) = omega arith in rw more (ap (λ (hs : List Held). Mark ∷ hs) (mark_beyond [] m))
-mark_beyond (x ∷ xs) marks = ap (λ (hs : List Held). Block x ∷ hs) (mark_beyond xs marks)
+mark_beyond [] (suc m) = let more : suc m + 1 ≡ suc (m + 1) = omega arith in rw more (ap (λ (hs : List HeldBlocks). Mark ∷ hs) (mark_beyond [] m))
+mark_beyond (x ∷ xs) marks = ap (λ (hs : List HeldBlocks). Block x ∷ hs) (mark_beyond xs marks)
 
 -- what stands at the front of a deque is its first block, or a mark where there is no block
-pub record BlockFirst (waiting : List ℕ) (marks : ℕ) (x : Held) (items : List Held) : Type 0 where
+pub record BlockFirst (waiting : List ℕ) (marks : ℕ) (x : HeldBlocks) (items : List HeldBlocks) : Type 0 where
   pub block : ℕ
   pub rest : List ℕ
   pub waiting_is : waiting ≡ block ∷ rest
   pub is : x ≡ Block block
   pub holding : items ≡ blocks_and_marks rest marks
 
-pub record MarkFirst (waiting : List ℕ) (marks : ℕ) (x : Held) (items : List Held) : Type 0 where
+pub record MarkFirst (waiting : List ℕ) (marks : ℕ) (x : HeldBlocks) (items : List HeldBlocks) : Type 0 where
   pub fewer : ℕ
   pub waiting_is : waiting ≡ []
   pub marks_are : marks ≡ fewer + 1
   pub is : x ≡ Mark
   pub holding : items ≡ blocks_and_marks [] fewer
 
-front : (waiting : List ℕ) (marks : ℕ) (x : Held) (items : List Held) → x ∷ items ≡ blocks_and_marks waiting marks → BlockFirst waiting marks x items ⊎ MarkFirst waiting marks x items
+front : (waiting : List ℕ) (marks : ℕ) (x : HeldBlocks) (items : List HeldBlocks) → x ∷ items ≡ blocks_and_marks waiting marks → BlockFirst waiting marks x items ⊎ MarkFirst waiting marks x items
 front [] zero x items e = absurd (omega (arith, ap length e))
 front [] (suc m) x items e =
     let whole : x ∷ items ≡ Mark ∷ replicate m Mark = e in
@@ -156,7 +156,7 @@ begins blocks workers some_worker = record {
     none_else (suc i) p later there = absurd (some-ne-none p (sym there))
 
 -- the rule once a block has left at the front, to this port
-module _ (blocks workers id : ℕ) (v : Port) (block : ℕ) (rest : List ℕ) (items all : List Held) (ports : List Port) (some_part : 0 < v.parts) (h : DequeRule blocks workers all ports) (at : get_elem? ports id ≡ some v)
+module _ (blocks workers id : ℕ) (v : Port) (block : ℕ) (rest : List ℕ) (items all : List HeldBlocks) (ports : List Port) (some_part : 0 < v.parts) (h : DequeRule blocks workers all ports) (at : get_elem? ports id ≡ some v)
     (waiting_is : h.waiting ≡ block ∷ rest) (holding : items ≡ blocks_and_marks rest h.marks) where
   split : h.given ++ h.waiting ≡ (h.given ++ block ∷ []) ++ rest
   split = ap (λ (l : List ℕ). h.given ++ l) waiting_is ∙ sym (append_assoc h.given (block ∷ []) rest)
@@ -201,7 +201,7 @@ module _ (blocks workers id : ℕ) (v : Port) (block : ℕ) (rest : List ℕ) (i
   )
 
 -- the rule once a mark has left at the front, to this port
-module _ (blocks workers id : ℕ) (v : Port) (fewer : ℕ) (items all : List Held) (ports : List Port) (some_part : 0 < v.parts) (may : 0 < id → v.marks_got + 1 ≤ v.parts) (h : DequeRule blocks workers all ports)
+module _ (blocks workers id : ℕ) (v : Port) (fewer : ℕ) (items all : List HeldBlocks) (ports : List Port) (some_part : 0 < v.parts) (may : 0 < id → v.marks_got + 1 ≤ v.parts) (h : DequeRule blocks workers all ports)
     (at : get_elem? ports id ≡ some v) (waiting_is : h.waiting ≡ []) (marks_are : h.marks ≡ fewer + 1) (holding : items ≡ blocks_and_marks [] fewer) where
   pub mark_left : DequeRule blocks workers items (slice_set ports id (with_mark v))
   mark_left = let after : Port = with_mark v in record {
@@ -235,10 +235,10 @@ steals blocks workers id v some_part may (x ∷ y ∷ xs) items ports some_item 
 steals blocks workers id v some_part may (x ∷ []) items ports some_item one h at = ⊎_elim
     (λ (f : BlockFirst h.waiting h.marks x items).
     let told : Steals blocks v (Block f.block ∷ []) (with_block v f.block) = (refl, block_below blocks workers id v f.block f.rest items (x ∷ items) ports some_part h at f.waiting_is f.holding) in
-    (with_block v f.block, block_left blocks workers id v f.block f.rest items (x ∷ items) ports some_part h at f.waiting_is f.holding, subst (λ (y : Held). Steals blocks v (y ∷ []) (with_block v f.block)) (sym f.is) told))
+    (with_block v f.block, block_left blocks workers id v f.block f.rest items (x ∷ items) ports some_part h at f.waiting_is f.holding, subst (λ (y : HeldBlocks). Steals blocks v (y ∷ []) (with_block v f.block)) (sym f.is) told))
     (λ (f : MarkFirst h.waiting h.marks x items).
     let told : Steals blocks v (Mark ∷ []) (with_mark v) = refl in
-    (with_mark v, mark_left blocks workers id v f.fewer items (x ∷ items) ports some_part (λ _. may) h at f.waiting_is f.marks_are f.holding, subst (λ (y : Held). Steals blocks v (y ∷ []) (with_mark v)) (sym f.is) told))
+    (with_mark v, mark_left blocks workers id v f.fewer items (x ∷ items) ports some_part (λ _. may) h at f.waiting_is f.marks_are f.holding, subst (λ (y : HeldBlocks). Steals blocks v (y ∷ []) (with_mark v)) (sym f.is) told))
     (front h.waiting h.marks x items h.holding)
 
 pub pops : (blocks workers id : ℕ) (v : Port) → id ≡ 0 → 0 < v.parts → Takes (DequeRule blocks workers) id v 1 (Pops blocks v)
@@ -251,11 +251,11 @@ pops blocks workers id v owner_is some_part (x ∷ []) items ports some_item one
       more_pushed blocks workers id v f.block f.rest items (x ∷ items) ports some_part h at f.waiting_is f.holding owner_is,
       block_below blocks workers id v f.block f.rest items (x ∷ items) ports some_part h at f.waiting_is f.holding,
     ) in
-    (with_block v f.block, block_left blocks workers id v f.block f.rest items (x ∷ items) ports some_part h at f.waiting_is f.holding, subst (λ (y : Held). Pops blocks v (y ∷ []) (with_block v f.block)) (sym f.is) told))
+    (with_block v f.block, block_left blocks workers id v f.block f.rest items (x ∷ items) ports some_part h at f.waiting_is f.holding, subst (λ (y : HeldBlocks). Pops blocks v (y ∷ []) (with_block v f.block)) (sym f.is) told))
     (λ (f : MarkFirst h.waiting h.marks x items).
     let may : 0 < id → v.marks_got + 1 ≤ v.parts = λ later. absurd (omega (arith, later, owner_is)) in
     let told : Pops blocks v (Mark ∷ []) (with_mark v) = (refl, mark_pushed blocks workers id v f.fewer items (x ∷ items) ports some_part may h at f.waiting_is f.marks_are f.holding owner_is) in
-    (with_mark v, mark_left blocks workers id v f.fewer items (x ∷ items) ports some_part may h at f.waiting_is f.marks_are f.holding, subst (λ (y : Held). Pops blocks v (y ∷ []) (with_mark v)) (sym f.is) told))
+    (with_mark v, mark_left blocks workers id v f.fewer items (x ∷ items) ports some_part may h at f.waiting_is f.marks_are f.holding, subst (λ (y : HeldBlocks). Pops blocks v (y ∷ []) (with_mark v)) (sym f.is) told))
     (front h.waiting h.marks x items h.holding)
 
 -- all stealers together got fewer marks than there are workers, so of as many that were pushed the deque still holds one, or the owner got one
@@ -265,7 +265,7 @@ pops_none blocks workers id v owner_is some_part ports h at enough =
     omega (arith, few_got ports v here h.few_marks, h.all_parts, h.each_mark v here, (none_held h.waiting h.marks h.holding).1, enough, some_part)
 
 -- what the ports got the owner got, where it has every part
-module _ (blocks workers : ℕ) (v : Port) (items : List Held) (ports : List Port) (all : v.parts ≡ workers) (h : DequeRule blocks workers items ports) (at : get_elem? ports 0 ≡ some v) where
+module _ (blocks workers : ℕ) (v : Port) (items : List HeldBlocks) (ports : List Port) (all : v.parts ≡ workers) (h : DequeRule blocks workers items ports) (at : get_elem? ports 0 ≡ some v) where
   got_times : (x : ℕ) → times x v.got ≡ times x h.given
   got_times x = sym (total_alone (λ (p : Port). p.parts) (λ (p : Port). times x p.got) ports 0 v at (omega (arith, h.all_parts)) (λ i u there none. ap (times x) (h.idle i u there none))) ∙ h.each_once x
 
@@ -284,11 +284,11 @@ drains blocks workers id v owner_is some_part all (x ∷ []) items ports some_it
       block_below blocks workers id v f.block f.rest items (x ∷ items) ports some_part h at f.waiting_is f.holding,
       no_mark_of blocks workers id v f.block f.rest items (x ∷ items) ports some_part h at f.waiting_is f.holding,
     ) in
-    (with_block v f.block, block_left blocks workers id v f.block f.rest items (x ∷ items) ports some_part h at f.waiting_is f.holding, subst (λ (y : Held). Drains blocks v (y ∷ []) (with_block v f.block)) (sym f.is) told))
+    (with_block v f.block, block_left blocks workers id v f.block f.rest items (x ∷ items) ports some_part h at f.waiting_is f.holding, subst (λ (y : HeldBlocks). Drains blocks v (y ∷ []) (with_block v f.block)) (sym f.is) told))
     (λ (f : MarkFirst h.waiting h.marks x items).
     let may : 0 < id → v.marks_got + 1 ≤ v.parts = λ later. absurd (omega (arith, later, owner_is)) in
     let told : Drains blocks v (Mark ∷ []) (with_mark v) = (refl, nothing_more blocks workers v (x ∷ items) ports all h (ap (λ i. get_elem? ports i) (sym owner_is) ∙ at) f.waiting_is) in
-    (with_mark v, mark_left blocks workers id v f.fewer items (x ∷ items) ports some_part may h at f.waiting_is f.marks_are f.holding, subst (λ (y : Held). Drains blocks v (y ∷ []) (with_mark v)) (sym f.is) told))
+    (with_mark v, mark_left blocks workers id v f.fewer items (x ∷ items) ports some_part may h at f.waiting_is f.marks_are f.holding, subst (λ (y : HeldBlocks). Drains blocks v (y ∷ []) (with_mark v)) (sym f.is) told))
     (front h.waiting h.marks x items h.holding)
 
 pub drained : (blocks workers id : ℕ) (v : Port) → id ≡ 0 → v.parts ≡ workers → Finds (DequeRule blocks workers) id v (IsAllGot v.pushed v.got)
@@ -304,7 +304,7 @@ takes_in blocks workers id v block owner_is some_part unmarked lower items ports
         given = h.given;
         waiting = h.waiting ++ block ∷ [];
         marks = h.marks;
-        holding = ap (λ (hs : List Held). hs ++ Block block ∷ []) h.holding ∙ block_beyond h.waiting h.marks block no_marks;
+        holding = ap (λ (hs : List HeldBlocks). hs ++ Block block ∷ []) h.holding ∙ block_beyond h.waiting h.marks block no_marks;
         some_port = omega (arith, length_set ports id after, h.some_port);
         in_order = λ owner there. ⊎_elim
             (λ (x : (0 ≡ id) × (after ≡ owner)). ap (λ (p : Port). p.pushed) (sym x.1) ∙ ap (λ (l : List ℕ). l ++ block ∷ []) (h.in_order v here) ∙ append_assoc h.given h.waiting (block ∷ []))
@@ -333,7 +333,7 @@ takes_mark blocks workers id v owner_is some_part items ports h at =
         given = h.given;
         waiting = h.waiting;
         marks = h.marks + 1;
-        holding = ap (λ (hs : List Held). hs ++ Mark ∷ []) h.holding ∙ mark_beyond h.waiting h.marks;
+        holding = ap (λ (hs : List HeldBlocks). hs ++ Mark ∷ []) h.holding ∙ mark_beyond h.waiting h.marks;
         some_port = omega (arith, length_set ports id after, h.some_port);
         in_order = same_owner (λ (p : Port). p.pushed) ports id v after (h.given ++ h.waiting) at refl h.in_order;
         each_once = λ x. omega (arith, total_set (λ (p : Port). times x p.got) ports id v after at, h.each_once x);

@@ -7,25 +7,25 @@ use Rattle.atomic_table.specs.Table.{State, Step, Allows, keeps}
 use Rattle.atomic_table.proofs.Lists.{at_set}
 use Rattle.shares.specs.declared.view.SeatStep.{SeatStep}
 use Rattle.shares.specs.declared.view.SeatStep.TheVariants.{Drew, Posted, SawLeast, SawNext}
-use Rattle.shares.specs.declared.view.View.{View}
-use Rattle.shares.specs.declared.view.Limits.{Limits}
+use Rattle.shares.specs.declared.view.SeatView.{SeatView}
+use Rattle.shares.specs.declared.view.BoardLimits.{BoardLimits}
 use Rattle.shares.specs.Steps.{total, least_of, bit, drew, drew_late, image_posted, shown_next, shown_least, draws, late_draws, least_posted, none_posted, posted_it, found_it, posts, finds}
 use Rattle.shares.specs.Board.{with_step, Fits, BoardRule}
 use Rattle.shares.specs.Moves.{draw_move, post_move, saw_least, saw_next}
 use Rattle.shares.proofs.Lists.{total_snoc, total_set, total_at_most, greatest_snoc, least_snoc, least_set, least_bound, least_counted}
 
 -- what a seat knows fits later words too
-pub later : (limits : Limits) (next least next' least' : ℕ) (v : View) → next ≤ next' → least' ≤ least → Fits limits next least v → Fits limits next' least' v
+pub later : (limits : BoardLimits) (next least next' least' : ℕ) (v : SeatView) → next ≤ next' → least' ≤ least → Fits limits next least v → Fits limits next' least' v
 later limits next least next' least' v up down h = record { late = h.late; idle = h.idle; below = let b = h.below in omega arith; above = let a = h.above in omega arith }
 
 -- the views fit later words, where one of them has changed
-pub each_after : (limits : Limits) (next least next' least' : ℕ) (views : List View) (id : ℕ) (w : View) → next ≤ next' → least' ≤ least → Fits limits next' least' w
-    → ((j : ℕ) (v : View) → get_elem? views j ≡ some v → Fits limits next least v) → (j : ℕ) (v : View) → get_elem? (slice_set views id w) j ≡ some v → Fits limits next' least' v
+pub each_after : (limits : BoardLimits) (next least next' least' : ℕ) (views : List SeatView) (id : ℕ) (w : SeatView) → next ≤ next' → least' ≤ least → Fits limits next' least' w
+    → ((j : ℕ) (v : SeatView) → get_elem? views j ≡ some v → Fits limits next least v) → (j : ℕ) (v : SeatView) → get_elem? (slice_set views id w) j ≡ some v → Fits limits next' least' v
 each_after limits next least next' least' views id w up down fits each j v at =
     ⊎_elim (λ t. subst (Fits limits next' least') t.1 fits) (λ t. later limits next least next' least' v up down (each j v t.1)) (at_set views id j w v at)
 
 -- a seat with some part fits the words after its step
-fits_made : (limits : Limits) (next least next' least' : ℕ) (v : View) (made : SeatStep) → Fits limits next least v → 0 < v.parts → next ≤ next' → least' ≤ least
+fits_made : (limits : BoardLimits) (next least next' least' : ℕ) (v : SeatView) (made : SeatStep) → Fits limits next least v → 0 < v.parts → next ≤ next' → least' ≤ least
     → late_draws limits.blocks v.steps + drew_late limits.blocks made ≤ v.parts → shown_next made ≤ next' → least' ≤ shown_least made → Fits limits next' least' (with_step v made)
 fits_made limits next least next' least' v made h some_part up down late below above = record {
   late = omega (arith, total_snoc (drew_late limits.blocks) v.steps made);
@@ -39,11 +39,11 @@ abbrev Counts : ℕ → ℕ → SeatStep → Type 0
 Counts next next' made = (b times : ℕ) → (b < next → times ≡ 1) × (next ≤ b → times ≡ 0) → (b < next' → times + drew b made ≡ 1) × (next' ≤ b → times + drew b made ≡ 0)
 
 -- the least image is posted where there is one
-least_is_posted : (limits : Limits) (s : State (Unit {0}) View) (h : BoardRule limits s) → h.least < none_posted → 0 < total (λ (u : View). posts h.least u.steps) s.views
+least_is_posted : (limits : BoardLimits) (s : State (Unit {0}) SeatView) (h : BoardRule limits s) → h.least < none_posted → 0 < total (λ (u : SeatView). posts h.least u.steps) s.views
 least_is_posted limits s h lower =
     let is = h.lowest in
-    let all : 0 < total (λ (u : View). posts (least_of (λ (w : View). least_posted w.steps) s.views) u.steps) s.views =
-    least_counted (λ (w : View). least_posted w.steps) (λ i (u : View). posts i u.steps) (λ u. least_counted image_posted posted_it by_step u.steps) s.views (omega arith) in
+    let all : 0 < total (λ (u : SeatView). posts (least_of (λ (w : SeatView). least_posted w.steps) s.views) u.steps) s.views =
+    least_counted (λ (w : SeatView). least_posted w.steps) (λ i (u : SeatView). posts i u.steps) (λ u. least_counted image_posted posted_it by_step u.steps) s.views (omega arith) in
     rw is all
   where
     by_step : (made : SeatStep) → image_posted made < none_posted → 0 < posted_it (image_posted made) made
@@ -60,7 +60,7 @@ finds_it : (found least image : ℕ) → found ≡ least → 0 < bit (eqb found 
 finds_it found least image e often = ⊎_elim (λ t. let same = t.1 in omega arith) (λ t. let none : bit (eqb found image) ≡ 0 = ap bit t.0 in absurd (omega arith)) (eqb_tells found image)
 
 -- the rule after one step of a seat with some part
-module _ (limits : Limits) (s : State (Unit {0}) View) (h : BoardRule limits s) (id : ℕ) (v : View) (at : get_elem? s.views id ≡ some v) (some_part : 0 < v.parts) where
+module _ (limits : BoardLimits) (s : State (Unit {0}) SeatView) (h : BoardRule limits s) (id : ℕ) (v : SeatView) (at : get_elem? s.views id ≡ some v) (some_part : 0 < v.parts) where
   moved : (made : SeatStep) (words : List ℕ) (next least : ℕ) → words ≡ next ∷ least ∷ [] → Counts h.next next made
       → ((times : ℕ) → h.next ≤ limits.blocks + times → next ≤ limits.blocks + (times + drew_late limits.blocks made))
       → late_draws limits.blocks v.steps + drew_late limits.blocks made ≤ v.parts
@@ -71,33 +71,33 @@ module _ (limits : Limits) (s : State (Unit {0}) View) (h : BoardRule limits s) 
     least = least;
     words = are;
     small = h.small;
-    parts = omega (arith, total_set (λ (u : View). u.parts) s.views id v w at, h.parts);
+    parts = omega (arith, total_set (λ (u : SeatView). u.parts) s.views id v w at, h.parts);
     once = λ b.
-        let more : total (λ (u : View). draws b u.steps) (slice_set s.views id w) ≡ total (λ (u : View). draws b u.steps) s.views + drew b made =
-        omega (arith, total_set (λ (u : View). draws b u.steps) s.views id v w at, total_snoc (drew b) v.steps made) in
-        let now = counts b (total (λ (u : View). draws b u.steps) s.views) (h.once b) in
+        let more : total (λ (u : SeatView). draws b u.steps) (slice_set s.views id w) ≡ total (λ (u : SeatView). draws b u.steps) s.views + drew b made =
+        omega (arith, total_set (λ (u : SeatView). draws b u.steps) s.views id v w at, total_snoc (drew b) v.steps made) in
+        let now = counts b (total (λ (u : SeatView). draws b u.steps) s.views) (h.once b) in
         ((λ lt. more ∙ now.0 lt), (λ le. more ∙ now.1 le));
     late =
-        let all = late (total (λ (u : View). late_draws limits.blocks u.steps) s.views) h.late in
-        omega (arith, total_set (λ (u : View). late_draws limits.blocks u.steps) s.views id v w at, total_snoc (drew_late limits.blocks) v.steps made);
-    lowest = lowest ∙ ap (λ (n : ℕ). min n (image_posted made)) h.lowest ∙ sym (least_set (λ (u : View). least_posted u.steps) s.views id v w (image_posted made) at (least_snoc image_posted v.steps made));
+        let all = late (total (λ (u : SeatView). late_draws limits.blocks u.steps) s.views) h.late in
+        omega (arith, total_set (λ (u : SeatView). late_draws limits.blocks u.steps) s.views id v w at, total_snoc (drew_late limits.blocks) v.steps made);
+    lowest = lowest ∙ ap (λ (n : ℕ). min n (image_posted made)) h.lowest ∙ sym (least_set (λ (u : SeatView). least_posted u.steps) s.views id v w (image_posted made) at (least_snoc image_posted v.steps made));
     found = λ image small often.
-        let post_move : total (λ (u : View). posts image u.steps) (slice_set s.views id w) ≡ total (λ (u : View). posts image u.steps) s.views + posted_it image made =
-        omega (arith, total_set (λ (u : View). posts image u.steps) s.views id v w at, total_snoc (posted_it image) v.steps made) in
-        let seen : total (λ (u : View). finds image u.steps) (slice_set s.views id w) ≡ total (λ (u : View). finds image u.steps) s.views + found_it image made =
-        omega (arith, total_set (λ (u : View). finds image u.steps) s.views id v w at, total_snoc (found_it image) v.steps made) in
+        let post_move : total (λ (u : SeatView). posts image u.steps) (slice_set s.views id w) ≡ total (λ (u : SeatView). posts image u.steps) s.views + posted_it image made =
+        omega (arith, total_set (λ (u : SeatView). posts image u.steps) s.views id v w at, total_snoc (posted_it image) v.steps made) in
+        let seen : total (λ (u : SeatView). finds image u.steps) (slice_set s.views id w) ≡ total (λ (u : SeatView). finds image u.steps) s.views + found_it image made =
+        omega (arith, total_set (λ (u : SeatView). finds image u.steps) s.views id v w at, total_snoc (found_it image) v.steps made) in
         ⊎_elim
         (λ t. let before = t.1 in let was = h.found image small (omega arith) in omega arith)
         (λ t.
         let none_before = t.1 in
         let same : image ≡ h.least = least_found image small (omega arith) in
-        let least_there : 0 < total (λ (u : View). posts image u.steps) s.views = rw same (least_is_posted limits s h (omega arith)) in
+        let least_there : 0 < total (λ (u : SeatView). posts image u.steps) s.views = rw same (least_is_posted limits s h (omega arith)) in
         omega arith)
-        (leb_tells 1 (total (λ (u : View). finds image u.steps) s.views));
+        (leb_tells 1 (total (λ (u : SeatView). finds image u.steps) s.views));
     each = each_after limits h.next h.least next least s.views id w up (omega arith) (fits_made limits h.next h.least next least v made (h.each id v at) some_part up (omega arith) few below above) h.each;
   }
     where
-      w : View
+      w : SeatView
       w = with_step v made
 
   -- the same where the number of the next block stays
@@ -135,17 +135,17 @@ at_most_one true = omega arith
 at_most_one false = omega arith
 
 -- the number of the next block is far from where the word wraps
-pub few_draws : (limits : Limits) (s : State (Unit {0}) View) (h : BoardRule limits s) → h.next < 8589934592
+pub few_draws : (limits : BoardLimits) (s : State (Unit {0}) SeatView) (h : BoardRule limits s) → h.next < 8589934592
 few_draws limits s h =
     let late = h.late in
     let small = h.small in
-    omega (arith, total_at_most (λ (u : View). late_draws limits.blocks u.steps) (λ (u : View). u.parts) s.views (λ j u at. (h.each j u at).late), h.parts)
+    omega (arith, total_at_most (λ (u : SeatView). late_draws limits.blocks u.steps) (λ (u : SeatView). u.parts) s.views (λ j u at. (h.each j u at).late), h.parts)
 
 -- the word of the least image is at most its start
-pub least_within : (limits : Limits) (s : State (Unit {0}) View) (h : BoardRule limits s) → h.least ≤ none_posted
-least_within limits s h = omega (arith, h.lowest, least_bound (λ (u : View). least_posted u.steps) s.views)
+pub least_within : (limits : BoardLimits) (s : State (Unit {0}) SeatView) (h : BoardRule limits s) → h.least ≤ none_posted
+least_within limits s h = omega (arith, h.lowest, least_bound (λ (u : SeatView). least_posted u.steps) s.views)
 
-pub draws_as : (limits : Limits) (slots id : ℕ) (v : View) (c : List (ℕ × Unit {0})) (st : Step (Unit {0})) → late_draws limits.blocks v.steps < v.parts
+pub draws_as : (limits : BoardLimits) (slots id : ℕ) (v : SeatView) (c : List (ℕ × Unit {0})) (st : Step (Unit {0})) → late_draws limits.blocks v.steps < v.parts
     → Allows (BoardRule limits) slots id (v, c) 0 (λ n. (n + 1) % 2 ^ 64) (draw_move st (v, c))
 draws_as limits slots id v c st early s h count at fits =
     let found : slice_index s.words 0 ≡ h.next = ap (λ (ws : List ℕ). slice_index ws 0) h.words in
@@ -164,7 +164,7 @@ draws_as limits slots id v c st early s h count at fits =
       (refl, omega arith),
     )
 
-pub posts_as : (limits : Limits) (slots id : ℕ) (v : View) (c : List (ℕ × Unit {0})) (st : Step (Unit {0})) → 0 < v.parts
+pub posts_as : (limits : BoardLimits) (slots id : ℕ) (v : SeatView) (c : List (ℕ × Unit {0})) (st : Step (Unit {0})) → 0 < v.parts
     → Allows (BoardRule limits) slots id (v, c) 1 (λ n. min n st.first) (post_move st (v, c))
 posts_as limits slots id v c st some_part s h count at fits =
     let found : slice_index s.words 1 ≡ h.least = ap (λ (ws : List ℕ). slice_index ws 1) h.words in
@@ -179,7 +179,7 @@ posts_as limits slots id v c st some_part s h count at fits =
       (refl, omega arith),
     )
 
-pub sees_least_as : (limits : Limits) (slots id : ℕ) (v : View) (c : List (ℕ × Unit {0})) (st : Step (Unit {0})) → 0 < v.parts
+pub sees_least_as : (limits : BoardLimits) (slots id : ℕ) (v : SeatView) (c : List (ℕ × Unit {0})) (st : Step (Unit {0})) → 0 < v.parts
     → Allows (BoardRule limits) slots id (v, c) 1 (λ n. n) (saw_least st (v, c))
 sees_least_as limits slots id v c st some_part s h count at fits =
     let found : slice_index s.words 1 ≡ h.least = ap (λ (ws : List ℕ). slice_index ws 1) h.words in
@@ -193,7 +193,7 @@ sees_least_as limits slots id v c st some_part s h count at fits =
       (refl, omega arith),
     )
 
-pub sees_next_as : (limits : Limits) (slots id : ℕ) (v : View) (c : List (ℕ × Unit {0})) (st : Step (Unit {0})) → 0 < v.parts
+pub sees_next_as : (limits : BoardLimits) (slots id : ℕ) (v : SeatView) (c : List (ℕ × Unit {0})) (st : Step (Unit {0})) → 0 < v.parts
     → Allows (BoardRule limits) slots id (v, c) 0 (λ n. n) (saw_next st (v, c))
 sees_next_as limits slots id v c st some_part s h count at fits =
     let found : slice_index s.words 0 ≡ h.next = ap (λ (ws : List ℕ). slice_index ws 0) h.words in

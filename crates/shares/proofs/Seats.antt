@@ -8,7 +8,7 @@ use Rattle.std.proofs.lemmas.Option.{get_or_from_slice_get, slice_get_within}
 use Rattle.base.proofs.Lists.{slice_get-append_right}
 use Rattle.atomic_table.specs.Table.{Me}
 use Rattle.shares.specs.declared.view.SeatStep.{SeatStep}
-use Rattle.shares.specs.declared.view.View.{View}
+use Rattle.shares.specs.declared.view.SeatView.{SeatView}
 use Rattle.shares.specs.declared.view.SeatStep.TheVariants.{Drew, Posted, SawLeast, SawNext}
 use Rattle.shares.specs.Steps.{bit, drew, drew_late, late_draws, draws, shown_next, shown_least, next_seen, least_seen}
 use Rattle.shares.specs.Board.{view_of, with_step, DrewBelow}
@@ -17,7 +17,7 @@ use Rattle.shares.specs.Seats.{BoardName, SeatValue, all_steps, took, taken_bloc
 use Rattle.shares.proofs.Lists.{total_snoc, total_append, total_parts, greatest_append, least_append}
 
 -- a seat's token after one step
-pub after_step : (blocks : ℕ) (made : SeatStep) (me after : Me (Unit {0}) View) (ended now_ended : ℕ) → (me.1 ≡ []) × (me.0.parts ≡ 1) × (late_draws blocks me.0.steps ≡ ended)
+pub after_step : (blocks : ℕ) (made : SeatStep) (me after : Me (Unit {0}) SeatView) (ended now_ended : ℕ) → (me.1 ≡ []) × (me.0.parts ≡ 1) × (late_draws blocks me.0.steps ≡ ended)
     → after ≡ (with_step me.0 made, me.1) → ended + drew_late blocks made ≡ now_ended → (after.1 ≡ []) × (after.0.parts ≡ 1) × (late_draws blocks after.0.steps ≡ now_ended)
 after_step blocks made me after ended now_ended own e count =
     let late : late_draws blocks me.0.steps ≡ ended = own.2 in
@@ -39,13 +39,13 @@ all_middle P xs ys all x e h =
     subst P (get_or_from_slice_get all (length xs) x x at) (h (length xs) x (slice_get_within all (length xs) x at))
 
 -- the seat that takes in one more of those seats
-pub takes_next : (taken_blocks : List SeatValue) (seat : SeatValue) (me token after : Me (Unit {0}) View) → me ≡ (view_of (length taken_blocks) (all_steps taken_blocks), []) → token.0.parts ≡ 1 → token.0.steps ≡ seat.steps
+pub takes_next : (taken_blocks : List SeatValue) (seat : SeatValue) (me token after : Me (Unit {0}) SeatView) → me ≡ (view_of (length taken_blocks) (all_steps taken_blocks), []) → token.0.parts ≡ 1 → token.0.steps ≡ seat.steps
     → after ≡ (joint_view me.0 token.0, me.1) → after ≡ (view_of (length (taken_blocks ++ seat ∷ [])) (all_steps (taken_blocks ++ seat ∷ [])), [])
 takes_next taken_blocks seat me token after known_so_far one_part same_steps e =
     let parts : length taken_blocks + token.0.parts ≡ length (taken_blocks ++ seat ∷ []) = omega (arith, length-append taken_blocks (seat ∷ [])) in
     let steps : all_steps taken_blocks ++ token.0.steps ≡ all_steps (taken_blocks ++ seat ∷ []) =
     ap (λ (s : List SeatStep). all_steps taken_blocks ++ s) (same_steps ∙ sym (append-nil seat.steps)) ∙ sym (flat_map-append (λ (s : SeatValue). s.steps) taken_blocks (seat ∷ [])) in
-    e ∙ ap (λ (m : Me (Unit {0}) View). (joint_view m.0 token.0, m.1)) known_so_far ∙ (λ i. (view_of (parts i) (steps i), []))
+    e ∙ ap (λ (m : Me (Unit {0}) SeatView). (joint_view m.0 token.0, m.1)) known_so_far ∙ (λ i. (view_of (parts i) (steps i), []))
 
 pub first_undrawn : (blocks next : ℕ) (steps : List SeatStep) → next < blocks → DrewBelow next (λ b. draws b steps) → IsFirstUndrawn blocks steps next
 first_undrawn blocks next steps lt drew_below = record { there = lt; undrawn = (drew_below next).1 (omega arith); before = λ b below. (drew_below b).0 below }

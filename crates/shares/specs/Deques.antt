@@ -3,8 +3,8 @@ use Rattle.std.specs.Prelude.{◌≡◌, ℕ, ◌+◌, ◌<◌, ◌≤◌, List,
 use mathlib.Core.Option.{some}
 use lib.ListN.{get_elem?}
 use Rattle.std.specs.declared.alloc.Global.{Global}
-use Rattle.shares.specs.declared.deque.Held.{Held}
-use Rattle.shares.specs.declared.deque.Held.TheVariants.{Block, Mark}
+use Rattle.shares.specs.declared.deque.HeldBlocks.{HeldBlocks}
+use Rattle.shares.specs.declared.deque.HeldBlocks.TheVariants.{Block, Mark}
 use Rattle.shares.specs.declared.deque.Port.{Port}
 use Rattle.shares.specs.Steps.{total}
 use Rattle.shares.specs.Seats.{times}
@@ -21,11 +21,11 @@ abbrev pub IsAllGot : List ℕ → List ℕ → Type 0
 IsAllGot pushed got = (x : ℕ) → times x pushed ≡ times x got
 
 -- blocks, and that many closing marks after them
-abbrev pub blocks_and_marks : List ℕ → ℕ → List Held
+abbrev pub blocks_and_marks : List ℕ → ℕ → List HeldBlocks
 blocks_and_marks blocks marks = map Block blocks ++ replicate marks Mark
 
 -- the owner's port is the first. The right to know the whole lies in as many parts as there are workers.
-pub record DequeRule (blocks workers : ℕ) (items : List Held) (ports : List Port) : Type 0 where
+pub record DequeRule (blocks workers : ℕ) (items : List HeldBlocks) (ports : List Port) : Type 0 where
   -- the blocks that the deque has given out, in order
   pub given : List ℕ
   -- the blocks that it holds, in order, and how many closing marks
@@ -51,7 +51,7 @@ pub record DequeRule (blocks workers : ℕ) (items : List Held) (ports : List Po
   pub few_marks : (i : ℕ) (p : Port) → 0 < i → get_elem? ports i ≡ some p → p.marks_got ≤ p.parts
 
 -- a port that has pushed what joined the deque
-abbrev pub pushes_one : Port → List Held → Port
+abbrev pub pushes_one : Port → List HeldBlocks → Port
 pushes_one p [] = p
 pushes_one p (Block x ∷ xs) = port p.parts (p.pushed ++ x ∷ []) p.got p.marks_pushed p.marks_got
 pushes_one p (Mark ∷ xs) = port p.parts p.pushed p.got (p.marks_pushed + 1) p.marks_got
@@ -64,19 +64,19 @@ abbrev pub with_mark : Port → Port
 with_mark p = port p.parts p.pushed p.got p.marks_pushed (p.marks_got + 1)
 
 -- what one tells a stealer that left the deque
-abbrev pub Steals : ℕ → Port → List Held → Port → Type 0
+abbrev pub Steals : ℕ → Port → List HeldBlocks → Port → Type 0
 Steals blocks v [] w = Unit {0}
 Steals blocks v (Block x ∷ xs) w = (w ≡ with_block v x) × (x < blocks)
 Steals blocks v (Mark ∷ xs) w = w ≡ with_mark v
 
 -- what it tells the owner
-abbrev pub Pops : ℕ → Port → List Held → Port → Type 0
+abbrev pub Pops : ℕ → Port → List HeldBlocks → Port → Type 0
 Pops blocks v [] w = Unit {0}
 Pops blocks v (Block x ∷ xs) w = (w ≡ with_block v x) × (length v.got < length v.pushed) × (x < blocks)
 Pops blocks v (Mark ∷ xs) w = (w ≡ with_mark v) × (0 < v.marks_pushed)
 
 -- and what it tells the owner that has every part
-abbrev pub Drains : ℕ → Port → List Held → Port → Type 0
+abbrev pub Drains : ℕ → Port → List HeldBlocks → Port → Type 0
 Drains blocks v [] w = Unit {0}
 Drains blocks v (Block x ∷ xs) w = (w ≡ with_block v x) × (length v.got < length v.pushed) × (x < blocks) × (v.marks_got ≡ 0)
 Drains blocks v (Mark ∷ xs) w = (w ≡ with_mark v) × IsAllGot v.pushed v.got

@@ -2,32 +2,32 @@
 use Rattle.std.specs.Prelude.{◌≡◌, ℕ, ◌+◌, ◌-◌, ◌≤◌, [], ◌++◌}
 use Rattle.atomic_table.specs.Table.{Me, Step}
 use Rattle.shares.specs.declared.view.SeatStep.TheVariants.{Drew, Posted, SawLeast, SawNext}
-use Rattle.shares.specs.declared.view.View.{View}
-use Rattle.shares.specs.declared.view.Limits.{Limits}
+use Rattle.shares.specs.declared.view.SeatView.{SeatView}
+use Rattle.shares.specs.declared.view.BoardLimits.{BoardLimits}
 use Rattle.shares.specs.Steps.{draws, least_posted, next_seen, least_seen, posts, finds}
 use Rattle.shares.specs.Board.{view_of, with_step, DrewBelow, ArePosted}
 
 -- the view of the first seat, which has every part
-abbrev pub first_view : Limits → View
+abbrev pub first_view : BoardLimits → SeatView
 first_view limits = view_of limits.seats []
 
-abbrev pub newcomer : View
+abbrev pub newcomer : SeatView
 newcomer = view_of 0 []
 
 -- a part for a new seat, and what is left of the first one
-abbrev pub one_part : View
+abbrev pub one_part : SeatView
 one_part = view_of 1 []
 
-abbrev pub less_one : View → View
+abbrev pub less_one : SeatView → SeatView
 less_one v = view_of (v.parts - 1) v.steps
 
 -- what two seats know together
-abbrev pub joint_view : View → View → View
+abbrev pub joint_view : SeatView → SeatView → SeatView
 joint_view v w = view_of (v.parts + w.parts) (v.steps ++ w.steps)
 
 -- the kinds of step: of the step, the seat before, the number found, the seat after
 abbrev pub Made : Type 1
-Made = Step (Unit {0}) → Me (Unit {0}) View → ℕ → Me (Unit {0}) View → Type 0
+Made = Step (Unit {0}) → Me (Unit {0}) SeatView → ℕ → Me (Unit {0}) SeatView → Type 0
 
 abbrev pub draw_move : Made
 draw_move st v n w = (w ≡ (with_step v.0 (Drew n), v.1)) × (next_seen v.0.steps ≤ n)

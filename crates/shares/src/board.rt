@@ -12,16 +12,16 @@ ghost use Rattle.base.specs.Refusals.{work_refusal};
 use crate::rule::{
     Draw, Enter, LearnLeast, LearnNext, LoadLeast, LoadNext, OnePart, Post, Rule, Together,
 };
-use crate::view::{Limits, View};
+use crate::view::{BoardLimits, SeatView};
 use atomic_table::Table;
 use base::causes::WorkCause;
 use base::refusal::Refusal;
 use std::alloc::{AllocError, Global};
 use std::marker::Model;
 
-type BoardTable = Table<(), View, Limits, Rule, Global>;
+type BoardTable = Table<(), SeatView, BoardLimits, Rule, Global>;
 
-type Token = atomic_table::Seat<(), View>;
+type Token = atomic_table::Seat<(), SeatView>;
 
 /// The word that has the number of the next block to draw.
 const NEXT: usize = 0;
@@ -90,7 +90,7 @@ impl Board {
         ensures board { IfOk result (λ made. (made.0.name.blocks ≡ blocks) × (made.0.seats ≡ seats)) }
         ensures seats { IfOk result (λ made. (length made.1.items ≡ seats) × All (λ s. (s.board ≡ made.0.name) × (s.steps ≡ [])) made.1.items) }
     {
-        let limits = Limits {
+        let limits = BoardLimits {
             blocks: u64::from(blocks),
             seats: u64::from(seats),
         };

@@ -29,7 +29,7 @@ impl Deal for Brand {
 
 /// What a deque holds.
 #[derive(Drop)]
-pub enum Held {
+pub enum HeldBlocks {
     /// A block, by its number.
     Block(u32),
     /// A closing mark: its owner pushes no more blocks.
@@ -68,7 +68,7 @@ pub struct Dealt<H: Deal> {
     deal: PhantomData<H>,
 }
 
-impl<H: Deal> Protocol<Held, Port> for Dealt<H> {
+impl<H: Deal> Protocol<HeldBlocks, Port> for Dealt<H> {
     ghost holds = { DequeRule H.blocks H.workers };
 
     ghost first = { port H.workers [] [] 0 0 };
@@ -79,7 +79,7 @@ impl<H: Deal> Protocol<Held, Port> for Dealt<H> {
 /// A push of the owner, at the back.
 pub(crate) struct Push;
 
-impl Outcome<Held, Port> for Push {
+impl Outcome<HeldBlocks, Port> for Push {
     ghost then = { λ v xs w. w ≡ pushes_one v xs };
 }
 
@@ -89,7 +89,7 @@ pub(crate) struct Pop<H: Deal> {
     deal: PhantomData<H>,
 }
 
-impl<H: Deal> Outcome<Held, Port> for Pop<H> {
+impl<H: Deal> Outcome<HeldBlocks, Port> for Pop<H> {
     ghost then = { Pops H.blocks };
 
     ghost empty = { λ v. H.workers ≤ v.marks_pushed → 0 < v.marks_got };
@@ -100,7 +100,7 @@ pub(crate) struct TakeOut<H: Deal> {
     deal: PhantomData<H>,
 }
 
-impl<H: Deal> Outcome<Held, Port> for TakeOut<H> {
+impl<H: Deal> Outcome<HeldBlocks, Port> for TakeOut<H> {
     ghost then = { Steals H.blocks };
 }
 
@@ -110,7 +110,7 @@ pub(crate) struct Drain<H: Deal> {
     deal: PhantomData<H>,
 }
 
-impl<H: Deal> Outcome<Held, Port> for Drain<H> {
+impl<H: Deal> Outcome<HeldBlocks, Port> for Drain<H> {
     ghost then = { Drains H.blocks };
 
     ghost empty = { λ v. IsAllGot v.pushed v.got };

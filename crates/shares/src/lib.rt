@@ -166,7 +166,7 @@ mod rule;
 mod view;
 
 pub use board::{Board, Seat};
-pub use deque::{Deal, Held, Phase, Port};
+pub use deque::{Deal, HeldBlocks, Phase, Port};
 pub use hand::Hand;
 pub use meeting::{are_refused, blocks_left, hands};
 pub use view::SeatStep;

@@ -5,7 +5,7 @@ ghost use Rattle.crossbeam_deque.specs.Handles.{IsPassOf, stealer_deque};
 ghost use Rattle.shares.specs.Owned.{deque_value, other_value, with_got, with_marks, AddsLeft};
 ghost use Rattle.shares.specs.Deques.{port, IsAllGot};
 
-use crate::deque::{Deal, Dealt, Drain, GivePart, Held, Pop, Port, Push, TakeOut, TakePart};
+use crate::deque::{Deal, Dealt, Drain, GivePart, HeldBlocks, Pop, Port, Push, TakeOut, TakePart};
 use crossbeam_deque::{Pass, Steal, Stealer, Worker};
 use std::alloc::{AllocError, Global};
 use std::marker::Model;
@@ -16,7 +16,7 @@ const ROOM: usize = 4;
 /// A worker's own deque, with the port by which it pushes and pops.
 #[derive(Drop)]
 pub(crate) struct Deque<H: Deal> {
-    owner: Worker<Held, Global, Port, Dealt<H>>,
+    owner: Worker<HeldBlocks, Global, Port, Dealt<H>>,
 }
 
 impl<H: Deal> Model for Deque<H> {
@@ -35,8 +35,8 @@ impl<H: Deal> Model for Deque<H> {
 /// that deque no more.
 #[derive(Drop)]
 pub(crate) struct Other<H: Deal> {
-    thief: Stealer<Held, Global, Port, Dealt<H>>,
-    pass: Pass<Held, Port>,
+    thief: Stealer<HeldBlocks, Global, Port, Dealt<H>>,
+    pass: Pass<HeldBlocks, Port>,
     over: bool,
     ghost fits: { IsPassOf (stealer_deque thief) pass },
 }
@@ -69,8 +69,8 @@ impl<H: Deal> Other<H> {
             return None;
         };
         match held {
-            Held::Block(stolen) => Some(stolen),
-            Held::Mark => {
+            HeldBlocks::Block(stolen) => Some(stolen),
+            HeldBlocks::Mark => {
                 self.over = true;
                 None
             }
@@ -124,7 +124,7 @@ impl<H: Deal> Deque<H> {
         ensures pushed { OnOk result (self.new ≡ deque_value self.old.name (port self.old.parts (self.old.pushed ++ block ∷ []) self.old.got self.old.marks_pushed self.old.marks_got)) }
         ensures refused { IfErr result (λ back. (back ≡ block) × (self.new ≡ self.old)) }
     {
-        match self.owner.push_as::<Push>(Held::Block(block)) {
+        match self.owner.push_as::<Push>(HeldBlocks::Block(block)) {
             Ok(()) => Ok(()),
             Err(_held) => Err(block),
         }
@@ -135,7 +135,7 @@ impl<H: Deal> Deque<H> {
         ensures pushed { result ≡ true → self.new ≡ with_marks self.old (self.old.marks_pushed + 1) self.old.marks_got }
         ensures refused { result ≡ false → self.new ≡ self.old }
     {
-        self.owner.push_as::<Push>(Held::Mark).is_ok()
+        self.owner.push_as::<Push>(HeldBlocks::Mark).is_ok()
     }
 
     /// Pushes that many closing marks. It tells whether the deque had a place for all of them.
@@ -162,8 +162,8 @@ impl<H: Deal> Deque<H> {
             return None;
         };
         match held {
-            Held::Block(block) => Some(block),
-            Held::Mark => unreachable!(),
+            HeldBlocks::Block(block) => Some(block),
+            HeldBlocks::Mark => unreachable!(),
         }
     }
 
@@ -178,8 +178,8 @@ impl<H: Deal> Deque<H> {
             unreachable!()
         };
         match held {
-            Held::Block(block) => Some(block),
-            Held::Mark => None,
+            HeldBlocks::Block(block) => Some(block),
+            HeldBlocks::Mark => None,
         }
     }
 
@@ -194,8 +194,8 @@ impl<H: Deal> Deque<H> {
             return None;
         };
         match held {
-            Held::Block(block) => Some(block),
-            Held::Mark => None,
+            HeldBlocks::Block(block) => Some(block),
+            HeldBlocks::Mark => None,
         }
     }
 

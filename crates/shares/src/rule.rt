@@ -3,13 +3,13 @@
 ghost use Rattle.shares.specs.Board.{BoardRule};
 ghost use Rattle.shares.specs.Moves.{first_view, one_part, less_one, joint_view, newcomer, draw_move, post_move, saw_least, saw_next, enter_move, learned_next, learned_least};
 
-use crate::view::{Limits, View};
+use crate::view::{BoardLimits, SeatView};
 use atomic_table::{Join, Play, Split, TableRule};
 
 /// The board rule, as the type of a board's table names it.
 pub struct Rule;
 
-impl TableRule<(), View, Limits> for Rule {
+impl TableRule<(), SeatView, BoardLimits> for Rule {
     ghost holds = { BoardRule };
 
     ghost first = { first_view };
@@ -18,56 +18,56 @@ impl TableRule<(), View, Limits> for Rule {
 /// A draw: one fetch_add of the next block.
 pub(crate) struct Draw;
 
-impl Play<(), View> for Draw {
+impl Play<(), SeatView> for Draw {
     ghost then = { draw_move };
 }
 
 /// A post: one fetch_min of the least image.
 pub(crate) struct Post;
 
-impl Play<(), View> for Post {
+impl Play<(), SeatView> for Post {
     ghost then = { post_move };
 }
 
 /// One load of the least image.
 pub(crate) struct LoadLeast;
 
-impl Play<(), View> for LoadLeast {
+impl Play<(), SeatView> for LoadLeast {
     ghost then = { saw_least };
 }
 
 /// One load of the next block.
 pub(crate) struct LoadNext;
 
-impl Play<(), View> for LoadNext {
+impl Play<(), SeatView> for LoadNext {
     ghost then = { saw_next };
 }
 
 /// A seat is made that knows nothing.
 pub(crate) struct Enter;
 
-impl Play<(), View> for Enter {
+impl Play<(), SeatView> for Enter {
     ghost then = { enter_move };
 }
 
 /// The seat with every part learns which blocks were drawn.
 pub(crate) struct LearnNext;
 
-impl Play<(), View> for LearnNext {
+impl Play<(), SeatView> for LearnNext {
     ghost then = { learned_next };
 }
 
 /// The seat with every part learns the least image posted.
 pub(crate) struct LearnLeast;
 
-impl Play<(), View> for LearnLeast {
+impl Play<(), SeatView> for LearnLeast {
     ghost then = { learned_least };
 }
 
 /// One part for a new seat.
 pub(crate) struct OnePart;
 
-impl Split<View> for OnePart {
+impl Split<SeatView> for OnePart {
     ghost left = { less_one };
 
     ghost right = { λ v. one_part };
@@ -76,7 +76,7 @@ impl Split<View> for OnePart {
 /// What two seats know, in one.
 pub(crate) struct Together;
 
-impl Join<View> for Together {
+impl Join<SeatView> for Together {
     ghost both = { joint_view };
 
     ghost spent = { newcomer };

@@ -16,7 +16,7 @@ pub enum SeatStep {
 }
 
 /// What a seat knows.
-pub struct View {
+pub struct SeatView {
     /// Its parts of the right to know the whole: one for each seat that it is made of.
     pub parts: u64,
     /// Its steps, in order.
@@ -25,7 +25,7 @@ pub struct View {
 
 /// What the rule of a board is told once.
 #[derive(Drop)]
-pub struct Limits {
+pub struct BoardLimits {
     pub blocks: u64,
     pub seats: u64,
 }

@@ -27,7 +27,7 @@ use Rattle.bpf_isa.specs.Slots.{at}
 use Rattle.machine.specs.Step.{checks, effect, step_of, after_checks, Stepped, Next, call_checks, call_effect, is_length, is_limit, turns_here, count_turn}
 use Rattle.intervals.specs.Spans.{span, is_constant}
 use Rattle.intervals.specs.Reducing.{any_sign}
-use Rattle.ranges.specs.declared.place.Place.TheVariants as place
+use Rattle.ranges.specs.declared.place.AccessPlace.TheVariants as place
 use Rattle.ranges.specs.Kinds.{Kind, Unset, Word, Num, Ctx, Stack, Sector, SectorOrNull, is_number}
 use Rattle.ranges.specs.States.{Abstract}
 use Rattle.ranges.specs.Order.{IsBounded}

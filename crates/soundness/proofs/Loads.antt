@@ -30,9 +30,9 @@ use Rattle.machine.specs.Step.{checks, effect, step_of, set_and_go}
 use Rattle.intervals.specs.Spans.{Span, only, IsSpan, Has}
 use Rattle.intervals.specs.Results.{extended_result}
 use Rattle.intervals.proofs.Extensions.{extended_has, extended_fits}
-use Rattle.ranges.specs.declared.place.Place.{Place}
-use Rattle.ranges.specs.declared.place.Place.TheVariants as place
-use Rattle.ranges.specs.declared.place.Mark.TheVariants as mark
+use Rattle.ranges.specs.declared.place.AccessPlace.{AccessPlace}
+use Rattle.ranges.specs.declared.place.AccessPlace.TheVariants as place
+use Rattle.ranges.specs.declared.place.ByteMark.TheVariants as mark
 use Rattle.ranges.specs.Kinds.{Kind, Unset, Word, Num, Ctx, Stack, Sector, SectorOrNull}
 use Rattle.ranges.specs.Groups.{GroupKind, Marked, Spilled}
 use Rattle.ranges.specs.States.{Abstract}
@@ -236,7 +236,7 @@ pub record Found (bytes : ℕ → ByteAt) (a : ℕ) (s : Size) (sectors frame : 
   pub describes : Describes sectors frame k number
   pub below : number < 256 ^ byte_count s
 
-found : (program : List (Option Instr)) (sectors : ℕ) (device : List (List ℕ)) (context : Context) (known : Abstract) (m : Parts) (s : Size) (p : Place) (a : ℕ)
+found : (program : List (Option Instr)) (sectors : ℕ) (device : List (List ℕ)) (context : Context) (known : Abstract) (m : Parts) (s : Size) (p : AccessPlace) (a : ℕ)
     → IsSetting program sectors device context → Site sectors known m → Lands sectors (number m) p (byte_count s) a → has_no mark.Unset known.groups p (byte_count s) ≡ true
     → Found (byte_at (context_bytes context) device (all_frames m)) a s sectors (number m) (loaded_kind sectors known.groups p (byte_count s))
 unfolding loaded_kind
@@ -325,7 +325,7 @@ pub load_goes : (program : List (Option Instr)) (sectors : ℕ) (device : List (
 unfolding rules_with load_rules passed_with after_with step_of checks effect
 load_goes program sectors device context known m s dst base distance set site fits free next keeps =
     let n : ℕ = byte_count s in
-    let p : Place = place_of (value known base) distance n in
+    let p : AccessPlace = place_of (value known base) distance n in
     let tell = four_tell cause.UnsetRegister cause.OutsideRegion cause.UnsetByte cause.PointerAsNumber (are_set known (base ∷ [])) (is_inside p)
     (has_no mark.Unset known.groups p n) (is_whole p n || has_no mark.Pointer known.groups p n) keeps in
     let bytes : ℕ → ByteAt = byte_at (context_bytes context) device (all_frames m) in
@@ -353,7 +353,7 @@ pub signed_load_goes : (program : List (Option Instr)) (sectors : ℕ) (device :
 unfolding rules_with load_rules passed_with after_with step_of checks effect
 signed_load_goes program sectors device context known m s dst base distance set site fits free next keeps =
     let n : ℕ = byte_count (plain_size s) in
-    let p : Place = place_of (value known base) distance n in
+    let p : AccessPlace = place_of (value known base) distance n in
     let tell = four_tell cause.UnsetRegister cause.OutsideRegion cause.UnsetByte cause.PointerAsNumber (are_set known (base ∷ [])) (is_inside p)
     (has_no mark.Unset known.groups p n) (is_whole p n || has_no mark.Pointer known.groups p n) keeps in
     let bytes : ℕ → ByteAt = byte_at (context_bytes context) device (all_frames m) in

@@ -38,8 +38,8 @@ use Rattle.intervals.proofs.CallerLemmas.{limits_cover, words_are_limits}
 use Rattle.ranges.specs.Passing.{passed_with, edge_with}
 use Rattle.ranges.specs.After.{after_with, any_of, loosely_loaded, loosely_loaded_at}
 use Rattle.ranges.specs.Rules.{guarded_rules, rules_with, load_rules}
-use Rattle.ranges.specs.declared.place.Place.{Place}
-use Rattle.ranges.specs.declared.place.Place.TheVariants as place
+use Rattle.ranges.specs.declared.place.AccessPlace.{AccessPlace}
+use Rattle.ranges.specs.declared.place.AccessPlace.TheVariants as place
 use Rattle.ranges.specs.Kinds.{Kind, Unset, Word, Num, is_unset}
 use Rattle.ranges.specs.States.{Abstract}
 use Rattle.ranges.specs.Order.{Each}
@@ -230,7 +230,7 @@ number_small bytes a n h = number_below n 0 (map (λ at. memory.value (bytes at)
 
 -- a place inside is mapped
 
-place_mapped : (program : List (Option Instr)) (sectors : ℕ) (device : List (List ℕ)) (context : Context) (known : Abstract) (m : Parts) (p : Place) (n a : ℕ)
+place_mapped : (program : List (Option Instr)) (sectors : ℕ) (device : List (List ℕ)) (context : Context) (known : Abstract) (m : Parts) (p : AccessPlace) (n a : ℕ)
     → IsSetting program sectors device context → Site sectors known m → Lands sectors (number m) p n a → all_mapped (byte_at (context_bytes context) device (all_frames m)) a n ≡ true
 place_mapped program sectors device context known m place.Outside n a set site lands = absurd lands
 place_mapped program sectors device context known m (place.Context q) n a set site lands =
@@ -271,7 +271,7 @@ loads program sectors device context known m dst base n x distance k set site fu
     a : ℕ
     a = step.address (machine m) base distance
 
-    p : Place
+    p : AccessPlace
     p = place_of (value known base) distance n
 
     ready : list_all (λ r. is_some (get_or m.registers r None)) (base ∷ []) ≡ true

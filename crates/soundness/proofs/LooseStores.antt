@@ -26,8 +26,8 @@ use Rattle.machine.specs.Step as step
 use Rattle.machine.specs.Step.{Stepped, Next, Done, Fault, checks, effect, step_of, after_checks, call_checks, call_effect, is_length, is_limit, turns_here, count_turn}
 use Rattle.machine.specs.Guards.{own_start, is_own, call_writes_own, writes_own, guarded}
 use Rattle.ranges.specs.Passing.{passed_with}
-use Rattle.ranges.specs.declared.place.Place.{Place}
-use Rattle.ranges.specs.declared.place.Place.TheVariants as place
+use Rattle.ranges.specs.declared.place.AccessPlace.{AccessPlace}
+use Rattle.ranges.specs.declared.place.AccessPlace.TheVariants as place
 use Rattle.ranges.specs.Kinds.{Kind, Unset, Word, Num, Ctx, Stack, Sector, SectorOrNull}
 use Rattle.ranges.specs.Groups.{GroupKind, Marked, unset_marks, map_places}
 use Rattle.ranges.specs.States.{Abstract}
@@ -121,7 +121,7 @@ groups_mean : (sectors : ℕ) (known : Abstract) (m : Parts) (k : Kind) (distanc
 unfolding groups_forgotten
 groups_mean sectors known m k distance n a p bytes site falls some e fits = by (place_of k distance n) falls
   where
-    by : (q : Place) → (is_inside q ≡ true → Lands sectors (number m) q n a)
+    by : (q : AccessPlace) → (is_inside q ≡ true → Lands sectors (number m) q n a)
         → (g : ℕ) → GroupMeans sectors (number m) (get_or (groups_forgotten known.groups q n) g (Marked [])) (filled m.stack p bytes) g
     by (place.Stack r) lands =
         let there = lands refl in
@@ -154,7 +154,7 @@ pub left_kept : (sectors : ℕ) (known : Abstract) (m : Parts) (k : Kind) (dista
 unfolding groups_forgotten
 left_kept sectors known m k distance n site = by (is_own_memory k distance n)
   where
-    forgotten : (q : Place) → (g : ℕ) → GroupMeans sectors (number m) (get_or (groups_forgotten known.groups q n) g (Marked [])) m.stack g
+    forgotten : (q : AccessPlace) → (g : ℕ) → GroupMeans sectors (number m) (get_or (groups_forgotten known.groups q n) g (Marked [])) m.stack g
     forgotten (place.Stack r) = kept_means sectors (number m) known.groups m.stack r n site.fits.stack site.stands.groups
     forgotten place.Outside = λ g. unset_means sectors (number m) m.stack g
     forgotten place.Sector = λ g. unset_means sectors (number m) m.stack g

@@ -7,8 +7,8 @@ use Rattle.base.specs.Sizes.{most_sectors}
 use Rattle.helpers.specs.Answers.{sector_start}
 use Rattle.machine.specs.State.{context_start, stack_start}
 use Rattle.intervals.specs.Spans.{Span, span, IsSpan, Has}
-use Rattle.ranges.specs.declared.place.Place.{Place}
-use Rattle.ranges.specs.declared.place.Place.TheVariants as place
+use Rattle.ranges.specs.declared.place.AccessPlace.{AccessPlace}
+use Rattle.ranges.specs.declared.place.AccessPlace.TheVariants as place
 use Rattle.ranges.specs.Kinds.{Kind, Unset, Word, Num, Ctx, Stack, Sector, SectorOrNull}
 use Rattle.ranges.specs.Order.{IsBounded}
 use Rattle.ranges.specs.Places.{landing, place_of, is_inside}
@@ -18,7 +18,7 @@ use Rattle.soundness.proofs.Standing.{AreFew}
 use Rattle.soundness.proofs.Pointers.{between_up}
 
 -- an access to n bytes from an address on lies in its region, where the frame at hand has this number
-abbrev pub Lands : ℕ → ℕ → Place → ℕ → ℕ → Type 0
+abbrev pub Lands : ℕ → ℕ → AccessPlace → ℕ → ℕ → Type 0
 Lands sectors frame place.Outside n a = ⊥
 Lands sectors frame (place.Context at) n a = (a ≡ context_start + at) × (at + n ≤ 32)
 Lands sectors frame (place.Stack at) n a = (a ≡ stack_start + 1024 * frame + at) × (at + n ≤ 512)

@@ -8,7 +8,7 @@ use Rattle.base.specs.Numbers.{number_at, number_bytes}
 use Rattle.base.proofs.Lists.{length-number_bytes, number_at-number_bytes}
 use Rattle.machine.specs.State.{Caller, Frame, stack_start}
 use Rattle.machine.specs.Memory.{change_at, with_byte, frames_with}
-use Rattle.ranges.specs.declared.place.Mark.TheVariants as mark
+use Rattle.ranges.specs.declared.place.ByteMark.TheVariants as mark
 use Rattle.ranges.specs.Kinds.{Kind}
 use Rattle.ranges.specs.Groups.{GroupKind, Marked, Spilled, map_places}
 use Rattle.ranges.specs.Places.{mark_in, is_mark}

@@ -21,7 +21,7 @@ use Rattle.machine.specs.Memory.{byte_count, byte_at, all_mapped, all_in_stacks,
 use Rattle.machine.specs.Step as step
 use Rattle.bpf_isa.specs.Slots.{at}
 use Rattle.machine.specs.Step.{checks, effect, step_of, after_checks, Next}
-use Rattle.ranges.specs.declared.place.Place.TheVariants as place
+use Rattle.ranges.specs.declared.place.AccessPlace.TheVariants as place
 use Rattle.ranges.specs.Kinds.{Kind, Unset, Word, Num, Ctx, Stack, Sector, SectorOrNull, is_unknown, is_number}
 use Rattle.ranges.specs.Groups.{Marked, Spilled}
 use Rattle.ranges.specs.States.{Abstract}

@@ -41,8 +41,8 @@ use Rattle.intervals.proofs.SignedOrders.{TwoOf, signed_narrowed_two}
 use Rattle.intervals.proofs.SignedDigits.{rounded_is, widened_fits, limits_rounded_fits}
 use Rattle.intervals.proofs.Outcomes.{any_holds}
 use Rattle.intervals.proofs.CallerLemmas.{fitting, words_are_limits}
-use Rattle.ranges.specs.declared.place.Place.{Place}
-use Rattle.ranges.specs.declared.place.Place.TheVariants as place
+use Rattle.ranges.specs.declared.place.AccessPlace.{AccessPlace}
+use Rattle.ranges.specs.declared.place.AccessPlace.TheVariants as place
 use Rattle.ranges.specs.Kinds.{Kind, Unset, Word, Num, Ctx, Stack, Sector, SectorOrNull, is_pointer, is_unknown, round}
 use Rattle.ranges.specs.Groups.{GroupKind, Spilled, map_places, round_group}
 use Rattle.ranges.specs.States.{Abstract, round_state}
@@ -185,7 +185,7 @@ group_place at n e = by (n == 8) (at % 8 == 0) refl refl e
 all_self : (groups : List GroupKind) → EachUnder GroupUnder groups groups
 all_self groups = each_self GroupUnder group_self groups
 
-stored_below : (k : Kind) (groups : List GroupKind) (p : Place) (n : ℕ) → EachUnder GroupUnder (stored_groups k groups p n) (unsigned_stored k groups p n)
+stored_below : (k : Kind) (groups : List GroupKind) (p : AccessPlace) (n : ℕ) → EachUnder GroupUnder (stored_groups k groups p n) (unsigned_stored k groups p n)
 unfolding stored_groups unsigned_stored groups_after_write
 stored_below (Num x) groups (place.Stack at) n = by (is_group at n) refl
   where
@@ -203,10 +203,10 @@ stored_below k groups place.Outside n = all_self groups
 stored_below k groups (place.Context at) n = all_self groups
 stored_below k groups place.Sector n = all_self groups
 
-store_below : (s : Abstract) (k : Kind) (p : Place) (n : ℕ) → StateUnder (with_groups s (stored_groups k s.groups p n)) (with_groups s (unsigned_stored k s.groups p n))
+store_below : (s : Abstract) (k : Kind) (p : AccessPlace) (n : ℕ) → StateUnder (with_groups s (stored_groups k s.groups p n)) (with_groups s (unsigned_stored k s.groups p n))
 store_below s k p n = record { values = each_self Under under_self s.values; groups = stored_below k s.groups p n }
 
-unsigned_store_fits : (s : Abstract) (k : Kind) (p : Place) (n : ℕ) → IsBounded k → IsState s → IsState (with_groups s (unsigned_stored k s.groups p n))
+unsigned_store_fits : (s : Abstract) (k : Kind) (p : AccessPlace) (n : ℕ) → IsBounded k → IsState s → IsState (with_groups s (unsigned_stored k s.groups p n))
 unfolding unsigned_stored groups_after_write
 unsigned_store_fits s k (place.Stack at) n h a = by (is_pointer k) (is_group at n) refl
   where

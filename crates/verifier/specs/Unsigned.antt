@@ -18,8 +18,8 @@ use Rattle.intervals.specs.Rounding.{round_span}
 use Rattle.intervals.specs.Results.{result_of}
 use Rattle.intervals.specs.Edges.{jump_edge}
 use Rattle.intervals.specs.Reducing.{Limits, any_sign}
-use Rattle.ranges.specs.declared.place.Place.{Place}
-use Rattle.ranges.specs.declared.place.Place.TheVariants as place
+use Rattle.ranges.specs.declared.place.AccessPlace.{AccessPlace}
+use Rattle.ranges.specs.declared.place.AccessPlace.TheVariants as place
 use Rattle.ranges.specs.Kinds.{Kind, Unset, Num, is_pointer, round}
 use Rattle.ranges.specs.Groups.{GroupKind, Marked, Spilled, round_group}
 use Rattle.ranges.specs.States.{Abstract, start}
@@ -60,12 +60,12 @@ unsigned_result (instr.Arithmetic width.W64 op.Sub dst from) k l = option_or (mo
 unsigned_result i k l = unsigned_computed i k l
 
 -- a pointer stored to a group is kept there; other stores make bytes written
-unfoldable pub unsigned_stored : Kind → List GroupKind → Place → ℕ → List GroupKind
+unfoldable pub unsigned_stored : Kind → List GroupKind → AccessPlace → ℕ → List GroupKind
 unsigned_stored k groups (place.Stack at) n =
     if is_pointer k && is_group at n then slice_set groups (at / 8) (Spilled k) else groups_after_write at n groups
 unsigned_stored k groups p n = groups
 
-abbrev pub unsigned_store : Abstract → Kind → Size → Place → Abstract
+abbrev pub unsigned_store : Abstract → Kind → Size → AccessPlace → Abstract
 unsigned_store s k size p = with_groups s (unsigned_stored k s.groups p (byte_count size))
 
 -- the state after an instruction that is no jump

@@ -3,7 +3,7 @@
 //! Nothing that is proved rests on it: a table that is found with it is tested.
 
 use crate::news::News;
-use crate::order::Order;
+use crate::order::SlotOrder;
 use crate::origins::Gone;
 use crate::parts::{Parts, looked_at};
 use crate::passing::Edge;
@@ -20,7 +20,7 @@ const TURN: u64 = 1 << 21;
 /// Which slots have something to pass on at once, by their places in the order, and what each is still to tell.
 #[derive(Drop)]
 pub(crate) struct Agenda {
-    order: Order,
+    order: SlotOrder,
     places: Worklist,
     news: News,
     /// On which edges something was passed on.
@@ -38,7 +38,7 @@ impl Agenda {
     /// The agenda of a program, on which no slot stands.
     pub(crate) fn new(alloc: Global, program: &Program) -> Result<Agenda, AllocError> {
         Ok(Agenda {
-            order: Order::of(alloc, program)?,
+            order: SlotOrder::of(alloc, program)?,
             places: Worklist::new(),
             news: News::new(alloc, program.slots())?,
             gone: Gone::new(alloc, program.slots())?,

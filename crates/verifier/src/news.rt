@@ -7,7 +7,7 @@
 //!
 //! Nothing that is proved rests on it: a table that is found with it is tested.
 
-use crate::order::Order;
+use crate::order::SlotOrder;
 use crate::origins::{Gone, Origins};
 use crate::parts::{Parts, needed_before};
 use crate::passing::{Edge, target_of};
@@ -23,7 +23,7 @@ const NARROW: u64 = 1 << 18;
 
 /// What is told at once.
 #[derive(Clone, Copy)]
-enum Phase {
+enum NewsPhase {
     /// All is, so that what waited arrives.
     Wide,
     /// All is, and what is learned is taken down.
@@ -35,7 +35,7 @@ enum Phase {
 /// Of a slot the parts that it tells at once, those of which it learned something since the last sample began, and those
 /// that it told on some of its edges alone.
 #[derive(Clone, Copy)]
-struct Rule {
+struct NewsRule {
     urgent: Parts,
     learned: Parts,
     owed: Parts,
@@ -46,9 +46,9 @@ struct Rule {
 #[derive(Drop)]
 pub(crate) struct News {
     pending: Vec<Parts>,
-    rules: Vec<Rule>,
+    rules: Vec<NewsRule>,
     origins: Origins,
-    phase: Phase,
+    phase: NewsPhase,
     due: u64,
 }
 
@@ -61,7 +61,7 @@ impl News {
             pending,
             rules: Vec::new(alloc),
             origins: Origins::new(alloc),
-            phase: Phase::Wide,
+            phase: NewsPhase::Wide,
             due: FIRST,
         })
     }
@@ -160,11 +160,11 @@ impl News {
 
     /// Begins the next phase. A turn through all slots goes before a sample, and one more is the sample. Where memory
     /// is wanting the search stays wide.
-    pub(crate) fn turn_over(&mut self, scene: &Scene, order: &Order, gone: &Gone, steps: u64) {
+    pub(crate) fn turn_over(&mut self, scene: &Scene, order: &SlotOrder, gone: &Gone, steps: u64) {
         let length = match self.phase {
-            Phase::Wide => self.begin_sample(),
-            Phase::Sample => self.begin_narrow(scene, order, gone),
-            Phase::Narrow => self.begin_wide(),
+            NewsPhase::Wide => self.begin_sample(),
+            NewsPhase::Sample => self.begin_narrow(scene, order, gone),
+            NewsPhase::Narrow => self.begin_wide(),
         };
         self.due = steps.saturating_add(length);
     }
@@ -172,14 +172,14 @@ impl News {
     /// All is told at once, and nothing is taken down yet. How many steps that takes.
     fn begin_sample(&mut self) -> u64 {
         self.rules.clear();
-        let rule = Rule {
+        let rule = NewsRule {
             urgent: Parts::ALL,
             learned: Parts::NONE,
             owed: Parts::NONE,
         };
         match self.rules.resize(self.pending.len(), rule) {
             Ok(()) => {
-                self.phase = Phase::Sample;
+                self.phase = NewsPhase::Sample;
                 self.pending.len() as u64
             }
             Err(_) => u64::MAX,
@@ -187,8 +187,8 @@ impl News {
     }
 
     /// Each slot tells those parts at once on which hangs what a head learned. The last slot comes first.
-    fn begin_narrow(&mut self, scene: &Scene, order: &Order, gone: &Gone) -> u64 {
-        self.phase = Phase::Narrow;
+    fn begin_narrow(&mut self, scene: &Scene, order: &SlotOrder, gone: &Gone) -> u64 {
+        self.phase = NewsPhase::Narrow;
         self.origins.find(scene, order, gone);
         let slots = self.rules.len();
         for turn in 0..slots {
@@ -201,7 +201,7 @@ impl News {
 
     /// Each slot tells all at once.
     fn begin_wide(&mut self) -> u64 {
-        self.phase = Phase::Wide;
+        self.phase = NewsPhase::Wide;
         self.origins.forget();
         for slot in 0..self.rules.len() {
             self.put_urgent(slot, Parts::ALL);

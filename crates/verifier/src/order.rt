@@ -14,7 +14,7 @@ use std::alloc::{AllocError, Global};
 
 /// The slots of a program in their order, and the place of each slot.
 #[derive(Drop)]
-pub(crate) struct Order {
+pub(crate) struct SlotOrder {
     slots: Vec<usize>,
     places: Vec<usize>,
 }
@@ -140,15 +140,15 @@ fn ways_of(alloc: Global, program: &Program) -> Result<Ways, AllocError> {
     Ok(ways)
 }
 
-impl Order {
+impl SlotOrder {
     /// The order of a program's slots: the lowest slot first to which all ways are gone.
-    pub(crate) fn of(alloc: Global, program: &Program) -> Result<Order, AllocError> {
+    pub(crate) fn of(alloc: Global, program: &Program) -> Result<SlotOrder, AllocError> {
         let mut ways = ways_of(alloc, program)?;
         let mut slots = Vec::new(alloc);
         slots.resize(program.slots(), 0)?;
         let mut places = Vec::new(alloc);
         places.resize(program.slots(), 0)?;
-        let mut order = Order { slots, places };
+        let mut order = SlotOrder { slots, places };
         for place in 0..program.slots() {
             if let Some(slot) = ways.next() {
                 order.put(place, slot);

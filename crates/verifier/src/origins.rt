@@ -8,7 +8,7 @@
 
 ghost use Rattle.std.specs.Prelude.{◌<◌};
 
-use crate::order::Order;
+use crate::order::SlotOrder;
 use crate::parts::{Parts, changed_by};
 use crate::passing::Edge;
 use crate::scene::Scene;
@@ -176,7 +176,7 @@ impl Origins {
     }
 
     /// Where the groups of each slot come from, by the edges on which something was passed on.
-    pub(crate) fn find(&mut self, scene: &Scene, order: &Order, gone: &Gone) {
+    pub(crate) fn find(&mut self, scene: &Scene, order: &SlotOrder, gone: &Gone) {
         if self.begin(scene.program.slots()).is_err() {
             self.spared.clear();
             return;

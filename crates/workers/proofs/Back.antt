@@ -11,7 +11,7 @@ use Rattle.shares.specs.Hands.{HandPlace, HandValue, IsEmptyHand, IsShut, AreLef
 use Rattle.shares.proofs.Lists.{total_append}
 use Rattle.shares.proofs.Seats.{times_append}
 use Rattle.workers.specs.declared.crew.Done.{Done}
-use Rattle.workers.specs.declared.crew.Job.{Job}
+use Rattle.workers.specs.declared.crew.WorkerStart.{WorkerStart}
 use Rattle.workers.specs.Failing.{Subject}
 use Rattle.workers.specs.Pieces.{PieceValue, block_count, pieces_at}
 use Rattle.workers.specs.Taking.{HandsOver, HasTaken, IsSettled}
@@ -164,8 +164,8 @@ done_count {X} s board jobs places done given are =
     sym (length-map done (λ (d : Done X). d.hand.place)) ∙ ap length (are.places_are ∙ given) ∙ length-reverse places
 
 -- each job gives what a worker of its hand is done with
-pub all_given : {X : Type 0} (s : Subject) (board : BoardName) (jobs : List (Job X)) (done : List (Done X)) → length done ≡ length jobs
-    → ((i : ℕ) (j : Job X) (d : Done X) → slice_get jobs i ≡ Some j → slice_get done i ≡ Some d → IsDone s board j.hand.place d) → AreDone s board (map (λ (j : Job X). j.hand.place) jobs) done
+pub all_given : {X : Type 0} (s : Subject) (board : BoardName) (jobs : List (WorkerStart X)) (done : List (Done X)) → length done ≡ length jobs
+    → ((i : ℕ) (j : WorkerStart X) (d : Done X) → slice_get jobs i ≡ Some j → slice_get done i ≡ Some d → IsDone s board j.hand.place d) → AreDone s board (map (λ (j : WorkerStart X). j.hand.place) jobs) done
 all_given s board [] [] same each = record { places_are = refl; each = λ i d lt. absurd (omega (arith, lt)) }
 all_given s board [] (d ∷ done) same each = absurd (omega (arith, same))
 all_given s board (j ∷ jobs) [] same each = absurd (omega (arith, same))
@@ -190,13 +190,13 @@ pub turned_place : (rest : List HandValue) (hand : HandValue) → reverse (map (
 turned_place rest hand = ap reverse (map-append (λ (h : HandValue). h.place) rest (hand ∷ [])) ∙ reverse-append (map (λ (h : HandValue). h.place) rest) (hand.place ∷ [])
 
 -- a job for each seat, with an empty hand
-pub jobs_fresh : {X : Type 0} (name : BoardName) (jobs : List (Job X)) (seats : List SeatValue) → map (λ (j : Job X). j.seat) jobs ≡ seats → All (λ (s : SeatValue). (s.board ≡ name) × (s.steps ≡ [])) seats
-    → All (λ (j : Job X). IsEmptyHand j.hand) jobs → All (λ (j : Job X). (j.seat.board ≡ name) × (j.seat.steps ≡ []) × (IsEmptyHand j.hand)) jobs
+pub jobs_fresh : {X : Type 0} (name : BoardName) (jobs : List (WorkerStart X)) (seats : List SeatValue) → map (λ (j : WorkerStart X). j.seat) jobs ≡ seats → All (λ (s : SeatValue). (s.board ≡ name) × (s.steps ≡ [])) seats
+    → All (λ (j : WorkerStart X). IsEmptyHand j.hand) jobs → All (λ (j : WorkerStart X). (j.seat.board ≡ name) × (j.seat.steps ≡ []) × (IsEmptyHand j.hand)) jobs
 jobs_fresh {X} name jobs seats e h empty = over jobs (subst (All (λ (s : SeatValue). (s.board ≡ name) × (s.steps ≡ []))) (sym e) h) empty
   where
-    over : (js : List (Job X)) → All (λ (s : SeatValue). (s.board ≡ name) × (s.steps ≡ [])) (map (λ (j : Job X). j.seat) js) → All (λ (j : Job X). IsEmptyHand j.hand) js
-        → All (λ (j : Job X). (j.seat.board ≡ name) × (j.seat.steps ≡ []) × (IsEmptyHand j.hand)) js
+    over : (js : List (WorkerStart X)) → All (λ (s : SeatValue). (s.board ≡ name) × (s.steps ≡ [])) (map (λ (j : WorkerStart X). j.seat) js) → All (λ (j : WorkerStart X). IsEmptyHand j.hand) js
+        → All (λ (j : WorkerStart X). (j.seat.board ≡ name) × (j.seat.steps ≡ []) × (IsEmptyHand j.hand)) js
     over [] h g = λ i d lt. absurd (omega (arith, lt))
-    over (j ∷ js) h g = all_cons (λ (k : Job X). (k.seat.board ≡ name) × (k.seat.steps ≡ []) × (IsEmptyHand k.hand)) j js
+    over (j ∷ js) h g = all_cons (λ (k : WorkerStart X). (k.seat.board ≡ name) × (k.seat.steps ≡ []) × (IsEmptyHand k.hand)) j js
         ((h 0 j.seat (omega arith)).0, (h 0 j.seat (omega arith)).1, g 0 j (omega arith))
-        (over js (all_tail (λ (s : SeatValue). (s.board ≡ name) × (s.steps ≡ [])) j.seat (map (λ (k : Job X). k.seat) js) h) (all_tail (λ (k : Job X). IsEmptyHand k.hand) j js g))
+        (over js (all_tail (λ (s : SeatValue). (s.board ≡ name) × (s.steps ≡ [])) j.seat (map (λ (k : WorkerStart X). k.seat) js) h) (all_tail (λ (k : WorkerStart X). IsEmptyHand k.hand) j js g))

@@ -7,7 +7,7 @@ use Rattle.base.proofs.Lists.{slice_get_of_push, slice_get-push}
 use Rattle.interp.specs.Ending.{ending_of}
 use Rattle.choices.specs.declared.pick.Pick.{Pick}
 use Rattle.checker.specs.Checker.{CheckerValue}
-use Rattle.workers.specs.declared.entries.Entry.{Entry}
+use Rattle.workers.specs.declared.entries.FootprintEntry.{FootprintEntry}
 use Rattle.workers.specs.Entries.{AreKept, Stands, between, entry_value}
 use Rattle.workers.specs.Failing.{Subject}
 use Rattle.workers.specs.Reuse.{AreKnown, EntryValue, IsEntryOf, IsKnown, Rises, told_or}
@@ -35,7 +35,7 @@ between_new parts more first end is whole =
 
 -- Entries, whose parts stand before those.
 
-stands_more : (parts more : List ℕ) (e : Entry) → Stands parts e → Stands (parts ++ more) e
+stands_more : (parts more : List ℕ) (e : FootprintEntry) → Stands parts e → Stands (parts ++ more) e
 stands_more parts more e is =
     let low = is.low in
     let high = is.high in
@@ -45,7 +45,7 @@ stands_more parts more e is =
       rising = subst Rises (sym (between_more parts more e.first e.end low high)) is.rising;
     }
 
-values_more : (entries : List Entry) (parts more : List ℕ) → ((i : ℕ) (e : Entry) → slice_get entries i ≡ Some e → Stands parts e)
+values_more : (entries : List FootprintEntry) (parts more : List ℕ) → ((i : ℕ) (e : FootprintEntry) → slice_get entries i ≡ Some e → Stands parts e)
     → map (entry_value (parts ++ more)) entries ≡ map (entry_value parts) entries
 values_more [] parts more stand = refl
 values_more (e ∷ entries) parts more stand =
@@ -58,29 +58,29 @@ values_more (e ∷ entries) parts more stand =
     ∙ ap (λ (vs : List EntryValue). entry_value parts e ∷ vs) (values_more entries parts more (λ i x there. stand (suc i) x there))
 
 -- more parts, and the entries as they were
-pub kept_more : (entries new : List Entry) (parts more grown index : List ℕ) → AreKept entries parts index → new ≡ entries → grown ≡ parts ++ more → AreKept new grown index
+pub kept_more : (entries new : List FootprintEntry) (parts more grown index : List ℕ) → AreKept entries parts index → new ≡ entries → grown ≡ parts ++ more → AreKept new grown index
 kept_more entries new parts more grown index kept same grows =
-    subst (λ (es : List Entry). AreKept es grown index) (sym same) (subst (λ (ns : List ℕ). AreKept entries ns index) (sym grows) (record {
+    subst (λ (es : List FootprintEntry). AreKept es grown index) (sym same) (subst (λ (ns : List ℕ). AreKept entries ns index) (sym grows) (record {
       few = kept.few;
       stand = λ i e there. stands_more parts more e (kept.stand i e there);
       places = kept.places;
     }))
 
-pub same_values : (entries new : List Entry) (parts more grown index : List ℕ) (values : List EntryValue) → AreKept entries parts index → new ≡ entries → grown ≡ parts ++ more
+pub same_values : (entries new : List FootprintEntry) (parts more grown index : List ℕ) (values : List EntryValue) → AreKept entries parts index → new ≡ entries → grown ≡ parts ++ more
     → map (entry_value parts) entries ≡ values → values ≡ map (entry_value grown) new
 same_values entries new parts more grown index values kept same grows is =
     sym is ∙ sym (values_more entries parts more kept.stand)
     ∙ ap (λ (ns : List ℕ). map (entry_value ns) entries) (sym grows) ∙ ap (map (entry_value grown)) (sym same)
 
 -- one entry more, whose parts are the new ones
-pub record IsAdded (entries new : List Entry) (parts more grown : List ℕ) (e : Entry) : Type 0 where
+pub record IsAdded (entries new : List FootprintEntry) (parts more grown : List ℕ) (e : FootprintEntry) : Type 0 where
   pub pushed : new ≡ entries ++ e ∷ []
   pub grows : grown ≡ parts ++ more
   pub rising : Rises more
   pub first : e.first ≡ length parts
   pub end : e.end ≡ length grown
 
-stands_new : (entries new : List Entry) (parts more grown : List ℕ) (e : Entry) → IsAdded entries new parts more grown e → Stands (parts ++ more) e
+stands_new : (entries new : List FootprintEntry) (parts more grown : List ℕ) (e : FootprintEntry) → IsAdded entries new parts more grown e → Stands (parts ++ more) e
 stands_new entries new parts more grown e is =
     let first = is.first in
     let end : e.end ≡ length (parts ++ more) = is.end ∙ ap length is.grows in
@@ -90,11 +90,11 @@ stands_new entries new parts more grown e is =
       rising = subst Rises (sym (between_new parts more e.first e.end first end)) is.rising;
     }
 
-pub kept_added : (entries new : List Entry) (parts more grown index places : List ℕ) (e : Entry) → AreKept entries parts index → IsAdded entries new parts more grown e
+pub kept_added : (entries new : List FootprintEntry) (parts more grown index places : List ℕ) (e : FootprintEntry) → AreKept entries parts index → IsAdded entries new parts more grown e
     → length entries < 1024 → length places ≡ length index → AreKept new grown places
 kept_added entries new parts more grown index places e kept is room long =
     let size = kept.places in
-    subst (λ (es : List Entry). AreKept es grown places) (sym is.pushed) (subst (λ (ns : List ℕ). AreKept (entries ++ e ∷ []) ns places) (sym is.grows) (record {
+    subst (λ (es : List FootprintEntry). AreKept es grown places) (sym is.pushed) (subst (λ (ns : List ℕ). AreKept (entries ++ e ∷ []) ns places) (sym is.grows) (record {
       few = omega (arith, room, length-append entries (e ∷ []));
       stand = λ i x there. elim (slice_get_of_push entries e i x there) [
         | inl was ↦ stands_more parts more x (kept.stand i x was)
@@ -104,10 +104,10 @@ kept_added entries new parts more grown index places e kept is room long =
     }))
 
 -- the value of the new entry
-abbrev pub value_added : Entry → List ℕ → EntryValue
+abbrev pub value_added : FootprintEntry → List ℕ → EntryValue
 value_added e more = record { picks = e.choice.picks; ending = ending_of e.outcome; told = told_or e.all more }
 
-pub values_added : (entries new : List Entry) (parts more grown index : List ℕ) (e : Entry) (values : List EntryValue) → AreKept entries parts index
+pub values_added : (entries new : List FootprintEntry) (parts more grown index : List ℕ) (e : FootprintEntry) (values : List EntryValue) → AreKept entries parts index
     → IsAdded entries new parts more grown e → map (entry_value parts) entries ≡ values → map (entry_value grown) new ≡ values ++ value_added e more ∷ []
 values_added entries new parts more grown index e values kept is same =
     let first = is.first in
@@ -136,7 +136,7 @@ entry_added values new value picks i is at own = record {
 }
 
 -- an entry as contracts see it
-pub entry_there : (entries : List Entry) (parts : List ℕ) (values : List EntryValue) (i : ℕ) (e : Entry) (picks : List Pick) → map (entry_value parts) entries ≡ values
+pub entry_there : (entries : List FootprintEntry) (parts : List ℕ) (values : List EntryValue) (i : ℕ) (e : FootprintEntry) (picks : List Pick) → map (entry_value parts) entries ≡ values
     → slice_get entries i ≡ Some e → picks ≡ e.choice.picks → IsEntryOf values i picks
 entry_there entries parts values i e picks is there own = record {
   entry = entry_value parts e;

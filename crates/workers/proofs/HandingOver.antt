@@ -9,8 +9,8 @@ use Rattle.shares.specs.Steps.{bit, none_posted, posted_it, found_it, posts, fin
 use Rattle.shares.specs.Seats.{SeatValue, DrawsNone}
 use Rattle.shares.specs.Hands.{PostsNothing}
 use Rattle.shares.proofs.Lists.{total_append, total_snoc, greatest_snoc}
-use Rattle.workers.specs.declared.found.Found.{Found}
-use Rattle.workers.specs.declared.found.Found.TheVariants.{Lines, Passed}
+use Rattle.workers.specs.declared.found.BlockFound.{BlockFound}
+use Rattle.workers.specs.declared.found.BlockFound.TheVariants.{Lines, Passed}
 use Rattle.workers.specs.Counting.{reaches}
 use Rattle.workers.specs.Exploring.{passes_over}
 use Rattle.workers.specs.Failing.{Subject, judged_count, part}
@@ -31,7 +31,7 @@ nothing_yet s = record {
 
 -- more steps
 
-seen_more : (before after : List SeatStep) → ((image : ℕ) → finds image before ≤ finds image after) → (block : ℕ) (found : Found) → IsSeen before block found → IsSeen after block found
+seen_more : (before after : List SeatStep) → ((image : ℕ) → finds image before ≤ finds image after) → (block : ℕ) (found : BlockFound) → IsSeen before block found → IsSeen after block found
 seen_more before after more block (Lines own) h = tt
 seen_more before after more block (Passed image) h = (h.0, omega (arith, h.1, more image))
 

@@ -4,8 +4,8 @@ use Rattle.std.specs.List.{list_any}
 use Rattle.std.proofs.lemmas.Bool.Decides.{leb_tells, nat_tests}
 use Rattle.std.proofs.lemmas.Grind.{flat_map-append}
 use Rattle.report.specs.Line.{FailingLine}
-use Rattle.workers.specs.declared.found.Found.{Found}
-use Rattle.workers.specs.declared.found.Found.TheVariants.{Lines, Passed}
+use Rattle.workers.specs.declared.found.BlockFound.{BlockFound}
+use Rattle.workers.specs.declared.found.BlockFound.TheVariants.{Lines, Passed}
 use Rattle.workers.specs.Counting.{reaches, counts_with}
 use Rattle.workers.specs.Least.{lower, least_image}
 use Rattle.workers.specs.Pieces.{PieceValue, lines_of, full_lines, counts}
@@ -55,6 +55,6 @@ reaches_any : (image : ℕ) (ls : List FailingLine) → reaches (least_image ls)
 reaches_any image [] = refl
 reaches_any image (l ∷ ls) = reaches_lower l.image image (least_image ls) ∙ ap (λ b. nat_le l.image image || b) (reaches_any image ls)
 
-pub counts_by_least : (from : ℕ) (lines : List FailingLine) (block : ℕ) (found : Found) → counts_with from (least_image lines) block found ≡ counts from lines block found
+pub counts_by_least : (from : ℕ) (lines : List FailingLine) (block : ℕ) (found : BlockFound) → counts_with from (least_image lines) block found ≡ counts from lines block found
 counts_by_least from lines block (Lines own) = refl
 counts_by_least from lines block (Passed image) = ap (λ b. nat_lt image (64 * block) && b) (reaches_any (from + image) lines)

@@ -7,8 +7,8 @@ use Rattle.base.specs.declared.causes.WorkCause.TheVariants as work
 use Rattle.base.specs.declared.refusal.Refusal.{Refusal}
 use Rattle.base.specs.Refusals.{work_refusal}
 use Rattle.report.specs.Line.{FailingLine, first_lines}
-use Rattle.workers.specs.declared.found.Found.{Found}
-use Rattle.workers.specs.declared.found.Found.TheVariants.{Lines, Passed}
+use Rattle.workers.specs.declared.found.BlockFound.{BlockFound}
+use Rattle.workers.specs.declared.found.BlockFound.TheVariants.{Lines, Passed}
 use Rattle.workers.specs.Exploring.{ArePiecesOf}
 use Rattle.workers.specs.Failing.{Subject, judged_count, lines_from, failing_lines, part}
 use Rattle.workers.specs.Laws.{AreSomeOf, BeginsWithFirst}
@@ -50,7 +50,7 @@ one_piece P ps b h one =
 
 -- where none was passed over
 
-full_part : (s : Subject) (b : ℕ) (found : Found) → HasPart s b found → passes found ≡ false → lines_of found ≡ part s b
+full_part : (s : Subject) (b : ℕ) (found : BlockFound) → HasPart s b found → passes found ≡ false → lines_of found ≡ part s b
 full_part s b (Lines own) h full = h
 full_part s b (Passed image) h full = absurd (let bad : true ≡ false = full in cc)
 
@@ -134,7 +134,7 @@ no_lines (p ∷ ps) c e i q there = elim (eqb_tells p.block c) [
     here_not other rest (suc i) at own = rest i q at own
 
 -- a full piece that has a line at or before an image has a block at or before it
-block_of_line : (s : Subject) (image c : ℕ) (found : Found) → HasPart s c found → list_any (λ (l : FailingLine). nat_le l.image (s.from + image)) (lines_of found) ≡ true → 64 * c ≤ image
+block_of_line : (s : Subject) (image c : ℕ) (found : BlockFound) → HasPart s c found → list_any (λ (l : FailingLine). nat_le l.image (s.from + image)) (lines_of found) ≡ true → 64 * c ≤ image
 block_of_line s image c (Passed other) h e = absurd (let bad : false ≡ true = e in cc)
 block_of_line s image c (Lines own) h e =
     let within : AreIn s.from c own = subst (AreIn s.from c) (sym h) (part_in s c) in
@@ -168,7 +168,7 @@ one_counts from lines p e = step (counts from lines p.block p.found) e
     step true h = refl
     step false h = absurd (omega (arith, h))
 
-kept_part : (s : Subject) (ps : List PieceValue) (b : ℕ) (found : Found) → ArePieces s ps → HasPart s b found → counts s.from (full_lines ps) b found ≡ true
+kept_part : (s : Subject) (ps : List PieceValue) (b : ℕ) (found : BlockFound) → ArePieces s ps → HasPart s b found → counts s.from (full_lines ps) b found ≡ true
     → lines_at ps b ≡ lines_of found → IsKept (lines_at ps) (part s) b
 kept_part s ps b (Lines own) h has count e = inl (e ∙ has)
 kept_part s ps b (Passed image) h has count e = inr (e, earlier s ps b image h count)

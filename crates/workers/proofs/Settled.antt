@@ -4,8 +4,8 @@ use Rattle.std.proofs.lemmas.Bool.Decides.{nat_tests}
 use Rattle.shares.specs.declared.view.SeatStep.{SeatStep}
 use Rattle.shares.specs.Seats.{FoundArePosted, times}
 use Rattle.shares.proofs.Seats.{times_append}
-use Rattle.workers.specs.declared.found.Found.{Found}
-use Rattle.workers.specs.declared.found.Found.TheVariants.{Lines, Passed}
+use Rattle.workers.specs.declared.found.BlockFound.{BlockFound}
+use Rattle.workers.specs.declared.found.BlockFound.TheVariants.{Lines, Passed}
 use Rattle.workers.specs.Counting.{counts_with}
 use Rattle.workers.specs.Exploring.{ArePiecesOf}
 use Rattle.workers.specs.Failing.{Subject}
@@ -41,7 +41,7 @@ whole_run s steps ps all left few h found_posted once below are =
       full = handed.full;
     }
   where
-    by_found : HandsOver s steps all → (block : ℕ) (found : Found) → block < block_count s → IsSeen steps block found → counts s.from (full_lines all) block found ≡ true
+    by_found : HandsOver s steps all → (block : ℕ) (found : BlockFound) → block < block_count s → IsSeen steps block found → counts s.from (full_lines all) block found ≡ true
     by_found handed block (Lines own) lt seen = refl
     by_found handed block (Passed image) lt seen =
         let before : nat_lt image (64 * block) ≡ true = grind (arith, nat_tests, seen.0) in

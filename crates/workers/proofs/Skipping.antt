@@ -6,6 +6,7 @@ use Rattle.std.proofs.lemmas.List.Elements.{filter_map-append}
 use Rattle.std.proofs.lemmas.Option.{same_Some}
 use Rattle.std.proofs.lemmas.Grind.{flat_map-append}
 use Rattle.base.proofs.Lists.{range_with_len-more, slice_get-push, split_at_place}
+use Rattle.base.specs.Sizes.{most_units}
 use Rattle.epochs.specs.declared.part.By.{By}
 use Rattle.epochs.specs.Parts.{volatile_parts}
 use Rattle.epochs.specs.Plan.{PlanValue}
@@ -18,7 +19,7 @@ use Rattle.choices.proofs.Passing.{ranked_is_choice, pass_leads, passed_part}
 use Rattle.machine.specs.Outcome.{Ending}
 use Rattle.checker.specs.Checker.{CheckerValue}
 use Rattle.report.specs.Line.{FailingLine, fails}
-use Rattle.workers.specs.declared.entries.Known.{Known}
+use Rattle.workers.specs.declared.entries.KnownEntry.{KnownEntry}
 use Rattle.workers.specs.Failing.{Subject, choices_of, ending_at, line_if, line_of, image_lines, lines_from}
 use Rattle.workers.specs.Reuse.{EntryValue, AreKnown, IsFound, IsNextTold, tells}
 use Rattle.workers.specs.Local.{AreGood, EndsAt, Reaches, HoldsFrom, parts_at}
@@ -73,7 +74,7 @@ pub good_images : (s : Subject) (p : PickedValue) (n count : ℕ) → IsRanked s
 good_images s p n count ranked good = none_from s n count (λ j lt. good_image s (n + j) (λ i within. good i within n j ranked lt))
 
 -- where what was found for a choice is good, so are the images for which the entry holds
-good_at : (s : Subject) (checker : CheckerValue) (entries : List (EntryValue)) (p : PickedValue) (found : Known) (i most count n j : ℕ)
+good_at : (s : Subject) (checker : CheckerValue) (entries : List (EntryValue)) (p : PickedValue) (found : KnownEntry) (i most count n j : ℕ)
     → AreKnown s p.place checker entries → (is : IsFound entries p.picks found) → slice_get s.checkers i ≡ Some checker → fails is.entry.ending ≡ false
     → Reaches s p most → count ≤ most → HoldsFrom s p found is.entry count → IsRanked s.plan s.bound s.tears n p → j < count → line_of s (n + j) i ≡ None
 good_at s checker entries p found i most count n zero known is named good reaches within holds ranked lt =
@@ -88,7 +89,7 @@ good_at s checker entries p found i most count n (suc j) known is named good rea
     good_line s (n + suc j) i (choice_of_picked s.plan (with_last p front other)) checker is.entry.ending there named
     (found_passes s checker entries (n + suc j) p found front last other known is can.is mark told there) good
 
-pub found_good : (s : Subject) (checker : CheckerValue) (entries : List EntryValue) (p : PickedValue) (found : Known) (i most count : ℕ)
+pub found_good : (s : Subject) (checker : CheckerValue) (entries : List EntryValue) (p : PickedValue) (found : KnownEntry) (i most count : ℕ)
     → AreKnown s p.place checker entries → (is : IsFound entries p.picks found) → slice_get s.checkers i ≡ Some checker → fails is.entry.ending ≡ false
     → Reaches s p most → count ≤ most → HoldsFrom s p found is.entry count → AreGood s p count i
 found_good s checker entries p found i most count known is named good reaches within holds = λ n j ranked lt.
@@ -118,7 +119,7 @@ last_of picks at last e there =
     split_at_place picks at last there ∙ ap (λ (ds : List Pick). take at picks ++ last ∷ ds) (drop_past picks (suc at) long)
 
 -- so far the last departure alone changes
-pub reaches_on : (s : Subject) (p : PickedValue) (at v count : ℕ) (last : Pick) → v ≡ parts_at s p → v ≤ 262144 → at + 1 ≡ length p.picks → slice_get p.picks at ≡ Some last
+pub reaches_on : (s : Subject) (p : PickedValue) (at v count : ℕ) (last : Pick) → v ≡ parts_at s p → v ≤ most_units → at + 1 ≡ length p.picks → slice_get p.picks at ≡ Some last
     → last.part * fates_of s.tears + last.fate + count ≡ v * fates_of s.tears → Reaches s p count
 reaches_on s p at v count last parts few e there room = λ j ge lt.
     let fits : last.part * fates_of s.tears + last.fate + j < v * fates_of s.tears = omega (arith, room, lt) in
@@ -156,7 +157,7 @@ last_is picks front own last at e long there =
     length_push (x ∷ xs) own = ap suc (length_push xs own) ∙ (omega arith)
 
 -- as far as the next part that may be told
-pub holds_on : (s : Subject) (p : PickedValue) (entries : List EntryValue) (found : Known) (is : IsFound entries p.picks found) (n at count : ℕ) (last : Pick) (next : Option ℕ)
+pub holds_on : (s : Subject) (p : PickedValue) (entries : List EntryValue) (found : KnownEntry) (is : IsFound entries p.picks found) (n at count : ℕ) (last : Pick) (next : Option ℕ)
     → IsRanked s.plan s.bound s.tears n p → at + 1 ≡ length p.picks → slice_get p.picks at ≡ Some last → slice_index_or found.marks at false ≡ false
     → IsNextTold is.entry.told last.part next → ((m : ℕ) → next ≡ Some m → last.part * fates_of s.tears + last.fate + count ≤ m * fates_of s.tears)
     → HoldsFrom s p found is.entry count
@@ -172,7 +173,7 @@ holds_on s p entries found is n at count last next ranked long there mark told e
       subst (λ (x : Pick). tells is.entry.told (pick_after m j x).part ≡ false) (sym same) (not_told is.entry.told last.part (pick_after m j last).part next unmarked told low.0 high),
     )
 
-pub holds_once : (s : Subject) (p : PickedValue) (found : Known) (entry : EntryValue) → HoldsFrom s p found entry 1
+pub holds_once : (s : Subject) (p : PickedValue) (found : KnownEntry) (entry : EntryValue) → HoldsFrom s p found entry 1
 holds_once s p found entry = λ front last j can ge lt. absurd (omega (arith, ge, lt))
 
 -- where a choice goes over others

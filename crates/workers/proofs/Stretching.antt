@@ -2,6 +2,7 @@
 use Rattle.std.proofs.Common.{ℕ, zero, suc, ◌≡◌, ◌+◌, ◌-◌, ◌*◌, ◌==◌, ◌<◌, ◌≤◌, Bool, true, false, List, length, Option, Some, slice_get, sym, ◌∙◌, ap, subst, arith}
 use Rattle.std.specs.List.{slice_index_or}
 use Rattle.std.proofs.lemmas.Option.{slice_get-get_or, slice_get_within}
+use Rattle.base.specs.Sizes.{most_units}
 use Rattle.epochs.specs.Cuts.{cuts_of}
 use Rattle.epochs.specs.Parts.{volatile_parts}
 use Rattle.epochs.specs.Plan.{PlanValue}
@@ -9,7 +10,7 @@ use Rattle.choices.specs.declared.pick.Pick.{Pick}
 use Rattle.choices.specs.Picks.{fates_of}
 use Rattle.choices.specs.Picked.{PickedValue, IsRanked}
 use Rattle.choices.proofs.Passing.{ranked_stands}
-use Rattle.workers.specs.declared.entries.Known.{Known}
+use Rattle.workers.specs.declared.entries.KnownEntry.{KnownEntry}
 use Rattle.workers.specs.Failing.{Subject}
 use Rattle.workers.specs.Reuse.{EntryValue, IsFound, IsNextTold, tells}
 use Rattle.workers.specs.Local.{Reaches, HoldsFrom, parts_at}
@@ -79,7 +80,7 @@ last_fits s tears p picks m d v is parts =
 
 -- as far as the last part
 pub reach_is : (s : Subject) (tears : Bool) (p : PickedValue) (picks : List Pick) (m : ℕ) (d : Pick) (v room count : ℕ) → HasLast s tears p picks m → v ≡ parts_at s p
-    → v ≤ 262144 → (last_pick picks d).part * m + (last_pick picks d).fate + room ≡ v * m → count ≤ room → Reaches s p count
+    → v ≤ most_units → (last_pick picks d).part * m + (last_pick picks d).fate + room ≡ v * m → count ≤ room → Reaches s p count
 reach_is s tears p picks m d v room count is parts few e le =
     reaches_less s p room count
     (reaches_on s p (length picks - 1) v room (last_pick picks d) parts few (long s tears p picks m is) (there s tears p picks m d is)
@@ -87,13 +88,13 @@ reach_is s tears p picks m d v room count is parts few e le =
     le
 
 -- where the last one isn't marked, its part isn't told
-pub last_untold : (s : Subject) (tears : Bool) (p : PickedValue) (picks : List Pick) (m : ℕ) (d : Pick) (entries : List EntryValue) (found : Known)
+pub last_untold : (s : Subject) (tears : Bool) (p : PickedValue) (picks : List Pick) (m : ℕ) (d : Pick) (entries : List EntryValue) (found : KnownEntry)
     (at : IsFound entries p.picks found) → HasLast s tears p picks m → slice_index_or found.marks (length picks - 1) false ≡ false
     → tells at.entry.told (last_pick picks d).part ≡ false
 last_untold s tears p picks m d entries found at is mark = at.holds.others (length picks - 1) (last_pick picks d) (there s tears p picks m d is) mark
 
 -- as far as the next part that is told
-pub holds_is : (s : Subject) (tears : Bool) (p : PickedValue) (picks : List Pick) (m : ℕ) (d : Pick) (entries : List EntryValue) (found : Known)
+pub holds_is : (s : Subject) (tears : Bool) (p : PickedValue) (picks : List Pick) (m : ℕ) (d : Pick) (entries : List EntryValue) (found : KnownEntry)
     (at : IsFound entries p.picks found) (next : Option ℕ) (count : ℕ) → HasLast s tears p picks m → slice_index_or found.marks (length picks - 1) false ≡ false
     → IsNextTold at.entry.told (last_pick picks d).part next
     → ((k : ℕ) → next ≡ Some k → (last_pick picks d).part * m + (last_pick picks d).fate + count ≤ k * m) → HoldsFrom s p found at.entry count

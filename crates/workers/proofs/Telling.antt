@@ -6,7 +6,7 @@ use Rattle.base.proofs.Lists.{slice_get-append_left, slice_get_of_push}
 use Rattle.choices.specs.declared.pick.Pick.{Pick}
 use Rattle.choices.specs.Picked.{PickedValue, IsRanked, choice_of_picked, marked_picks, with_last}
 use Rattle.checker.specs.Checker.{CheckerValue}
-use Rattle.workers.specs.declared.entries.Known.{Known}
+use Rattle.workers.specs.declared.entries.KnownEntry.{KnownEntry}
 use Rattle.workers.specs.Failing.{Subject, ending_at}
 use Rattle.workers.specs.Reuse.{EntryValue, AreKnown, IsFound, NoneTold, tells}
 use Rattle.workers.proofs.Marking.{none_marked}
@@ -17,7 +17,7 @@ none_known s place checker entries is i entry there =
     absurd (let bad : None ≡ Some entry = ap (λ (es : List EntryValue). slice_get es i) (sym is) ∙ there in cc)
 
 -- the outcome that was found is that of the image
-pub found_ends : (s : Subject) (checker : CheckerValue) (entries : List EntryValue) (n : ℕ) (p : PickedValue) (found : Known)
+pub found_ends : (s : Subject) (checker : CheckerValue) (entries : List EntryValue) (n : ℕ) (p : PickedValue) (found : KnownEntry)
     → AreKnown s p.place checker entries → IsRanked s.plan s.bound s.tears n p → (is : IsFound entries p.picks found)
     → ending_at s (choice_of_picked s.plan p) checker ≡ is.entry.ending
 found_ends s checker entries n p found known ranked is = known found.entry is.entry is.there n p found.marks refl ranked is.holds
@@ -38,7 +38,7 @@ other_last told marks front last other none untold i x there unmarked = elim (sl
 ]
 
 -- and of each choice with another last departure, where the last isn't marked and the other's part isn't told
-pub found_passes : (s : Subject) (checker : CheckerValue) (entries : List EntryValue) (m : ℕ) (p : PickedValue) (found : Known) (front : List Pick) (last other : Pick)
+pub found_passes : (s : Subject) (checker : CheckerValue) (entries : List EntryValue) (m : ℕ) (p : PickedValue) (found : KnownEntry) (front : List Pick) (last other : Pick)
     → AreKnown s p.place checker entries → (is : IsFound entries p.picks found) → p.picks ≡ front ++ last ∷ [] → slice_index_or found.marks (length front) false ≡ false
     → tells is.entry.told other.part ≡ false → IsRanked s.plan s.bound s.tears m (with_last p front other)
     → ending_at s (choice_of_picked s.plan (with_last p front other)) checker ≡ is.entry.ending

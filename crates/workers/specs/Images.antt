@@ -8,7 +8,7 @@ use Rattle.interp.specs.Ending.{ending_of}
 use Rattle.workers.specs.declared.judging.Finding.{Finding}
 use Rattle.workers.specs.declared.judging.Finding.TheVariants.{Good, Ends, Open}
 use Rattle.workers.specs.declared.look.Stop.{Stop}
-use Rattle.workers.specs.declared.row.Row.{Row}
+use Rattle.workers.specs.declared.row.ImageRow.{ImageRow}
 use Rattle.workers.specs.Failing.{Subject, image_count, ending_at, line_of}
 use Rattle.workers.specs.Local.{AreGood, IsOutcome}
 
@@ -28,7 +28,7 @@ finding_of None = Open
 finding_of (Some outcome) = Ends outcome
 
 -- images of a run, in a row, from that of a choice on
-pub record IsRow (s : Subject) (row : Row) : Type 0 where
+pub record IsRow (s : Subject) (row : ImageRow) : Type 0 where
   pub order : row.image ≤ row.end
   pub within : row.end ≤ image_count s
   pub member : row.image < image_count s → IsRanked s.plan s.bound s.tears row.image row.picked

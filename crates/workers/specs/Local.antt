@@ -1,6 +1,7 @@
 -- What a worker keeps from one image to the next, and when it is true of a run (docs/MACHINE.md, Footprint).
 use Rattle.std.specs.Prelude.{ℕ, ◌+◌, ◌≡◌, ◌<◌, ◌≤◌, Bool, false, List, length, Option, None, Some, slice_get, IfSome}
 use Rattle.std.specs.List.{slice_index_or}
+use Rattle.base.specs.Sizes.{most_units}
 use Rattle.logfmt.specs.Bounds.{LogValue}
 use Rattle.epochs.specs.Parts.{volatile_parts}
 use Rattle.choices.specs.declared.pick.Pick.{Pick}
@@ -11,10 +12,10 @@ use Rattle.machine.specs.Outcome.{Ending}
 use Rattle.interp.specs.Ending.{ending_of}
 use Rattle.checker.specs.Checker.{CheckerValue}
 use Rattle.checker.specs.Memory.{AreServed}
-use Rattle.workers.specs.declared.entries.Known.{Known}
+use Rattle.workers.specs.declared.entries.KnownEntry.{KnownEntry}
 use Rattle.workers.specs.declared.look.Stop.{Stop}
-use Rattle.workers.specs.declared.look.Look.{Look}
-use Rattle.workers.specs.declared.look.Look.TheVariants.{Good, Stops}
+use Rattle.workers.specs.declared.look.EntryLook.{EntryLook}
+use Rattle.workers.specs.declared.look.EntryLook.TheVariants.{Good, Stops}
 use Rattle.workers.specs.Failing.{Subject, image_count, ending_at, line_of}
 use Rattle.workers.specs.Reuse.{EntryValue, AreKnown, tells}
 
@@ -66,19 +67,19 @@ parts_at s p = length (volatile_parts s.plan.by s.plan.log.entries p.cut)
 
 -- that many choices in a row, from one on, differ in their last departure alone
 abbrev pub Reaches : Subject → PickedValue → ℕ → Type 0
-Reaches s p count = (j : ℕ) → 1 ≤ j → j < count → (parts_at s p ≤ 262144) × (front : List Pick) × (last : Pick) × CanPass (fates_of s.tears) (parts_at s p) j front last p.picks
+Reaches s p count = (j : ℕ) → 1 ≤ j → j < count → (parts_at s p ≤ most_units) × (front : List Pick) × (last : Pick) × CanPass (fates_of s.tears) (parts_at s p) j front last p.picks
 
 -- the entry that was found for a choice holds for that many in a row from it on, of which the last departure alone differs
-abbrev pub HoldsFrom : Subject → PickedValue → Known → EntryValue → ℕ → Type 0
+abbrev pub HoldsFrom : Subject → PickedValue → KnownEntry → EntryValue → ℕ → Type 0
 HoldsFrom s p found entry count = (front : List Pick) (last : Pick) (j : ℕ) → CanPass (fates_of s.tears) (parts_at s p) j front last p.picks → 1 ≤ j → j < count
     → (slice_index_or found.marks (length front) false ≡ false) × (tells entry.told (pick_after (fates_of s.tears) j last).part ≡ false)
 
 -- what is said of a choice and a checker
-abbrev pub Tells : Subject → PickedValue → ℕ → ℕ → Look → Type 0
+abbrev pub Tells : Subject → PickedValue → ℕ → ℕ → EntryLook → Type 0
 Tells s p most i (Good count) = (1 ≤ count) × (count ≤ most) × AreGood s p count i
 Tells s p most i (Stops stop) = (stop.checker ≡ i) × IsOutcome s (choice_of_picked s.plan p) stop
 
 -- what is said of a choice: that many images are good by all checkers, or its own is by those before one
-abbrev pub TellsAll : Subject → PickedValue → ℕ → Look → Type 0
+abbrev pub TellsAll : Subject → PickedValue → ℕ → EntryLook → Type 0
 TellsAll s p most (Good count) = (1 ≤ count) × (count ≤ most) × Reaches s p count × ((i : ℕ) → i < length s.checkers → AreGood s p count i)
 TellsAll s p most (Stops stop) = ((i : ℕ) → i < stop.checker → AreGood s p 1 i) × IsOutcome s (choice_of_picked s.plan p) stop

@@ -5,15 +5,15 @@ use Rattle.base.specs.declared.causes.WorkCause.TheVariants as work
 use Rattle.base.specs.declared.refusal.Refusal.{Refusal}
 use Rattle.base.specs.Refusals.{work_refusal}
 use Rattle.report.specs.Line.{FailingLine}
-use Rattle.workers.specs.declared.found.Found.{Found}
-use Rattle.workers.specs.declared.found.Found.TheVariants.{Lines, Passed}
+use Rattle.workers.specs.declared.found.BlockFound.{BlockFound}
+use Rattle.workers.specs.declared.found.BlockFound.TheVariants.{Lines, Passed}
 use Rattle.workers.specs.Failing.{Subject, judged_count, part}
 
 -- a piece of the work: the lines of a block, or the image after which the block was passed over. That is its number less that of the
 -- first image that is judged.
 pub record PieceValue : Type 0 where
   pub block : ℕ
-  pub found : Found
+  pub found : BlockFound
 
 -- into how many blocks the images that are judged fall
 abbrev pub block_count : Subject → ℕ
@@ -23,7 +23,7 @@ block_count s = (judged_count s + 63) / 64
 abbrev pub piece_of : Subject → ℕ → PieceValue
 piece_of s block = record { block = block; found = Lines (part s block) }
 
-abbrev pub lines_of : Found → List FailingLine
+abbrev pub lines_of : BlockFound → List FailingLine
 lines_of (Lines own) = own
 lines_of (Passed image) = []
 
@@ -33,7 +33,7 @@ full_lines pieces = flat_map (λ (p : PieceValue). lines_of p.found) pieces
 
 -- whether a piece counts beside the lines of the full pieces. A passed one does where the image that it names comes before all of its
 -- block, and does not precede each image of those lines. It names that image less `from`, with which the first block begins.
-abbrev pub counts : ℕ → List FailingLine → ℕ → Found → Bool
+abbrev pub counts : ℕ → List FailingLine → ℕ → BlockFound → Bool
 counts from lines block (Lines own) = true
 counts from lines block (Passed image) = nat_lt image (64 * block) && list_any (λ (l : FailingLine). nat_le l.image (from + image)) lines
 
@@ -85,7 +85,7 @@ abbrev pub EachPiece : (PieceValue → Type 0) → List PieceValue → Type 0
 EachPiece P pieces = (i : ℕ) (p : PieceValue) → slice_get pieces i ≡ Some p → P p
 
 -- a full piece has the part of its block
-abbrev pub HasPart : Subject → ℕ → Found → Type 0
+abbrev pub HasPart : Subject → ℕ → BlockFound → Type 0
 HasPart s block (Lines own) = own ≡ part s block
 HasPart s block (Passed image) = Unit {0}
 
@@ -93,7 +93,7 @@ HasPart s block (Passed image) = Unit {0}
 abbrev pub ArePieces : Subject → List PieceValue → Type 0
 ArePieces s pieces = EachPiece (λ p. (p.block < block_count s) × HasPart s p.block p.found) pieces
 
-abbrev pub passes : Found → Bool
+abbrev pub passes : BlockFound → Bool
 passes (Lines own) = false
 passes (Passed image) = true
 

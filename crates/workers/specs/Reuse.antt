@@ -5,7 +5,7 @@ use Rattle.choices.specs.declared.pick.Pick.{Pick}
 use Rattle.choices.specs.Picked.{PickedValue, IsRanked, choice_of_picked, marked_picks}
 use Rattle.machine.specs.Outcome.{Ending}
 use Rattle.checker.specs.Checker.{CheckerValue}
-use Rattle.workers.specs.declared.entries.Known.{Known}
+use Rattle.workers.specs.declared.entries.KnownEntry.{KnownEntry}
 use Rattle.workers.specs.Failing.{Subject, ending_at}
 
 -- a choice by its departures, what a checker ends in there, and the volatile parts that cover a sector of the footprint of
@@ -44,7 +44,7 @@ pub record IsEntryOf (entries : List EntryValue) (i : ℕ) (picks : List Pick) :
   pub own : picks ≡ entry.picks
 
 -- the entry that was found for some departures holds for them
-pub record IsFound (entries : List EntryValue) (picks : List Pick) (found : Known) : Type 0 where
+pub record IsFound (entries : List EntryValue) (picks : List Pick) (found : KnownEntry) : Type 0 where
   pub entry : EntryValue
   pub there : slice_get entries found.entry ≡ Some entry
   pub holds : Holds entry found.marks picks

@@ -5,15 +5,15 @@ use Rattle.shares.specs.Steps.{posts, finds}
 use Rattle.shares.specs.Seats.{BoardName, SeatValue, taken_blocks, times}
 use Rattle.shares.specs.declared.deque.Phase.TheVariants.{Refused}
 use Rattle.shares.specs.Hands.{HandValue, IsShut}
-use Rattle.workers.specs.declared.found.Found.{Found}
-use Rattle.workers.specs.declared.found.Found.TheVariants.{Lines, Passed}
+use Rattle.workers.specs.declared.found.BlockFound.{BlockFound}
+use Rattle.workers.specs.declared.found.BlockFound.TheVariants.{Lines, Passed}
 use Rattle.workers.specs.Counting.{reaches}
 use Rattle.workers.specs.Failing.{Subject}
 use Rattle.workers.specs.Least.{least_image}
 use Rattle.workers.specs.Pieces.{PieceValue, EachPiece, ArePieces, AreFull, full_lines, pieces_at}
 
 -- a block was passed over only after an image before all of it that was found as the least one posted
-abbrev pub IsSeen : List SeatStep → ℕ → Found → Type 0
+abbrev pub IsSeen : List SeatStep → ℕ → BlockFound → Type 0
 IsSeen steps block (Lines own) = Unit {0}
 IsSeen steps block (Passed image) = (image < 64 * block) × (0 < finds image steps)
 

@@ -4,14 +4,14 @@ ghost use Rattle.std.specs.Prelude.{◌≡◌, ◌++◌, ◌∷◌, [], OnOk, So
 ghost use Rattle.report.specs.LineValues.{line_value};
 ghost use Rattle.workers.specs.Least.{least_image, lower};
 
-use report::lines::{Line, Part};
+use report::lines::{Line, LinesPart};
 use std::alloc::{AllocError, Global};
 use std::marker::Model;
 
 /// Lines, and the least image of one of them. Contracts see the lines.
 #[derive(Drop)]
 struct KeptLines {
-    lines: Part,
+    lines: LinesPart,
     least: Option<u64>,
 }
 
@@ -44,7 +44,7 @@ impl KeptLines {
         ensures { result ≡ [] }
     {
         KeptLines {
-            lines: Part::new(alloc),
+            lines: LinesPart::new(alloc),
             least: None,
         }
     }
@@ -74,7 +74,7 @@ impl KeptLines {
     }
 
     /// The lines alone.
-    fn into_lines(self) -> Part
+    fn into_lines(self) -> LinesPart
         ensures { result ≡ self }
     {
         let KeptLines { lines, least: _ } = self;
@@ -151,13 +151,13 @@ impl BlockLines {
     }
 
     /// The lines alone.
-    pub(crate) fn into_lines(self) -> Part
+    pub(crate) fn into_lines(self) -> LinesPart
         ensures { result ≡ self }
     {
         let BlockLines { alloc, some } = self;
         match some {
             Some(lines) => Box::into_inner(lines).into_lines(),
-            None => Part::new(alloc),
+            None => LinesPart::new(alloc),
         }
     }
 }

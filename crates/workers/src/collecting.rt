@@ -3,7 +3,7 @@
 ghost use Rattle.std.specs.Prelude.{◌≡◌, ◌<◌, ◌++◌, ◌∷◌, [], ℕ, All, List, length, position, IfOk, IfErr, OnOk};
 ghost use Rattle.std.specs.List.{flat_map};
 ghost use Rattle.workers.specs.Pieces.{PieceValue, AreWhole, lines_by_block, RefusesPieces};
-ghost use Rattle.workers.specs.Table.{AreRows, first_of, is_missing, row_lines};
+ghost use Rattle.workers.specs.PieceTable.{AreRows, first_of, is_missing, row_lines};
 
 use crate::block_lines::lower;
 use crate::piece::Piece;
@@ -14,7 +14,7 @@ use std::alloc::{AllocError, Global};
 
 /// The piece of each block so far, the first block that came twice, and the least failing image.
 #[derive(Drop)]
-struct Table {
+struct PieceTable {
     rows: Vec<Option<Piece>>,
     twice: Option<u32>,
     least: Option<u64>,
@@ -30,16 +30,16 @@ fn first_of(seen: Option<u32>, block: u32) -> u32
     }
 }
 
-impl Table {
+impl PieceTable {
     /// A table of that many blocks, of which none has a piece.
-    fn new(alloc: Global, blocks: u32) -> Result<Table, AllocError>
+    fn new(alloc: Global, blocks: u32) -> Result<PieceTable, AllocError>
         ensures { IfOk result (λ table. AreRows [] blocks table.rows.items table.twice table.least) }
     {
         let mut rows = Vec::new(alloc);
         for _block in 0..blocks {
             rows.push(None)?;
         }
-        Ok(Table {
+        Ok(PieceTable {
             rows,
             twice: None,
             least: None,
@@ -63,11 +63,11 @@ impl Table {
 }
 
 /// The table of those pieces.
-fn table_of(alloc: Global, pieces: Vec<Piece>, blocks: u32) -> Result<Table, AllocError>
+fn table_of(alloc: Global, pieces: Vec<Piece>, blocks: u32) -> Result<PieceTable, AllocError>
     requires { All (λ piece. piece.block < blocks) pieces.items }
     ensures { IfOk result (λ table. AreRows pieces.items blocks table.rows.items table.twice table.least) }
 {
-    let mut table = Table::new(alloc, blocks)?;
+    let mut table = PieceTable::new(alloc, blocks)?;
     for piece in pieces {
         table.put(piece);
     }
@@ -122,7 +122,7 @@ pub fn collect(alloc: Global, pieces: Vec<Piece>, from: u64, blocks: u32) -> Res
         Ok(table) => table,
         Err(_error) => return Err(Refusal::of_memory()),
     };
-    let Table { rows, twice, least } = table;
+    let PieceTable { rows, twice, least } = table;
     match (twice, first_missing(rows.as_slice(), from, least)) {
         (Some(block), _) => Err(Refusal::of_work(WorkCause::PieceTwice, u64::from(block))),
         (None, Some(block)) => Err(Refusal::of_work(WorkCause::PieceMissing, block as u64)),

@@ -22,7 +22,7 @@ use verdict_cache::Run;
 
 /// What a worker begins with: its number, its seat at the board, and its hand.
 #[derive(Drop)]
-pub(crate) struct Job<H: Deal> {
+pub(crate) struct WorkerStart<H: Deal> {
     worker: u8,
     seat: Seat,
     hand: Hand<H>,
@@ -43,7 +43,7 @@ fn jobs_of<H: Deal>(
     alloc: Global,
     seats: Vec<Seat>,
     hands: Vec<Hand<H>>,
-) -> Result<Vec<Job<H>>, AllocError>
+) -> Result<Vec<WorkerStart<H>>, AllocError>
     requires seats { length seats.items ≤ 64 }
     requires hands { length hands.items ≡ length seats.items }
     requires empty { All IsEmptyHand hands.items }
@@ -57,12 +57,12 @@ fn jobs_of<H: Deal>(
     for seat in seats {
         worker = worker.saturating_sub(1);
         let hand = hands.pop().unwrap();
-        jobs.push(Job { worker, seat, hand })?;
+        jobs.push(WorkerStart { worker, seat, hand })?;
     }
     Ok(jobs)
 }
 
-impl<H: Deal> Job<H> {
+impl<H: Deal> WorkerStart<H> {
     /// Takes blocks until there is none left.
     fn take_all<'a, J: Run, G: Gate, R: Wait>(
         self,
@@ -78,7 +78,7 @@ impl<H: Deal> Job<H> {
         requires fresh { (self.seat.steps ≡ []) × IsEmptyHand self.hand }
         ensures { IsDone input.now board.now.name self.hand.place result }
     {
-        let Job {
+        let WorkerStart {
             worker,
             mut seat,
             mut hand,
@@ -107,7 +107,7 @@ fn all_done<
     input: &Input<'a>,
     shards: &Shards<'_, 'a, J>,
     board: &Board,
-    jobs: Vec<Job<H>>,
+    jobs: Vec<WorkerStart<H>>,
 ) -> Result<Vec<Done<H>>, AllocError>
     requires run { IsRunOf J.plan J.checkers input.now }
     requires blocks { (board.now.name.blocks ≡ block_count input.now) × (H.blocks ≡ block_count input.now) }
@@ -117,7 +117,7 @@ fn all_done<
     thread::map_vec(
         rt,
         jobs,
-        &|job: Job<H>| -> Done<H>
+        &|job: WorkerStart<H>| -> Done<H>
             requires { IsRunOf J.plan J.checkers input.now × (board.now.name.blocks ≡ block_count input.now) × (H.blocks ≡ block_count input.now)
                 × (job.seat.board ≡ board.now.name) × (job.seat.steps ≡ []) × IsEmptyHand job.hand }
             ensures { IsDone input.entry.now board.entry.now.name job.hand.place result }

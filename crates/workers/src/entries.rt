@@ -36,7 +36,7 @@ const MOST_PARTS: usize = 65_536;
 /// footprint of that run: those in the list of all from `first` to before `end`, by their numbers, rising. With `all`
 /// each may: it isn't known which, or they are more than half.
 #[derive(Drop)]
-struct Entry {
+struct FootprintEntry {
     choice: Picked,
     outcome: Outcome,
     first: usize,
@@ -50,7 +50,7 @@ struct Entry {
 /// Contracts see the entries.
 #[derive(Drop)]
 pub(crate) struct Entries {
-    entries: Vec<Entry>,
+    entries: Vec<FootprintEntry>,
     parts: Vec<u32>,
     index: Vec<u16>,
 }
@@ -70,7 +70,7 @@ impl Model for Entries {
 
 /// An entry that holds for an image, and which of its departures the entry has.
 #[derive(Clone, Copy)]
-pub(crate) struct Known {
+pub(crate) struct KnownEntry {
     entry: usize,
     pub(crate) marks: [bool; 3],
 }
@@ -198,7 +198,7 @@ impl Entries {
         let first = self.parts.len();
         let told = put_told(&mut self.parts, input.plan, choice.cut(), &run.footprint)?;
         let entry = self.entries.len();
-        self.entries.push(Entry {
+        self.entries.push(FootprintEntry {
             choice: Picked::of(&choice),
             outcome: run.outcome,
             first,
@@ -245,7 +245,7 @@ impl Entries {
         memory: &mut RunMemory,
         checker: &Checker<'_>,
         picked: &Picked,
-    ) -> Option<Known>
+    ) -> Option<KnownEntry>
         requires known { AreKnown input.now picked.now.place checker.now self.old }
         requires device { IsFor input.now.plan.log.sectors checker.now.verified }
         requires served { IsServed memory.old checker.now.guards }
@@ -259,7 +259,7 @@ impl Entries {
             let entry = self.entry_known(input, alloc, memory, checker, picked, &marks)?;
             let (all, told) = self.told(entry);
             match first_told(all, told, picked.picks(), &marks) {
-                None => return Some(Known { entry, marks }),
+                None => return Some(KnownEntry { entry, marks }),
                 Some(_) if all => return None,
                 Some(place) => marks[place] = true,
             }
@@ -268,7 +268,7 @@ impl Entries {
     }
 
     /// The outcome that is found.
-    pub(crate) fn outcome(&self, found: &Known) -> &Outcome
+    pub(crate) fn outcome(&self, found: &KnownEntry) -> &Outcome
         requires { found.now.entry < length self.now }
         ensures { (entry : EntryValue) → slice_get self.now found.now.entry ≡ Some entry → ending_of result.now ≡ entry.ending }
     {
@@ -276,7 +276,7 @@ impl Entries {
     }
 
     /// The first part after one that is told.
-    pub(crate) fn next_told(&self, found: &Known, part: u32) -> Option<u32>
+    pub(crate) fn next_told(&self, found: &KnownEntry, part: u32) -> Option<u32>
         requires { found.now.entry < length self.now }
         ensures { (entry : EntryValue) → slice_get self.now found.now.entry ≡ Some entry → tells entry.told part ≡ false → IsNextTold entry.told part result }
     {

@@ -4,7 +4,7 @@ use crate::block_lines::BlockLines;
 
 /// What was found of a block.
 #[derive(Drop)]
-pub(crate) enum Found {
+pub(crate) enum BlockFound {
     /// All its failing lines.
     Lines(BlockLines),
     /// Nothing: the block was passed over, since this failing image comes before all of it. It is counted from the first

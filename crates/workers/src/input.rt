@@ -27,7 +27,7 @@ pub struct Input<'a> {
     pub(crate) history: &'a History<'a>,
     pub(crate) checkers: &'a [Checker<'a>],
     pub(crate) by: By,
-    pub(crate) asked: Asked,
+    pub(crate) asked: AskedRun,
 }
 
 /// What is asked of a run, by names: at most `bound` departures, and torn writes or none; with `first` the first
@@ -35,7 +35,7 @@ pub struct Input<'a> {
 /// from 0 to the number of its images, as `choices::count` gives it. It is judged by 1 to 64 workers, who keep at most
 /// `cache` outcomes, 0 to 65,536.
 #[derive(Clone, Copy)]
-pub struct Asked {
+pub struct AskedRun {
     pub bound: u8,
     pub tears: bool,
     pub from: u64,
@@ -65,7 +65,7 @@ impl<'a> Input<'a> {
         history: &'a History<'a>,
         checkers: &'a [Checker<'a>],
         by: By,
-        asked: Asked,
+        asked: AskedRun,
     ) -> Input<'a>
         requires starts { starts.now ≡ record { plan = plan.now; bound = asked.bound; tears = asked.tears } }
         requires history { history.now ≡ plan.now }

@@ -199,7 +199,7 @@ mod worker;
 pub use collecting::collect;
 pub use exploring::{Work, explore_all};
 pub use gate::{Gate, OpenGate};
-pub use input::{Asked, Input};
+pub use input::{AskedRun, Input};
 pub use laws::{
     accepted_checkers_run_safely, collection_begins_with_first, collection_is_failing,
     lines_are_set,

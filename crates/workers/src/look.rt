@@ -11,7 +11,7 @@ pub(crate) struct Stop {
 
 /// What entries say of an image.
 #[derive(Drop)]
-pub(crate) enum Look {
+pub(crate) enum EntryLook {
     /// That many images in a row, from that one on, are good.
     Good(u64),
     /// It isn't known to be good by this checker.

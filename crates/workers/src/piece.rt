@@ -1,13 +1,13 @@
 //! A piece of the work.
 
 ghost use Rattle.std.specs.Prelude.{◌≡◌, ◌+◌, ◌++◌, IfOk};
-ghost use Rattle.workers.specs.declared.found.Found.TheVariants as held;
+ghost use Rattle.workers.specs.declared.found.BlockFound.TheVariants as held;
 ghost use Rattle.workers.specs.Counting.{counts_with, reaches};
 ghost use Rattle.workers.specs.Least.{least_image};
 ghost use Rattle.workers.specs.Pieces.{lines_of};
 
 use crate::block_lines::BlockLines;
-use crate::found::Found;
+use crate::found::BlockFound;
 use report::lines::Lines;
 use std::alloc::AllocError;
 use std::marker::Model;
@@ -20,7 +20,7 @@ pub const BLOCK: u64 = 64;
 #[derive(Drop)]
 pub struct Piece {
     block: u32,
-    found: Found,
+    found: BlockFound,
 }
 
 impl Model for Piece {
@@ -48,7 +48,7 @@ impl Piece {
     {
         Piece {
             block,
-            found: Found::Lines(lines.trim()),
+            found: BlockFound::Lines(lines.trim()),
         }
     }
 
@@ -59,7 +59,7 @@ impl Piece {
     {
         Piece {
             block,
-            found: Found::Passed(image),
+            found: BlockFound::Passed(image),
         }
     }
 
@@ -75,8 +75,8 @@ impl Piece {
         ensures { result ≡ least_image (lines_of self.now.found) }
     {
         match &self.found {
-            Found::Lines(lines) => lines.least_image(),
-            Found::Passed(_) => None,
+            BlockFound::Lines(lines) => lines.least_image(),
+            BlockFound::Passed(_) => None,
         }
     }
 
@@ -87,8 +87,8 @@ impl Piece {
         ensures { result ≡ counts_with from least self.now.block self.now.found }
     {
         match &self.found {
-            Found::Lines(_) => true,
-            Found::Passed(image) => {
+            BlockFound::Lines(_) => true,
+            BlockFound::Passed(image) => {
                 *image < BLOCK * u64::from(self.block) && reaches(least, from, *image)
             }
         }
@@ -100,8 +100,8 @@ impl Piece {
     {
         let Piece { block: _, found } = self;
         match found {
-            Found::Lines(own) => lines.followed_by(own.into_lines()),
-            Found::Passed(_) => Ok(lines),
+            BlockFound::Lines(own) => lines.followed_by(own.into_lines()),
+            BlockFound::Passed(_) => Ok(lines),
         }
     }
 }

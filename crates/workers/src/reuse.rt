@@ -9,10 +9,10 @@ ghost use Rattle.workers.specs.Failing.{Subject, image_count, ending_at};
 ghost use Rattle.workers.specs.Reuse.{IsFound};
 ghost use Rattle.workers.specs.Local.{IsTrueOf, Reaches, HoldsFrom, Tells, TellsAll};
 
-use crate::entries::{Entries, Known};
+use crate::entries::{Entries, KnownEntry};
 use crate::input::{Input, stretch};
 use crate::judging::fails_with;
-use crate::look::{Look, Stop};
+use crate::look::{EntryLook, Stop};
 use checker::{Checker, RunMemory};
 use choices::{Picked, fates};
 use interp::Outcome;
@@ -120,7 +120,7 @@ impl Reuse {
         checker: &Checker<'_>,
         picked: &Picked,
         most: u64,
-    ) -> Look
+    ) -> EntryLook
         requires known { IsTrueOf input.now self.old }
         requires place { self.old.place ≡ Some picked.now.place }
         requires member { (n : ℕ) × IsRanked input.now.plan input.now.bound input.now.tears n picked.now }
@@ -138,19 +138,19 @@ impl Reuse {
         let alloc = self.alloc;
         let own = &mut self.entries[number];
         let Some(found) = own.find(input, alloc, memory, checker, picked) else {
-            return Look::Stops(Stop {
+            return EntryLook::Stops(Stop {
                 checker: number,
                 outcome: None,
             });
         };
         let outcome = own.outcome(&found);
         if fails_with(outcome) {
-            return Look::Stops(Stop {
+            return EntryLook::Stops(Stop {
                 checker: number,
                 outcome: Some(copy_of(outcome)),
             });
         }
-        Look::Good(alike(input, own, &found, picked, most))
+        EntryLook::Good(alike(input, own, &found, picked, most))
     }
 
     /// How many images in a row from one on all checkers find good, without a run of their own, or which checker doesn't.
@@ -160,7 +160,7 @@ impl Reuse {
         memory: &mut RunMemory,
         picked: &Picked,
         most: u64,
-    ) -> Look
+    ) -> EntryLook
         requires known { IsTrueOf input.now self.old }
         requires place { self.old.place ≡ Some picked.now.place }
         requires member { (n : ℕ) × IsRanked input.now.plan input.now.bound input.now.tears n picked.now }
@@ -174,11 +174,11 @@ impl Reuse {
         let mut good = input.reach(picked, most);
         for (number, checker) in input.checkers.iter().enumerate() {
             match self.look_by(input, memory, number, checker, picked, good) {
-                Look::Good(count) => good = count,
-                Look::Stops(stop) => return Look::Stops(stop),
+                EntryLook::Good(count) => good = count,
+                EntryLook::Stops(stop) => return EntryLook::Stops(stop),
             }
         }
-        Look::Good(good)
+        EntryLook::Good(good)
     }
 
     /// What a checker ends in on the image at hand, if that is known.
@@ -253,7 +253,7 @@ fn clear_all(entries: &mut [Entries])
 
 /// Of that many images in a row from one on, in which the last departure alone changes, how many the entry that was found for the
 /// first of them speaks of.
-fn alike(input: &Input<'_>, own: &Entries, found: &Known, picked: &Picked, most: u64) -> u64
+fn alike(input: &Input<'_>, own: &Entries, found: &KnownEntry, picked: &Picked, most: u64) -> u64
     requires found { IsFound own.now picked.now.picks found.now }
     requires member { (n : ℕ) × IsRanked input.now.plan input.now.bound input.now.tears n picked.now }
     requires some { 1 ≤ most }

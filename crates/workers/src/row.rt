@@ -14,7 +14,7 @@ use crate::gate::{Gate, OpenGate};
 use crate::input::Input;
 use crate::judging::Seen;
 use crate::local::Local;
-use crate::look::{Look, Stop};
+use crate::look::{EntryLook, Stop};
 use crate::piece::Piece;
 use crate::reuse::Reuse;
 use crate::worker::Worker;
@@ -27,7 +27,7 @@ use verdict_cache::{Run, Shard};
 
 /// Images in a row: those that are left, from one on, with its picks, to before `end`. Where none is left, the picks are any.
 #[derive(Drop)]
-pub(crate) struct Row {
+pub(crate) struct ImageRow {
     image: u64,
     end: u64,
     picked: Picked,
@@ -41,7 +41,7 @@ impl<'b, 'a, J: Run, G: Gate> Worker<'b, 'a, J, G> {
         changes: &mut Changes<'a>,
         memory: &mut RunMemory,
         lines: &mut BlockLines,
-        row: &mut Row,
+        row: &mut ImageRow,
     ) -> Result<(), AllocError>
         requires changes { changes.old ≡ self.now.input.now.plan.log }
         requires row { IsRow self.now.input.now row.old }
@@ -65,7 +65,7 @@ impl<'b, 'a, J: Run, G: Gate> Worker<'b, 'a, J, G> {
             input.go_on(&mut choice);
             next += 1;
         }
-        *row = Row {
+        *row = ImageRow {
             image: next,
             end,
             picked: Picked::of(&choice),
@@ -79,7 +79,7 @@ impl<'b, 'a, J: Run, G: Gate> Worker<'b, 'a, J, G> {
         reuse: &mut Reuse,
         memory: &mut RunMemory,
         lines: &mut BlockLines,
-        row: &Row,
+        row: &ImageRow,
         stop: &mut Stop,
     ) -> Result<(), AllocError>
         requires known { IsTrueOf self.now.input.now reuse.old }
@@ -109,7 +109,7 @@ impl<'b, 'a, J: Run, G: Gate> Worker<'b, 'a, J, G> {
         reuse: &mut Reuse,
         memory: &mut RunMemory,
         lines: &mut BlockLines,
-        row: &Row,
+        row: &ImageRow,
     ) -> Result<u64, AllocError>
         requires known { IsTrueOf self.now.input.now reuse.old }
         requires place { reuse.old.place ≡ Some row.now.picked.place }
@@ -124,8 +124,8 @@ impl<'b, 'a, J: Run, G: Gate> Worker<'b, 'a, J, G> {
         ensures lines { IfOk result (λ count. lines.new ≡ lines.old ++ lines_from self.now.input.now row.now.image count) }
     {
         match reuse.look(self.input, memory, &row.picked, row.end - row.image) {
-            Look::Good(count) => Ok(count),
-            Look::Stops(stop) => {
+            EntryLook::Good(count) => Ok(count),
+            EntryLook::Stops(stop) => {
                 let mut stop = stop;
                 self.judge_first(reuse, memory, lines, row, &mut stop)?;
                 Ok(1)
@@ -139,7 +139,7 @@ impl<'b, 'a, J: Run, G: Gate> Worker<'b, 'a, J, G> {
         reuse: &mut Reuse,
         memory: &mut RunMemory,
         lines: &mut BlockLines,
-        row: &mut Row,
+        row: &mut ImageRow,
     ) -> Result<(), AllocError>
         requires known { IsTrueOf self.now.input.now reuse.old }
         requires place { reuse.old.place ≡ Some row.old.picked.place }
@@ -167,7 +167,7 @@ impl<'b, 'a, J: Run, G: Gate> Worker<'b, 'a, J, G> {
         rt: &R,
         local: &mut Local<'a>,
         lines: &mut BlockLines,
-        row: &mut Row,
+        row: &mut ImageRow,
     ) -> Result<(), AllocError>
         requires local { IsLocal self.now.input.now local.old }
         requires row { IsRow self.now.input.now row.old }
@@ -201,7 +201,7 @@ impl<'b, 'a, J: Run, G: Gate> Worker<'b, 'a, J, G> {
     {
         let mut lines = BlockLines::new(self.shards.alloc());
         let picked = local.reuse.start(self.input, first);
-        let mut row = Row {
+        let mut row = ImageRow {
             image: first,
             end,
             picked,
@@ -209,7 +209,7 @@ impl<'b, 'a, J: Run, G: Gate> Worker<'b, 'a, J, G> {
         while row.image < row.end {
             self.judge_some(rt, local, &mut lines, &mut row)?;
         }
-        let Row {
+        let ImageRow {
             image,
             end: _,
             picked,

@@ -21,7 +21,7 @@ use std::marker::Brand;
 use std::sync::{Mutex, Wait};
 use std::thread::Threads;
 use verdict_cache::{Run, Shard, shards};
-use workers::{Asked, Input, OpenGate, collect, explore_all, judge_block};
+use workers::{AskedRun, Input, OpenGate, collect, explore_all, judge_block};
 
 /// Answers 1.
 const ANSWER_1: [u8; 16] = [0xb7, 0, 0, 0, 1, 0, 0, 0, 0x95, 0, 0, 0, 0, 0, 0, 0];
@@ -100,7 +100,7 @@ pub fn are_right<R: Threads + Wait + Sync>(rt: &R, alloc: Global) -> bool {
         &history,
         &checkers,
         By::Sector,
-        Asked {
+        AskedRun {
             bound: 0,
             tears: false,
             from: 0,

@@ -2,7 +2,7 @@
 
 use crate::calls::borrowing::{begun, ended};
 use crate::calls::refused::OfMemory;
-use explore_core::{Event, Explore, Found, Job, Jobs, Keys, step};
+use explore_core::{BlockFindings, Event, Explore, Job, Jobs, Keys, step};
 use std::alloc::{AllocError, Global};
 
 /// A job that ends in 1 and fails, under a key of its own.
@@ -56,7 +56,7 @@ fn events(alloc: Global) -> [Event; 13] {
 fn images_of(explore: &Explore) -> u64 {
     let mut number: u64 = 0;
     for piece in explore.pieces() {
-        if let Found::Lines(lines) = &piece.found {
+        if let BlockFindings::Lines(lines) = &piece.found {
             for line in lines.as_slice() {
                 number = number.saturating_mul(10).saturating_add(line.image);
             }

@@ -7,9 +7,9 @@ use shares::{Board, Deal, Hand, Seat, hands};
 use std::alloc::{AllocError, Global};
 
 /// Eight blocks are dealt out, to two workers.
-struct Eight;
+struct EightDealt;
 
-impl Deal for Eight {
+impl Deal for EightDealt {
     ghost blocks = { 8 };
 
     ghost workers = { 2 };
@@ -32,7 +32,7 @@ impl Taken {
 }
 
 /// Takes two blocks, where there are some.
-fn take_two(hand: &mut Hand<Eight>, board: &Board, seat: &mut Seat, taken: &mut Taken)
+fn take_two(hand: &mut Hand<EightDealt>, board: &Board, seat: &mut Seat, taken: &mut Taken)
     requires board { seat.old.board ≡ board.now.name }
     requires blocks { board.now.name.blocks ≡ 8 }
     ensures { seat.new.board ≡ seat.old.board }
@@ -62,7 +62,7 @@ pub fn are_right(alloc: Global) -> bool {
     let Some((board, mut first, mut second)) = settled!(board_of(alloc)) else {
         return false;
     };
-    let mut hands = settled!(hands::<Eight>(alloc, 2)).into_iter();
+    let mut hands = settled!(hands::<EightDealt>(alloc, 2)).into_iter();
     let (Some(mut own), Some(mut other)) = (hands.next(), hands.next()) else {
         return false;
     };

@@ -4,7 +4,7 @@ use crate::calls::refused::OfMemory;
 use arrayvec::ArrayVec;
 use epochs::By;
 use interp::Outcome;
-use report::lines::{Line, Lines, Mark, Part};
+use report::lines::{Line, LineMark, Lines, LinesPart};
 use std::alloc::{AllocError, Global};
 
 /// The line of an image whose run was out of steps.
@@ -20,8 +20,8 @@ fn line(image: u64) -> Line {
 }
 
 /// A part with the lines of two images.
-fn part(alloc: Global, first: u64, second: u64) -> Result<Part, AllocError> {
-    let mut part = Part::new(alloc);
+fn part(alloc: Global, first: u64, second: u64) -> Result<LinesPart, AllocError> {
+    let mut part = LinesPart::new(alloc);
     part.push(line(first))?;
     part.push(line(second))?;
     Ok(part)
@@ -35,7 +35,7 @@ fn gathered(alloc: Global) -> Result<Lines, AllocError> {
 }
 
 /// Whether these are the marks of the lines of two parts.
-fn are_marks(marks: &[Mark]) -> bool {
+fn are_marks(marks: &[LineMark]) -> bool {
     match marks {
         [first, second, third, fourth] => {
             let images = [first.image, second.image, third.image, fourth.image];
@@ -58,7 +58,7 @@ const PRINTED: &[u8] =
 
 /// Whether a part that memory kept a line from takes it when it comes again.
 fn part_is_right(alloc: Global) -> bool {
-    let mut part = Part::new(alloc);
+    let mut part = LinesPart::new(alloc);
     settled!(part.push(line(3)));
     settled!(part.push(line(4)));
     part.trim();

@@ -7,7 +7,7 @@ use lanes::mix;
 
 /// The content of a sector.
 #[derive(Clone, Copy)]
-pub enum Content {
+pub enum LogContent {
     /// The payload of the commit with that number: each byte is 0xa0 and the number.
     Payload(u8),
     /// The slot of the commit with that number: the number, the mix of its payload, zeros; sealed.
@@ -27,17 +27,17 @@ pub enum Content {
     Top(u8, u8),
 }
 
-impl Content {
+impl LogContent {
     /// The bytes of the sector.
     pub fn sector(self) -> [u8; 512] {
         match self {
-            Content::Payload(number) => payload(number),
-            Content::Slot(number) => slot(number),
-            Content::Record(number) => record(number),
-            Content::Header(records) => header(records),
-            Content::Leaf(commit, byte) => leaf(commit, byte),
-            Content::Root(commit) => root(commit),
-            Content::Top(commit, root) => top(commit, root),
+            LogContent::Payload(number) => payload(number),
+            LogContent::Slot(number) => slot(number),
+            LogContent::Record(number) => record(number),
+            LogContent::Header(records) => header(records),
+            LogContent::Leaf(commit, byte) => leaf(commit, byte),
+            LogContent::Root(commit) => root(commit),
+            LogContent::Top(commit, root) => top(commit, root),
         }
     }
 }

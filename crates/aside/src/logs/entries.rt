@@ -2,20 +2,20 @@
 
 ghost use Rattle.std.specs.Prelude.{◌≤◌};
 
-use crate::logs::content::Content::{Header, Leaf, Payload, Record, Root, Slot, Top};
 use crate::logs::content::Contents::{Journal, Page, SmallPage, TwoPages};
-use crate::logs::content::{Content, Contents};
+use crate::logs::content::LogContent::{Header, Leaf, Payload, Record, Root, Slot, Top};
+use crate::logs::content::{Contents, LogContent};
 use crate::logs::entries::Item::{Flush, FlushAndWrite, FlushAndWriteAll, Mark, Write, WriteAll};
 
 /// An entry of a log.
 #[derive(Clone, Copy)]
 pub enum Item {
     /// Writes that sector of the device.
-    Write(u64, Content),
+    Write(u64, LogContent),
     /// Writes several sectors from that one on, in one entry.
     WriteAll(u64, Contents),
     /// Flushes, then writes that sector of the device, in one entry.
-    FlushAndWrite(u64, Content),
+    FlushAndWrite(u64, LogContent),
     /// Flushes, then writes several sectors from that one on, in one entry.
     FlushAndWriteAll(u64, Contents),
     /// Flushes.
@@ -26,7 +26,7 @@ pub enum Item {
 
 /// A log of the examples.
 #[derive(Clone, Copy)]
-pub enum Which {
+pub enum ExampleLog {
     TwoSlotsRight,
     TwoSlotsWrong,
     JournalRight,
@@ -43,20 +43,20 @@ pub enum Which {
 }
 
 /// All logs.
-pub const ALL: [Which; 13] = [
-    Which::TwoSlotsRight,
-    Which::TwoSlotsWrong,
-    Which::JournalRight,
-    Which::JournalWrong,
-    Which::JournalAtOnce,
-    Which::PagesRight,
-    Which::PagesWrong,
-    Which::TreeRight,
-    Which::TreeWrong,
-    Which::TreeOrder,
-    Which::DoubleWriteRight,
-    Which::DoubleWriteWrong,
-    Which::DoubleWriteOrder,
+pub const ALL: [ExampleLog; 13] = [
+    ExampleLog::TwoSlotsRight,
+    ExampleLog::TwoSlotsWrong,
+    ExampleLog::JournalRight,
+    ExampleLog::JournalWrong,
+    ExampleLog::JournalAtOnce,
+    ExampleLog::PagesRight,
+    ExampleLog::PagesWrong,
+    ExampleLog::TreeRight,
+    ExampleLog::TreeWrong,
+    ExampleLog::TreeOrder,
+    ExampleLog::DoubleWriteRight,
+    ExampleLog::DoubleWriteWrong,
+    ExampleLog::DoubleWriteOrder,
 ];
 
 /// Slot and payload of a commit are written one after the other, with a flush between them.
@@ -281,28 +281,28 @@ const DOUBLE_WRITE_ORDER: [Item; 15] = [
     Mark("commit 3"),
 ];
 
-impl Which {
+impl ExampleLog {
     /// The file of the log, below examples/.
     pub fn name(self) -> &'static str {
         match self {
-            Which::TwoSlotsRight => "two_slots/right.log",
-            Which::TwoSlotsWrong => "two_slots/wrong.log",
-            Which::JournalRight => "journal/right.log",
-            Which::JournalWrong => "journal/wrong.log",
-            Which::JournalAtOnce => "journal/at_once.log",
-            Which::PagesRight => "pages/right.log",
-            Which::PagesWrong => "pages/wrong.log",
-            Which::TreeRight => "tree/right.log",
-            Which::TreeWrong => "tree/wrong.log",
-            Which::TreeOrder => "tree/order.log",
-            Which::DoubleWriteRight => "double_write/right.log",
-            Which::DoubleWriteWrong => "double_write/wrong.log",
-            Which::DoubleWriteOrder => "double_write/order.log",
+            ExampleLog::TwoSlotsRight => "two_slots/right.log",
+            ExampleLog::TwoSlotsWrong => "two_slots/wrong.log",
+            ExampleLog::JournalRight => "journal/right.log",
+            ExampleLog::JournalWrong => "journal/wrong.log",
+            ExampleLog::JournalAtOnce => "journal/at_once.log",
+            ExampleLog::PagesRight => "pages/right.log",
+            ExampleLog::PagesWrong => "pages/wrong.log",
+            ExampleLog::TreeRight => "tree/right.log",
+            ExampleLog::TreeWrong => "tree/wrong.log",
+            ExampleLog::TreeOrder => "tree/order.log",
+            ExampleLog::DoubleWriteRight => "double_write/right.log",
+            ExampleLog::DoubleWriteWrong => "double_write/wrong.log",
+            ExampleLog::DoubleWriteOrder => "double_write/order.log",
         }
     }
 
     /// The log whose file has that name.
-    pub fn of_name(name: &str) -> Option<Which> {
+    pub fn of_name(name: &str) -> Option<ExampleLog> {
         ALL.into_iter().find(|which| which.name() == name)
     }
 
@@ -312,30 +312,32 @@ impl Which {
         ensures device { result ≤ 16384 }
     {
         match self {
-            Which::TwoSlotsRight | Which::TwoSlotsWrong => 4,
-            Which::JournalRight | Which::JournalWrong | Which::JournalAtOnce => 8,
-            Which::TreeRight | Which::TreeWrong | Which::TreeOrder => 8,
-            Which::PagesRight | Which::PagesWrong => 24,
-            Which::DoubleWriteRight | Which::DoubleWriteWrong | Which::DoubleWriteOrder => 12,
+            ExampleLog::TwoSlotsRight | ExampleLog::TwoSlotsWrong => 4,
+            ExampleLog::JournalRight | ExampleLog::JournalWrong | ExampleLog::JournalAtOnce => 8,
+            ExampleLog::TreeRight | ExampleLog::TreeWrong | ExampleLog::TreeOrder => 8,
+            ExampleLog::PagesRight | ExampleLog::PagesWrong => 24,
+            ExampleLog::DoubleWriteRight
+            | ExampleLog::DoubleWriteWrong
+            | ExampleLog::DoubleWriteOrder => 12,
         }
     }
 
     /// The entries of the log, in order.
     pub fn entries(self) -> &'static [Item] {
         match self {
-            Which::TwoSlotsRight => &TWO_SLOTS_RIGHT,
-            Which::TwoSlotsWrong => &TWO_SLOTS_WRONG,
-            Which::JournalRight => &JOURNAL_RIGHT,
-            Which::JournalWrong => &JOURNAL_WRONG,
-            Which::JournalAtOnce => &JOURNAL_AT_ONCE,
-            Which::PagesRight => &PAGES_RIGHT,
-            Which::PagesWrong => &PAGES_WRONG,
-            Which::TreeRight => &TREE_RIGHT,
-            Which::TreeWrong => &TREE_WRONG,
-            Which::TreeOrder => &TREE_ORDER,
-            Which::DoubleWriteRight => &DOUBLE_WRITE_RIGHT,
-            Which::DoubleWriteWrong => &DOUBLE_WRITE_WRONG,
-            Which::DoubleWriteOrder => &DOUBLE_WRITE_ORDER,
+            ExampleLog::TwoSlotsRight => &TWO_SLOTS_RIGHT,
+            ExampleLog::TwoSlotsWrong => &TWO_SLOTS_WRONG,
+            ExampleLog::JournalRight => &JOURNAL_RIGHT,
+            ExampleLog::JournalWrong => &JOURNAL_WRONG,
+            ExampleLog::JournalAtOnce => &JOURNAL_AT_ONCE,
+            ExampleLog::PagesRight => &PAGES_RIGHT,
+            ExampleLog::PagesWrong => &PAGES_WRONG,
+            ExampleLog::TreeRight => &TREE_RIGHT,
+            ExampleLog::TreeWrong => &TREE_WRONG,
+            ExampleLog::TreeOrder => &TREE_ORDER,
+            ExampleLog::DoubleWriteRight => &DOUBLE_WRITE_RIGHT,
+            ExampleLog::DoubleWriteWrong => &DOUBLE_WRITE_WRONG,
+            ExampleLog::DoubleWriteOrder => &DOUBLE_WRITE_ORDER,
         }
     }
 }

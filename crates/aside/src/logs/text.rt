@@ -1,7 +1,7 @@
 //! From the entries of a log to its bytes (docs/LOG-FORMAT.md).
 
 use crate::logs::content::Contents;
-use crate::logs::entries::{Item, Which};
+use crate::logs::entries::{ExampleLog, Item};
 use base::limits::Limits;
 use base::numbers::{put_u32, put_u64, put_zeros};
 use logfmt::{LogFault, read, write};
@@ -17,7 +17,7 @@ const FLUSH: u64 = 1;
 const MARK: u64 = 8;
 
 /// The canonical text of a log: what `logfmt` writes of the log that it reads from these entries.
-pub fn canonical(alloc: Global, which: Which) -> Result<Vec<u8>, LogFault> {
+pub fn canonical(alloc: Global, which: ExampleLog) -> Result<Vec<u8>, LogFault> {
     let text = text_of(alloc, which.entries())?;
     let log = read(alloc, text.as_slice(), which.sectors(), Limits::Usual)?;
     Ok(write(alloc, &log)?)

@@ -11,9 +11,9 @@ ghost use Rattle.images.specs.Images.{crash_image};
 ghost use Rattle.inspect.specs.Lost.{IsLostOf};
 ghost use Rattle.inspect.specs.AnyImage.{any_text_in, IsAnyImage, IsToldSo, NoneIsMeant, RefusesAnyImage};
 ghost use Rattle.inspect.specs.Image.{sector_bytes};
-ghost use Rattle.inspect.specs.declared.looks.image_command.Form.TheVariants as form;
+ghost use Rattle.inspect.specs.declared.looks.image_command.ImageForm.TheVariants as form;
 
-use crate::looks::image_command::Form;
+use crate::looks::image_command::ImageForm;
 use crate::looks::lost::{Lost, lost_said};
 use base::refusal::Refusal;
 use cases::Cut;
@@ -175,7 +175,7 @@ fn words_of<'x>(
 /// The image in a form.
 fn told<'x>(
     alloc: Global,
-    form: Form,
+    form: ImageForm,
     plan: &'x Plan<'x>,
     log: &'x Log,
     at: &Cut<'_>,
@@ -189,8 +189,8 @@ fn told<'x>(
     ensures { IfOk result (λ bytes. bytes.items ≡ any_text_in form options.now log.now at.now.cut lost.now.departures.items) }
 {
     match form {
-        Form::Bytes => lost_bytes(alloc, at, lost),
-        Form::Words => words_of(alloc, plan, log, at, options, lost),
+        ImageForm::Bytes => lost_bytes(alloc, at, lost),
+        ImageForm::Words => words_of(alloc, plan, log, at, options, lost),
     }
 }
 
@@ -210,7 +210,7 @@ pub(crate) fn plan_for<'x>(
 /// The image of the choice at a wanted cut that is printed so; none where no choice there is.
 fn image_at<'x>(
     alloc: Global,
-    form: Form,
+    form: ImageForm,
     plan: &'x Plan<'x>,
     log: &'x Log,
     cut: u64,
@@ -235,7 +235,7 @@ fn image_at<'x>(
 /// The image of any cut; none where no choice of a wanted cut is.
 fn image_said(
     alloc: Global,
-    form: Form,
+    form: ImageForm,
     log: &Log,
     cut: u64,
     said: &str,
@@ -258,7 +258,7 @@ fn image_said(
 /// The first refusal in the order of docs/REFUSALS.md: the log, then a cut and a choice that none has, 13 at 11; or want of memory.
 pub fn any_image(
     alloc: Global,
-    form: Form,
+    form: ImageForm,
     recording: &Recording<'_>,
     cut: u64,
     said: &str,

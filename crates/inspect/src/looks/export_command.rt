@@ -12,7 +12,7 @@ ghost use Rattle.inspect.specs.Export.{exported, IsExport, RefusesExport, Writes
 
 use base::refusal::Refusal;
 use epochs::Plan;
-use export::{Asked, Fault, Output, Wanted, export};
+use export::{Output, PlannedImages, StreamFault, WantedImages, export};
 use logfmt::Log;
 use request::facts::{Facts, Recording};
 use request::{OptionPlace, Options, option_refusal_of};
@@ -25,7 +25,7 @@ pub enum Stopped {
     /// It is refused, and none of it is written.
     Refused(Refusal),
     /// The first bytes are written, and not all.
-    Cut(Fault),
+    Cut(StreamFault),
 }
 
 /// Writes the text of the images that are meant, of a plan of a log that has that many.
@@ -36,7 +36,7 @@ fn write_meant<W: Write>(
     options: &Options,
     images: u64,
     output: Output<W>,
-) -> (Result<(), Fault>, Output<W>)
+) -> (Result<(), StreamFault>, Output<W>)
     requires going { output.has_failed ≡ false }
     requires plan { plan.now ≡ plan_of options.now log.now }
     requires count { images ≡ length (images_of options.now log.now) }
@@ -47,14 +47,14 @@ fn write_meant<W: Write>(
     ensures part { OnErr result.0 (TakesPart (W.contents output.writer) (W.contents result.1.writer) (export_text (exported options.now log.now))) }
 {
     let extent = options.extent();
-    let wanted = Wanted {
+    let wanted = WantedImages {
         by: options.by(),
         bound: options.bound(),
         tears: options.tears(),
         from: extent.first(),
         to: extent.end(images),
     };
-    export(alloc, &Asked::of(log, plan, wanted), output)
+    export(alloc, &PlannedImages::of(log, plan, wanted), output)
 }
 
 /// Writes the crash images of a log that are meant, one after the other, as they are made: a line for each, and of a new one the

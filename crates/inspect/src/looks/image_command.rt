@@ -59,7 +59,7 @@ fn image_bytes<'x>(
 
 /// How a crash image is told.
 #[derive(Clone, Copy)]
-pub enum Form {
+pub enum ImageForm {
     /// As the bytes of its sectors.
     Bytes,
     /// In words.
@@ -69,7 +69,7 @@ pub enum Form {
 /// The image of a choice in that form.
 fn told<'x>(
     alloc: Global,
-    form: Form,
+    form: ImageForm,
     log: &'x Log,
     plan: &'x Plan<'x>,
     options: &Options,
@@ -81,15 +81,15 @@ fn told<'x>(
     ensures { IfOk result (λ bytes. bytes.items ≡ text_in form options.now plan.now choice.now) }
 {
     match form {
-        Form::Bytes => image_bytes(alloc, log, plan, choice),
-        Form::Words => text_of(alloc, log, plan, options, choice),
+        ImageForm::Bytes => image_bytes(alloc, log, plan, choice),
+        ImageForm::Words => text_of(alloc, log, plan, options, choice),
     }
 }
 
 /// The crash image that is meant, in that form.
 pub(crate) fn image_in(
     alloc: Global,
-    form: Form,
+    form: ImageForm,
     recording: &Recording<'_>,
     which: Which,
     options: &Options,
@@ -127,5 +127,5 @@ pub fn image(
     ensures refused { IfErr result (RefusesImage recording.now options.now which) }
     ensures fewer { IfSome facts.new.fewer (FindsFewer recording.now options.now) }
 {
-    image_in(alloc, Form::Bytes, recording, which, options, facts)
+    image_in(alloc, ImageForm::Bytes, recording, which, options, facts)
 }

@@ -1,6 +1,7 @@
 //! The cuts at which a run looks for cases, with any number of losses, and what each leaves open.
 
 ghost use Rattle.std.specs.Prelude.{◌≡◌, ◌≤◌, ◌+◌, ◌^◌, ◌<◌, if◌then◌else◌, length, map, count_by, All, IfOk};
+ghost use Rattle.base.specs.Sizes.{most_units};
 ghost use Rattle.logfmt.specs.declared.entry.Entry.{Entry as LogEntry};
 ghost use Rattle.epochs.specs.declared.part.Part.{Part as LogPart};
 ghost use Rattle.epochs.specs.Plan.{PlanValue};
@@ -41,7 +42,7 @@ fn is_in_flight(entries: &[Entry], cut: u32, number: u32) -> bool
 
 /// A count with one more, where a part is in flight.
 fn count_with(count: u32, entries: &[Entry], cut: u32, part: Part) -> u32
-    requires { count < 262144 }
+    requires { count < most_units }
     ensures { result ≡ count + (if is_in_flight entries.now cut part.entry then 1 else 0) }
 {
     if is_in_flight(entries, cut, part.entry) {
@@ -53,7 +54,7 @@ fn count_with(count: u32, entries: &[Entry], cut: u32, part: Part) -> u32
 
 /// How many of some parts are in flight at a cut.
 fn count_in_flight(entries: &[Entry], cut: u32, parts: &[Part]) -> u32
-    requires { length parts.now ≤ 262144 }
+    requires { length parts.now ≤ most_units }
     ensures { result ≡ count_by (λ (p : LogPart). is_in_flight entries.now cut p.entry) parts.now }
 {
     let mut count = 0;

@@ -8,7 +8,7 @@ ghost use Rattle.request.specs.Fewer.{FindsFewer};
 ghost use Rattle.inspect.specs.Image.{whole_view, IsShown, RefusesImage};
 ghost use Rattle.request.specs.Source.{plan_of};
 
-use crate::looks::image_command::{Form, image_in};
+use crate::looks::image_command::{ImageForm, image_in};
 use base::refusal::Refusal;
 use choices::{Choice, choice_named};
 use crash_text::{Numbering, put_shown};
@@ -85,5 +85,5 @@ pub fn show(
     ensures refused { IfErr result (RefusesImage recording.now options.now which) }
     ensures fewer { IfSome facts.new.fewer (FindsFewer recording.now options.now) }
 {
-    image_in(alloc, Form::Words, recording, which, options, facts)
+    image_in(alloc, ImageForm::Words, recording, which, options, facts)
 }

@@ -35,12 +35,12 @@ pub(crate) fn sectors_of(bytes: &[u8]) -> u32
 ///
 /// Contracts see the bytes and the number of sectors.
 #[derive(Drop)]
-pub(crate) struct Image {
+pub(crate) struct GivenImage {
     content: InitialContent,
     count: u32,
 }
 
-impl Model for Image {
+impl Model for GivenImage {
     ghost use Rattle.inspect.specs.TrialImage.{ImageValue};
 
     ghost Value = { ImageValue };
@@ -48,17 +48,17 @@ impl Model for Image {
     ghost view = { λ image. record { bytes = image.content; sectors = image.count } };
 }
 
-impl Image {
+impl GivenImage {
     /// The device of that many sectors.
-    pub(crate) fn of(alloc: Global, bytes: &[u8], count: u32) -> Result<Image, AllocError>
+    pub(crate) fn of(alloc: Global, bytes: &[u8], count: u32) -> Result<GivenImage, AllocError>
         ensures { IfOk result (λ image. image ≡ record { bytes = bytes.now; sectors = count }) }
     {
         let content = InitialContent::of(alloc, bytes)?;
-        Ok(Image { content, count })
+        Ok(GivenImage { content, count })
     }
 }
 
-impl Device for Image {
+impl Device for GivenImage {
     ghost use Rattle.inspect.specs.TrialImage.{device_of, whole_device};
 
     ghost content = { λ image. device_of image.bytes image.sectors };

@@ -12,7 +12,7 @@ ghost use Rattle.inspect.specs.TrialImage.{sectors_of};
 ghost use Rattle.inspect.specs.TrialText.{context_of, ending_of_trial, Allows, Bound, bound_of, bound_text, context_text, guarded_count_text, head_text, program_text, ending_source, end_text, trial_text, IsTried, RefusesLimit, RefusesTrial};
 
 use crate::trial::course::course_of;
-use crate::trial::image::{Image, is_image, sectors_of};
+use crate::trial::image::{GivenImage, is_image, sectors_of};
 use crate::trial::trace::put_last;
 use base::refusal::{Cause, Refusal};
 use bpf_isa::codec::decode;
@@ -47,24 +47,24 @@ fn unaccepted_refusal_of(fault: Fault) -> Refusal
 
 /// The most steps of a run, and with guards how many slots are guarded.
 #[derive(Clone, Copy)]
-struct Bounds {
+struct TrialBounds {
     limit: u64,
     guarded: Option<usize>,
 }
 
 /// How an accepted program is bounded.
-fn bounds_of(alloc: Global, verified: &Verified<'_>) -> Result<Bounds, AllocError>
+fn bounds_of(alloc: Global, verified: &Verified<'_>) -> Result<TrialBounds, AllocError>
     ensures { IfOk result (λ b. record { limit = b.limit; guarded = b.guarded } ≡ bound_of verified.now) }
 {
     let limit = verified.budget();
     if !verified.has_guards() {
-        return Ok(Bounds {
+        return Ok(TrialBounds {
             limit,
             guarded: None,
         });
     }
     let slots = guarded_slots(alloc, verified)?;
-    Ok(Bounds {
+    Ok(TrialBounds {
         limit,
         guarded: Some(slots.len()),
     })
@@ -77,14 +77,14 @@ fn limit_of(
     image: &[u8],
     asked: &Trial,
     facts: &mut Facts,
-) -> Result<Bounds, Refusal>
+) -> Result<TrialBounds, Refusal>
     requires some { 512 ≤ length image.now }
     requires few { length image.now ≤ 512 * most_sectors }
     ensures allowed { IfOk result (λ b. Allows program.now image.now asked.now (record { limit = b.limit; guarded = b.guarded })) }
     ensures refused { IfErr result (RefusesLimit program.now image.now asked.now) }
 {
     if let Some(limit) = asked.checked {
-        return Ok(Bounds {
+        return Ok(TrialBounds {
             limit,
             guarded: None,
         });
@@ -153,7 +153,7 @@ fn put_program(
     out: &mut String,
     checked: Option<u64>,
     slots: usize,
-    bounds: Bounds,
+    bounds: TrialBounds,
 ) -> Result<(), AllocError>
     ensures { OnOk result (string_bytes out.new ≡ string_bytes out.old ++ program_text checked slots (record { limit = bounds.limit; guarded = bounds.guarded })) }
 {
@@ -171,7 +171,7 @@ fn put_head(
     context: &Context,
     checked: Option<u64>,
     slots: usize,
-    bounds: Bounds,
+    bounds: TrialBounds,
 ) -> Result<(), AllocError>
     ensures { OnOk result (string_bytes out.new ≡ string_bytes out.old ++ head_text context.now checked slots (record { limit = bounds.limit; guarded = bounds.guarded })) }
 {
@@ -232,14 +232,14 @@ fn report_of(
     image: &[u8],
     lines: &[SourceLine<'_>],
     asked: &Trial,
-    bounds: Bounds,
+    bounds: TrialBounds,
 ) -> Result<TrialReport, AllocError>
     requires some { 512 ≤ length image.now }
     requires few { length image.now ≤ 512 * most_sectors }
     ensures text { IfOk result (λ report. report.bytes.items ≡ trial_text program.now image.now (values_of lines.now) asked.now (record { limit = bounds.limit; guarded = bounds.guarded })) }
     ensures failing { IfOk result (λ report. report.failing ≡ fails (ending_of_trial program.now image.now asked.now bounds.limit)) }
 {
-    let device = Image::of(alloc, image, sectors_of(image))?;
+    let device = GivenImage::of(alloc, image, sectors_of(image))?;
     let context = context_of(image, asked);
     let course = course_of(
         alloc,

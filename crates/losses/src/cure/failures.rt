@@ -1,7 +1,7 @@
 //! The failures of a run.
 
 ghost use Rattle.std.specs.Prelude.{◌≡◌, ◌<◌, ◌++◌, ℕ, length, slice_get, Some, IfOk, OnOk};
-ghost use Rattle.report.specs.declared.lines.marks.Mark.{Mark as MarkValue};
+ghost use Rattle.report.specs.declared.lines.marks.LineMark.{LineMark as MarkValue};
 ghost use Rattle.choices.specs.Choices.{ranked_choices};
 ghost use Rattle.losses.specs.Places.{AreWindows};
 ghost use Rattle.losses.specs.FailureWindows.{IsFailureAt, AreFailuresAt, windows_in, own_window, HoldNoFlush};
@@ -11,11 +11,11 @@ use crate::flushes::{Window, window_of};
 use choices::{Starts, ranked_is_model};
 use epochs::By;
 use logfmt::Log;
-use report::lines::Mark;
+use report::lines::LineMark;
 use std::alloc::{AllocError, Global};
 
 /// The failure of a failing line.
-fn failure_at(by: By, starts: &Starts<'_>, log: &Log, mark: Mark) -> Failure
+fn failure_at(by: By, starts: &Starts<'_>, log: &Log, mark: LineMark) -> Failure
     requires by { by ≡ starts.now.plan.by }
     requires log { starts.now.plan.log ≡ log.now }
     requires image { mark.image < length (ranked_choices starts.now.plan starts.now.bound starts.now.tears) }
@@ -42,7 +42,7 @@ pub fn failures_of(
     by: By,
     starts: &Starts<'_>,
     log: &Log,
-    marks: &[Mark],
+    marks: &[LineMark],
 ) -> Result<Vec<Failure>, AllocError>
     requires by { by ≡ starts.now.plan.by }
     requires log { starts.now.plan.log ≡ log.now }

@@ -6,7 +6,7 @@ ghost use Rattle.std.specs.Prelude.{◌≡◌, ◌<◌, ◌++◌, ◌∷◌, [],
 ghost use Rattle.report.specs.MarkReading.{IsCutAt, ReadsField};
 ghost use Rattle.losses.specs.ProgramOutcomes.{IsEnding, ReadsOutcome, AreOutcomes, is_marked, if_own};
 
-use report::lines::Mark;
+use report::lines::LineMark;
 use std::alloc::{AllocError, Global};
 
 /// What stands before and after the first such character.
@@ -62,7 +62,7 @@ fn read_outcome(text: &str) -> (&str, &str)
 fn push_own<'t>(
     outcomes: &mut Vec<&'t str>,
     program: usize,
-    mark: Mark,
+    mark: LineMark,
     outcome: &'t str,
 ) -> Result<(), AllocError>
     ensures { OnOk result (map (λ o. o.now) outcomes.new.items ≡ map (λ o. o.now) outcomes.old.items ++ if_own program mark outcome.now) }
@@ -84,7 +84,7 @@ fn push_own<'t>(
 pub fn outcomes_of<'t>(
     alloc: Global,
     text: &'t str,
-    marks: &[Mark],
+    marks: &[LineMark],
     program: usize,
 ) -> Result<Vec<&'t str>, AllocError>
     ensures read { IfOk result (λ outcomes. AreOutcomes text.now marks.now program (map (λ o. o.now) outcomes.items)) }

@@ -7,7 +7,7 @@ ghost use Rattle.losses.specs.Folded.{AreFolded};
 ghost use Rattle.losses.specs.Failures.{numbers_in, AreOfCut};
 
 use crate::groups::fold;
-use crate::why::group::Group;
+use crate::why::group::FailingGroup;
 use arrayvec::ArrayVec;
 use choices::{Starts, list_is_set, numbers_at};
 use std::alloc::{AllocError, Global};
@@ -22,7 +22,7 @@ pub struct CutFailures {
     /// On how many of them the program fails.
     pub failing: usize,
     /// The groups of these, by image.
-    pub groups: Vec<Group>,
+    pub groups: Vec<FailingGroup>,
 }
 
 /// The departures of some images of a cut as numbers, where the images of the cut begin with `first`.

@@ -9,7 +9,7 @@ use std::alloc::{AllocError, Global};
 
 /// A group of failing images of a cut: those that fail since the same parts are lost and the same parts are torn.
 #[derive(Clone, Copy, Drop)]
-pub struct Group {
+pub struct FailingGroup {
     /// The image of its example, the first of its smallest failing choices.
     pub image: u64,
     /// The place of that image among those on which the program fails.
@@ -35,7 +35,7 @@ fn counts_of(alloc: Global, places: &[usize]) -> Result<Vec<usize>, AllocError>
 }
 
 /// Appends a group, if images stand under it.
-fn push_group(groups: &mut Vec<Group>, group: Group) -> Result<(), AllocError>
+fn push_group(groups: &mut Vec<FailingGroup>, group: FailingGroup) -> Result<(), AllocError>
     ensures { OnOk result (groups.new.items ≡ groups.old.items ++ filter has_images (group ∷ [])) }
 {
     if group.failing != 0 {
@@ -52,7 +52,7 @@ pub(crate) fn groups_of(
     places: &[usize],
     outcomes: &[&str],
     begin: usize,
-) -> Result<Vec<Group>, AllocError>
+) -> Result<Vec<FailingGroup>, AllocError>
     requires long { length places.now ≡ length images.now }
     requires places { (i place : ℕ) → slice_get places.now i ≡ Some place → place < length places.now }
     requires outcomes { begin + length places.now ≤ length outcomes.now }
@@ -64,7 +64,7 @@ pub(crate) fn groups_of(
     for (place, image) in images.iter().enumerate() {
         push_group(
             &mut groups,
-            Group {
+            FailingGroup {
                 image: *image,
                 line: begin + place,
                 failing: counts[place],

@@ -5,7 +5,7 @@ ghost use Rattle.std.specs.List.{flat_map};
 ghost use Rattle.losses.specs.WhyText.{fate_word, lost_text, next_lost_text, folded_text, count_text, same_text, group_head, example_text, chosen_line, group_line, cut_head, cut_text, cuts_text, IsNumbered, AreNumbered, AreAllNumbered};
 
 use crate::why::cut::CutFailures;
-use crate::why::group::Group;
+use crate::why::group::FailingGroup;
 use choices::{Departure, Fate, Starts};
 use epochs::By;
 use report::choice_text::{put_departures, put_part};
@@ -80,7 +80,7 @@ fn put_group_head(
     out: &mut String,
     by: By,
     departures: &[Departure],
-    group: Group,
+    group: FailingGroup,
 ) -> Result<(), AllocError>
     ensures { OnOk result (string_bytes out.new ≡ string_bytes out.old ++ group_head by departures.now group) }
 {
@@ -97,7 +97,7 @@ fn put_example(
     out: &mut String,
     by: By,
     departures: &[Departure],
-    group: Group,
+    group: FailingGroup,
 ) -> Result<(), AllocError>
     ensures { OnOk result (string_bytes out.new ≡ string_bytes out.old ++ example_text by departures.now group) }
 {
@@ -113,7 +113,7 @@ fn put_chosen(
     out: &mut String,
     by: By,
     outcomes: &[&str],
-    group: Group,
+    group: FailingGroup,
     departures: &[Departure],
 ) -> Result<(), AllocError>
     requires { group.line < length outcomes.now }
@@ -131,7 +131,7 @@ fn put_group(
     by: By,
     starts: &Starts<'_>,
     outcomes: &[&str],
-    group: Group,
+    group: FailingGroup,
 ) -> Result<(), AllocError>
     requires { IsNumbered starts.now (length outcomes.now) group }
     ensures { OnOk result (string_bytes out.new ≡ string_bytes out.old ++ group_line by starts.now (map (λ o. o.now) outcomes.now) group) }
@@ -156,7 +156,7 @@ fn put_groups(
     by: By,
     starts: &Starts<'_>,
     outcomes: &[&str],
-    groups: &[Group],
+    groups: &[FailingGroup],
 ) -> Result<(), AllocError>
     requires { AreNumbered starts.now (length outcomes.now) groups.now }
     ensures { OnOk result (string_bytes out.new ≡ string_bytes out.old ++ flat_map (group_line by starts.now (map (λ o. o.now) outcomes.now)) groups.now) }

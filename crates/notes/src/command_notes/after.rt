@@ -27,14 +27,14 @@ const OBJECT_MAGIC: &[u8] = b"\x7fELF";
 
 /// What the limits of a large log are.
 const LARGE_LIMIT: &str =
-    "with --large a log has at most 201326592 bytes, 65536 entries, and 262144 sectors written or discarded (docs/LOG-FORMAT.md, Limits)";
+    "with --large a log has at most 1073741824 bytes, 65536 entries, and 2097152 sectors written or discarded (docs/LOG-FORMAT.md, Limits)";
 
 /// What helps where a raw log passes the limits.
 const RAW_CURE: &str = "record less at once; make file systems without discards";
 
 /// What helps where a log passes those of a large one.
 const LARGE_CURE: &str =
-    "copy the first 192 MiB of the log device alone; make file systems without discards";
+    "copy the first 1 GiB of the log device alone; make file systems without discards";
 
 /// What may accept a program as it is.
 const GUARDS_MAY: &str =
@@ -112,9 +112,9 @@ fn put_kind(
 fn no_device(limits: Limits) -> &'static str {
     match limits {
         Limits::Usual => {
-            "no device of at most 16384 sectors holds this log; with --large one may have 1048576"
+            "no device of at most 16384 sectors holds this log; with --large one may have 33554432"
         }
-        Limits::Large => "no device of at most 1048576 sectors holds this log",
+        Limits::Large => "no device of at most 33554432 sectors holds this log",
     }
 }
 
@@ -471,7 +471,7 @@ const NOT_REPORT: &str =
 /// What the option or the number at a place has to be.
 fn option_rule(place: u64) -> &'static str {
     match place {
-        1 => "--sectors is 1 to 16384, with --large to 1048576",
+        1 => "--sectors is 1 to 16384, with --large to 33554432",
         2 => "--bound is 0 to 3",
         3 => "--workers is 1 to 64",
         4 => "--cache is 0 to 65536",
@@ -502,7 +502,7 @@ fn option_rule(place: u64) -> &'static str {
 /// What an option has to be, within these limits.
 fn rule_within(place: u64, limits: Limits) -> &'static str {
     match (place, limits) {
-        (1, Limits::Large) => "with --large --sectors is 1 to 1048576",
+        (1, Limits::Large) => "with --large --sectors is 1 to 33554432",
         _ => option_rule(place),
     }
 }
@@ -547,7 +547,7 @@ fn image_rule(limits: Limits) -> &'static str {
         Limits::Usual =>
             "an image has 1 to 16384 whole sectors of 512 bytes (docs/COMMANDS.md, Commands)",
         Limits::Large => {
-            "with --large an image has 1 to 1048576 whole sectors of 512 bytes (docs/COMMANDS.md, Commands)"
+            "with --large an image has 1 to 33554432 whole sectors of 512 bytes (docs/COMMANDS.md, Commands)"
         }
     }
 }

@@ -13,7 +13,7 @@ const DISCARD: u64 = 4;
 
 /// The four numbers of a header, as they stand there.
 #[derive(Clone, Copy)]
-struct Header {
+struct ShownHeader {
     sector: u64,
     count: u64,
     flags: u64,
@@ -21,11 +21,11 @@ struct Header {
 }
 
 /// The header that begins at a byte, where the file holds all of it.
-fn header_at(bytes: &[u8], at: usize) -> Option<Header> {
+fn header_at(bytes: &[u8], at: usize) -> Option<ShownHeader> {
     if at > bytes.len() || bytes.len() - at < SECTOR {
         return None;
     }
-    Some(Header {
+    Some(ShownHeader {
         sector: u64_at(bytes, at),
         count: u64_at(bytes, at + 8),
         flags: u64_at(bytes, at + 16),
@@ -45,7 +45,7 @@ fn sector_of(bytes: &[u8]) -> usize
 }
 
 /// How many bytes a header and its data take, in sectors of that many bytes.
-fn extent(header: &Header, sector: usize) -> Option<u64> {
+fn extent(header: &ShownHeader, sector: usize) -> Option<u64> {
     if header.flags / DISCARD % 2 == 1 {
         return Some(sector as u64);
     }
@@ -69,7 +69,7 @@ fn place_of(bytes: &[u8], number: usize) -> Option<usize> {
 }
 
 /// Appends a note with the numbers of a header.
-fn put_numbers(out: &mut String, number: usize, header: &Header) -> Result<(), AllocError> {
+fn put_numbers(out: &mut String, number: usize, header: &ShownHeader) -> Result<(), AllocError> {
     write!(
         out,
         "note: the header of entry {number} has sector {}",

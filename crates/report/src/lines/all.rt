@@ -10,8 +10,8 @@ ghost use Rattle.report.specs.Marks.{marks_of};
 
 use crate::lines::images::Images;
 use crate::lines::line::Line;
-use crate::lines::marks::Mark;
-use crate::lines::part::Part;
+use crate::lines::marks::LineMark;
+use crate::lines::part::LinesPart;
 use crate::lines::reading::read_marks;
 use std::alloc::{AllocError, Global};
 use std::marker::Model;
@@ -58,7 +58,7 @@ impl Lines {
     }
 
     /// These lines, and then those of the part.
-    pub fn followed_by(self, part: Part) -> Result<Lines, AllocError>
+    pub fn followed_by(self, part: LinesPart) -> Result<Lines, AllocError>
         ensures { IfOk result (λ lines. lines ≡ self ++ part) }
     {
         if part.is_empty() {
@@ -70,7 +70,7 @@ impl Lines {
             images,
             mut said,
         } = self;
-        let Part {
+        let LinesPart {
             text,
             leading_end,
             images: own,
@@ -126,7 +126,7 @@ impl Lines {
     /// # Errors
     ///
     /// Want of memory.
-    pub fn marks(&self, alloc: Global) -> Result<Vec<Mark>, AllocError>
+    pub fn marks(&self, alloc: Global) -> Result<Vec<LineMark>, AllocError>
         ensures { IfOk result (λ marks. marks.items ≡ marks_of self.now) }
     {
         let mut marks = Vec::new(alloc);

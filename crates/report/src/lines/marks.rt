@@ -2,7 +2,7 @@
 
 /// The image and the program of a failing line.
 #[derive(Clone, Copy, Drop)]
-pub struct Mark {
+pub struct LineMark {
     /// The number of the image.
     pub image: u64,
     /// The number of the program.

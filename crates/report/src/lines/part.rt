@@ -13,7 +13,7 @@ use std::snapshot::Snapshot;
 /// Some failing lines in a row, as they are printed: their text, and of which images they are. Contracts
 /// see the list of what the lines say.
 #[derive(Drop)]
-pub struct Part {
+pub struct LinesPart {
     /// The lines as they are printed.
     pub(crate) text: String,
     /// How many bytes of the text are of the first line and those after it of the same image.
@@ -25,7 +25,7 @@ pub struct Part {
     pub(crate) said: Vec<Snapshot<Line>>,
 }
 
-impl Model for Part {
+impl Model for LinesPart {
     ghost use Rattle.std.specs.Prelude.{List, string_bytes};
     ghost use Rattle.report.specs.Line.{FailingLine};
 
@@ -64,12 +64,12 @@ fn end_of(leads: bool, end: usize, before: usize) -> usize
     if leads { end } else { before }
 }
 
-impl Part {
+impl LinesPart {
     /// No line.
-    pub fn new(alloc: Global) -> Part
+    pub fn new(alloc: Global) -> LinesPart
         ensures { result ≡ [] }
     {
-        Part {
+        LinesPart {
             text: String::new(alloc),
             leading_end: 0,
             images: Images::none(),

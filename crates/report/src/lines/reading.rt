@@ -6,7 +6,7 @@ ghost use Rattle.std.specs.Prelude.{ℕ, ◌≡◌, ◌-◌, ◌<◌, ◌≤◌,
 ghost use Rattle.std.specs.Fmt.{decimal};
 ghost use Rattle.report.specs.MarkReading.{IsCutAt, ReadsField, ReadsLine, ReadsLines};
 
-use crate::lines::marks::Mark;
+use crate::lines::marks::LineMark;
 use std::alloc::AllocError;
 
 /// What stands before and after the first such character.
@@ -51,7 +51,7 @@ fn program_number(word: &str) -> u8
 }
 
 /// The mark of the first line, and the lines after it.
-fn read_mark(text: &str) -> (Mark, &str)
+fn read_mark(text: &str) -> (LineMark, &str)
     ensures line { ReadsLine text.now result.0 result.1.now }
     ensures shorter { length result.1.now ≤ length text.now - 1 }
 {
@@ -59,7 +59,7 @@ fn read_mark(text: &str) -> (Mark, &str)
     let (_cut, after_cut) = field(after_image);
     let (program, after_program) = field(after_cut);
     let (_said, more) = cut(after_program, '\n');
-    let mark = Mark {
+    let mark = LineMark {
         image: number(image),
         program: program_number(program),
     };
@@ -67,7 +67,7 @@ fn read_mark(text: &str) -> (Mark, &str)
 }
 
 /// Appends the marks of the lines of a text.
-pub(crate) fn read_marks(marks: &mut Vec<Mark>, text: &str) -> Result<(), AllocError>
+pub(crate) fn read_marks(marks: &mut Vec<LineMark>, text: &str) -> Result<(), AllocError>
     ensures { OnOk result (ReadsLines text.now marks.old.items marks.new.items) }
 {
     let mut rest = text;

@@ -3,7 +3,7 @@
 ghost use Rattle.std.specs.Prelude.{ℕ, ◌≡◌, ◌+◌, ◌<◌, ◌≤◌, ◌++◌, ◌∷◌, [], List, Some, if◌then◌else◌, IsTrue, IsFalse, IfOk, OnOk, length, slice_index, slice_get};
 ghost use Rattle.logfmt.specs.declared.entry.Entry.{Entry};
 ghost use Rattle.request.specs.Promises.{forces, is_unforced, ArePromises, AreFirst};
-ghost use Rattle.request.specs.Search.{AreWithin, is_among, AllAre, OneIsNot, AreStamped, TellForced, IsUnforced, NoneIsUnforced, IsJudged, IsSearched};
+ghost use Rattle.request.specs.PromiseSearch.{AreWithin, is_among, AllAre, OneIsNot, AreStamped, TellForced, IsUnforced, NoneIsUnforced, IsJudged, IsSearched};
 
 use arrayvec::ArrayVec;
 use logfmt::{Entry, Log};
@@ -20,7 +20,7 @@ pub struct Promises {
 
 /// The search for such marks, which goes from entry to entry.
 #[derive(Drop)]
-pub(crate) struct Search {
+pub(crate) struct PromiseSearch {
     /// For each sector the mark, plus 1, before which it was last seen that an entry with FUA covers the sector. Without sectors until a
     /// mark comes.
     pub(crate) stamps: Vec<u32>,
@@ -130,7 +130,7 @@ fn start_by(entry: &Entry, place: usize, start: usize) -> usize
     if entry.flags.flush { place } else { start }
 }
 
-impl Search {
+impl PromiseSearch {
     /// Judges a mark by the entries from the start on.
     fn judge(&mut self, entries: &[Entry], sectors: usize, mark: usize) -> Result<(), AllocError>
         requires within { AreWithin sectors entries.now }
@@ -174,7 +174,7 @@ pub(crate) fn promises_of(alloc: Global, log: &Log) -> Result<Promises, AllocErr
     ensures { IfOk result (ArePromises log.now.entries) }
 {
     let (entries, sectors) = (log.entries(), log.sectors() as usize);
-    let mut search = Search {
+    let mut search = PromiseSearch {
         stamps: Vec::new(alloc),
         start: 0,
         found: Promises::new(),

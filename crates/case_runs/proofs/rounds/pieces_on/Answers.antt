@@ -1,6 +1,6 @@
 use Rattle.std.proofs.Common.{◌≡◌, ◌∷◌, List, length, sym, subst, ap, arith}
 use Rattle.std.specs.Vec.Iter.{into_iter_items}
-use Rattle.case_runs.specs.declared.pieces.Piece.{Piece}
+use Rattle.case_runs.specs.declared.pieces.Subtree.{Subtree}
 use Rattle.case_runs.specs.Shares.{AreAllOf}
 use Rattle.case_runs.proofs.Stretching.{none_left}
 use Rattle.case_runs.proofs.Turning.{same_next, same_end}
@@ -26,4 +26,4 @@ returns-clause-pieces c =
     let work = c.args.work.now in
     same_end work c.args.cut c.args.program (into_iter_items c.into_iter-piece-iterator.result) at.out.items (into_iter_items at.piece-iterator) at.invariant.1
     (none_left (into_iter_items at.piece-iterator) _ at.invariant.2 c.in-None.ensures.steps.0)
-    (subst (λ (ps : List Piece). AreAllOf work c.args.cut c.args.program ps) (sym c.into_iter-piece-iterator.ensures.into_iter_gives.0) c.requires.pieces)
+    (subst (λ (ps : List Subtree). AreAllOf work c.args.cut c.args.program ps) (sym c.into_iter-piece-iterator.ensures.into_iter_gives.0) c.requires.pieces)

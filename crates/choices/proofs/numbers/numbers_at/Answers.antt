@@ -1,7 +1,7 @@
 use Rattle.std.proofs.Common.{ℕ, List, Some, ap, sym, ◌∙◌, subst, arith}
 use Rattle.std.specs.Option.{option_map}
 use Rattle.choices.specs.declared.pick.Pick.{Pick}
-use Rattle.choices.specs.Picks.{ArePicks, most_fates, fates_of}
+use Rattle.choices.specs.Picks.{ArePicks, most_fates}
 use Rattle.choices.specs.Numbers.{numbers_of}
 use Rattle.choices.proofs.Plans.{nth_picks, ranked_at-ways, same_picks}
 use Rattle.choices.proofs.numbers.numbers_at.Goals as goal

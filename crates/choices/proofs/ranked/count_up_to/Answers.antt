@@ -8,12 +8,12 @@ loop-cut-init c = (sym (before_none _ _ _), omega arith)
 pub returns-then-own-left-clause-past : goal.returns-then-own-left-clause-past
 returns-then-own-left-clause-past c =
     let so = c.loop-cut.invariant in
-    first_past _ _ _ _ _ _ _ _ c.cuts-cut-items.ensures.value c.loop-cut-test.true so.0 c.ways_at-own.ensures.value so.1 c.if-own-left.true
+    first_past _ _ _ _ _ _ _ _ c.cuts-cut-items.ensures.value c.loop-cut-test.true so.0 c.ways_at-own.ensures.value so.1 (omega (arith, c.if-own-left.true, c.from-left.ensures))
 
 pub loop-cut-preserved : goal.loop-cut-preserved
 loop-cut-preserved c =
     let so = c.loop-cut.invariant in
-    (counted _ _ _ _ _ _ _ c.cuts-cut-items.ensures.value c.loop-cut-test.true so.0 c.ways_at-own.ensures.value, omega (arith, so.1, c.if-own-left.false))
+    (counted _ _ _ _ _ _ _ c.cuts-cut-items.ensures.value c.loop-cut-test.true so.0 c.ways_at-own.ensures.value, omega (arith, so.1, c.if-own-left.false, c.from-left.ensures))
 
 pub returns-clause-value : goal.returns-clause-value
 returns-clause-value c = counted_all _ _ _ _ _ _ c.cuts-cut-items.ensures.value c.loop-cut-test.false c.loop-cut.invariant.0

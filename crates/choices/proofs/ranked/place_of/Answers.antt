@@ -7,7 +7,7 @@ bounds-cuts-place c = walk_begins _ _ _ _ _ c.cuts-cuts.ensures.value c.requires
 
 pub loop-own-init : goal.loop-own-init
 loop-own-init c =
-    walk_first _ _ _ _ _ (walk_begins _ _ _ _ _ c.cuts-cuts.ensures.value c.requires.number) _ c.ways_at-own.ensures.value
+    rw c.from-rest.ensures (walk_first _ _ _ _ _ (walk_begins _ _ _ _ _ c.cuts-cuts.ensures.value c.requires.number) _ c.ways_at-own.ensures.value)
 
 pub bounds-cuts-place-in-loop-own : goal.bounds-cuts-place-in-loop-own
 bounds-cuts-place-in-loop-own c = walk_room _ _ _ _ _ _ _ _ c.loop-own.invariant c.cuts-cuts.ensures.value c.loop-own-test.true c.requires.number

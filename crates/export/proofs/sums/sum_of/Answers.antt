@@ -13,7 +13,7 @@ overflow_add-sum c =
     let end = c.sectors-number-end.ensures.value in
     let lt = c.loop-number-test.true in
     let long = length-range_with_len 0 c.loop-number.number in
-    let sum = sum_fits (sectors_of c.args.image.now) (range_with_len 0 c.loop-number.number) c.loop-number.sum 1048576 c.loop-number.invariant (omega (arith, long, lt, end, device)) (omega arith) in
+    let sum = sum_fits (sectors_of c.args.image.now) (range_with_len 0 c.loop-number.number) c.loop-number.sum 33554432 c.loop-number.invariant (omega (arith, long, lt, end, device)) (omega arith) in
     let weight = weight_fits _ _ c.weight-sum.result c.weight-sum.ensures in
     omega (arith, sum, weight)
 

@@ -13,7 +13,7 @@ overflow_add-sum c =
     let few = c.requires.few in
     let log = ap (λ (l : LogValue). l.sectors) c.log.ensures.value in
     let long = take_short c.args.numbers.now c.loop-number.number-index in
-    let sum = sum_fits (sectors_of c.args.image.now) (take c.loop-number.number-index c.args.numbers.now) c.loop-number.sum 1048576 c.loop-number.invariant
+    let sum = sum_fits (sectors_of c.args.image.now) (take c.loop-number.number-index c.args.numbers.now) c.loop-number.sum 33554432 c.loop-number.invariant
     (omega (arith, long, few, log, device)) (omega arith) in
     let weight = weight_fits _ _ c.weight-sum.result c.weight-sum.ensures in
     omega (arith, sum, weight)

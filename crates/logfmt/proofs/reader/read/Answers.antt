@@ -14,7 +14,7 @@ pub loop-number-preserved : goal.loop-number-preserved
 loop-number-preserved c =
     let made = c.in_ok-entry_of.ensures in
     rw c.in_ok-push.ensures.items
-    (go_on _ _ _ _ _ _ c.in_ok-entry_of.field-0 c.loop-number.invariant c.in-Ok.ensures.exact made.stands made.fits made.recorded
+    (go_on _ _ _ _ _ _ _ c.in_ok-entry_of.field-0 c.loop-number.invariant c.in-Ok.ensures.exact made.stands made.fits made.recorded
     c.in-Ok.header c.in-Ok.ensures.stands c.in-Ok.ensures.within c.data_sectors.result c.data_sectors.ensures)
 
 pub returns-clause-found : goal.returns-clause-found
@@ -22,3 +22,8 @@ returns-clause-found c =
     let passed = c.in_default.ensures.passes in
     rw (c.of.ensures, c.none.ensures)
     (whole_text _ _ c.args.limits _ _ _ _ passed c.requires.some c.requires.device (omega arith) c.loop-number.invariant)
+
+pub returns-clause-units : goal.returns-clause-units
+returns-clause-units c =
+    let so = c.loop-number.invariant in
+    rw c.of.ensures (omega (arith, so.sum, so.within))

@@ -1,8 +1,8 @@
 use Rattle.std.proofs.Common.{rules, ℕ, ◌≡◌, ◌≤◌, ◌⊎◌, ◌∙◌, List, length, ap, subst, arith}
-use Rattle.base.specs.Sizes.{byte_limit}
+use Rattle.base.specs.Sizes.{byte_limit, unit_limit}
 use Rattle.base.specs.declared.causes.LogCause.TheVariants as cause
 use Rattle.base.specs.declared.limits.Limits.{Limits}
-use Rattle.logfmt.specs.Bounds.{AreBytes}
+use Rattle.logfmt.specs.Bounds.{AreBytes, units_of}
 use Rattle.logfmt.specs.Faults.{FirstFault}
 use Rattle.request.proofs.Logs.{recorded_over}
 use Rattle.request.proofs.source.log_over_base.Goals as goal
@@ -27,4 +27,5 @@ returns-in-Ok-of-clause-log c =
     rw (c.over.ensures, c.in-Ok-of.ensures.value)
     (recorded_over (record { text = c.args.bytes.now; initial = c.args.initial.now }) c.args.options.now c.in-Ok.log c.in-Ok.ensures.found
     (c.in-Ok.ensures.sectors ∙ c.sectors.ensures.value)
-    (subst (λ (l : Limits). length c.args.bytes.now ≤ byte_limit l) c.limits.ensures c.in-Ok.ensures.size) c.requires are)
+    (subst (λ (l : Limits). length c.args.bytes.now ≤ byte_limit l) c.limits.ensures c.in-Ok.ensures.size)
+    (subst (λ (l : Limits). units_of c.in-Ok.log.entries ≤ unit_limit l) c.limits.ensures c.in-Ok.ensures.units) c.requires are)

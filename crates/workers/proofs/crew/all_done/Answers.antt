@@ -1,7 +1,7 @@
 use Rattle.std.proofs.Common.{◌≡◌, ◌∙◌, sym, subst, arith}
 use Rattle.std.proofs.lemmas.Option.{get_or_from_slice_get, slice_get_within}
 use Rattle.workers.specs.Crew.{IsDone}
-use Rattle.workers.specs.declared.crew.Job.{Job}
+use Rattle.workers.specs.declared.crew.WorkerStart.{WorkerStart}
 use Rattle.workers.specs.declared.crew.Done.{Done}
 use Rattle.workers.proofs.Back.{ok_both, all_given}
 use Rattle.workers.proofs.Crossing.{Done-send}
@@ -22,4 +22,4 @@ returns g c =
     let given = (each i d (slice_get_within c.args.jobs.items i j at_job)).1 in
     let same_job : given.job ≡ j = sym (given.job_is j) ∙ get_or_from_slice_get c.args.jobs.items i j j at_job in
     let same_done = get_or_from_slice_get v.items i d d at_done in
-    subst (λ (one : Job g.row.H.Denot). IsDone s name one.hand.place d) same_job (subst (λ (one : Done g.row.H.Denot). IsDone s name given.job.hand.place one) same_done given.call.met)))
+    subst (λ (one : WorkerStart g.row.H.Denot). IsDone s name one.hand.place d) same_job (subst (λ (one : Done g.row.H.Denot). IsDone s name given.job.hand.place one) same_done given.call.met)))

@@ -1,5 +1,5 @@
 use Rattle.std.proofs.Common.{◌≡◌, false, replicate}
-use Rattle.explore_core.specs.declared.hand.Hand.TheVariants.{Idle}
+use Rattle.explore_core.specs.declared.hand.WorkerHand.TheVariants.{Idle}
 use Rattle.explore_core.proofs.explore.Explore.new.Given as goal
 
 abbrev pub invariant-loop-worker : goal.invariant-loop-worker

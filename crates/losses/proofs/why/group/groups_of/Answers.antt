@@ -1,6 +1,6 @@
 use Rattle.std.proofs.Common.{◌≡◌, ◌+◌, ◌<◌, ◌∙◌, length, map, ℕ, true, List, arith}
 use Rattle.std.specs.List.{slice_index_or}
-use Rattle.losses.specs.declared.why.group.Group.{Group}
+use Rattle.losses.specs.declared.why.group.FailingGroup.{FailingGroup}
 use Rattle.losses.specs.CountedGroups.{times, same_at, group_at}
 use Rattle.losses.proofs.GroupCounting.{group_more, at_any_default}
 use Rattle.losses.proofs.Sames.{flag_at}
@@ -21,7 +21,7 @@ loop-place-preserved c =
     c.index.ensures ∙ at_any_default c.in_ok-counts.counts.items k _ 0 inside ∙ c.in_ok-counts.ensures.counts k in
     let same : c.index-in-loop-place.result.now ≡ same_at outs c.args.begin c.args.places.now k =
     c.index-in-loop-place.ensures ∙ flag_at c.in_ok-same.same.items k _ true within ∙ c.in_ok-same.ensures.same k below in
-    let g : Group = record { image = slice_index_or c.args.images.now k 0; line = c.args.begin + k; failing = c.index.result.now; same = c.index-in-loop-place.result.now } in
+    let g : FailingGroup = record { image = slice_index_or c.args.images.now k 0; line = c.args.begin + k; failing = c.index.result.now; same = c.index-in-loop-place.result.now } in
     let is : g ≡ group_at outs c.args.begin c.args.images.now c.args.places.now k =
     λ i. record { image = slice_index_or c.args.images.now k 0; line = c.args.begin + k; failing = count i; same = same i } in
     group_more outs c.args.begin c.args.images.now c.args.places.now k g c.loop-place.groups.items c.push_group.new.groups.items c.loop-place.invariant is c.in_ok-push_group.ensures

@@ -1,0 +1,7 @@
+use Rattle.std.proofs.Common.{subst}
+use Rattle.logfmt.specs.Bounds.{IsLog}
+use Rattle.images.specs.Views.{ViewValue}
+use Rattle.export.proofs.image.ExportedImage.log.Goals as goal
+
+pub returns-clause-bounds : goal.returns-clause-bounds
+returns-clause-bounds c = subst (λ (v : ViewValue). IsLog v.log) c.self.view_is c.self.invariant.bounds
