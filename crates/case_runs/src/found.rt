@@ -4,7 +4,7 @@ ghost use Rattle.std.specs.Prelude.{◌≡◌, ◌+◌, ◌≤◌, length, All, 
 ghost use Rattle.images.specs.Views.{context_at};
 ghost use Rattle.checker.specs.Checker.{AreFor};
 ghost use Rattle.case_runs.specs.Leaves.{IsFit};
-ghost use Rattle.case_runs.specs.FoundCases.{IsFoundAt, IsBegunAt, AreFoundAt, AreFoundIn, cases_at, cases_in, most_cases, StopsAtOne, StopsAt, StopsIn};
+ghost use Rattle.case_runs.specs.Found.{IsFoundAt, IsBegunAt, AreFoundAt, AreFoundIn, cases_at, cases_in, most_cases, StopsAtOne, StopsAt, StopsIn};
 
 use crate::gate::{CaseGate, Watched};
 use crate::joining::joined;

@@ -3,7 +3,7 @@
 ghost use Rattle.std.specs.Prelude.{◌≡◌, ◌≤◌, ◌<◌, ◌+◌, ◌^◌, ◌++◌, ◌∷◌, [], length, map, slice_get, Some, All, IfOk, IfErr, OnOk};
 ghost use Rattle.checker.specs.Checker.{AreFor};
 ghost use Rattle.case_runs.specs.Leaves.{failing_value};
-ghost use Rattle.case_runs.specs.FoundCases.{IsFoundAt, AreFoundAt, AreFoundIn, cases_at, cases_in, most_cases, StopsAtOne, StopsAt, StopsIn};
+ghost use Rattle.case_runs.specs.Found.{IsFoundAt, AreFoundAt, AreFoundIn, cases_at, cases_in, most_cases, StopsAtOne, StopsAt, StopsIn};
 ghost use Rattle.case_runs.specs.Pieces.{subject_in, start_case, IsStart, StartsSo, IsStep, RanFrom, later, JoinsSo};
 ghost use Rattle.case_runs.specs.Shares.{cut_in, AreAllOf, IsBegun};
 

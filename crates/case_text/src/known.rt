@@ -5,7 +5,7 @@ ghost use Rattle.std.specs.Option.{option_or};
 ghost use Rattle.cases.specs.Choices.{departs};
 ghost use Rattle.cases.specs.Sets.{fates_in};
 ghost use Rattle.cases.specs.AtCut.{Apart, case_of};
-ghost use Rattle.case_text.specs.KnownParts.{is_kept, is_mixed, is_free, is_never_whole, is_never_gone, known_of};
+ghost use Rattle.case_text.specs.Known.{is_kept, is_mixed, is_free, is_never_whole, is_never_gone, known_of};
 ghost use Rattle.case_text.specs.Collected.{mixed_value, with_more};
 
 use crate::fates::{fates_of, is_free, is_kept, is_mixed, is_never_gone, is_never_whole, set_at};
@@ -41,7 +41,7 @@ pub struct KnownParts {
 
 impl Model for KnownParts {
     ghost use Rattle.std.specs.Prelude.{map};
-    ghost use Rattle.case_text.specs.KnownParts.{KnownValue};
+    ghost use Rattle.case_text.specs.Known.{KnownValue};
     ghost use Rattle.case_text.specs.Collected.{mixed_value};
 
     ghost Value = { KnownValue };

@@ -9,7 +9,7 @@ ghost use Rattle.images.specs.Views.{sectors_of};
 ghost use Rattle.export.specs.Export.{device_at, marks_before, is_same, first_same, new_count, image_text, record_text, export_text};
 ghost use Rattle.std.specs.Io.KnownBytes.{Appends};
 ghost use Rattle.export.specs.Streaming.{stream_of, Puts, PutsAll, PutsPart, TakesPart};
-ghost use Rattle.export.specs.KeptImages.{OfOneLog, sum_of, firsts, IsHeld, IsNext, IsFree, IsFound, IsKept, PutsImages};
+ghost use Rattle.export.specs.Kept.{OfOneLog, sum_of, firsts, IsHeld, IsNext, IsFree, IsFound, IsKept, PutsImages};
 
 use crate::asked::PlannedImages;
 use crate::differing::put_differing;

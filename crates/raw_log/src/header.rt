@@ -7,7 +7,7 @@ ghost use Rattle.logfmt.specs.Faults.{has_mark_form};
 ghost use Rattle.logfmt.specs.Flags.{has_bit};
 ghost use Rattle.raw_log.specs.Faults.{raw_super_checks, raw_entry_checks, is_on_device};
 ghost use Rattle.raw_log.specs.Raw.{IsTimes, bytes_in};
-ghost use Rattle.raw_log.specs.RawHeader.{SuperStands, HeaderStands, HeaderFits, IsMarkHeader, divided_header, data_bytes};
+ghost use Rattle.raw_log.specs.Header.{SuperStands, HeaderStands, HeaderFits, IsMarkHeader, divided_header, data_bytes};
 
 use base::causes::LogCause;
 use base::limits::Limits;

@@ -8,7 +8,7 @@ ghost use Rattle.base.specs.declared.causes.LogCause.TheVariants as cause;
 ghost use Rattle.logfmt.specs.Bounds.{AreBytes, IsEntry};
 ghost use Rattle.raw_log.specs.Raw.{IsTimes, bytes_in};
 ghost use Rattle.raw_log.specs.Faults.{FirstRawFault, HasNoRawFault};
-ghost use Rattle.raw_log.specs.RawHeader.{HeaderStands, HeaderFits, StandsDivided, data_bytes};
+ghost use Rattle.raw_log.specs.Header.{HeaderStands, HeaderFits, StandsDivided, data_bytes};
 ghost use Rattle.raw_log.specs.Imported.{IsImported};
 
 use crate::header::{RawHeader, checked_header, checked_super};

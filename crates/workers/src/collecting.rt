@@ -3,7 +3,7 @@
 ghost use Rattle.std.specs.Prelude.{◌≡◌, ◌<◌, ◌++◌, ◌∷◌, [], ℕ, All, List, length, position, IfOk, IfErr, OnOk};
 ghost use Rattle.std.specs.List.{flat_map};
 ghost use Rattle.workers.specs.Pieces.{PieceValue, AreWhole, lines_by_block, RefusesPieces};
-ghost use Rattle.workers.specs.PieceTable.{AreRows, first_of, is_missing, row_lines};
+ghost use Rattle.workers.specs.Table.{AreRows, first_of, is_missing, row_lines};
 
 use crate::block_lines::lower;
 use crate::piece::Piece;

@@ -3,7 +3,7 @@
 ghost use Rattle.std.specs.Prelude.{ℕ, ◌≡◌, ◌+◌, ◌<◌, ◌≤◌, ◌++◌, ◌∷◌, [], List, Some, if◌then◌else◌, IsTrue, IsFalse, IfOk, OnOk, length, slice_index, slice_get};
 ghost use Rattle.logfmt.specs.declared.entry.Entry.{Entry};
 ghost use Rattle.request.specs.Promises.{forces, is_unforced, ArePromises, AreFirst};
-ghost use Rattle.request.specs.PromiseSearch.{AreWithin, is_among, AllAre, OneIsNot, AreStamped, TellForced, IsUnforced, NoneIsUnforced, IsJudged, IsSearched};
+ghost use Rattle.request.specs.Search.{AreWithin, is_among, AllAre, OneIsNot, AreStamped, TellForced, IsUnforced, NoneIsUnforced, IsJudged, IsSearched};
 
 use arrayvec::ArrayVec;
 use logfmt::{Entry, Log};
