@@ -2,8 +2,8 @@
 use Rattle.std.proofs.Common.{Result, Ok, Err, IfOk}
 use denote.Param.Send.{IsSend, sendable}
 use Rattle.std.proofs.Crossing.{crosses}
-use Rattle.case_runs.specs.contracts.pieces.Piece as Piece
-use Rattle.case_runs.specs.contracts.pieces.Answer as Answer
+use Rattle.case_runs.specs.contracts.pieces.Subtree as Piece
+use Rattle.case_runs.specs.contracts.pieces.SubtreeAnswer as Answer
 
 -- it may cross threads
 
