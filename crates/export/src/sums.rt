@@ -13,7 +13,7 @@ const FACTOR: u64 = 0x9e37_79b9_7f4a_7c15;
 const SPARE: u32 = 26;
 
 /// A number in which each bit depends on many of another's.
-#[tactic(auto, unfolding(crate::specs::KeptImages::spread))]
+#[tactic(auto, unfolding(crate::specs::Kept::spread))]
 fn spread(number: u64) -> u64
     ensures { result ≡ spread number }
 {
@@ -21,7 +21,7 @@ fn spread(number: u64) -> u64
 }
 
 /// What a sector adds to the sum of an image. It isn't linear in the mix, so that images with few bytes seldom have one sum.
-#[tactic(auto, unfolding(crate::specs::KeptImages::weight))]
+#[tactic(auto, unfolding(crate::specs::Kept::weight))]
 fn weight(number: u32, sector: &[u8; 512]) -> u64
     ensures { result ≡ weight number sector.now }
 {
@@ -55,7 +55,7 @@ pub(crate) fn sum_of(image: &ExportedImage<'_>) -> u64
 }
 
 /// The key of an image by its sum and how many marks stand before its cut.
-#[tactic(auto, unfolding(crate::specs::KeptImages::key_by))]
+#[tactic(auto, unfolding(crate::specs::Kept::key_by))]
 pub(crate) fn key_of(sum: u64, marks: u32) -> u64
     ensures { result ≡ key_by sum marks }
 {

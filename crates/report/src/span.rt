@@ -19,7 +19,7 @@ pub struct Span {
 }
 
 /// Appends the two lines with which the text of a part begins.
-#[tactic(auto, unfolding(crate::specs::LinesPart::span_text))]
+#[tactic(auto, unfolding(crate::specs::Part::span_text))]
 pub fn put_span(out: &mut String, span: Span) -> Result<(), AllocError>
     ensures { OnOk result (string_bytes out.new ≡ string_bytes out.old ++ span_text span) }
 {

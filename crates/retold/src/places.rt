@@ -141,7 +141,7 @@ fn put_untried(out: &mut String, entries: &[u32]) -> Result<(), AllocError>
 }
 
 /// Appends that these are more flushes than a run can be given.
-#[tactic(auto, unfolding(crate::specs::ToldLine::beyond_line))]
+#[tactic(auto, unfolding(crate::specs::Told::beyond_line))]
 fn put_beyond(out: &mut String, count: usize) -> Result<(), AllocError>
     ensures { OnOk result (string_bytes out.new ≡ string_bytes out.old ++ beyond_line count) }
 {
