@@ -66,7 +66,7 @@ REFUSALS = (
     "base::refusal::Refusal",
     "base::causes::VerifierCause",
     "logfmt::LogFault",
-    "case_runs::CasesFault",
+    "case_runs::SearchFault",
     "choices::TooMany",
     "bpf_isa::program::CodeFault",
     "bpf_asm::fault::AsmFault",

@@ -81,9 +81,9 @@
 //!
 //! # How it is written
 //!
-//! The cases of a cut that end alike and have one window are told by the end of their lines (`Told`): where two of these are the same bytes.
+//! The cases of a cut that end alike and have one window are told by the end of their lines (`ToldFailing`): where two of these are the same bytes.
 //!
-//! What is known of a case is collected part by part into lists, which are kept from case to case (`Known`). So a case takes no memory but
+//! What is known of a case is collected part by part into lists, which are kept from case to case (`KnownParts`). So a case takes no memory but
 //! the growth of the text. What is the same for all cases of a cut is found once (`Site`).
 //!
 //! # Example

@@ -69,7 +69,7 @@
 //!
 //! # How it is proved
 //!
-//! - One lemma for each event over `(hand : Option Hand) → slice_get hands w ≡ hand → ..`, with the cases of the hand
+//! - One lemma for each event over `(hand : Option WorkerHand) → slice_get hands w ≡ hand → ..`, with the cases of the hand
 //!   inside, is 30 to 40 lines and proves at once (`explore_core/proofs/Sound.antt`).
 #![tactic(auto)]
 

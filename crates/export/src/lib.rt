@@ -14,15 +14,15 @@
 //!
 //! | Call | Answer |
 //! |---|---|
-//! | `Asked::of(log, plan, wanted)` | the images of a plan that are wanted: from a number to before another, by a bound, with tears or without |
+//! | `PlannedImages::of(log, plan, wanted)` | the images of a plan that are wanted: from a number to before another, by a bound, with tears or without |
 //! | `export(alloc, &asked, output)` | writes their text, as it is made |
 //! | `Output::new(writer)`, `emit(&mut output, bytes)` | a writer that is asked no more once a write has failed, and writing all of some bytes to it |
 //!
 //! # Place
 //!
 //! Above `images`, whose crash images it tells of, `choices`, which numbers them, and `report`, which prints a choice. `inspect`
-//! prints the text for the command `export`. It counts the images of its plan, makes an `Asked` of the options, and says why a
-//! text is cut off; `Fault::Memory` is then its refusal for want of memory. Each `requires` of `Asked::of` is a fact that it has
+//! prints the text for the command `export`. It counts the images of its plan, makes `PlannedImages` of the options, and says why a
+//! text is cut off; `StreamFault::Memory` is then its refusal for want of memory. Each `requires` of `PlannedImages::of` is a fact that it has
 //! then: the bound of its options, the number that was counted, and a part of at most 16,777,216 images that lies within it.
 //!
 //! # What is proved
@@ -61,14 +61,14 @@
 //! ```
 //! use choices::count;
 //! use epochs::{By, Cuts, Plan};
-//! use export::{Asked, Output, Wanted, export};
+//! use export::{Output, PlannedImages, WantedImages, export};
 //!
 //! // `log` writes sector 0 twice, first 0x11 and then 0x22
 //! let plan = Plan::new(alloc, &log, Cuts::ALL, By::Sector)?;
 //! let images = count(&plan, 1, false)?;
-//! let wanted = Wanted { by: By::Sector, bound: 1, tears: false, from: 0, to: images };
+//! let wanted = WantedImages { by: By::Sector, bound: 1, tears: false, from: 0, to: images };
 //! let output = Output::new(Vec::new(alloc));
-//! let (written, output) = export(alloc, &Asked::of(&log, &plan, wanted), output);
+//! let (written, output) = export(alloc, &PlannedImages::of(&log, &plan, wanted), output);
 //! // written: Ok(()); output.into_writer() begins with the line 'image 0 cut 0 epoch 0 marks 0 choice - new 0',
 //! // and ends with 'total 6 new 3'
 //! ```

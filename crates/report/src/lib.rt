@@ -42,9 +42,9 @@
 //! | Type | What it is |
 //! |---|---|
 //! | `Line` | one image with one program on which it fails |
-//! | `Part` | lines in a row, as they are printed |
+//! | `LinesPart` | lines in a row, as they are printed |
 //! | `Lines` | lines in their order, made of parts |
-//! | `Mark` | of which image and which program a line is |
+//! | `LineMark` | of which image and which program a line is |
 //!
 //! # Place
 //!
@@ -75,8 +75,8 @@
 //!
 //! ## `lines`
 //!
-//! Contracts see `Part` and `Lines` as a list of `FailingLine`, what the lines say (`specs/Line.antt`):
-//! `Part::push` adds to its end, and keeps the lines where memory is wanting; `followed_by` puts a part
+//! Contracts see `LinesPart` and `Lines` as a list of `FailingLine`, what the lines say (`specs/Line.antt`):
+//! `LinesPart::push` adds to its end, and keeps the lines where memory is wanting; `followed_by` puts a part
 //! after all lines so far. `put` appends exactly `line_text` of each line (`specs/LineText.antt`), and where
 //! the lines are in the order of their images, `put_first` that of the lines of the first image, and
 //! `image_count` counts their images. `marks` answers the mark of each line, in their order.
@@ -121,7 +121,7 @@
 //! use arrayvec::ArrayVec;
 //! use epochs::By;
 //! use interp::{Outcome, Verdict};
-//! use report::lines::{Line, Lines, Part};
+//! use report::lines::{Line, Lines, LinesPart};
 //!
 //! // `choice` is 0.0:head1 at cut 1
 //! let line = Line {
@@ -132,7 +132,7 @@
 //!     by: By::Sector,
 //!     departures: choice.departures_owned(),
 //! };
-//! let mut part = Part::new(alloc);
+//! let mut part = LinesPart::new(alloc);
 //! part.push(line)?;
 //! let lines = Lines::new(alloc).followed_by(part)?;
 //! let count = lines.len();        // 1

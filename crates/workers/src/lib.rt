@@ -8,7 +8,7 @@
 //! | Type or call | What it is |
 //! |---|---|
 //! | `Input::new(plan, starts, history, checkers, by, asked)` | what is judged |
-//! | `Asked` | what is asked of a run, by names: bound and tears, the first failing image or all, how many workers, how large a cache, and which images |
+//! | `AskedRun` | what is asked of a run, by names: bound and tears, the first failing image or all, how many workers, how large a cache, and which images |
 //! | `judge_block(rt, alloc, input, shards, block)` | the piece of a block: its lines, by image and then by checker |
 //! | `Piece::passed(block, image)` | the piece of a block that was passed over after a failing image, less the first one that is judged |
 //! | `collect(alloc, pieces, from, blocks)` | all lines, of pieces in any order; refused where a block has two pieces or none |
@@ -138,15 +138,15 @@
 //! use std::marker::Brand;
 //! use std::sync::Mutex;
 //! use verdict_cache::{Shard, shards};
-//! use workers::{Asked, Input, OpenGate, Piece, collect, explore_all, judge_block};
+//! use workers::{AskedRun, Input, OpenGate, Piece, collect, explore_all, judge_block};
 //!
 //! // `plan` has 200 images, `starts` is its table of choices, and the checker answers 1 on image 150 alone
-//! let asked = Asked { bound: 1, tears: false, from: 0, to: 200, first: false, workers: 2, cache: 0 };
+//! let asked = AskedRun { bound: 1, tears: false, from: 0, to: 200, first: false, workers: 2, cache: 0 };
 //! let whole = Input::new(&plan, &starts, &history, checkers, By::Sector, asked);
 //! let blocks = whole.block_count();                           // 4: the last block has 8 images
 //! let work = explore_all(rt, alloc, &OpenGate, &whole)?;      // `work.lines` has one line, of image 150
 //! // the same by hand, of the images from 100 on
-//! let asked = Asked { bound: 1, tears: false, from: 100, to: 200, first: false, workers: 2, cache: 0 };
+//! let asked = AskedRun { bound: 1, tears: false, from: 100, to: 200, first: false, workers: 2, cache: 0 };
 //! let part = Input::new(&plan, &starts, &history, checkers, By::Sector, asked);
 //! let blocks = part.block_count();                            // 2: of images 100 to 163, and 164 to 199
 //! let shards: Vec<Mutex<Shard<'_, Brand>>> = shards(alloc, &history, checkers, 0)?;
