@@ -14,7 +14,7 @@ mod content;
 pub mod entries;
 mod text;
 
-use entries::{ALL, Which};
+use entries::{ALL, ExampleLog};
 use std::io::Write;
 use std::rt::Files;
 use std::{fs, io};
@@ -29,7 +29,7 @@ pub fn print_names<R: Print>(rt: &R) -> io::Result<()> {
 }
 
 /// Prints the bytes of a log, and says whether it isn't refused.
-pub fn print_log<R: AllocGlobal + Print>(rt: &R, which: Which) -> io::Result<bool> {
+pub fn print_log<R: AllocGlobal + Print>(rt: &R, which: ExampleLog) -> io::Result<bool> {
     match canonical(rt.alloc(), which) {
         Ok(bytes) => {
             io::writer(rt).write_all(bytes.as_slice())?;
@@ -40,7 +40,7 @@ pub fn print_log<R: AllocGlobal + Print>(rt: &R, which: Which) -> io::Result<boo
 }
 
 /// Says whether the file of a log has the bytes that it is to have.
-fn compare<R: Files + AllocGlobal + Print>(rt: &R, which: Which) -> io::Result<bool> {
+fn compare<R: Files + AllocGlobal + Print>(rt: &R, which: ExampleLog) -> io::Result<bool> {
     let Ok(bytes) = canonical(rt.alloc(), which) else {
         return Ok(false);
     };

@@ -42,7 +42,7 @@
 mod calls;
 mod logs;
 
-use logs::entries::Which;
+use logs::entries::ExampleLog;
 use std::process::ExitCode;
 use std::rt::{Env, Files};
 use std::sync::Wait;
@@ -68,7 +68,7 @@ fn act<R: Files + AllocGlobal + Print + Threads + Wait + Sync>(
             calls::make(rt)?;
             Ok(same)
         }
-        _ => match Which::of_name(word) {
+        _ => match ExampleLog::of_name(word) {
             Some(which) => logs::print_log(rt, which),
             None => Ok(false),
         },
