@@ -3,7 +3,7 @@ use Rattle.std.proofs.lemmas.Option.{slice_get_past}
 use Rattle.logfmt.specs.Initial.{initial_sector}
 use Rattle.inspect.specs.TrialImage.{ImageValue, device_of, length_device}
 use Rattle.inspect.proofs.Images.{sector_there}
-use Rattle.inspect.proofs.trial.image.ImageDevice.sector.Goals as goal
+use Rattle.inspect.proofs.trial.image.GivenImageDevice.sector.Goals as goal
 
 pub returns-then-n-self : goal.returns-then-n-self
 returns-then-n-self c =
