@@ -372,7 +372,11 @@ part_number r x lack = by_range x.from x.to refl refl
 
 -- a range that is printed begins within the log
 begins_within : (r : CaseRun) (x : AskedRange) → IsCasesText (printed_of r x) (cases_between r x) → start_of x ≤ r.head.entries
-begins_within r x is = let w = within_log (cases_between r x).head is.head in let a = w.first in let b = w.last in omega (arith, a, b)
+begins_within r x is =
+    let w = within_log (cases_between r x).head is.head in
+    let a : start_of x ≤ end_of r x = w.first in
+    let b : end_of r x ≤ r.head.entries = w.last in
+    omega (arith, a, b)
 
 -- where another one follows
 followed_number : (r : CaseRun) (from : ℕ) (whole x y : AskedRange) (xs : List AskedRange) → FollowToEnd r from whole (x ∷ y ∷ xs) → IsCasesText (printed_of r y) (cases_between r y) → number_in r x ≡ Some r.inputs
@@ -390,10 +394,14 @@ late_numbers : (r : CaseRun) (n : ℕ) (whole : AskedRange) (rs : List CasesRead
     → s.inputs ≡ Some r.inputs
 late_numbers r n whole [] xs said follow k s at = absurd (let bad : None ≡ Some s = at in cc)
 late_numbers r n whole (t ∷ rs) [] said follow k s at = absurd said
-late_numbers r n whole (t ∷ rs) (x ∷ []) said follow zero s at = ap (λ (y : CasesRead). y.inputs) (sym (one_there (t ∷ rs) 0 t s refl at)) ∙ said.0.inputs ∙ late_number r x n follow.0
+late_numbers r n whole (t ∷ rs) (x ∷ []) said follow zero s at =
+    let own : t.inputs ≡ number_in r x = said.0.inputs in
+    ap (λ (y : CasesRead). y.inputs) (sym (one_there (t ∷ rs) 0 t s refl at)) ∙ own ∙ late_number r x n follow.0
 late_numbers r n whole (t ∷ []) (x ∷ []) said follow (suc k) s at = absurd (let bad : None ≡ Some s = at in cc)
 late_numbers r n whole (t ∷ u ∷ rs) (x ∷ []) said follow (suc k) s at = absurd said.1
-late_numbers r n whole (t ∷ rs) (x ∷ y ∷ xs) said follow zero s at = ap (λ (y : CasesRead). y.inputs) (sym (one_there (t ∷ rs) 0 t s refl at)) ∙ said.0.inputs ∙ late_number r x n follow.0
+late_numbers r n whole (t ∷ rs) (x ∷ y ∷ xs) said follow zero s at =
+    let own : t.inputs ≡ number_in r x = said.0.inputs in
+    ap (λ (y : CasesRead). y.inputs) (sym (one_there (t ∷ rs) 0 t s refl at)) ∙ own ∙ late_number r x n follow.0
 late_numbers r n whole (t ∷ rs) (x ∷ y ∷ xs) said follow (suc k) s at = late_numbers r (end_of r x) whole rs (y ∷ xs) said.1 follow.1 k s at
 
 pub record TellNumber (rs : List CasesRead) : Type 0 where
@@ -413,7 +421,9 @@ one_number r from whole (t ∷ []) (x ∷ []) said follow printed = record { num
 one_number r from whole (t ∷ rs) (x ∷ y ∷ xs) said follow printed = record { number = Some r.inputs; is = own }
   where
     own : (k : ℕ) (s : CasesRead) → slice_get (t ∷ rs) k ≡ Some s → s.inputs ≡ Some r.inputs
-    own zero s at = ap (λ (z : CasesRead). z.inputs) (sym (one_there (t ∷ rs) 0 t s refl at)) ∙ said.0.inputs ∙ followed_number r from whole x y xs follow (printed 1 y (omega arith))
+    own zero s at =
+        let first : t.inputs ≡ number_in r x = said.0.inputs in
+        ap (λ (z : CasesRead). z.inputs) (sym (one_there (t ∷ rs) 0 t s refl at)) ∙ first ∙ followed_number r from whole x y xs follow (printed 1 y (omega arith))
     own (suc k) s at = late_numbers r (end_of r x) whole rs (y ∷ xs) said.1 follow.1 k s at
 
 -- and that is the number of the whole range, where it is told
