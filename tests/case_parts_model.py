@@ -26,6 +26,7 @@ from notation import SECTOR
 from parts_model import NUMBER, NUMBERS, below, is_program, joined
 
 FIRST = "crash cases 1"
+INPUTS = re.compile(f"inputs ({NUMBER})")
 OPTIONS = re.compile(
     f"(?P<device>sectors (?P<sectors>{NUMBER}) entries (?P<entries>{NUMBER}) cuts (?:all|flush|mark) bound any tears (?:no|yes torn (?P<torn>[123])))"
     f"(?: at-most (?P<most>{NUMBER}))?(?P<by> by write)?(?: flush (?P<flush>{NUMBERS}))?(?: from (?P<from>{NUMBER}))?(?: to (?P<to>{NUMBER}))?"
@@ -43,8 +44,10 @@ MOST_FILES, MOST_BYTES = 4096, 1 << 30
 
 @dataclass(frozen=True)
 class Read:
-    """A part as its text has it: its options without the range, the range as it is given, the programs, and what was found."""
+    """A part as its text has it: the number of its inputs, its options without the range, the range as it is given, the programs, and what
+    was found."""
 
+    inputs: object
     options: str
     given: tuple
     entries: int
@@ -53,7 +56,7 @@ class Read:
     totals: tuple
 
     def run(self):
-        return self.options, self.programs
+        return self.inputs, self.options, self.programs
 
     def span(self):
         """The first and the last of its cuts."""
@@ -141,9 +144,14 @@ def read_cases(text):
         return None
     if len(lines) < 5 or lines[0] != FIRST or lines[-1] != "":
         return None
+    said = INPUTS.fullmatch(lines[1])
+    inputs = said and said[1]
+    lines = lines[1:] if said else lines
     options = read_options(lines[1])
     programs = list(takewhile(lambda line: line.startswith("program "), lines[2:-2]))
     if not options or not 1 <= len(programs) <= 8 or not all(is_program(it, number) for number, it in enumerate(programs)):
+        return None
+    if (inputs is None) != (options["from"] is options["to"] is None) or not below(64, inputs):
         return None
     entries = int(options["entries"])
     span = int(options["from"] or 0), int(options["to"] or entries)
@@ -157,17 +165,17 @@ def read_cases(text):
     if not rising or not totals:
         return None
     without = re.sub(r" (?:from|to) [0-9]+", "", lines[1])
-    return Read(without, (options["from"], options["to"]), entries, tuple(programs), tuple(it[0] for it in found), totals)
+    return Read(inputs, without, (options["from"], options["to"]), entries, tuple(programs), tuple(it[0] for it in found), totals)
 
 
-def text_of(options, given, programs, lines, totals):
-    """The text of a run, its range as it is given."""
+def text_of(inputs, options, given, programs, lines, totals):
+    """The text of a run, its range as it is given, with the number of its inputs where there is one."""
     words = "".join(f" {word} {it}" for word, it in zip(("from", "to"), given) if it is not None)
     before, base, number = options.partition(" base ")
     cuts, total, failing, torn, lost = totals
     complete = "" if torn or lost else " complete"
     last = f"cuts {cuts} cases {total} failing {failing} torn beyond {torn} lost beyond {lost}{complete}"
-    return "".join(f"{it}\n" for it in (FIRST, before + words + base + number, *programs, *lines, last))
+    return "".join(f"{it}\n" for it in (FIRST, *([] if inputs is None else [f"inputs {inputs}"]), before + words + base + number, *programs, *lines, last))
 
 
 def joined_range(first, last):
@@ -208,8 +216,9 @@ def join_cases(texts, some=False):
         return 2, (63, len(texts))
     if not below(64, *totals):
         totals = tuple(min(it, 2**64 - 1) for it in totals)
-    lines = [line for it in parts for line in it.lines]
-    return 1 if lines else 0, text_of(parts[0].options, joined_range(parts[0], parts[-1]), parts[0].programs, lines, totals).encode()
+    lines, given = [line for it in parts for line in it.lines], joined_range(parts[0], parts[-1])
+    inputs = None if given == (None, None) else parts[0].inputs
+    return 1 if lines else 0, text_of(inputs, parts[0].options, given, parts[0].programs, lines, totals).encode()
 
 
 def join_texts(texts, some=False):
@@ -248,9 +257,10 @@ def holds(number, seed):
     said = []
     for count in range(1, min(len(cuts), 4) + 1):
         ranges = cut_ranges(run, losses, count)
-        texts = [cases(ranged(run, *it), checkers, losses).encode() for it in ranges]
+        inputs = chance.randrange(2**64)
+        texts = [cases(ranged(run, *it), checkers, losses, inputs).encode() for it in ranges]
         late, early = ranges[0][0] > 0, ranges[-1][1] < len(run.entries)
-        whole = cases(ranged(run, ranges[0][0], ranges[-1][1]) if late or early else ranged(run, None, None), checkers, losses)
+        whole = cases(ranged(run, ranges[0][0], ranges[-1][1]) if late or early else ranged(run, None, None), checkers, losses, inputs)
         answer = 0 if " failing 0 torn" in whole else 1, whole.encode()
         order = chance.sample(texts, len(texts))
         if join_cases(order, True) != answer:
@@ -262,11 +272,13 @@ def holds(number, seed):
             said.append("a part that is missing isn't seen")
         if len(texts) > 1 and join_cases([*texts, texts[0]], True) != (2, (64, len(texts))):
             said.append("a part that is there twice isn't seen")
+        if len(texts) > 1 and join_cases([texts[0], cases(ranged(run, *ranges[1]), checkers, losses, inputs ^ 1).encode()], True) != (2, (62, 1)):
+            said.append("a part of other inputs isn't seen")
         if len(texts) > 2 and join_cases([join_cases(texts[:2], True)[1], *texts[2:]], True) != answer:
             said.append("two steps don't come to the whole")
         other = changed(chance, texts[0])
         read = read_cases(other)
-        if read and text_of(read.options, read.given, read.programs, read.lines, read.totals).encode() != other:
+        if read and text_of(read.inputs, read.options, read.given, read.programs, read.lines, read.totals).encode() != other:
             said.append(f"a text is read that isn't printed so: {other}")
     return said
 

@@ -25,7 +25,7 @@ from dataclasses import dataclass, field
 sys.dont_write_bytecode = True
 
 from model import HEADS, TAILS, Checker, Image, Run, departed, kept, place_of, shown_lines
-from notation import FLUSH, FUA, MARK, SECTOR, random_entry
+from notation import FLUSH, FUA, MARK, SECTOR, OfInputs, random_entry
 
 PIECES, PIECE = 8, SECTOR // 8
 LOST = ["whole", "drop"]
@@ -272,8 +272,9 @@ def case_line(case, program, number, ending):
     return f"{text} free {free} flush {'none' if window is None else f'{window[0]}..{window[1]}'}\n"
 
 
-def cases(run, checkers, losses=ANY):
-    """What `explore --bound any` prints."""
+def cases(run, checkers, losses=ANY, inputs=None):
+    """What `explore --bound any` prints, by the number of the run's inputs, which a run of a range of the cuts tells; `?` stands for it where
+    it isn't given."""
     cuts, lines, total, failing, torn, lost = judged_cuts(run, losses), "", 0, 0, 0, 0
     for cut in (Cut(run, number) for number in cuts):
         for program, checker in enumerate(checkers):
@@ -284,12 +285,15 @@ def cases(run, checkers, losses=ANY):
             total, torn, lost = total + len(found.leaves), torn + found.torn_beyond, lost + found.lost_beyond
     complete = "" if torn or lost else " complete"
     totals = f"cuts {len(cuts)} cases {total} failing {failing} torn beyond {torn} lost beyond {lost}{complete}\n"
-    return "crash cases 1\n" + head(run, checkers, losses) + lines + totals
+    text = head(run, checkers, losses) + lines + totals
+    if run.first is None and run.last is None:
+        return "crash cases 1\n" + text
+    return OfInputs(f"crash cases 1\ninputs ?\n{text}") if inputs is None else f"crash cases 1\ninputs {inputs}\n{text}"
 
 
-def first_case(run, checkers, losses=ANY):
-    """What `explore --bound any --first` prints: the text up to its first line of a case, and which case that is; where no case fails, the
-    whole text. No case after it is looked at."""
+def first_case(run, checkers, losses=ANY, inputs=None):
+    """What `explore --bound any --first` prints: the text up to its first line of a case, without the number of the inputs, and which case
+    that is; where no case fails, the whole text. No case after it is looked at."""
     for cut in (Cut(run, number) for number in judged_cuts(run, losses)):
         for program, checker in enumerate(checkers):
             for number, (case, ending, good) in enumerate(cut.walk(checker, losses)):
@@ -297,7 +301,7 @@ def first_case(run, checkers, losses=ANY):
                     line = case_line(case, program, number, ending)
                     last = f"first cut {cut.number} program {program} case {number}\n"
                     return "crash cases 1\n" + head(run, checkers, losses) + line + last
-    return cases(run, checkers, losses)
+    return cases(run, checkers, losses, inputs)
 
 
 def status(text):

@@ -28,6 +28,7 @@ from footprint_soak import end_of_checker, look
 from machine_model import judged
 from model import Checker, Run
 from notation import log
+from parts_model import number_of
 from soaking import Soak, options, run_all
 from why_model import case_causes
 
@@ -113,7 +114,8 @@ class CasesSoak(Soak):
         words += (["--checked", str(limit)] if limit is not None else []) + ["--guards"] * guards + chance.choice([[], [], ["--workers", "4"]])
         is_first = chance.random() < 0.3
         try:
-            text = (first_case if is_first else cases)(run, checkers, losses)
+            inputs = number_of([it.read_bytes() for it in (Path(self.folder, name) for name in ("log", *files))])
+            text = (first_case if is_first else cases)(run, checkers, losses, inputs)
         except TooLong:
             return None
         words += ["--first"] * is_first

@@ -168,6 +168,11 @@ class Something:
     """Stands for an output that is there and isn't compared."""
 
 
+class OfInputs(str):
+    """Stands for an output with the line `inputs ?`, in which ? is the number of the run's inputs: of the files `log`, `p0`, `p1`, .. of the
+    row."""
+
+
 class Printable:
     """Stands for an output that has these texts, and nothing but lines of printable ASCII characters."""
 

@@ -105,6 +105,7 @@ import tempfile
 import time
 from collections import Counter
 from concurrent.futures import ThreadPoolExecutor
+from dataclasses import replace
 from pathlib import Path
 
 sys.dont_write_bytecode = True
@@ -115,7 +116,8 @@ sys.path.append(str(TOOLS))
 import completions
 import contrast
 import man_page
-from notation import SECONDS, TOP, Assembly, Folder, Hole, Link, Locked, Long, Pair, Printable, Something, log
+from notation import SECONDS, TOP, Assembly, Folder, Hole, Link, Locked, Long, OfInputs, Pair, Printable, Something, log
+from parts_model import number_of
 from rows import (
     answers,
     any_images,
@@ -396,6 +398,15 @@ def pair_differences(pair, runs):
     return found
 
 
+def numbered(row, folder):
+    """A row whose output has the number of its inputs, where that is made of its files."""
+    if not isinstance(getattr(row, "out", None), OfInputs):
+        return row
+    names = [it for it in row.files if it == "log" or re.fullmatch(r"p\d+", it)]
+    number = number_of([Path(folder, it).read_bytes() for it in names])
+    return replace(row, out=row.out.replace("inputs ?", f"inputs {number}", 1))
+
+
 def run_row(program, row, assembler):
     """The differences of one row, or of one pair."""
     with tempfile.TemporaryDirectory() as folder:
@@ -412,7 +423,7 @@ def run_row(program, row, assembler):
         except OSError as error:
             return [f"it can't be run: {error}"]
         out = Path(folder, "out").read_bytes() if row.to == "limited" else done.stdout
-        return differences(row, done, out)
+        return differences(numbered(row, folder), done, out)
 
 
 def all_rows():

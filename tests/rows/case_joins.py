@@ -26,8 +26,8 @@ def row_of(name, texts, some=False):
 
 
 def texts_of(run, checkers, losses, parts):
-    """The texts of a run that is laid out in that many parts."""
-    return [cases(ranged(run, *it), checkers, losses).encode() for it in cut_ranges(run, losses, parts)]
+    """The texts of a run that is laid out in that many parts, by the number of inputs 5, which no join asks for."""
+    return [cases(ranged(run, *it), checkers, losses, 5).encode() for it in cut_ranges(run, losses, parts)]
 
 
 # Joins that are the whole
@@ -72,7 +72,7 @@ LOSSES = Losses(1, None)
 THIRDS = texts_of(RUN, CHECKERS, LOSSES, 3)
 MIDDLE = THIRDS[1]
 LINES = MIDDLE.decode().split("\n")
-OPTIONS, PROGRAMS, LAST = LINES[1], list(takewhile(lambda it: it.startswith("program "), LINES[2:])), LINES[-2]
+OPTIONS, PROGRAMS, LAST = LINES[2], list(takewhile(lambda it: it.startswith("program "), LINES[3:])), LINES[-2]
 FAILING = [it for it in LINES if it.startswith("cut ")]
 MIXED = next(it for it in FAILING if " among " in it and " kept -" not in it)
 LOST = next(it for it in FAILING if re.search(r" choice [^ ]*drop,[^ ]*drop", it))
@@ -111,6 +111,15 @@ BROKEN = {
     "with a byte of 128 and more": changed(MIDDLE, "choice", b"choic\xe9"),
     "with zeros": changed(MIDDLE, "kept", "k\0pt"),
     "with the ends of lines of DOS": changed(MIDDLE, "\n", "\r\n", MIDDLE.count(b"\n")),
+    "without the number of its inputs": with_line("inputs 5", "").replace(b"\n\n", b"\n"),
+    "with no number of its inputs": with_line("inputs 5", "inputs "),
+    "with inputs that are no number": with_line("inputs 5", "inputs x"),
+    "with inputs with a zero before": with_line("inputs 5", "inputs 05"),
+    "with inputs 2^64": with_line("inputs 5", f"inputs {2**64}"),
+    "with a word after its inputs": with_line("inputs 5", "inputs 5 6"),
+    "with its inputs twice": with_line("inputs 5", "inputs 5\ninputs 5"),
+    "with its inputs after its options": changed(MIDDLE, f"inputs 5\n{OPTIONS}\n", f"{OPTIONS}\ninputs 5\n"),
+    "with inputs, of all cuts": with_match(OPTIONS, r" from \d+ to \d+", ""),
     "without options": changed(MIDDLE, OPTIONS + "\n", ""),
     "with a bound": with_words(OPTIONS, "bound any", "bound 3"),
     "with tears and no torn": with_words(OPTIONS, " torn 1", ""),
@@ -181,6 +190,8 @@ OTHERS = {
 
 # The middle part of runs that differ in one option, or in a program.
 STRANGE = {
+    "other inputs": with_line("inputs 5", "inputs 6"),
+    "the largest number of inputs": with_line("inputs 5", f"inputs {2**64 - 1}"),
     "2 torn": with_words(OPTIONS, "torn 1", "torn 2"),
     "at most 3": with_words(OPTIONS, "torn 1", "torn 1 at-most 3"),
     "other sectors": with_match(OPTIONS, r"sectors \d+", "sectors 5"),
@@ -202,7 +213,7 @@ def misused(name, texts, number, place, some=False):
 def many(first, last, total):
     """The text of a part of which no line is shown, with that many cases."""
     head = re.sub(r"from \d+ to \d+", f"from {first} to {last}", OPTIONS)
-    return "".join(f"{it}\n" for it in ("crash cases 1", head, *PROGRAMS, f"cuts 1 cases {total} failing 0 torn beyond 0 lost beyond 0 complete")).encode()
+    return "".join(f"{it}\n" for it in ("crash cases 1", "inputs 5", head, *PROGRAMS, f"cuts 1 cases {total} failing 0 torn beyond 0 lost beyond 0 complete")).encode()
 
 
 END = len(RUN.entries)
@@ -223,6 +234,11 @@ REFUSED = [
     misused("with the first twice", [*THIRDS, THIRDS[0]], 64, 3),
     misused("with the last twice", [THIRDS[2], *THIRDS], 64, 3),
     misused("the first alone", THIRDS[:1], 63, 1),
+    misused("all of one log but the last", [*THIRDS[:2], changed(THIRDS[2], "inputs 5", "inputs 6")], 62, 2),
+    misused("of other inputs before a gap", [THIRDS[0], changed(THIRDS[2], "inputs 5", "inputs 6")], 62, 1),
+    misused("the text of all cuts beside a part", [cases(ranged(RUN, None, None), CHECKERS, LOSSES).encode(), THIRDS[0]], 62, 1),
+    row_of("joined: of the largest number of inputs", [changed(it, "inputs 5", f"inputs {2**64 - 1}") for it in THIRDS[:2]], True),
+    row_of("joined: the text of all cuts alone", [cases(ranged(RUN, None, None), CHECKERS, LOSSES).encode()]),
     misused("too many cases", LARGE[::-1], 12, 0),
     misused("too many cases, as a part", LARGE, 12, 2, True),
     misused("too many cases, and the last is missing", [many(0, 2, MOST_CASES), many(3, 5, 1)], 12, 1),

@@ -356,9 +356,9 @@ def first(row, run, programs, checkers, losses=ANY, more=""):
     """A row of a run by --first: what `told` gives, and what the model says of the first."""
     text = first_case(run, checkers, losses)
     whole = told(row, run, programs, checkers, losses)
-    # the text of all, where none fails; else its beginning, up to and with its first line of a case
-    head = text[: text.rindex("first cut ")] if whole.status else whole.out
-    assert whole.out.startswith(head), f"{row}: the first isn't the first of all"
+    # the text of all, where none fails; else its beginning, up to and with its first line of a case, without the number of the inputs
+    head = text[: text.rindex("first cut ")] if whole.status else whole.out.replace("inputs ?\n", "")
+    assert whole.out.replace("inputs ?\n", "").startswith(head), f"{row}: the first isn't the first of all"
     assert "complete" not in text or not whole.status, row
     return told(f"{row}, first", run, programs, checkers, losses, f" --first{more}", text)
 

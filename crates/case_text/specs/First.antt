@@ -1,5 +1,5 @@
 -- The text of the first failing case alone (docs/OUTPUT.md, The text of cases). It begins as the text of all failing cases does, up to and
--- with its first line of a case. Its last line names that case again, and says nothing of any other.
+-- with its first line of a case, but has no number of the inputs. Its last line names that case again, and says nothing of any other.
 use Rattle.std.specs.Prelude.{ℕ, List, ◌++◌, codes}
 use Rattle.std.specs.Fmt.{decimal}
 use Rattle.logfmt.specs.Bounds.{LogValue}

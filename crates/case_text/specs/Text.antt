@@ -1,8 +1,9 @@
 -- The text of the failing cases of a run (docs/OUTPUT.md, The text of cases). Each line ends with one newline; numbers are decimal.
-use Rattle.std.specs.Prelude.{ℕ, ◌+◌, ◌-◌, ◌^◌, ◌==◌, min, Bool, not, ◌&&◌, if◌then◌else◌, List, [], ◌∷◌, ◌++◌, length, sum_by, Option, None, Some, codes}
+use Rattle.std.specs.Prelude.{ℕ, ◌+◌, ◌-◌, ◌^◌, ◌==◌, min, Bool, not, ◌&&◌, ◌||◌, if◌then◌else◌, List, [], ◌∷◌, ◌++◌, length, sum_by, Option, None, Some, is_some, codes}
 use Rattle.std.specs.Fmt.{decimal}
 use Rattle.std.specs.List.{flat_map, list_any}
 use Rattle.logfmt.specs.Bounds.{LogValue}
+use Rattle.epochs.specs.declared.cuts.Cuts.{Cuts}
 use Rattle.epochs.specs.declared.part.Part.{Part}
 use Rattle.epochs.specs.declared.part.By.{By}
 use Rattle.epochs.specs.Units.{epoch_at, marks_at}
@@ -37,9 +38,30 @@ losses_text asked = codes " bound any tears " ++ yes_or_no asked.tears ++ torn_w
 unfoldable pub options_text : HeadValue → Losses → List ℕ
 options_text h asked = device_text h ++ losses_text asked ++ given_text h ++ program_lines 0 h.programs
 
--- what stands before the lines of cases
+-- what stands before the line of the first failing case alone
 abbrev pub head_text : HeadValue → Losses → List ℕ
 head_text h asked = codes "crash cases 1\n" ++ options_text h asked
+
+-- a run is of a range of the cuts
+abbrev pub has_range : Cuts → Bool
+has_range cuts = is_some cuts.from || is_some cuts.to
+
+-- the number of its inputs is told where it is of a range
+abbrev pub inputs_told : Cuts → ℕ → Option ℕ
+inputs_told cuts inputs = if has_range cuts then Some inputs else None
+
+-- that number, on a line of its own
+abbrev pub inputs_text : Option ℕ → List ℕ
+inputs_text None = []
+inputs_text (Some inputs) = codes "inputs " ++ decimal inputs ++ codes "\n"
+
+-- the first line, and that of the inputs
+abbrev pub opening_text : Option ℕ → List ℕ
+opening_text inputs = codes "crash cases 1\n" ++ inputs_text inputs
+
+-- and the options and the programs: what stands before the lines of all failing cases
+abbrev pub cases_head : Option ℕ → HeadValue → Losses → List ℕ
+cases_head inputs h asked = opening_text inputs ++ options_text h asked
 
 -- what may become of a part
 abbrev pub fate_word : Option Fate → List ℕ
@@ -152,9 +174,10 @@ totals_text found =
     counts_text (length found) (count_cases found) (count_failing found) ++ beyond_text (count_torn_beyond found) (count_lost_beyond found)
     ++ complete_word (count_torn_beyond found) (count_lost_beyond found) ++ codes "\n"
 
--- the text of the cases of a log
-unfoldable pub cases_bytes : HeadValue → Losses → LogValue → List CutFound → List ℕ
-cases_bytes h asked log found = head_text h asked ++ flat_map (cut_cases log h.by asked.tears) found ++ totals_text found
+-- the text of the cases of a log, by a number of the run's inputs
+unfoldable pub cases_bytes : ℕ → HeadValue → Losses → LogValue → List CutFound → List ℕ
+cases_bytes inputs h asked log found =
+    cases_head (inputs_told h.cuts inputs) h asked ++ flat_map (cut_cases log h.by asked.tears) found ++ totals_text found
 
 -- a program fails on some case
 abbrev pub fails_in : FoundCases → Bool

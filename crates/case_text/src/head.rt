@@ -3,10 +3,10 @@
 ghost use Rattle.std.specs.Prelude.{◌≡◌, ◌++◌, OnOk, string_bytes};
 ghost use Rattle.report.specs.Text.{yes_or_no, cuts_word, by_words};
 ghost use Rattle.report.specs.Report.{device_text, given_text, base_words, program_line, program_lines};
-ghost use Rattle.case_text.specs.Text.{torn_words, at_most_words, losses_text, options_text, head_text};
+ghost use Rattle.case_text.specs.Text.{torn_words, at_most_words, losses_text, options_text, head_text, has_range, inputs_told, inputs_text, opening_text, cases_head};
 
 use case_runs::Losses;
-use epochs::{By, CutKind};
+use epochs::{By, CutKind, Cuts};
 use report::choice_text::put_cuts_words;
 use report::{Head, ProgramHead, put_steps};
 use std::alloc::AllocError;
@@ -134,7 +134,53 @@ pub fn put_options(out: &mut String, head: &Head, asked: Losses) -> Result<(), A
     put_programs(out, head.programs.as_slice())
 }
 
-/// Appends what stands before the lines of cases: the title, the options and the programs.
+/// Whether a run is of a range of the cuts.
+pub fn has_range(cuts: &Cuts) -> bool
+    ensures { result ≡ has_range cuts.now }
+{
+    cuts.from.is_some() || cuts.to.is_some()
+}
+
+/// The number of a run's inputs, where the run is of a range of the cuts.
+fn inputs_told(cuts: &Cuts, inputs: u64) -> Option<u64>
+    ensures { result ≡ inputs_told cuts.now inputs }
+{
+    if has_range(cuts) { Some(inputs) } else { None }
+}
+
+/// Appends the line of that number, where it is told.
+fn put_inputs(out: &mut String, inputs: Option<u64>) -> Result<(), AllocError>
+    ensures { OnOk result (string_bytes out.new ≡ string_bytes out.old ++ inputs_text inputs) }
+{
+    match inputs {
+        Some(inputs) => write!(out, "inputs {inputs}\n"),
+        None => Ok(()),
+    }
+}
+
+/// Appends the first line, and that of the number of the run's inputs, where it is told.
+pub fn put_opening(out: &mut String, inputs: Option<u64>) -> Result<(), AllocError>
+    ensures { OnOk result (string_bytes out.new ≡ string_bytes out.old ++ opening_text inputs) }
+{
+    write!(out, "crash cases 1\n")?;
+    put_inputs(out, inputs)
+}
+
+/// Appends what stands before the lines of all failing cases: the title, the number of the inputs of a run of a range of the cuts, the
+/// options and the programs.
+pub(crate) fn put_cases_head(
+    out: &mut String,
+    inputs: u64,
+    head: &Head,
+    asked: Losses,
+) -> Result<(), AllocError>
+    ensures { OnOk result (string_bytes out.new ≡ string_bytes out.old ++ cases_head (inputs_told head.now.cuts inputs) head.now asked) }
+{
+    put_opening(out, inputs_told(&head.cuts, inputs))?;
+    put_options(out, head, asked)
+}
+
+/// Appends what stands before the line of the first failing case alone: the title, the options and the programs.
 pub(crate) fn put_head(out: &mut String, head: &Head, asked: Losses) -> Result<(), AllocError>
     ensures { OnOk result (string_bytes out.new ≡ string_bytes out.old ++ head_text head.now asked) }
 {

@@ -41,13 +41,14 @@
 //!
 //! | Call | Answer |
 //! |---|---|
-//! | `write_cases(alloc, head, log, plan, asked, found)` | the bytes of the text |
+//! | `write_cases(alloc, inputs, head, log, plan, asked, found)` | the bytes of the text |
+//! | `has_range(cuts)` | whether a run is of a range of the cuts: then the text tells the number of its inputs |
 //! | `write_first(alloc, head, log, plan, asked, first)` | the bytes of the text of the first failing case alone |
 //! | `write_why(alloc, head, log, plan, asked, found)` | the bytes of the text of why they fail |
 //! | `cure_of_cases(alloc, head, log, plan, asked, found)` | the cases as failures, and how the text of a cure begins and ends |
 //! | `is_any_failing(found)` | whether a program fails on some case |
 //! | `left_out(found)` | how many cases were left out |
-//! | `put_options`, `put_place`, `put_number`, `put_fates`, `put_window`, `put_counts`, `put_beyond`, `put_complete` | append one part of these texts, which `join` prints from what it read of a text |
+//! | `put_opening`, `put_options`, `put_place`, `put_number`, `put_fates`, `put_window`, `put_counts`, `put_beyond`, `put_complete` | append one part of these texts, which `join` prints from what it read of a text |
 //!
 //! # The definitions
 //!
@@ -61,8 +62,8 @@
 //!
 //! # What is proved
 //!
-//! - `write_cases` gives exactly `cases_bytes` of the head, of what was asked, of the log and of what was found, byte by byte. Its one
-//!   error is want of memory.
+//! - `write_cases` gives exactly `cases_bytes` of a number of the inputs, of the head, of what was asked, of the log and of what was found,
+//!   byte by byte. The number is told where the head has a range of the cuts. Its one error is want of memory.
 //! - `write_first` gives exactly `first_bytes`: the text up to and with its first line of a case, and a last line that names that case.
 //! - `write_why` gives exactly the bytes of `TellsWhy`. Its flushes are those that `missing_flushes` of `losses` answers of the windows of all
 //!   failing cases: by the law `places_are_fewest` there, no fewer have one in each window.
@@ -96,7 +97,7 @@
 //! let asked = Losses { tears: false, torn: 0, lost: None };
 //! let cuts = case_cuts(alloc, &plan, &log, &Cuts::ALL, None)?;
 //! let found = find_failing(rt, alloc, &gate, &plan, &log, By::Write, cuts.as_slice(), checkers, asked, 4)?;
-//! let bytes = write_cases(alloc, &head, &log, &plan, asked, found.as_slice())?;
+//! let bytes = write_cases(alloc, 0, &head, &log, &plan, asked, found.as_slice())?;
 //! let failing = is_any_failing(found.as_slice());
 //! ```
 #![tactic(auto)]
@@ -120,7 +121,7 @@ mod writer;
 pub use cured::{CasesCure, cure_of_cases};
 pub use fates::{Fates, fates_of, is_free, is_kept, is_never_whole, set_at};
 pub use first::write_first;
-pub use head::put_options;
+pub use head::{has_range, put_opening, put_options};
 pub use known::KnownParts;
 pub use laws::{case_is_shown, flush_takes_case_away, nothing_is_lost, window_is_told};
 pub use lines::{put_number, put_place};

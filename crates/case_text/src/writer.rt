@@ -4,7 +4,7 @@ ghost use Rattle.std.specs.Prelude.{◌≡◌, ◌≤◌, ◌++◌, length, All,
 ghost use Rattle.std.specs.List.{flat_map};
 ghost use Rattle.case_text.specs.Text.{cut_cases, cases_bytes};
 
-use crate::head::put_head;
+use crate::head::put_cases_head;
 use crate::known::KnownParts;
 use crate::lines::put_cut;
 use crate::totals::put_totals;
@@ -35,13 +35,14 @@ fn put_cuts(
 }
 
 /// The text of the failing cases of a run (docs/OUTPUT.md, The text of cases): title, options and programs as in a report, a line for
-/// each failing case, by cut, by program and in the order of the tree, and the totals. The plan is that of the log; of the head's
-/// bound, tears, `first` and number of images nothing is printed.
+/// each failing case, by cut, by program and in the order of the tree, and the totals. A run of a range of the cuts tells the number of
+/// its inputs after the title. The plan is that of the log; of the head's bound, tears, `first` and number of images nothing is printed.
 ///
 /// Beside the text it takes room for what is said of one case, and for the parts at risk at one cut.
 #[tactic(auto, unfolding(crate::specs::Text::cases_bytes))]
 pub fn write_cases(
     alloc: Global,
+    inputs: u64,
     head: &Head,
     log: &Log,
     plan: &Plan<'_>,
@@ -50,11 +51,11 @@ pub fn write_cases(
 ) -> Result<Vec<u8>, AllocError>
     requires plan { plan.now.log ≡ log.now }
     requires cuts { All (λ cut. cut.cut ≤ length log.now.entries) found.now }
-    ensures { IfOk result (λ bytes. bytes.items ≡ cases_bytes head.now asked log.now found.now) }
+    ensures { IfOk result (λ bytes. bytes.items ≡ cases_bytes inputs head.now asked log.now found.now) }
 {
     let mut out = String::new(alloc);
     let mut known = KnownParts::new(alloc);
-    put_head(&mut out, head, asked)?;
+    put_cases_head(&mut out, inputs, head, asked)?;
     put_cuts(&mut out, &mut known, log, plan, head.by, asked.tears, found)?;
     put_totals(&mut out, found)?;
     Ok(out.into_bytes())

@@ -55,6 +55,7 @@ use Rattle.request.specs.declared.extent.Extent.{Extent}
 use Rattle.runs.specs.Cases.{TellsCases, IsTextOf, IsCases, IsLosses}
 use Rattle.runs.specs.CaseCuts.{losses_of}
 use Rattle.runs.specs.Explore.{AreCheckersOf, head_of}
+use Rattle.runs.specs.Inputs.{inputs_number}
 use Rattle.runs.specs.Why.{with_first}
 use Rattle.commands.specs.CaseParts.{CasesAreText}
 use Rattle.commands.proofs.CaseFates.{first_so, second_so, IsFair, cases_fair, IsOneOf, failing_are, failing_rise, failing_few, NumbersRise}
@@ -64,7 +65,7 @@ use Rattle.commands.proofs.CaseOrder.{at_cut, CutsRise}
 use Rattle.commands.proofs.CasePrinted.{IsPrintedFound, IsPrintedCut, ArePrinted, printed_cases, printed_is_text}
 use Rattle.commands.proofs.Ending.{ends_are_words, guarded_ends_are_words}
 use Rattle.commands.proofs.Printed.{asked_of}
-use Rattle.commands.proofs.RunOf.{IsGiven, is_run, made_there, heads_long}
+use Rattle.commands.proofs.RunOf.{IsGiven, is_run, made_there, heads_long, inputs_small}
 
 -- WHAT A PROGRAM ENDS IN
 
@@ -382,22 +383,22 @@ pub record IsPrintedRun (text : Recording) (files : List (List ℕ)) (s : Settin
   pub found : List CutFound
   pub are : AreFoundIn (losses_of (losses_asked w s) s) value s.by (case_cuts w.at_most s.cuts value.entries) checkers found
   pub few : cases_in found ≤ most_cases
-  pub is : bytes ≡ cases_bytes (head_of s value checkers) (losses_of (losses_asked w s) s) value found
+  pub is : bytes ≡ cases_bytes (inputs_number text.text files) (head_of s value checkers) (losses_of (losses_asked w s) s) value found
   pub fails : failing ≡ is_any_failing found
 
-told_so : (w : LossWords) (s : Settings) (value : LogValue) (checkers : List CheckerValue) (found : List CutFound) (bytes : List ℕ) → s.first ≡ false → w.telling ≡ telling.Cases
-    → IsTextOf w.telling (head_of (with_first false s) value checkers) (losses_of (losses_asked w s) s) value found bytes
-    → bytes ≡ cases_bytes (head_of s value checkers) (losses_of (losses_asked w s) s) value found
-told_so w s value checkers found bytes all cases text =
-    let own : bytes ≡ cases_bytes (head_of (with_first false s) value checkers) (losses_of (losses_asked w s) s) value found =
-    subst (λ (t : _). IsTextOf t (head_of (with_first false s) value checkers) (losses_of (losses_asked w s) s) value found bytes) cases text in
-    own ∙ ap (λ (t : Settings). cases_bytes (head_of t value checkers) (losses_of (losses_asked w s) s) value found) (all_asked s all)
+told_so : (inputs : ℕ) (w : LossWords) (s : Settings) (value : LogValue) (checkers : List CheckerValue) (found : List CutFound) (bytes : List ℕ) → s.first ≡ false → w.telling ≡ telling.Cases
+    → IsTextOf w.telling inputs (head_of (with_first false s) value checkers) (losses_of (losses_asked w s) s) value found bytes
+    → bytes ≡ cases_bytes inputs (head_of s value checkers) (losses_of (losses_asked w s) s) value found
+told_so inputs w s value checkers found bytes all cases text =
+    let own : bytes ≡ cases_bytes inputs (head_of (with_first false s) value checkers) (losses_of (losses_asked w s) s) value found =
+    subst (λ (t : _). IsTextOf t inputs (head_of (with_first false s) value checkers) (losses_of (losses_asked w s) s) value found bytes) cases text in
+    own ∙ ap (λ (t : Settings). cases_bytes inputs (head_of t value checkers) (losses_of (losses_asked w s) s) value found) (all_asked s all)
 
 pub run_printed : (text : Recording) (files : List (List ℕ)) (s : Settings) (w : LossWords) (bytes : List ℕ) (failing : Bool) → IsAsked s → s.first ≡ false → w.telling ≡ telling.Cases
     → IsLosses s.first (losses_asked w s) text files s bytes failing → IsPrintedRun text files s w bytes failing
 run_printed text files s w bytes failing asked all cases is =
     let h : IsCases (losses_asked w s) text files s bytes failing = subst (λ (first : Bool). IsLosses first (losses_asked w s) text files s bytes failing) all is in
-    let tells : TellsCases (losses_asked w s) s h.value h.checkers bytes failing = h.tells in
+    let tells : TellsCases (inputs_number text.text files) (losses_asked w s) s h.value h.checkers bytes failing = h.tells in
     record {
       value = h.value;
       checkers = h.checkers;
@@ -405,16 +406,16 @@ run_printed text files s w bytes failing asked all cases is =
       found = tells.found;
       are = tells.are;
       few = tells.few;
-      is = told_so w s h.value h.checkers tells.found bytes all cases tells.text;
+      is = told_so (inputs_number text.text files) w s h.value h.checkers tells.found bytes all cases tells.text;
       fails = tells.fails;
     }
 
 pub printed_told : (text : Recording) (files : List (List ℕ)) (s : Settings) (w : LossWords) (bytes : List ℕ) (failing : Bool) → losses_refusal w s ≡ None → (r : IsPrintedRun text files s w bytes failing)
-    → IsCasesText bytes (printed_cases (head_of s r.value r.checkers) (losses_of (losses_asked w s) s) r.value r.found)
+    → IsCasesText bytes (printed_cases (inputs_number text.text files) (head_of s r.value r.checkers) (losses_of (losses_asked w s) s) r.value r.found)
 printed_told text files s w bytes failing good r =
     let are = are_printed text files s r.value r.checkers w r.found r.given good r.are r.few in
-    subst (λ (bs : List ℕ). IsCasesText bs (printed_cases (head_of s r.value r.checkers) (losses_of (losses_asked w s) s) r.value r.found)) (sym r.is)
-    (printed_is_text (head_of s r.value r.checkers) (losses_of (losses_asked w s) s) r.value r.found are)
+    subst (λ (bs : List ℕ). IsCasesText bs (printed_cases (inputs_number text.text files) (head_of s r.value r.checkers) (losses_of (losses_asked w s) s) r.value r.found)) (sym r.is)
+    (printed_is_text (inputs_number text.text files) (head_of s r.value r.checkers) (losses_of (losses_asked w s) s) r.value r.found (inputs_small text.text files) are)
 
 pub cases_are_text : CasesAreText
 cases_are_text w l files bytes status all cases answer =

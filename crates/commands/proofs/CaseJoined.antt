@@ -40,6 +40,7 @@ use Rattle.request.specs.OptionWords.{settings_with, settings_of, AskFor}
 use Rattle.request.specs.Source.{Recording, cut_past, lacking, IsLogOf, HasImages}
 use Rattle.request.proofs.Logs.{bounds_of}
 use Rattle.runs.specs.declared.explore_command.WantedAnswer.TheVariants as wanted
+use Rattle.runs.specs.Inputs.{inputs_number}
 use Rattle.runs.specs.CaseCuts.{losses_of}
 use Rattle.runs.specs.Cases.{IsTextOf, IsCases, IsLosses}
 use Rattle.runs.specs.Explore.{IsProgramCount, AreCheckersOf, head_of}
@@ -48,7 +49,7 @@ use Rattle.runs.specs.Why.{with_first}
 use Rattle.commands.specs.Acting.{Files, first_file, initial_of, recording, HoldsRecording, Answers, JoinsCases, JoinsEither, join_of_parts, join_of_cases, are_cases, cases_line}
 use Rattle.join.specs.declared.case_parts.fault.CasesFault.{CasesFault}
 use Rattle.commands.specs.CaseParts.{over, end_in, as_asked, FollowTo, cuts_over, ArePartsOfRange, PrintsRange, PrintRanges, JoinIsExploreOfCases, IsOfSize, RangesOfRunAreJoined}
-use Rattle.commands.proofs.CaseRefused.{refused_so}
+use Rattle.commands.proofs.CaseRefused.{all_by_place, refused_so}
 use Rattle.commands.proofs.CaseGiven.{cases_are_text, Up, cuts_are, losses_are, found_is_printed, made_programs, settings_first, all_asked, IsPrintedRun, run_printed}
 use Rattle.commands.proofs.CaseOrder.{CutsRise}
 use Rattle.commands.proofs.CasePrinted.{ArePrinted, printed_cases, failing_in, text_is, printed_is_text, all_few_failing}
@@ -58,7 +59,7 @@ use Rattle.commands.proofs.OneCasesJoin.{one_failing, text_begins}
 use Rattle.commands.proofs.OneReport.{same_asked, same_checkers}
 use Rattle.commands.proofs.PartsJoined.{AreOne}
 use Rattle.commands.proofs.Printed.{asked_of}
-use Rattle.commands.proofs.RunOf.{IsGiven, is_run, heads_long}
+use Rattle.commands.proofs.RunOf.{IsGiven, is_run, heads_long, inputs_small}
 use Rattle.cases.specs.Laws.{IsAmong}
 
 -- THE SAME SETTINGS OVER A RANGE
@@ -126,7 +127,7 @@ pub record IsSegment (text : Recording) (files : List (List ℕ)) (s : Settings)
   good : losses_refusal l (ranged x s) ≡ None
   are : AreFoundIn (losses_in l s) value s.by (cuts_over l.at_most s.cuts value.entries x) checkers found
   few : cases_in found ≤ most_cases
-  is : t ≡ cases_bytes (head_of (ranged x s) value checkers) (losses_in l s) value found
+  is : t ≡ cases_bytes (inputs_number text.text files) (head_of (ranged x s) value checkers) (losses_in l s) value found
 
 abbrev Segments : Recording → List (List ℕ) → Settings → LossWords → LogValue → List CheckerValue → List AskedRange → List (List ℕ) → Type 0
 Segments text files s l value checkers [] [] = Unit {0}
@@ -253,13 +254,13 @@ up_rise n (f ∷ fs) up = (up.0, up_rise (f.cut + 1) fs up.1)
 abbrev cuts_by : Option ℕ → Cuts → List Entry → ℕ → ℕ → List ℕ
 cuts_by at_most cuts es a b = case_cuts at_most (cuts_between cuts (Some a) (Some b)) es
 
-abbrev whole_run : Settings → LossWords → LogValue → List CheckerValue → List CutFound → CaseRun
-whole_run s l value checkers all = run_over (head_of s value checkers) (losses_in l s) (cuts_by l.at_most s.cuts value.entries) value all
+abbrev whole_run : ℕ → Settings → LossWords → LogValue → List CheckerValue → List CutFound → CaseRun
+whole_run inputs s l value checkers all = run_over inputs (head_of s value checkers) (losses_in l s) (cuts_by l.at_most s.cuts value.entries) value all
 
-range_cuts : (s : Settings) (l : LossWords) (value : LogValue) (checkers : List CheckerValue) (all : List CutFound) (x : AskedRange)
-    → cuts_of_range (whole_run s l value checkers all) x ≡ cuts_over l.at_most s.cuts value.entries x
+range_cuts : (inputs : ℕ) (s : Settings) (l : LossWords) (value : LogValue) (checkers : List CheckerValue) (all : List CutFound) (x : AskedRange)
+    → cuts_of_range (whole_run inputs s l value checkers all) x ≡ cuts_over l.at_most s.cuts value.entries x
 unfolding head_of
-range_cuts s l value checkers all x = sym (cuts_numbered l.at_most s.cuts value.entries x.from x.to)
+range_cuts inputs s l value checkers all x = sym (cuts_numbered l.at_most s.cuts value.entries x.from x.to)
 
 -- what is found in each range
 abbrev founds : (text : Recording) (files : List (List ℕ)) (s : Settings) (l : LossWords) (value : LogValue) (checkers : List CheckerValue) (xs : List AskedRange) (ts : List (List ℕ))
@@ -314,10 +315,10 @@ segment_printed text files s l value checkers x t g =
     (between_printed s value checkers x (is_run text files (ranged x s) value checkers g.given).printed) (between_losses s l value checkers x g.good) refl (sym (heads_long checkers))
     (made_programs (ranged x s) files checkers g.given.made) g.are g.few
 
-bytes_between : (s : Settings) (value : LogValue) (checkers : List CheckerValue) (x : AskedRange) (asked : Losses) (found : List CutFound)
-    → cases_bytes (head_of (ranged x s) value checkers) asked value found ≡ cases_bytes (head_between (head_of s value checkers) x.from x.to) asked value found
+bytes_between : (inputs : ℕ) (s : Settings) (value : LogValue) (checkers : List CheckerValue) (x : AskedRange) (asked : Losses) (found : List CutFound)
+    → cases_bytes inputs (head_of (ranged x s) value checkers) asked value found ≡ cases_bytes inputs (head_between (head_of s value checkers) x.from x.to) asked value found
 unfolding head_of cases_bytes options_text device_text given_text cuts_words
-bytes_between s value checkers x asked found = refl
+bytes_between inputs s value checkers x asked found = refl
 
 -- what is known of a range of the run
 record IsToldRange (r : CaseRun) (x : AskedRange) (seg : List CutFound) (t : List ℕ) : Type 0 where
@@ -326,24 +327,24 @@ record IsToldRange (r : CaseRun) (x : AskedRange) (seg : List CutFound) (t : Lis
   cuts : cuts_of_range r x ≡ cuts_found seg
 
 told_range : (text : Recording) (files : List (List ℕ)) (s : Settings) (l : LossWords) (value : LogValue) (checkers : List CheckerValue) (x : AskedRange) (t : List ℕ) (all : List CutFound)
-    → (g : IsSegment text files s l value checkers x t) → CutsRise 0 all → Each (λ (c : CutFound). IsAmong all c) g.found → IsToldRange (whole_run s l value checkers all) x g.found t
+    → (g : IsSegment text files s l value checkers x t) → CutsRise 0 all → Each (λ (c : CutFound). IsAmong all c) g.found → IsToldRange (whole_run (inputs_number text.text files) s l value checkers all) x g.found t
 told_range text files s l value checkers x t all g rise among =
     let asked : Losses = losses_in l s in
     let h : HeadValue = head_between (head_of s value checkers) x.from x.to in
     let found : FoundAll asked value s.by checkers (cuts_over l.at_most s.cuts value.entries x) g.found = all_in asked value s.by checkers (cuts_over l.at_most s.cuts value.entries x) g.found g.are in
-    let cuts : cuts_of_range (whole_run s l value checkers all) x ≡ cuts_found g.found = range_cuts s l value checkers all x ∙ sym (all_cuts asked value s.by checkers (cuts_over l.at_most s.cuts value.entries x) g.found found) in
-    let same : cases_between (whole_run s l value checkers all) x ≡ printed_cases h asked value g.found =
-    between_is (head_of s value checkers) asked (cuts_by l.at_most s.cuts value.entries) value all x g.found rise among cuts in
-    let is : IsCasesText (told_text (printed_cases h asked value g.found)) (printed_cases h asked value g.found) =
-    subst (λ (bs : List ℕ). IsCasesText bs (printed_cases h asked value g.found)) (text_is h asked value g.found) (printed_is_text h asked value g.found (segment_printed text files s l value checkers x t g)) in
+    let cuts : cuts_of_range (whole_run (inputs_number text.text files) s l value checkers all) x ≡ cuts_found g.found = range_cuts (inputs_number text.text files) s l value checkers all x ∙ sym (all_cuts asked value s.by checkers (cuts_over l.at_most s.cuts value.entries x) g.found found) in
+    let same : cases_between (whole_run (inputs_number text.text files) s l value checkers all) x ≡ printed_cases (inputs_number text.text files) h asked value g.found =
+    between_is (inputs_number text.text files) (head_of s value checkers) asked (cuts_by l.at_most s.cuts value.entries) value all x g.found rise among cuts in
+    let is : IsCasesText (told_text (printed_cases (inputs_number text.text files) h asked value g.found)) (printed_cases (inputs_number text.text files) h asked value g.found) =
+    subst (λ (bs : List ℕ). IsCasesText bs (printed_cases (inputs_number text.text files) h asked value g.found)) (text_is (inputs_number text.text files) h asked value g.found) (printed_is_text (inputs_number text.text files) h asked value g.found (inputs_small text.text files) (segment_printed text files s l value checkers x t g)) in
     record {
-      text = g.is ∙ bytes_between s value checkers x asked g.found ∙ text_is h asked value g.found ∙ ap (λ (c : CasesValue). told_text c) (sym same);
+      text = g.is ∙ bytes_between (inputs_number text.text files) s value checkers x asked g.found ∙ text_is (inputs_number text.text files) h asked value g.found ∙ ap (λ (c : CasesValue). told_text c) (sym same);
       printed = subst (λ (c : CasesValue). IsCasesText (told_text c) c) (sym same) is;
       cuts = cuts;
     }
 
 texts_told : (text : Recording) (files : List (List ℕ)) (s : Settings) (l : LossWords) (value : LogValue) (checkers : List CheckerValue) (xs : List AskedRange) (ts : List (List ℕ)) (all : List CutFound)
-    → (segs : Segments text files s l value checkers xs ts) → CutsRise 0 all → EachAmong all (founds text files s l value checkers xs ts segs) → ts ≡ map (text_of (whole_run s l value checkers all)) xs
+    → (segs : Segments text files s l value checkers xs ts) → CutsRise 0 all → EachAmong all (founds text files s l value checkers xs ts segs) → ts ≡ map (text_of (whole_run (inputs_number text.text files) s l value checkers all)) xs
 texts_told text files s l value checkers [] [] all segs rise among = refl
 texts_told text files s l value checkers [] (t ∷ ts) all segs rise among = absurd segs
 texts_told text files s l value checkers (x ∷ xs) [] all segs rise among = absurd segs
@@ -353,7 +354,7 @@ texts_told text files s l value checkers (x ∷ xs) (t ∷ ts) all segs rise amo
     λ i. first i ∷ rest i
 
 ranges_printed : (text : Recording) (files : List (List ℕ)) (s : Settings) (l : LossWords) (value : LogValue) (checkers : List CheckerValue) (xs : List AskedRange) (ts : List (List ℕ)) (all : List CutFound)
-    → (segs : Segments text files s l value checkers xs ts) → CutsRise 0 all → EachAmong all (founds text files s l value checkers xs ts segs) → ArePrintedRanges (whole_run s l value checkers all) xs
+    → (segs : Segments text files s l value checkers xs ts) → CutsRise 0 all → EachAmong all (founds text files s l value checkers xs ts segs) → ArePrintedRanges (whole_run (inputs_number text.text files) s l value checkers all) xs
 ranges_printed text files s l value checkers [] [] all segs rise among = tt
 ranges_printed text files s l value checkers [] (t ∷ ts) all segs rise among = absurd segs
 ranges_printed text files s l value checkers (x ∷ xs) [] all segs rise among = absurd segs
@@ -362,7 +363,7 @@ ranges_printed text files s l value checkers (x ∷ xs) (t ∷ ts) all segs rise
 
 have_segments : (text : Recording) (files : List (List ℕ)) (s : Settings) (l : LossWords) (value : LogValue) (checkers : List CheckerValue) (xs : List AskedRange) (ts : List (List ℕ)) (all : List CutFound)
     → (segs : Segments text files s l value checkers xs ts) → CutsRise 0 all → EachAmong all (founds text files s l value checkers xs ts segs)
-    → HaveSegments (whole_run s l value checkers all) xs (founds text files s l value checkers xs ts segs)
+    → HaveSegments (whole_run (inputs_number text.text files) s l value checkers all) xs (founds text files s l value checkers xs ts segs)
 have_segments text files s l value checkers [] [] all segs rise among = tt
 have_segments text files s l value checkers [] (t ∷ ts) all segs rise among = absurd segs
 have_segments text files s l value checkers (x ∷ xs) [] all segs rise among = absurd segs
@@ -420,14 +421,6 @@ told_cuts r whole = by_test (has_all r whole) refl
 told_as : (r : CaseRun) (n : ℕ) (whole : AskedRange) → n ≡ r.head.entries → as_told r whole ≡ as_asked n whole
 told_as r n whole same = ap (λ (m : ℕ). if (start_of whole == 0) && (unwrap_or whole.to m == m) then no_range else whole) (sym same)
 
-all_by_place : {A : Type 0} (P : A → Type 0) (xs : List A) → Each P xs → All P xs
-all_by_place P [] each = λ k d small. absurd (omega (arith, small))
-all_by_place {A} P (x ∷ xs) each = at (all_by_place P xs each.1)
-  where
-    at : All P xs → (k : ℕ) (d : A) → k < length (x ∷ xs) → P (get_or (x ∷ xs) k d)
-    at rest zero d small = each.0
-    at rest (suc k) d small = rest k d (omega (arith, small))
-
 same_cuts : (f g : AskedRange → List ℕ) (xs : List AskedRange) → ((x : AskedRange) → f x ≡ g x) → flat_map f xs ≡ flat_map g xs
 same_cuts f g [] each = refl
 same_cuts f g (x ∷ xs) each = let one = each x in let rest = same_cuts f g xs each in λ i. one i ++ rest i
@@ -453,7 +446,7 @@ unfolding head_of
 ranges_refused part text files s l value checkers xs ts whole fault of_range segs wide refuses =
     let all_segs : List (List CutFound) = founds text files s l value checkers xs ts segs in
     let all : List CutFound = joined_of all_segs in
-    let r : CaseRun = whole_run s l value checkers all in
+    let r : CaseRun = whole_run (inputs_number text.text files) s l value checkers all in
     let rise = rise_of text files s l value checkers xs ts whole of_range segs in
     let among : EachAmong all all_segs = segments_among all_segs in
     let texts : ts ≡ map (text_of r) xs = texts_told text files s l value checkers xs ts all segs rise among in
@@ -461,23 +454,23 @@ ranges_refused part text files s l value checkers xs ts whole fault of_range seg
     (subst (λ (us : List (List ℕ)). RefusesCases part us fault) texts refuses)
 
 -- what the ranges come to together is a run of the whole range
-pub record IsWhole (s : Settings) (l : LossWords) (value : LogValue) (checkers : List CheckerValue) (texts : List (List ℕ)) (bytes : List ℕ) : Type 0 where
+pub record IsWhole (inputs : ℕ) (s : Settings) (l : LossWords) (value : LogValue) (checkers : List CheckerValue) (texts : List (List ℕ)) (bytes : List ℕ) : Type 0 where
   pub found : List CutFound
   pub are : AreFoundIn (losses_in l s) value s.by (case_cuts l.at_most s.cuts value.entries) checkers found
   pub few : cases_in found ≤ most_cases
-  pub is : bytes ≡ cases_bytes (head_of s value checkers) (losses_in l s) value found
+  pub is : bytes ≡ cases_bytes inputs (head_of s value checkers) (losses_in l s) value found
   pub fails : IsTrue (is_any_failing found) ↔ HasFailing texts
 
 pub whole_is : (part : Bool) (text : Recording) (files : List (List ℕ)) (s : Settings) (l : LossWords) (value : LogValue) (checkers : List CheckerValue) (xs : List AskedRange) (ts : List (List ℕ)) (whole : AskedRange)
     (bytes : List ℕ) → s ≡ ranged (as_asked (length value.entries) whole) s → ArePartsOfRange l.at_most s.cuts value.entries xs whole → Segments text files s l value checkers xs ts → AreJoinedCases part ts bytes
-    → IsWhole s l value checkers ts bytes
+    → IsWhole (inputs_number text.text files) s l value checkers ts bytes
 unfolding head_of
 whole_is part text files s l value checkers xs ts whole bytes own of_range segs joined =
     let asked : Losses = losses_in l s in
     let n : ℕ = length value.entries in
     let all_segs : List (List CutFound) = founds text files s l value checkers xs ts segs in
     let all : List CutFound = joined_of all_segs in
-    let r : CaseRun = whole_run s l value checkers all in
+    let r : CaseRun = whole_run (inputs_number text.text files) s l value checkers all in
     let found : FoundAll asked value s.by checkers (flat_map (cuts_over l.at_most s.cuts value.entries) xs) all = found_in_all text files s l value checkers xs ts segs in
     let cuts : cuts_found all ≡ cuts_over l.at_most s.cuts value.entries whole = all_cuts asked value s.by checkers (flat_map (cuts_over l.at_most s.cuts value.entries) xs) all found ∙ of_range.together in
     let rise : CutsRise 0 all = rise_of text files s l value checkers xs ts whole of_range segs in
@@ -492,7 +485,7 @@ whole_is part text files s l value checkers xs ts whole bytes own of_range segs 
       are = of_range.are;
       begins = of_range.begins;
       follow = follow_to r n (start_of whole) whole xs refl of_range.follow;
-      cuts = same_cuts (cuts_of_range r) (cuts_over l.at_most s.cuts value.entries) xs (λ x. range_cuts s l value checkers all x) ∙ of_range.together ∙ sym (range_cuts s l value checkers all whole);
+      cuts = same_cuts (cuts_of_range r) (cuts_over l.at_most s.cuts value.entries) xs (λ x. range_cuts (inputs_number text.text files) s l value checkers all x) ∙ of_range.together ∙ sym (range_cuts (inputs_number text.text files) s l value checkers all whole);
       printed = all_by_place (λ (x : AskedRange). IsCasesText (told_text (cases_between r x)) (cases_between r x)) xs printed;
     } in
     let joins : AreJoinedCases part (map (text_of r) xs) bytes = subst (λ (us : List (List ℕ)). AreJoinedCases part us bytes) texts joined in
@@ -500,16 +493,16 @@ whole_is part text files s l value checkers xs ts whole bytes own of_range segs 
     let y : AskedRange = as_asked n whole in
     let told : bytes ≡ text_of r y = is ∙ ap (λ (x : AskedRange). text_of r x) (told_as r n whole refl) in
     let own_cuts : cuts_of_range r y ≡ cuts_of_range r whole = sym (ap (λ (x : AskedRange). cuts_of_range r x) (told_as r n whole refl)) ∙ told_cuts r whole in
-    let all_of : cuts_of_range r y ≡ cuts_found all = own_cuts ∙ range_cuts s l value checkers all whole ∙ sym cuts in
+    let all_of : cuts_of_range r y ≡ cuts_found all = own_cuts ∙ range_cuts (inputs_number text.text files) s l value checkers all whole ∙ sym cuts in
     let h : HeadValue = head_between (head_of s value checkers) y.from y.to in
-    let same : cases_between r y ≡ printed_cases h asked value all = between_is (head_of s value checkers) asked (cuts_by l.at_most s.cuts value.entries) value all y all rise (all_own all) all_of in
-    let text_whole : text_of r y ≡ cases_bytes (head_of s value checkers) asked value all =
-    ap (λ (c : CasesValue). told_text c) same ∙ sym (text_is h asked value all) ∙ sym (bytes_between s value checkers y asked all)
-    ∙ ap (λ (u : Settings). cases_bytes (head_of u value checkers) asked value all) (sym own) in
+    let same : cases_between r y ≡ printed_cases (inputs_number text.text files) h asked value all = between_is (inputs_number text.text files) (head_of s value checkers) asked (cuts_by l.at_most s.cuts value.entries) value all y all rise (all_own all) all_of in
+    let text_whole : text_of r y ≡ cases_bytes (inputs_number text.text files) (head_of s value checkers) asked value all =
+    ap (λ (c : CasesValue). told_text c) same ∙ sym (text_is (inputs_number text.text files) h asked value all) ∙ sym (bytes_between (inputs_number text.text files) s value checkers y asked all)
+    ∙ ap (λ (u : Settings). cases_bytes (inputs_number text.text files) (head_of u value checkers) asked value all) (sym own) in
     let meant : flat_map (cuts_over l.at_most s.cuts value.entries) xs ≡ case_cuts l.at_most s.cuts value.entries =
-    of_range.together ∙ sym (range_cuts s l value checkers all whole) ∙ sym own_cuts ∙ range_cuts s l value checkers all y ∙ ap (λ (u : Settings). case_cuts l.at_most u.cuts value.entries) (sym own) in
+    of_range.together ∙ sym (range_cuts (inputs_number text.text files) s l value checkers all whole) ∙ sym own_cuts ∙ range_cuts (inputs_number text.text files) s l value checkers all y ∙ ap (λ (u : Settings). case_cuts l.at_most u.cuts value.entries) (sym own) in
     let reads = joins.reads in
-    let counted = reads_counted (head_of s value checkers) asked (cuts_by l.at_most s.cuts value.entries) value xs all_segs reads rise have less joins.each printed in
+    let counted = reads_counted (inputs_number text.text files) (head_of s value checkers) asked (cuts_by l.at_most s.cuts value.entries) value xs all_segs reads rise have less joins.each printed in
     let moved : all_cases joins.row ≡ all_cases reads = sum_by-IsPermutation (λ (c : CasesRead). c.totals.cases) reads joins.row joins.order in
     let cases = counted.cases in
     let few = joins.few in
@@ -530,13 +523,13 @@ whole_is part text files s l value checkers xs ts whole bytes own of_range segs 
         let more : 0 < sum_by failing_in (all_found all) = grind (arith, nat_tests, test) in
         omega (arith, is, more)
 
-    some_counted : (all : List CutFound) (ys : List AskedRange) → HasFailing (map (text_of (whole_run s l value checkers (joined_of (founds text files s l value checkers xs ts segs)))) xs)
+    some_counted : (all : List CutFound) (ys : List AskedRange) → HasFailing (map (text_of (whole_run (inputs_number text.text files) s l value checkers (joined_of (founds text files s l value checkers xs ts segs)))) xs)
         → CutsRise 0 (joined_of (founds text files s l value checkers xs ts segs))
-        → HaveSegments (whole_run s l value checkers (joined_of (founds text files s l value checkers xs ts segs))) xs (founds text files s l value checkers xs ts segs)
-        → FewFail (founds text files s l value checkers xs ts segs) → ArePrintedRanges (whole_run s l value checkers (joined_of (founds text files s l value checkers xs ts segs))) xs
+        → HaveSegments (whole_run (inputs_number text.text files) s l value checkers (joined_of (founds text files s l value checkers xs ts segs))) xs (founds text files s l value checkers xs ts segs)
+        → FewFail (founds text files s l value checkers xs ts segs) → ArePrintedRanges (whole_run (inputs_number text.text files) s l value checkers (joined_of (founds text files s l value checkers xs ts segs))) xs
         → IsTrue (is_any_failing (joined_of (founds text files s l value checkers xs ts segs)))
     some_counted all ys has rise have less printed =
-        let counted = reads_counted (head_of s value checkers) (losses_in l s) (cuts_by l.at_most s.cuts value.entries) value xs (founds text files s l value checkers xs ts segs) has.0 rise have less has.1 printed in
+        let counted = reads_counted (inputs_number text.text files) (head_of s value checkers) (losses_in l s) (cuts_by l.at_most s.cuts value.entries) value xs (founds text files s l value checkers xs ts segs) has.0 rise have less has.1 printed in
         let some = has.2 in
         let failing = counted.failing in
         let more : 0 < sum_by failing_in (all_found (joined_of (founds text files s l value checkers xs ts segs))) = omega (arith, some, failing) in
@@ -598,10 +591,10 @@ first_begins w l files x t ts all cases prints =
 
 whole_answers : (w : OptionWords) (l : LossWords) (files : Files) (s : Settings) (log : Recording) (value : LogValue) (y : AskedRange) (texts : List (List ℕ)) (part : Bool) (bytes : List ℕ) (status : ℕ)
     → l.telling ≡ telling.Cases → s.first ≡ false → AskFor (over y w) s → HasImages log s value → (run : IsRunThere files s l log) → (j : JoinsCases part texts bytes status)
-    → IsWhole s l value run.checkers texts bytes → Answers (request.Cases (over y w) l) files bytes status
+    → IsWhole (inputs_number log.text run.programs) s l value run.checkers texts bytes → Answers (request.Cases (over y w) l) files bytes status
 whole_answers w l files s log value y texts part bytes status cases first asked source run j is =
-    let own : bytes ≡ cases_bytes (head_of (with_first false s) value run.checkers) (losses_in l s) value is.found =
-    is.is ∙ ap (λ (u : Settings). cases_bytes (head_of u value run.checkers) (losses_in l s) value is.found) (sym (all_asked s first)) in
+    let own : bytes ≡ cases_bytes (inputs_number log.text run.programs) (head_of (with_first false s) value run.checkers) (losses_in l s) value is.found =
+    is.is ∙ ap (λ (u : Settings). cases_bytes (inputs_number log.text run.programs) (head_of u value run.checkers) (losses_in l s) value is.found) (sym (all_asked s first)) in
     let told : IsCases (losses_asked l s) log run.programs s bytes j.failing = record {
       count = run.count;
       value = value;
@@ -612,7 +605,7 @@ whole_answers w l files s log value y texts part bytes status cases first asked 
         found = is.found;
         are = is.are;
         few = is.few;
-        text = subst (λ (t : _). IsTextOf t (head_of (with_first false s) value run.checkers) (losses_in l s) value is.found bytes) (sym cases) own;
+        text = subst (λ (t : _). IsTextOf t (inputs_number log.text run.programs) (head_of (with_first false s) value run.checkers) (losses_in l s) value is.found bytes) (sym cases) own;
         fails = one_failing texts j.failing (is_any_failing is.found) j.fails is.fails;
       };
     } in

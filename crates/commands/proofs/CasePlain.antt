@@ -18,7 +18,7 @@ use Rattle.report.specs.Report.{HeadValue, device_text, given_text, program_line
 use Rattle.losses.specs.declared.flushes.window.Window.{Window}
 use Rattle.losses.proofs.Plain.{both, number, is_plain, digit_plain, ascii}
 use Rattle.case_runs.specs.declared.found.Losses.{Losses}
-use Rattle.case_text.specs.Text.{torn_words, at_most_words, losses_text, options_text, head_text, fate_word, next_fate, fates_text, place_text, number_text, window_text, counts_text, beyond_text, complete_word}
+use Rattle.case_text.specs.Text.{torn_words, at_most_words, losses_text, opening_text, options_text, cases_head, fate_word, next_fate, fates_text, place_text, number_text, window_text, counts_text, beyond_text, complete_word}
 use Rattle.join.specs.declared.case_parts.names.PartName.{PartName}
 use Rattle.join.specs.declared.case_parts.front.CaseFront.{CaseFront}
 use Rattle.join.specs.declared.case_parts.totals.CaseTotals.{CaseTotals}
@@ -61,14 +61,20 @@ plain_losses asked =
     let a : List ℕ = codes " bound any tears " ++ yes_or_no asked.tears in
     more (a ++ torn_words asked) (at_most_words asked.lost) (more a (torn_words asked) (more (codes " bound any tears ") (yes_or_no asked.tears) refl (plain_yes asked.tears)) (plain_torn asked)) (plain_most asked.lost)
 
-plain_head : (h : HeadValue) (asked : Losses) → IsPlain (head_text h asked)
+plain_opening : (o : Option ℕ) → IsPlain (opening_text o)
+plain_opening None = refl
+plain_opening (Some n) =
+    more (codes "crash cases 1\n") (codes "inputs " ++ decimal n ++ codes "\n") refl
+    (more (codes "inputs " ++ decimal n) (codes "\n") (more (codes "inputs ") (decimal n) refl (plain_number n)) refl)
+
+plain_head : (inputs : Option ℕ) (h : HeadValue) (asked : Losses) → IsPlain (cases_head inputs h asked)
 unfolding options_text
-plain_head h asked =
+plain_head inputs h asked =
     let a : List ℕ = device_text h ++ losses_text asked in
     let pa : IsPlain a = more (device_text h) (losses_text asked) (plain_device h) (plain_losses asked) in
     let b : List ℕ = a ++ given_text h in
     let pb : IsPlain b = more a (given_text h) pa (plain_given h) in
-    more (codes "crash cases 1\n") (b ++ program_lines 0 h.programs) refl (more b (program_lines 0 h.programs) pb (plain_programs 0 h.programs))
+    more (opening_text inputs) (b ++ program_lines 0 h.programs) (plain_opening inputs) (more b (program_lines 0 h.programs) pb (plain_programs 0 h.programs))
 
 -- AN ENDING
 
@@ -219,5 +225,5 @@ unfolding told_text
 cases_are_text c each =
     let lines : List ℕ = flat_map (told_line c.head.by) c.told in
     let rest : IsPlain (lines ++ totals_line c.totals) = more lines (totals_line c.totals) (plain_lines c.head.by c.told each) (plain_totals c.totals) in
-    let all : IsPlain (head_text c.head c.asked ++ (lines ++ totals_line c.totals)) = more (head_text c.head c.asked) (lines ++ totals_line c.totals) (plain_head c.head c.asked) rest in
-    IsUtf8-from_ascii (head_text c.head c.asked ++ (lines ++ totals_line c.totals)) (ascii (head_text c.head c.asked ++ (lines ++ totals_line c.totals)) all)
+    let all : IsPlain (cases_head c.inputs c.head c.asked ++ (lines ++ totals_line c.totals)) = more (cases_head c.inputs c.head c.asked) (lines ++ totals_line c.totals) (plain_head c.inputs c.head c.asked) rest in
+    IsUtf8-from_ascii (cases_head c.inputs c.head c.asked ++ (lines ++ totals_line c.totals)) (ascii (cases_head c.inputs c.head c.asked ++ (lines ++ totals_line c.totals)) all)

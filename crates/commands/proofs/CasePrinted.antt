@@ -1,5 +1,5 @@
 -- The text that a run of cases prints is a text of cases.
-use Rattle.std.proofs.Common.{ℕ, ◌≡◌, ◌+◌, ◌-◌, ◌<◌, ◌≤◌, ◌^◌, ◌==◌, nat_le, nat_lt, Bool, true, List, [], ◌∷◌, ◌++◌, length, length-append, map, append_assoc, Option, None, Some, unwrap_or, refl, sym, subst, ◌∙◌, ap, arith}
+use Rattle.std.proofs.Common.{ℕ, ◌≡◌, ◌+◌, ◌-◌, ◌<◌, ◌≤◌, ◌^◌, ◌==◌, nat_le, nat_lt, Bool, true, false, not, if◌then◌else◌, List, [], ◌∷◌, ◌++◌, length, length-append, map, append_assoc, Option, None, Some, unwrap_or, refl, sym, subst, ◌∙◌, ap, arith}
 use Rattle.std.specs.List.{flat_map, sum_by}
 use Rattle.std.specs.Str.{IsUtf8}
 use Rattle.std.proofs.lemmas.Bool.Decides.{nat_tests}
@@ -17,11 +17,11 @@ use Rattle.case_runs.specs.declared.found.FoundCases.{FoundCases}
 use Rattle.case_runs.specs.declared.found.CutFound.{CutFound}
 use Rattle.case_runs.specs.Found.{most_cases, cases_at, cases_in}
 use Rattle.case_runs.specs.Leaves.{failing_value}
-use Rattle.case_text.specs.Text.{in_word, head_text, case_line, program_cases, programs_cases, cut_cases, all_found, count_cases, count_failing, count_torn_beyond, count_lost_beyond, totals_text, cases_bytes}
+use Rattle.case_text.specs.Text.{in_word, has_range, inputs_told, cases_head, case_line, program_cases, programs_cases, cut_cases, all_found, count_cases, count_failing, count_torn_beyond, count_lost_beyond, totals_text, cases_bytes}
 use Rattle.join.specs.declared.case_parts.totals.CaseTotals.{CaseTotals}
 use Rattle.join.specs.Heads.{IsPrintedHead}
 use Rattle.join.specs.Printable.{has_program_and_cut}
-use Rattle.join.specs.CaseTexts.{ToldCase, CasesValue, told_line, told_text, totals_line, AreLosses, AreToldCases, fronts_of, count_cuts, first_of, last_of, AreTotals, IsCasesText}
+use Rattle.join.specs.CaseTexts.{ToldCase, CasesValue, told_line, told_text, totals_line, AreInputs, AreLosses, AreToldCases, fronts_of, count_cuts, first_of, last_of, AreTotals, IsCasesText}
 use Rattle.join.specs.CaseReading.{Each}
 use Rattle.commands.proofs.CaseFates.{NumbersRise}
 use Rattle.commands.proofs.CaseLines.{IsPrintedCase, line_is, case_is_told}
@@ -64,8 +64,8 @@ totals_of found = record {
   lost = count_lost_beyond found;
 }
 
-abbrev pub printed_cases : HeadValue → Losses → LogValue → List CutFound → CasesValue
-printed_cases h asked log found = record { head = h; asked = asked; told = told_of_all log h.by asked.tears found; totals = totals_of found }
+abbrev pub printed_cases : ℕ → HeadValue → Losses → LogValue → List CutFound → CasesValue
+printed_cases inputs h asked log found = record { inputs = inputs_told h.cuts inputs; head = h; asked = asked; told = told_of_all log h.by asked.tears found; totals = totals_of found }
 
 -- THE TEXT
 
@@ -99,14 +99,14 @@ totals_are : (found : List CutFound) → totals_line (totals_of found) ≡ total
 unfolding totals_line totals_text
 totals_are found = refl
 
-pub text_is : (h : HeadValue) (asked : Losses) (log : LogValue) (found : List CutFound) → cases_bytes h asked log found ≡ told_text (printed_cases h asked log found)
+pub text_is : (inputs : ℕ) (h : HeadValue) (asked : Losses) (log : LogValue) (found : List CutFound) → cases_bytes inputs h asked log found ≡ told_text (printed_cases inputs h asked log found)
 unfolding cases_bytes told_text
-text_is h asked log found =
+text_is inputs h asked log found =
     let lines = lines_are log h.by asked.tears found in
     let totals = totals_are found in
-    append_assoc (head_text h asked) (flat_map (cut_cases log h.by asked.tears) found) (totals_text found)
-    ∙ ap (λ (bs : List ℕ). head_text h asked ++ (bs ++ totals_text found)) (sym lines)
-    ∙ ap (λ (bs : List ℕ). head_text h asked ++ (flat_map (told_line h.by) (told_of_all log h.by asked.tears found) ++ bs)) (sym totals)
+    append_assoc (cases_head (inputs_told h.cuts inputs) h asked) (flat_map (cut_cases log h.by asked.tears) found) (totals_text found)
+    ∙ ap (λ (bs : List ℕ). cases_head (inputs_told h.cuts inputs) h asked ++ (bs ++ totals_text found)) (sym lines)
+    ∙ ap (λ (bs : List ℕ). cases_head (inputs_told h.cuts inputs) h asked ++ (flat_map (told_line h.by) (told_of_all log h.by asked.tears found) ++ bs)) (sym totals)
 
 -- EACH LINE IS ONE OF A RUN
 
@@ -231,8 +231,8 @@ small n = omega (arith, clamps)
 as_it_is : (n : ℕ) → n ≤ most_cases → in_word n ≡ n
 as_it_is n few = omega (arith, clamps, few)
 
-are_totals : (h : HeadValue) (asked : Losses) (log : LogValue) (found : List CutFound) → ArePrinted h asked log found → AreTotals (printed_cases h asked log found)
-are_totals h asked log found are =
+are_totals : (inputs : ℕ) (h : HeadValue) (asked : Losses) (log : LogValue) (found : List CutFound) → ArePrinted h asked log found → AreTotals (printed_cases inputs h asked log found)
+are_totals inputs h asked log found are =
     let lines : ℕ = length (told_of_all log h.by asked.tears found) in
     let long : lines ≡ sum_by failing_in (all_found found) = all_long log h.by asked.tears found in
     let failing = all_few_failing h asked log found are.each in
@@ -276,16 +276,25 @@ plain_all log way tears [] = tt
 plain_all log way tears (c ∷ found) =
     plain_both (cut_told log way tears c) (told_of_all log way tears found) (plain_programs (at_cut log way c.cut) tears 0 c.programs.items) (plain_all log way tears found)
 
-pub printed_is_text : (h : HeadValue) (asked : Losses) (log : LogValue) (found : List CutFound) → ArePrinted h asked log found
-    → IsCasesText (cases_bytes h asked log found) (printed_cases h asked log found)
-printed_is_text h asked log found are =
-    let utf8 = cases_are_text (printed_cases h asked log found) (plain_all log h.by asked.tears found) in
+-- the number of its inputs is told where it is of a range
+told_inputs : (h : HeadValue) (inputs : ℕ) → inputs < 2 ^ 64 → AreInputs h (inputs_told h.cuts inputs)
+told_inputs h inputs small = by_range (has_range h.cuts) refl
+  where
+    by_range : (b : Bool) → has_range h.cuts ≡ b → AreInputs h (if b then Some inputs else None)
+    by_range true e = record { told = e; small = small }
+    by_range false e = record { told = ap not e; small = tt }
+
+pub printed_is_text : (inputs : ℕ) (h : HeadValue) (asked : Losses) (log : LogValue) (found : List CutFound) → inputs < 2 ^ 64 → ArePrinted h asked log found
+    → IsCasesText (cases_bytes inputs h asked log found) (printed_cases inputs h asked log found)
+printed_is_text inputs h asked log found small are =
+    let utf8 = cases_are_text (printed_cases inputs h asked log found) (plain_all log h.by asked.tears found) in
     record {
-      utf8 = subst (λ (bs : List ℕ). IsUtf8 bs) (sym (text_is h asked log found)) utf8;
+      utf8 = subst (λ (bs : List ℕ). IsUtf8 bs) (sym (text_is inputs h asked log found)) utf8;
+      inputs = told_inputs h inputs small;
       head = are.head;
       asked = are.losses;
       told = all_are_told h asked log found are.bounds are.entries are.losses.tears are.each;
       rising = told_rise log h.by asked.tears found are.rise (numbers_of_all h asked log found are.each);
-      totals = are_totals h asked log found are;
-      is = text_is h asked log found;
+      totals = are_totals inputs h asked log found are;
+      is = text_is inputs h asked log found;
     }

@@ -1,17 +1,18 @@
 -- Texts of ranges of cuts of a run are refused for what they come to alone.
-use Rattle.std.proofs.Common.{ℕ, zero, suc, ◌≡◌, ◌≢◌, ◌+◌, ◌-◌, ◌<◌, ◌≤◌, ◌⊎◌, Bool, false, inl, inr, List, [], ◌∷◌, ◌++◌, length, map, slice_get, Option, Some, None, unwrap_or, refl, sym, ◌∙◌, ap, subst, arith}
+use Rattle.std.proofs.Common.{ℕ, zero, suc, ◌≡◌, ◌≢◌, ◌+◌, ◌-◌, ◌<◌, ◌≤◌, ◌⊎◌, Bool, false, inl, inr, List, [], ◌∷◌, ◌++◌, length, map, slice_get, get_or, All, Option, Some, None, unwrap_or, refl, sym, ◌∙◌, ap, subst, arith}
 use Rattle.std.proofs.lemmas.List.Sorted.{IsPermutation-refl}
 use Rattle.epochs.specs.Flushes.{places_of}
 use Rattle.report.specs.Words.{cuts_words}
 use Rattle.report.specs.Report.{HeadValue, device_text, given_text}
 use Rattle.case_runs.specs.declared.found.Losses.{Losses}
-use Rattle.case_text.specs.Text.{options_text}
+use Rattle.case_text.specs.Text.{cases_head, opening_text, options_text}
 use Rattle.join.specs.declared.case_parts.fault.CasesFault.{CasesFault}
 use Rattle.join.specs.CaseTexts.{IsCasesText, NoCasesText, first_of, last_of}
-use Rattle.join.specs.CaseReading.{AreAlike, CasesRead, SaysCases}
+use Rattle.join.specs.CaseReading.{AreAlike, CasesRead, Each, SaysCases}
 use Rattle.join.specs.CaseJoining.{AreCasesParts, AreByCuts, AreShortOfCuts, FollowInRow, IsFirstApart, RefusesCases, head_between, run_text, too_long, no_part, of_other_run, with_gap, with_overlap, with_many, short_of_cuts, no_memory}
 use Rattle.join.specs.CaseLaws.{CaseRun, AskedRange, FollowToEnd, cases_between, end_of, start_of}
 use Rattle.join.proofs.CaseLasts.{within_log}
+use Rattle.join.proofs.CaseLawful as lawful
 use Rattle.commands.specs.CaseParts.{IsOfSize}
 use Rattle.commands.proofs.CaseSegments.{text_of, ArePrintedRanges}
 use Rattle.commands.proofs.OneRow.{AreNumbered, Past, IsRising, sorted_up, one_row}
@@ -115,14 +116,15 @@ run_is h v w u alike asked =
     let e7 : h.programs ≡ v.programs = alike.programs in
     rw (e1, e2, e3, e4, e5, e6, e7, asked) refl
 
-run_said : (r : CaseRun) (rs : List CasesRead) (xs : List AskedRange) (k : ℕ) (s : CasesRead) → AreSaid r rs xs → slice_get rs k ≡ Some s → run_text s ≡ options_text (head_between r.head None None) r.asked
+run_said : (r : CaseRun) (rs : List CasesRead) (xs : List AskedRange) (k : ℕ) (s : CasesRead) → AreSaid r rs xs → slice_get rs k ≡ Some s → run_text s ≡ cases_head s.inputs (head_between r.head None None) r.asked
 run_said r [] xs k s said at = absurd (let bad : None ≡ Some s = at in cc)
 run_said r (t ∷ rs) [] k s said at = absurd said
 run_said r (t ∷ rs) (x ∷ xs) zero s said at =
     let both : Some t ≡ Some s = at in
     let same : t ≡ s = cc in
-    let own : run_text t ≡ options_text (head_between r.head None None) r.asked = run_is t.head (head_between r.head x.from x.to) t.asked r.asked said.0.head said.0.asked in
-    subst (λ (y : CasesRead). run_text y ≡ options_text (head_between r.head None None) r.asked) same own
+    let own : run_text t ≡ cases_head t.inputs (head_between r.head None None) r.asked =
+    ap (λ (bs : List ℕ). opening_text t.inputs ++ bs) (run_is t.head (head_between r.head x.from x.to) t.asked r.asked said.0.head said.0.asked) in
+    subst (λ (y : CasesRead). run_text y ≡ cases_head y.inputs (head_between r.head None None) r.asked) same own
 run_said r (t ∷ rs) (x ∷ xs) (suc k) s said at = run_said r rs xs k s said.2 at
 
 follow_inside : (front back : List CasesRead) (left right : CasesRead) → FollowInRow (front ++ left ∷ right ∷ back) → last_of left.head + 1 ≡ first_of right.head
@@ -179,13 +181,26 @@ not_short r whole xs file printed follow all short =
     by_lack (inl lack) zero_first end = let some = lack.0 in absurd (omega (arith, some, zero_first))
     by_lack (inr lack) zero_first end = lack.1 end
 
+pub all_by_place : {A : Type 0} (P : A → Type 0) (xs : List A) → Each P xs → All P xs
+all_by_place P [] each = λ k d small. absurd (omega (arith, small))
+all_by_place {A} P (x ∷ xs) each = at (all_by_place P xs each.1)
+  where
+    at : All P xs → (k : ℕ) (d : A) → k < length (x ∷ xs) → P (get_or (x ∷ xs) k d)
+    at rest zero d small = each.0
+    at rest (suc k) d small = rest k d (omega (arith, small))
+
 pub refused_so : (part : Bool) (r : CaseRun) (whole : AskedRange) (xs : List AskedRange) (fault : CasesFault) → ArePrintedRanges r xs → FollowToEnd r (start_of whole) whole xs
     → (part ≡ false → (start_of whole ≡ 0) × (end_of r whole ≡ r.head.entries)) → RefusesCases part (map (text_of r) xs) fault → IsOfSize fault
 refused_so part r whole xs _ printed follow all (too_long file long) = inl refl
 refused_so part r whole xs _ printed follow all (no_part file other) = absurd (none_other r xs file other.text printed other.there other.other)
 refused_so part r whole xs _ printed follow all (of_other_run file strange) =
     let said = are_said r 0 xs strange.reads strange.each printed in
-    absurd (strange.foreign (run_said r strange.reads xs file strange.read said strange.there ∙ sym (run_said r strange.reads xs 0 strange.run said strange.run_there)))
+    let texts = all_by_place (λ (x : AskedRange). IsCasesText (text_of r x) (cases_between r x)) xs printed in
+    let told = lawful.one_number r (start_of whole) whole strange.reads xs (lawful.are_said r 0 strange.reads xs strange.each texts) follow texts in
+    let same : strange.read.inputs ≡ strange.run.inputs = told.is file strange.read strange.there ∙ sym (told.is 0 strange.run strange.run_there) in
+    absurd (strange.foreign (
+    run_said r strange.reads xs file strange.read said strange.there ∙ ap (λ (i : Option ℕ). cases_head i (head_between r.head None None) r.asked) same
+    ∙ sym (run_said r strange.reads xs 0 strange.run said strange.run_there)))
 refused_so part r whole xs _ printed follow all (with_gap left right apart gap) = let next = adjoin r whole xs left right printed follow apart in absurd (omega (arith, next, gap))
 refused_so part r whole xs _ printed follow all (with_overlap left right apart over) = let next = adjoin r whole xs left right printed follow apart in absurd (omega (arith, next, over))
 refused_so part r whole xs _ printed follow all (with_many read many) = tt

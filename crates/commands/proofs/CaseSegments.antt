@@ -12,7 +12,7 @@ use Rattle.case_runs.specs.declared.found.Losses.{Losses}
 use Rattle.case_runs.specs.declared.found.FoundCases.{FoundCases}
 use Rattle.case_runs.specs.declared.found.CutFound.{CutFound}
 use Rattle.case_runs.specs.Found.{most_cases, cases_at, cases_in}
-use Rattle.case_text.specs.Text.{in_word, all_found, count_cases, count_failing, fails_in, fails_at, is_any_failing}
+use Rattle.case_text.specs.Text.{in_word, inputs_told, all_found, count_cases, count_failing, fails_in, fails_at, is_any_failing}
 use Rattle.join.specs.declared.case_parts.totals.CaseTotals.{CaseTotals}
 use Rattle.join.specs.CaseTexts.{ToldCase, CasesValue, IsCasesText, told_text}
 use Rattle.join.specs.CaseReading.{CasesRead, Each, SaysCases}
@@ -78,8 +78,9 @@ sum_of_cuts g (c ∷ found) =
 
 -- A RUN BY ITS CUTS
 
-abbrev pub run_over : HeadValue → Losses → (ℕ → ℕ → List ℕ) → LogValue → List CutFound → CaseRun
-run_over h asked cuts log all = record {
+abbrev pub run_over : ℕ → HeadValue → Losses → (ℕ → ℕ → List ℕ) → LogValue → List CutFound → CaseRun
+run_over inputs h asked cuts log all = record {
+  inputs = inputs;
   head = h;
   asked = asked;
   cuts = cuts;
@@ -105,11 +106,11 @@ cuts_long [] = refl
 cuts_long (c ∷ found) = let rest = cuts_long found in omega (arith, rest)
 
 -- of a range that has the cuts of a segment it has what is found there
-pub between_is : (h : HeadValue) (asked : Losses) (cuts : ℕ → ℕ → List ℕ) (log : LogValue) (all : List CutFound) (x : AskedRange) (seg : List CutFound) → CutsRise 0 all
-    → Each (λ (c : CutFound). IsAmong all c) seg → cuts_of_range (run_over h asked cuts log all) x ≡ cuts_found seg
-    → cases_between (run_over h asked cuts log all) x ≡ printed_cases (head_between h x.from x.to) asked log seg
-between_is h asked cuts log all x seg rise each are =
-    let r : CaseRun = run_over h asked cuts log all in
+pub between_is : (inputs : ℕ) (h : HeadValue) (asked : Losses) (cuts : ℕ → ℕ → List ℕ) (log : LogValue) (all : List CutFound) (x : AskedRange) (seg : List CutFound) → CutsRise 0 all
+    → Each (λ (c : CutFound). IsAmong all c) seg → cuts_of_range (run_over inputs h asked cuts log all) x ≡ cuts_found seg
+    → cases_between (run_over inputs h asked cuts log all) x ≡ printed_cases inputs (head_between h x.from x.to) asked log seg
+between_is inputs h asked cuts log all x seg rise each are =
+    let r : CaseRun = run_over inputs h asked cuts log all in
     let told : flat_map r.told (cuts_of_range r x) ≡ told_of_all log h.by asked.tears seg = ap (λ (ks : List ℕ). flat_map r.told ks) are ∙ lists_at (cut_told log h.by asked.tears) all seg rise each in
     let count : length (cuts_of_range r x) ≡ length seg = ap (λ (ks : List ℕ). length ks) are ∙ cuts_long seg in
     let cases : sum_by r.cases (cuts_of_range r x) ≡ sum_by (λ (f : FoundCases). f.cases) (all_found seg) =
@@ -121,6 +122,7 @@ between_is h asked cuts log all x seg rise each are =
     let lost : sum_by r.lost (cuts_of_range r x) ≡ sum_by (λ (f : FoundCases). f.lost_beyond) (all_found seg) =
     ap (λ (ks : List ℕ). sum_by r.lost ks) are ∙ sums_at (λ (c : CutFound). sum_by (λ (f : FoundCases). f.lost_beyond) c.programs.items) all seg rise each ∙ sum_of_cuts (λ (f : FoundCases). f.lost_beyond) seg in
     λ i. record {
+      inputs = inputs_told (head_between h x.from x.to).cuts inputs;
       head = head_between h x.from x.to;
       asked = asked;
       told = told i;
@@ -228,48 +230,48 @@ as_it_is : (n : ℕ) → n ≤ most_cases → in_word n ≡ n
 as_it_is n few = omega (arith, clamps, few)
 
 -- a segment is counted so
-record IsCounted (h : HeadValue) (asked : Losses) (cuts : ℕ → ℕ → List ℕ) (log : LogValue) (all : List CutFound) (x : AskedRange) (seg : List CutFound) : Type 0 where
-  cases : (cases_between (run_over h asked cuts log all) x).totals.cases ≡ cases_in seg
-  failing : (cases_between (run_over h asked cuts log all) x).totals.failing ≡ sum_by failing_in (all_found seg)
+record IsCounted (inputs : ℕ) (h : HeadValue) (asked : Losses) (cuts : ℕ → ℕ → List ℕ) (log : LogValue) (all : List CutFound) (x : AskedRange) (seg : List CutFound) : Type 0 where
+  cases : (cases_between (run_over inputs h asked cuts log all) x).totals.cases ≡ cases_in seg
+  failing : (cases_between (run_over inputs h asked cuts log all) x).totals.failing ≡ sum_by failing_in (all_found seg)
 
 -- in each segment no more cases fail than there are
 abbrev pub FewFail : List (List CutFound) → Type 0
 FewFail [] = Unit {0}
 FewFail (seg ∷ segs) = (sum_by failing_in (all_found seg) ≤ cases_in seg) × FewFail segs
 
-counted : (h : HeadValue) (asked : Losses) (cuts : ℕ → ℕ → List ℕ) (log : LogValue) (all : List CutFound) (x : AskedRange) (seg : List CutFound) → CutsRise 0 all → Each (λ (c : CutFound). IsAmong all c) seg
-    → cuts_of_range (run_over h asked cuts log all) x ≡ cuts_found seg → cases_in seg ≤ most_cases → sum_by failing_in (all_found seg) ≤ cases_in seg → IsCounted h asked cuts log all x seg
-counted h asked cuts log all x seg rise each are few less =
-    let same : cases_between (run_over h asked cuts log all) x ≡ printed_cases (head_between h x.from x.to) asked log seg = between_is h asked cuts log all x seg rise each are in
-    let one : (cases_between (run_over h asked cuts log all) x).totals.cases ≡ count_cases seg = ap (λ (c : CasesValue). c.totals.cases) same in
-    let two : (cases_between (run_over h asked cuts log all) x).totals.failing ≡ count_failing seg = ap (λ (c : CasesValue). c.totals.failing) same in
+counted : (inputs : ℕ) (h : HeadValue) (asked : Losses) (cuts : ℕ → ℕ → List ℕ) (log : LogValue) (all : List CutFound) (x : AskedRange) (seg : List CutFound) → CutsRise 0 all → Each (λ (c : CutFound). IsAmong all c) seg
+    → cuts_of_range (run_over inputs h asked cuts log all) x ≡ cuts_found seg → cases_in seg ≤ most_cases → sum_by failing_in (all_found seg) ≤ cases_in seg → IsCounted inputs h asked cuts log all x seg
+counted inputs h asked cuts log all x seg rise each are few less =
+    let same : cases_between (run_over inputs h asked cuts log all) x ≡ printed_cases inputs (head_between h x.from x.to) asked log seg = between_is inputs h asked cuts log all x seg rise each are in
+    let one : (cases_between (run_over inputs h asked cuts log all) x).totals.cases ≡ count_cases seg = ap (λ (c : CasesValue). c.totals.cases) same in
+    let two : (cases_between (run_over inputs h asked cuts log all) x).totals.failing ≡ count_failing seg = ap (λ (c : CasesValue). c.totals.failing) same in
     record {
       cases = one ∙ ap in_word (cases_counted seg) ∙ as_it_is (cases_in seg) few;
       failing = two ∙ as_it_is (sum_by failing_in (all_found seg)) (omega (arith, few, less));
     }
 
-sum_cases : (h : HeadValue) (asked : Losses) (cuts : ℕ → ℕ → List ℕ) (log : LogValue) (all : List CutFound) (xs : List AskedRange) (segs : List (List CutFound)) → CutsRise 0 all → EachAmong all segs
-    → HaveSegments (run_over h asked cuts log all) xs segs → FewFail segs → sum_by (λ (x : AskedRange). (cases_between (run_over h asked cuts log all) x).totals.cases) xs ≡ cases_in (joined_of segs)
-sum_cases h asked cuts log all [] [] rise among have less = refl
-sum_cases h asked cuts log all [] (seg ∷ segs) rise among have less = absurd have
-sum_cases h asked cuts log all (x ∷ xs) [] rise among have less = absurd have
-sum_cases h asked cuts log all (x ∷ xs) (seg ∷ segs) rise among have less =
-    let own = (counted h asked cuts log all x seg rise among.0 have.0 have.1 less.0).cases in
-    let rest = sum_cases h asked cuts log all xs segs rise among.1 have.2 less.1 in
-    let left = sum_by-cons (λ (y : AskedRange). (cases_between (run_over h asked cuts log all) y).totals.cases) x xs in
+sum_cases : (inputs : ℕ) (h : HeadValue) (asked : Losses) (cuts : ℕ → ℕ → List ℕ) (log : LogValue) (all : List CutFound) (xs : List AskedRange) (segs : List (List CutFound)) → CutsRise 0 all → EachAmong all segs
+    → HaveSegments (run_over inputs h asked cuts log all) xs segs → FewFail segs → sum_by (λ (x : AskedRange). (cases_between (run_over inputs h asked cuts log all) x).totals.cases) xs ≡ cases_in (joined_of segs)
+sum_cases inputs h asked cuts log all [] [] rise among have less = refl
+sum_cases inputs h asked cuts log all [] (seg ∷ segs) rise among have less = absurd have
+sum_cases inputs h asked cuts log all (x ∷ xs) [] rise among have less = absurd have
+sum_cases inputs h asked cuts log all (x ∷ xs) (seg ∷ segs) rise among have less =
+    let own = (counted inputs h asked cuts log all x seg rise among.0 have.0 have.1 less.0).cases in
+    let rest = sum_cases inputs h asked cuts log all xs segs rise among.1 have.2 less.1 in
+    let left = sum_by-cons (λ (y : AskedRange). (cases_between (run_over inputs h asked cuts log all) y).totals.cases) x xs in
     let right = sum_by-append (λ (c : CutFound). cases_at c.programs.items) seg (joined_of segs) in
     omega (arith, own, rest, left, right)
 
-sum_failing : (h : HeadValue) (asked : Losses) (cuts : ℕ → ℕ → List ℕ) (log : LogValue) (all : List CutFound) (xs : List AskedRange) (segs : List (List CutFound)) → CutsRise 0 all → EachAmong all segs
-    → HaveSegments (run_over h asked cuts log all) xs segs → FewFail segs
-    → sum_by (λ (x : AskedRange). (cases_between (run_over h asked cuts log all) x).totals.failing) xs ≡ sum_by failing_in (all_found (joined_of segs))
-sum_failing h asked cuts log all [] [] rise among have less = refl
-sum_failing h asked cuts log all [] (seg ∷ segs) rise among have less = absurd have
-sum_failing h asked cuts log all (x ∷ xs) [] rise among have less = absurd have
-sum_failing h asked cuts log all (x ∷ xs) (seg ∷ segs) rise among have less =
-    let own = (counted h asked cuts log all x seg rise among.0 have.0 have.1 less.0).failing in
-    let rest = sum_failing h asked cuts log all xs segs rise among.1 have.2 less.1 in
-    let left = sum_by-cons (λ (y : AskedRange). (cases_between (run_over h asked cuts log all) y).totals.failing) x xs in
+sum_failing : (inputs : ℕ) (h : HeadValue) (asked : Losses) (cuts : ℕ → ℕ → List ℕ) (log : LogValue) (all : List CutFound) (xs : List AskedRange) (segs : List (List CutFound)) → CutsRise 0 all → EachAmong all segs
+    → HaveSegments (run_over inputs h asked cuts log all) xs segs → FewFail segs
+    → sum_by (λ (x : AskedRange). (cases_between (run_over inputs h asked cuts log all) x).totals.failing) xs ≡ sum_by failing_in (all_found (joined_of segs))
+sum_failing inputs h asked cuts log all [] [] rise among have less = refl
+sum_failing inputs h asked cuts log all [] (seg ∷ segs) rise among have less = absurd have
+sum_failing inputs h asked cuts log all (x ∷ xs) [] rise among have less = absurd have
+sum_failing inputs h asked cuts log all (x ∷ xs) (seg ∷ segs) rise among have less =
+    let own = (counted inputs h asked cuts log all x seg rise among.0 have.0 have.1 less.0).failing in
+    let rest = sum_failing inputs h asked cuts log all xs segs rise among.1 have.2 less.1 in
+    let left = sum_by-cons (λ (y : AskedRange). (cases_between (run_over inputs h asked cuts log all) y).totals.failing) x xs in
     let right = ap (λ (fs : List FoundCases). sum_by failing_in fs) (found_joined seg (joined_of segs)) ∙ sum_by-append failing_in (all_found seg) (all_found (joined_of segs)) in
     omega (arith, own, rest, left, right)
 
@@ -278,15 +280,15 @@ pub record AreCounted (all : List CutFound) (rs : List CasesRead) : Type 0 where
   pub cases : sum_by (λ (s : CasesRead). s.totals.cases) rs ≡ cases_in all
   pub failing : sum_by (λ (s : CasesRead). s.totals.failing) rs ≡ sum_by failing_in (all_found all)
 
-pub reads_counted : (h : HeadValue) (asked : Losses) (cuts : ℕ → ℕ → List ℕ) (log : LogValue) (xs : List AskedRange) (segs : List (List CutFound)) (rs : List CasesRead) → CutsRise 0 (joined_of segs)
-    → HaveSegments (run_over h asked cuts log (joined_of segs)) xs segs → FewFail segs → AreCasesParts 0 (map (text_of (run_over h asked cuts log (joined_of segs))) xs) rs
-    → ArePrintedRanges (run_over h asked cuts log (joined_of segs)) xs → AreCounted (joined_of segs) rs
-reads_counted h asked cuts log xs segs rs rise have less each printed =
+pub reads_counted : (inputs : ℕ) (h : HeadValue) (asked : Losses) (cuts : ℕ → ℕ → List ℕ) (log : LogValue) (xs : List AskedRange) (segs : List (List CutFound)) (rs : List CasesRead) → CutsRise 0 (joined_of segs)
+    → HaveSegments (run_over inputs h asked cuts log (joined_of segs)) xs segs → FewFail segs → AreCasesParts 0 (map (text_of (run_over inputs h asked cuts log (joined_of segs))) xs) rs
+    → ArePrintedRanges (run_over inputs h asked cuts log (joined_of segs)) xs → AreCounted (joined_of segs) rs
+reads_counted inputs h asked cuts log xs segs rs rise have less each printed =
     let all : List CutFound = joined_of segs in
-    let r : CaseRun = run_over h asked cuts log all in
+    let r : CaseRun = run_over inputs h asked cuts log all in
     record {
-      cases = reads_say (λ (t : CaseTotals). t.cases) r 0 xs rs each printed ∙ sum_cases h asked cuts log all xs segs rise (segments_among segs) have less;
-      failing = reads_say (λ (t : CaseTotals). t.failing) r 0 xs rs each printed ∙ sum_failing h asked cuts log all xs segs rise (segments_among segs) have less;
+      cases = reads_say (λ (t : CaseTotals). t.cases) r 0 xs rs each printed ∙ sum_cases inputs h asked cuts log all xs segs rise (segments_among segs) have less;
+      failing = reads_say (λ (t : CaseTotals). t.failing) r 0 xs rs each printed ∙ sum_failing inputs h asked cuts log all xs segs rise (segments_among segs) have less;
     }
 
 -- WHETHER A CASE FAILS

@@ -20,7 +20,7 @@ use Rattle.case_runs.specs.Found.{IsFoundAt, AreFoundAt, AreFoundIn, AreFirstAt,
 use Rattle.epochs.specs.Units.{epoch_at, marks_at}
 use Rattle.case_text.specs.Known.{known_of}
 use Rattle.case_text.specs.Window.{case_window}
-use Rattle.case_text.specs.Text.{known_text, window_text, place_text, number_text, case_line, program_cases, programs_cases, cut_cases, all_found, count_cases, count_failing, count_torn_beyond, count_lost_beyond, complete_word, totals_text, counts_text, beyond_text, in_word, head_text, options_text, cases_bytes, fails_at, is_any_failing}
+use Rattle.case_text.specs.Text.{known_text, window_text, place_text, number_text, case_line, program_cases, programs_cases, cut_cases, all_found, count_cases, count_failing, count_torn_beyond, count_lost_beyond, complete_word, totals_text, counts_text, beyond_text, in_word, inputs_told, cases_head, options_text, cases_bytes, fails_at, is_any_failing}
 use Rattle.case_text.specs.Causes.{cause_text}
 use Rattle.case_text.specs.Cured as cured
 use Rattle.case_text.specs.Cured.{line_without, uncured_line, program_uncured, found_uncured, all_uncured, cure_begin}
@@ -189,12 +189,12 @@ any_same log way tears (c ∷ cs) (d ∷ ds) same =
     let rest = any_same log way tears cs ds same.2 in
     λ i. own i || rest i
 
-pub bytes_same : (h : HeadValue) (asked : Losses) (log : LogValue) (ls ms : List CutFound) → CutsSame log h.by asked.tears ls ms → cases_bytes h asked log ls ≡ cases_bytes h asked log ms
+pub bytes_same : (inputs : ℕ) (h : HeadValue) (asked : Losses) (log : LogValue) (ls ms : List CutFound) → CutsSame log h.by asked.tears ls ms → cases_bytes inputs h asked log ls ≡ cases_bytes inputs h asked log ms
 unfolding cases_bytes
-bytes_same h asked log ls ms same =
+bytes_same inputs h asked log ls ms same =
     let lines = cut_lines log h.by asked.tears ls ms same in
     let totals = totals_same log h.by asked.tears ls ms same in
-    λ i. head_text h asked ++ lines i ++ totals i
+    λ i. cases_head (inputs_told h.cuts inputs) h asked ++ lines i ++ totals i
 
 -- why they fail is the same
 unfoldable pub told_known : CutValue → Bool → KnownCase → ToldValue
@@ -353,6 +353,6 @@ not_many one asked log way cuts checkers found cut are few many =
     let counted = many.counted in
     omega (arith, among, past, counted, few)
 
-pub not_too_many : FindingIsOne → (l : AnyLosses) (s : Settings) (value : LogValue) (checkers : List CheckerValue) (bytes : List ℕ) (failing : Bool) (cut : ℕ)
-    → TellsCases l s value checkers bytes failing → AreTooMany (losses_of l s) value s.by (case_cuts l.at_most s.cuts value.entries) checkers cut → ⊥
-not_too_many one l s value checkers bytes failing cut h many = not_many one (losses_of l s) value s.by (case_cuts l.at_most s.cuts value.entries) checkers h.found cut h.are h.few many
+pub not_too_many : FindingIsOne → (inputs : ℕ) (l : AnyLosses) (s : Settings) (value : LogValue) (checkers : List CheckerValue) (bytes : List ℕ) (failing : Bool) (cut : ℕ)
+    → TellsCases inputs l s value checkers bytes failing → AreTooMany (losses_of l s) value s.by (case_cuts l.at_most s.cuts value.entries) checkers cut → ⊥
+not_too_many one inputs l s value checkers bytes failing cut h many = not_many one (losses_of l s) value s.by (case_cuts l.at_most s.cuts value.entries) checkers h.found cut h.are h.few many

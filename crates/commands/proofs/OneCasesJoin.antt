@@ -16,7 +16,7 @@ use Rattle.report.specs.Part.{span_text, span_report}
 use Rattle.report.specs.Report.{HeadValue, device_text, given_text, findings_text, report_bytes}
 use Rattle.report.specs.Report.{options_text as report_options}
 use Rattle.case_runs.specs.declared.found.Losses.{Losses}
-use Rattle.case_text.specs.Text.{in_word, head_text, options_text}
+use Rattle.case_text.specs.Text.{in_word, cases_head, opening_text, options_text}
 use Rattle.join.specs.declared.case_parts.fault.CasesFault.{CasesFault}
 use Rattle.join.specs.declared.case_parts.fault.CasesFault.TheVariants as refused
 use Rattle.join.specs.declared.case_parts.totals.CaseTotals.{CaseTotals}
@@ -25,15 +25,17 @@ use Rattle.join.specs.Reading.{PartRead, IsPartText, NoPartText}
 use Rattle.join.specs.Joining.{ArePartTexts, IsJoined, joined_text, size_of, span_between}
 use Rattle.join.specs.CaseTexts.{CasesValue, IsCasesText, NoCasesText, told_text, first_of, last_of, totals_line}
 use Rattle.join.specs.CaseReading.{AreAlike, CasesRead, IsCasesPart}
-use Rattle.join.specs.CaseJoining.{AreCasesParts, AreJoinedCases, AreByCuts, AreShortOfCuts, FollowInRow, HasFailing, IsFirstApart, IsFirstForeign, IsFirstMany, IsOfCaseRun, RefusesCases, all_cases, all_totals, head_between, joined_cases, joined_head, too_long, no_part, of_other_run, with_gap, with_overlap, with_many, short_of_cuts, no_memory}
+use Rattle.join.specs.CaseJoining.{AreCasesParts, AreJoinedCases, AreByCuts, AreShortOfCuts, FollowInRow, HasFailing, IsFirstApart, IsFirstForeign, IsFirstMany, IsOfCaseRun, RefusesCases, all_cases, all_totals, head_between, joined_cases, joined_head, told_number, too_long, no_part, of_other_run, with_gap, with_overlap, with_many, short_of_cuts, no_memory}
 use Rattle.join.proofs.CaseLasts.{within_log}
 use Rattle.commands.proofs.OneRow.{Each, each_of, all_of, each_at, AreNumbered, Past, IsRising, IsNotFalling, NotBefore, rising_up, sorted_up, one_row}
 use Rattle.commands.proofs.OneSize.{not_long}
 
 -- WHAT TWO READINGS OF A TEXT HAVE IN COMMON
 
--- what is printed of a text: its options and programs over any range, its range, its lines and its totals; and its file
+-- what is printed of a text: the number of its inputs, its options and programs over any range, its range, its lines and its totals; and
+-- its file
 record CasesKey : Type 0 where
+  inputs : Option ℕ
   text : Option ℕ → Option ℕ → List ℕ
   from : Option ℕ
   to : Option ℕ
@@ -44,6 +46,7 @@ record CasesKey : Type 0 where
 
 abbrev key_of : CasesRead → CasesKey
 key_of r = record {
+  inputs = r.inputs;
   text = λ from to. options_text (head_between r.head from to) r.asked;
   from = r.head.cuts.from;
   to = r.head.cuts.to;
@@ -52,6 +55,10 @@ key_of r = record {
   totals = r.totals;
   file = r.file;
 }
+
+-- and what it says of its run
+abbrev said_of : CasesKey → List ℕ
+said_of k = opening_text k.inputs ++ k.text None None
 
 -- heads that say the same over one range are printed alike
 same_options : (h v : HeadValue) (w u : Losses) (from to : Option ℕ) → AreAlike h v → w ≡ u → options_text (head_between h from to) w ≡ options_text (head_between v from to) u
@@ -73,12 +80,14 @@ same_key t r s a b at =
     let own = b.only b.cases b.is in
     let alike : AreAlike r.head s.head = subst (λ (h : HeadValue). AreAlike r.head h) (sym b.head) says.head in
     let asked : r.asked ≡ s.asked = says.asked ∙ sym own.asked in
+    let inputs : r.inputs ≡ s.inputs = says.inputs ∙ sym own.inputs in
     let lines : r.lines ≡ s.lines = says.lines ∙ sym own.lines in
     let totals : r.totals ≡ s.totals = says.totals ∙ sym own.totals in
     let from : r.head.cuts.from ≡ s.head.cuts.from = alike.options.from in
     let to : r.head.cuts.to ≡ s.head.cuts.to = alike.options.to in
     let entries : r.head.entries ≡ s.head.entries = alike.options.entries in
     λ i. record {
+      inputs = inputs i;
       text = λ a b. same_options r.head s.head r.asked s.asked a b alike asked i;
       from = from i;
       to = to i;
@@ -203,7 +212,7 @@ keys_are_all first last = (start_of first == 0) && (end_of last == last.entries)
 
 abbrev joined_keys : CasesKey → CasesKey → List CasesKey → List ℕ
 joined_keys first last ks =
-    (codes "crash cases 1\n" ++ first.text (if keys_are_all first last then None else first.from) (if keys_are_all first last then None else last.to))
+    (opening_text (if keys_are_all first last then None else first.inputs) ++ first.text (if keys_are_all first last then None else first.from) (if keys_are_all first last then None else last.to))
     ++ (flat_map (λ (k : CasesKey). k.lines) ks ++ totals_line (key_totals ks))
 
 totals_keyed : (rs : List CasesRead) → all_totals rs ≡ key_totals (map key_of rs)
@@ -217,8 +226,8 @@ totals_keyed rs =
 
 joined_keyed : (first last : CasesRead) (rs : List CasesRead) → joined_cases first last rs ≡ joined_keys (key_of first) (key_of last) (map key_of rs)
 joined_keyed first last rs =
-    ap (λ (bs : List ℕ). head_text (joined_head first last) first.asked ++ (bs ++ totals_line (all_totals rs))) (lines_keyed rs)
-    ∙ ap (λ (t : CaseTotals). head_text (joined_head first last) first.asked ++ (flat_map (λ (k : CasesKey). k.lines) (map key_of rs) ++ totals_line t)) (totals_keyed rs)
+    ap (λ (bs : List ℕ). cases_head (told_number first last) (joined_head first last) first.asked ++ (bs ++ totals_line (all_totals rs))) (lines_keyed rs)
+    ∙ ap (λ (t : CaseTotals). cases_head (told_number first last) (joined_head first last) first.asked ++ (flat_map (λ (k : CasesKey). k.lines) (map key_of rs) ++ totals_line t)) (totals_keyed rs)
 
 -- what two rows of keys have at a place
 key_there : (ks ls : List CasesKey) (n m : ℕ) (k l : CasesKey) → ks ≡ ls → n ≡ m → slice_get ks n ≡ Some k → slice_get ls m ≡ Some l → k ≡ l
@@ -281,12 +290,12 @@ not_none n (u ∷ ts) (r ∷ rs) (suc k) t each there none = not_none (n + 1) ts
 not_foreign : {part : Bool} {texts : List (List ℕ)} {bytes : List ℕ} (file : ℕ) → AreJoinedCases part texts bytes → IsFirstForeign texts file → ⊥
 not_foreign {texts = texts} file h s =
     let keys : map key_of h.reads ≡ map key_of s.reads = same_keys 0 texts h.reads s.reads h.each s.each in
-    let run : List ℕ = (key_of h.first).text None None in
+    let run : List ℕ = said_of (key_of h.first) in
     let own : All (IsOfCaseRun h.first) h.reads = All-permutation (IsOfCaseRun h.first) h.row h.reads (IsPermutation-sym h.reads h.row h.order) h.one in
-    let of = each_keyed (λ (k : CasesKey). k.text None None ≡ run) h.reads (each_of (IsOfCaseRun h.first) h.reads own) in
-    let all : Each (λ (k : CasesKey). k.text None None ≡ run) (map key_of s.reads) = subst (λ (ks : List CasesKey). Each (λ (k : CasesKey). k.text None None ≡ run) ks) keys of in
-    let first = each_at (λ (k : CasesKey). k.text None None ≡ run) (map key_of s.reads) 0 (key_of s.run) all (key_at s.reads 0 s.run s.run_there) in
-    let other = each_at (λ (k : CasesKey). k.text None None ≡ run) (map key_of s.reads) file (key_of s.read) all (key_at s.reads file s.read s.there) in
+    let of = each_keyed (λ (k : CasesKey). said_of k ≡ run) h.reads (each_of (IsOfCaseRun h.first) h.reads own) in
+    let all : Each (λ (k : CasesKey). said_of k ≡ run) (map key_of s.reads) = subst (λ (ks : List CasesKey). Each (λ (k : CasesKey). said_of k ≡ run) ks) keys of in
+    let first = each_at (λ (k : CasesKey). said_of k ≡ run) (map key_of s.reads) 0 (key_of s.run) all (key_at s.reads 0 s.run s.run_there) in
+    let other = each_at (λ (k : CasesKey). said_of k ≡ run) (map key_of s.reads) file (key_of s.read) all (key_at s.reads file s.read s.there) in
     s.foreign (other ∙ sym first)
 
 -- by their cuts they stand in that row

@@ -31,6 +31,7 @@ use Rattle.request.specs.declared.settings.Settings.{Settings}
 use Rattle.request.specs.Source.{Recording}
 use Rattle.case_runs.specs.Cuts.{case_cuts}
 use Rattle.runs.specs.CaseCuts.{losses_of, AreMore}
+use Rattle.runs.specs.Inputs.{inputs_number}
 use Rattle.runs.specs.Cases.{IsTextOf, TellsCases, TellsFirst, of_first, of_none, TellsLosses, IsByCases, IsLosses}
 use Rattle.runs.specs.Explore.{head_of}
 use Rattle.runs.specs.Why.{with_first}
@@ -368,41 +369,41 @@ text_once h asked log first other same =
     text_of_first h asked log first ∙ (λ i. told_text h asked log (same.cut i) (same.program i) (same.known i)) ∙ sym (text_of_first h asked log other)
 
 -- the text of cases is one, whatever is told of them
-text_same : (telling : CaseTelling) (h : HeadValue) (asked : Losses) (log : LogValue) (ls ms : List CutFound) (bytes others : List ℕ) → CutsSame log h.by asked.tears ls ms
-    → IsTextOf telling h asked log ls bytes → IsTextOf telling h asked log ms others → bytes ≡ others
-text_same telling.Cases h asked log ls ms bytes others same a b = a ∙ bytes_same h asked log ls ms same ∙ sym b
-text_same telling.Causes h asked log ls ms bytes others same a b = why_same h asked log ls ms bytes others same a b
-text_same telling.Page h asked log ls ms bytes others same a b = a ∙ page_same h asked log ls ms same ∙ sym b
+text_same : (telling : CaseTelling) (inputs : ℕ) (h : HeadValue) (asked : Losses) (log : LogValue) (ls ms : List CutFound) (bytes others : List ℕ) → CutsSame log h.by asked.tears ls ms
+    → IsTextOf telling inputs h asked log ls bytes → IsTextOf telling inputs h asked log ms others → bytes ≡ others
+text_same telling.Cases inputs h asked log ls ms bytes others same a b = a ∙ bytes_same inputs h asked log ls ms same ∙ sym b
+text_same telling.Causes inputs h asked log ls ms bytes others same a b = why_same h asked log ls ms bytes others same a b
+text_same telling.Page inputs h asked log ls ms bytes others same a b = a ∙ page_same h asked log ls ms same ∙ sym b
 
-tells_once : FindingIsOne → (l : AnyLosses) (s : Settings) (value : LogValue) (checkers : List CheckerValue) (bytes others : List ℕ) (failing fails : Bool)
-    → TellsCases l s value checkers bytes failing → TellsCases l s value checkers others fails → (bytes ≡ others) × (failing ≡ fails)
+tells_once : FindingIsOne → (inputs : ℕ) (l : AnyLosses) (s : Settings) (value : LogValue) (checkers : List CheckerValue) (bytes others : List ℕ) (failing fails : Bool)
+    → TellsCases inputs l s value checkers bytes failing → TellsCases inputs l s value checkers others fails → (bytes ≡ others) × (failing ≡ fails)
 unfolding head_of
-tells_once one l s value checkers bytes others failing fails a b =
+tells_once one inputs l s value checkers bytes others failing fails a b =
     let same = cuts_same one (losses_of l s) value s.by (case_cuts l.at_most s.cuts value.entries) checkers a.found b.found a.are b.are in (
-      text_same l.telling (head_of (with_first false s) value checkers) (losses_of l s) value a.found b.found bytes others same a.text b.text,
+      text_same l.telling inputs (head_of (with_first false s) value checkers) (losses_of l s) value a.found b.found bytes others same a.text b.text,
       a.fails ∙ any_same value s.by s.tears a.found b.found same ∙ sym b.fails,
     )
 
-first_told_once : FindingIsOne → FirstIsOne → (l : AnyLosses) (s : Settings) (value : LogValue) (checkers : List CheckerValue) (bytes others : List ℕ) (failing fails : Bool)
-    → TellsFirst l s value checkers bytes failing → TellsFirst l s value checkers others fails → (bytes ≡ others) × (failing ≡ fails)
+first_told_once : FindingIsOne → FirstIsOne → (inputs : ℕ) (l : AnyLosses) (s : Settings) (value : LogValue) (checkers : List CheckerValue) (bytes others : List ℕ) (failing fails : Bool)
+    → TellsFirst inputs l s value checkers bytes failing → TellsFirst inputs l s value checkers others fails → (bytes ≡ others) × (failing ≡ fails)
 unfolding head_of
-first_told_once findings one l s value checkers bytes others _ _ (of_first first is text) (of_first other it written) = (
+first_told_once findings one inputs l s value checkers bytes others _ _ (of_first first is text) (of_first other it written) = (
   text
       ∙ text_once (head_of (with_first false s) value checkers) (losses_of l s) value first other
       (first_once one (losses_of l s) value s.by (case_cuts l.at_most s.cuts value.entries) checkers first other is it)
       ∙ sym written,
   refl,
 )
-first_told_once findings one l s value checkers bytes others _ _ (of_first first is text) (of_none tells) =
+first_told_once findings one inputs l s value checkers bytes others _ _ (of_first first is text) (of_none tells) =
     absurd (not_passing one (losses_of l s) value s.by (case_cuts l.at_most s.cuts value.entries) checkers first tells.found is tells.are (sym tells.fails))
-first_told_once findings one l s value checkers bytes others _ _ (of_none tells) (of_first other it written) =
+first_told_once findings one inputs l s value checkers bytes others _ _ (of_none tells) (of_first other it written) =
     absurd (not_passing one (losses_of l s) value s.by (case_cuts l.at_most s.cuts value.entries) checkers other tells.found it tells.are (sym tells.fails))
-first_told_once findings one l s value checkers bytes others _ _ (of_none tells) (of_none told) = ((tells_once findings l s value checkers bytes others false false tells told).0, refl)
+first_told_once findings one inputs l s value checkers bytes others _ _ (of_none tells) (of_none told) = ((tells_once findings inputs l s value checkers bytes others false false tells told).0, refl)
 
-told_once : FindingIsOne → FirstIsOne → (first : Bool) (l : AnyLosses) (s : Settings) (value : LogValue) (checkers : List CheckerValue) (bytes others : List ℕ) (failing fails : Bool)
-    → TellsLosses first l s value checkers bytes failing → TellsLosses first l s value checkers others fails → (bytes ≡ others) × (failing ≡ fails)
-told_once findings one false l s value checkers bytes others failing fails a b = tells_once findings l s value checkers bytes others failing fails a b
-told_once findings one true l s value checkers bytes others failing fails a b = first_told_once findings one l s value checkers bytes others failing fails a b
+told_once : FindingIsOne → FirstIsOne → (first : Bool) (inputs : ℕ) (l : AnyLosses) (s : Settings) (value : LogValue) (checkers : List CheckerValue) (bytes others : List ℕ) (failing fails : Bool)
+    → TellsLosses first inputs l s value checkers bytes failing → TellsLosses first inputs l s value checkers others fails → (bytes ≡ others) × (failing ≡ fails)
+told_once findings one false inputs l s value checkers bytes others failing fails a b = tells_once findings inputs l s value checkers bytes others failing fails a b
+told_once findings one true inputs l s value checkers bytes others failing fails a b = first_told_once findings one inputs l s value checkers bytes others failing fails a b
 
 -- what is told by cases
 pub one_by_cases : TextOfOneLog → OneProgram → OneVerdict → (Tells : Settings → LogValue → List CheckerValue → List ℕ → Bool → Type 0)
@@ -419,17 +420,18 @@ one_by_cases texts programs verdicts Tells one text files s bytes others failing
 
 pub one_losses : TextOfOneLog → OneProgram → OneVerdict → FindingIsOne → FirstIsOne → (first : Bool) (l : AnyLosses) (text : Recording) (files : List (List ℕ)) (s : Settings)
     (bytes others : List ℕ) (failing fails : Bool) → IsLosses first l text files s bytes failing → IsLosses first l text files s others fails → (bytes ≡ others) × (failing ≡ fails)
-one_losses texts programs verdicts findings one first l = one_by_cases texts programs verdicts (TellsLosses first l) (λ s value checkers. told_once findings one first l s value checkers)
+one_losses texts programs verdicts findings one first l text files =
+    one_by_cases texts programs verdicts (TellsLosses first (inputs_number text.text files) l) (λ s value checkers. told_once findings one first (inputs_number text.text files) l s value checkers) text files
 
 -- and it isn't refused
 
-not_more : FindingIsOne → FirstIsOne → (l : AnyLosses) (s : Settings) (value : LogValue) (checkers : List CheckerValue) (bytes : List ℕ) (failing : Bool) (cut : ℕ)
-    → TellsFirst l s value checkers bytes failing → PassesMostIn (losses_of l s) value s.by (case_cuts l.at_most s.cuts value.entries) checkers cut → ⊥
-not_more findings one l s value checkers bytes _ cut (of_first first is text) many = few_in findings one (losses_of l s) value s.by (case_cuts l.at_most s.cuts value.entries) checkers first cut is many
-not_more findings one l s value checkers bytes _ cut (of_none tells) many =
-    not_too_many findings l s value checkers bytes false cut tells (many_of (losses_of l s) value s.by (case_cuts l.at_most s.cuts value.entries) checkers cut many)
+not_more : FindingIsOne → FirstIsOne → (inputs : ℕ) (l : AnyLosses) (s : Settings) (value : LogValue) (checkers : List CheckerValue) (bytes : List ℕ) (failing : Bool) (cut : ℕ)
+    → TellsFirst inputs l s value checkers bytes failing → PassesMostIn (losses_of l s) value s.by (case_cuts l.at_most s.cuts value.entries) checkers cut → ⊥
+not_more findings one inputs l s value checkers bytes _ cut (of_first first is text) many = few_in findings one (losses_of l s) value s.by (case_cuts l.at_most s.cuts value.entries) checkers first cut is many
+not_more findings one inputs l s value checkers bytes _ cut (of_none tells) many =
+    not_too_many findings inputs l s value checkers bytes false cut tells (many_of (losses_of l s) value s.by (case_cuts l.at_most s.cuts value.entries) checkers cut many)
 
-pub not_refused : FindingIsOne → FirstIsOne → (first : Bool) (l : AnyLosses) (s : Settings) (value : LogValue) (checkers : List CheckerValue) (bytes : List ℕ) (failing : Bool) (cut : ℕ)
-    → TellsLosses first l s value checkers bytes failing → AreMore first (losses_of l s) value s.by (case_cuts l.at_most s.cuts value.entries) checkers cut → ⊥
-not_refused findings one false l s value checkers bytes failing cut tells many = not_too_many findings l s value checkers bytes failing cut tells many
-not_refused findings one true l s value checkers bytes failing cut tells many = not_more findings one l s value checkers bytes failing cut tells many
+pub not_refused : FindingIsOne → FirstIsOne → (first : Bool) (inputs : ℕ) (l : AnyLosses) (s : Settings) (value : LogValue) (checkers : List CheckerValue) (bytes : List ℕ) (failing : Bool) (cut : ℕ)
+    → TellsLosses first inputs l s value checkers bytes failing → AreMore first (losses_of l s) value s.by (case_cuts l.at_most s.cuts value.entries) checkers cut → ⊥
+not_refused findings one false inputs l s value checkers bytes failing cut tells many = not_too_many findings inputs l s value checkers bytes failing cut tells many
+not_refused findings one true inputs l s value checkers bytes failing cut tells many = not_more findings one inputs l s value checkers bytes failing cut tells many

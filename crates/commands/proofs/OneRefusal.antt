@@ -179,7 +179,7 @@ cases_or_refusal below one l text files s bytes failing _ taken h (for_cases m v
     let losses = subst (λ (x : AnyLosses). HasTooMany x s value checkers cut) (same_losses l m is) many in
     let by_value = subst (λ (v : LogValue). HasTooMany l s v checkers cut) (same_log below.texts text s value h.value source h.source) losses in
     let by_checkers = subst (λ (cs : List CheckerValue). HasTooMany l s h.value cs cut) (same_checkers below.programs below.verdicts s files checkers h.checkers made h.made) by_value in
-    absurd (not_refused one.findings one.first s.first l s h.value h.checkers bytes failing cut h.tells by_checkers)
+    absurd (not_refused one.findings one.first s.first (inputs_number text.text files) l s h.value h.checkers bytes failing cut h.tells by_checkers)
 cases_or_refusal below one l text files s bytes failing _ taken h (for_cure m value checkers cut is chosen count source made many) =
     absurd (let bad : wanted.Cases l ≡ wanted.CuredCases m = is in cc)
 

@@ -212,21 +212,21 @@ run_alone Is keeps text files s bytes failing h =
       faultless = h.faultless;
     }
 
-tells_cases_alone : (l : AnyLosses) (s : Settings) (value : LogValue) (cs : List CheckerValue) (bytes : List ℕ) (failing : Bool) → TellsCases l s value cs bytes failing
-    → TellsCases l (set_alone s) value cs bytes failing
+tells_cases_alone : (inputs : ℕ) (l : AnyLosses) (s : Settings) (value : LogValue) (cs : List CheckerValue) (bytes : List ℕ) (failing : Bool) → TellsCases inputs l s value cs bytes failing
+    → TellsCases inputs l (set_alone s) value cs bytes failing
 unfolding head_of
-tells_cases_alone l s value cs bytes failing tells = record { found = tells.found; are = tells.are; few = tells.few; text = tells.text; fails = tells.fails }
+tells_cases_alone inputs l s value cs bytes failing tells = record { found = tells.found; are = tells.are; few = tells.few; text = tells.text; fails = tells.fails }
 
-tells_first_alone : (l : AnyLosses) (s : Settings) (value : LogValue) (cs : List CheckerValue) (bytes : List ℕ) (failing : Bool) → TellsFirst l s value cs bytes failing
-    → TellsFirst l (set_alone s) value cs bytes failing
+tells_first_alone : (inputs : ℕ) (l : AnyLosses) (s : Settings) (value : LogValue) (cs : List CheckerValue) (bytes : List ℕ) (failing : Bool) → TellsFirst inputs l s value cs bytes failing
+    → TellsFirst inputs l (set_alone s) value cs bytes failing
 unfolding head_of
-tells_first_alone l s value cs bytes _ (of_first first is text) = of_first first is text
-tells_first_alone l s value cs bytes _ (of_none tells) = of_none (tells_cases_alone l s value cs bytes false tells)
+tells_first_alone inputs l s value cs bytes _ (of_first first is text) = of_first first is text
+tells_first_alone inputs l s value cs bytes _ (of_none tells) = of_none (tells_cases_alone inputs l s value cs bytes false tells)
 
-tells_losses_alone : (first : Bool) (l : AnyLosses) (s : Settings) (value : LogValue) (cs : List CheckerValue) (bytes : List ℕ) (failing : Bool) → TellsLosses first l s value cs bytes failing
-    → TellsLosses first l (set_alone s) value cs bytes failing
-tells_losses_alone false l s value cs bytes failing tells = tells_cases_alone l s value cs bytes failing tells
-tells_losses_alone true l s value cs bytes failing tells = tells_first_alone l s value cs bytes failing tells
+tells_losses_alone : (first : Bool) (inputs : ℕ) (l : AnyLosses) (s : Settings) (value : LogValue) (cs : List CheckerValue) (bytes : List ℕ) (failing : Bool) → TellsLosses first inputs l s value cs bytes failing
+    → TellsLosses first inputs l (set_alone s) value cs bytes failing
+tells_losses_alone false inputs l s value cs bytes failing tells = tells_cases_alone inputs l s value cs bytes failing tells
+tells_losses_alone true inputs l s value cs bytes failing tells = tells_first_alone inputs l s value cs bytes failing tells
 
 by_cases_alone : (Is : Settings → LogValue → List CheckerValue → List ℕ → Bool → Type 0)
     → ((s : Settings) (value : LogValue) (cs : List CheckerValue) (bytes : List ℕ) (failing : Bool) → Is s value cs bytes failing → Is (set_alone s) value cs bytes failing)
@@ -247,7 +247,7 @@ answered_alone (wanted.Told t) text files s bytes failing h =
     run_alone (λ s value checkers bytes. Tells t (inputs_number text.text files) s value checkers bytes) (tells_alone t (inputs_number text.text files)) text files s bytes failing h
 answered_alone wanted.Cured text files s bytes failing h = run_alone (TellsCure None) (λ s value cs bytes. cure_alone None s value cs bytes) text files s bytes failing h
 answered_alone (wanted.Cases l) text files s bytes failing h =
-    by_cases_alone (TellsLosses s.first l) (λ t value cs bytes failing. tells_losses_alone s.first l t value cs bytes failing) text files s bytes failing h
+    by_cases_alone (TellsLosses s.first (inputs_number text.text files) l) (λ t value cs bytes failing. tells_losses_alone s.first (inputs_number text.text files) l t value cs bytes failing) text files s bytes failing h
 answered_alone (wanted.CuredCases l) text files s bytes failing h =
     by_cases_alone (Cures (Some l)) (λ s value cs bytes failing. cures_alone (Some l) s value cs bytes failing) text files s bytes failing h
 

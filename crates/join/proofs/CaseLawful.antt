@@ -1,5 +1,5 @@
 -- Texts of consecutive ranges of cuts of one run, joined, are the text of the run of the whole range.
-use Rattle.std.proofs.Common.{ℕ, zero, suc, ◌≡◌, ◌+◌, ◌-◌, ◌<◌, ◌≤◌, ◌==◌, ◌&&◌, if◌then◌else◌, Bool, true, false, List, [], ◌∷◌, ◌++◌, length, length-append, map, get_or, slice_get, codes, All, Option, Some, None, unwrap_or, refl, sym, ◌∙◌, ap, subst, arith}
+use Rattle.std.proofs.Common.{ℕ, zero, suc, ◌≡◌, ◌+◌, ◌-◌, ◌<◌, ◌≤◌, ◌==◌, ◌&&◌, ◌||◌, if◌then◌else◌, Bool, true, false, List, [], ◌∷◌, ◌++◌, length, length-append, map, get_or, slice_get, codes, All, Option, Some, None, is_some, unwrap_or, refl, sym, ◌∙◌, ap, subst, arith}
 use Rattle.std.specs.List.{flat_map, sum_by}
 use Rattle.std.specs.List.Sorted.{IsPermutation}
 use Rattle.std.proofs.lemmas.Int.{clamps}
@@ -11,12 +11,12 @@ use Rattle.epochs.specs.Flushes.{places_of}
 use Rattle.report.specs.Words.{cuts_words}
 use Rattle.report.specs.Report.{HeadValue, device_text, given_text}
 use Rattle.case_runs.specs.declared.found.Losses.{Losses}
-use Rattle.case_text.specs.Text.{in_word, head_text, options_text}
+use Rattle.case_text.specs.Text.{in_word, cases_head, opening_text, options_text}
 use Rattle.join.specs.declared.case_parts.totals.CaseTotals.{CaseTotals}
 use Rattle.join.specs.CaseTexts.{ToldCase, IsCasesText, first_of, last_of, told_line, told_text, totals_line}
 use Rattle.join.specs.CaseReading.{AreAlike, CasesRead, SaysCases}
-use Rattle.join.specs.CaseJoining.{AreCasesParts, FollowInRow, all_cases, all_totals, have_all_cuts, head_between, joined_cases, joined_head, told_from, told_to}
-use Rattle.join.specs.CaseLaws.{CaseRun, AskedRange, FollowToEnd, JoinIsCases, as_told, cases_between, cuts_of_range, end_of, has_all, start_of}
+use Rattle.join.specs.CaseJoining.{AreCasesParts, FollowInRow, all_cases, all_totals, have_all_cuts, head_between, joined_cases, joined_head, told_from, told_number, told_to}
+use Rattle.join.specs.CaseLaws.{ArePartsOfCases, CaseRun, AskedRange, FollowToEnd, JoinIsCases, as_told, cases_between, cuts_of_range, end_of, has_all, number_in, start_of}
 use Rattle.join.proofs.CaseLasts.{and_both, within_log}
 use Rattle.join.proofs.CaseWholes.{part_small}
 use Rattle.join.proofs.CaseRowed.{one_there, there}
@@ -302,7 +302,7 @@ head_is h v w a b c d alike from to =
     rw (e1, e2, e3, e4, e5, e6, e7, from, to) refl
 
 text_is : (r : CaseRun) (whole : AskedRange) → told_text (cases_between r whole)
-    ≡ head_text (head_between r.head whole.from whole.to) r.asked ++ (flat_map (told_line r.head.by) (flat_map r.told (cuts_of_range r whole)) ++ totals_line (cases_between r whole).totals)
+    ≡ cases_head (number_in r whole) (head_between r.head whole.from whole.to) r.asked ++ (flat_map (told_line r.head.by) (flat_map r.told (cuts_of_range r whole)) ++ totals_line (cases_between r whole).totals)
 unfolding told_text
 text_is r whole = refl
 
@@ -326,6 +326,119 @@ entries_said r (t ∷ rs) (x ∷ xs) zero s said at =
     ap (λ (y : CasesRead). y.head.entries) (sym one) ∙ e
 entries_said r (t ∷ rs) (x ∷ xs) (suc k) s said at = entries_said r rs xs k s said.1 at
 
+-- THE NUMBER OF THE INPUTS
+
+number_with : (r : CaseRun) (x : AskedRange) (from to : Option ℕ) → x.from ≡ from → x.to ≡ to → (is_some from || is_some to) ≡ true → number_in r x ≡ Some r.inputs
+number_with r x None None a b some = absurd (let bad : false ≡ true = some in cc)
+number_with r x None (Some to) a b some = rw (a, b) refl
+number_with r x (Some from) to a b some = rw a refl
+
+or_true : (a : Bool) → (a || true) ≡ true
+or_true true = refl
+or_true false = refl
+
+-- a range that doesn't begin at cut 0 tells it
+late_from : (from : Option ℕ) (n : ℕ) → unwrap_or from 0 ≡ n + 1 → is_some from ≡ true
+late_from None n e = absurd (omega (arith, e))
+late_from (Some k) n e = refl
+
+late_number : (r : CaseRun) (x : AskedRange) (n : ℕ) → start_of x ≡ n + 1 → number_in r x ≡ Some r.inputs
+late_number r x n e = number_with r x x.from x.to refl refl (ap (λ (b : Bool). b || is_some x.to) (late_from x.from n e))
+
+-- and one that ends before the last cut
+early_to : (to : Option ℕ) (n : ℕ) → unwrap_or to n + 1 ≤ n → is_some to ≡ true
+early_to None n e = absurd (omega (arith, e))
+early_to (Some k) n e = refl
+
+early_number : (r : CaseRun) (x : AskedRange) → end_of r x + 1 ≤ r.head.entries → number_in r x ≡ Some r.inputs
+early_number r x e = number_with r x x.from x.to refl refl (ap (λ (b : Bool). is_some x.from || b) (early_to x.to r.head.entries e) ∙ or_true (is_some x.from))
+
+-- one that has not all cuts does either
+part_number : (r : CaseRun) (x : AskedRange) → has_all r x ≡ false → number_in r x ≡ Some r.inputs
+part_number r x lack = by_range x.from x.to refl refl
+  where
+    same : (n : ℕ) → (n == n) ≡ true
+    same n = grind (arith, nat_tests)
+
+    by_range : (from to : Option ℕ) → x.from ≡ from → x.to ≡ to → number_in r x ≡ Some r.inputs
+    by_range None None a b =
+        let all : has_all r x ≡ true =
+        ap (λ (o : Option ℕ). (unwrap_or o 0 == 0) && (unwrap_or x.to r.head.entries == r.head.entries)) a
+        ∙ ap (λ (o : Option ℕ). unwrap_or o r.head.entries == r.head.entries) b
+        ∙ same r.head.entries in
+        absurd (let bad : false ≡ true = sym lack ∙ all in cc)
+    by_range None (Some to) a b = number_with r x None (Some to) a b refl
+    by_range (Some from) to a b = number_with r x (Some from) to a b refl
+
+-- a range that is printed begins within the log
+begins_within : (r : CaseRun) (x : AskedRange) → IsCasesText (printed_of r x) (cases_between r x) → start_of x ≤ r.head.entries
+begins_within r x is =
+    let w = within_log (cases_between r x).head is.head in
+    let a : start_of x ≤ end_of r x = w.first in
+    let b : end_of r x ≤ r.head.entries = w.last in
+    omega (arith, a, b)
+
+-- where another one follows
+followed_number : (r : CaseRun) (from : ℕ) (whole x y : AskedRange) (xs : List AskedRange) → FollowToEnd r from whole (x ∷ y ∷ xs) → IsCasesText (printed_of r y) (cases_between r y) → number_in r x ≡ Some r.inputs
+followed_number r from whole x y xs follow printed =
+    let next = begins_at (end_of r x + 1) y xs follow.1 in
+    let within = begins_within r y printed in
+    early_number r x (omega (arith, next, within))
+  where
+    begins_at : (at : ℕ) (z : AskedRange) (zs : List AskedRange) → FollowToEnd r at whole (z ∷ zs) → start_of z ≡ at
+    begins_at at z [] f = f.0
+    begins_at at z (v ∷ zs) f = f.0
+
+-- all texts of ranges that follow one another tell the same one
+late_numbers : (r : CaseRun) (n : ℕ) (whole : AskedRange) (rs : List CasesRead) (xs : List AskedRange) → AreSaid r rs xs → FollowToEnd r (n + 1) whole xs → (k : ℕ) (s : CasesRead) → slice_get rs k ≡ Some s
+    → s.inputs ≡ Some r.inputs
+late_numbers r n whole [] xs said follow k s at = absurd (let bad : None ≡ Some s = at in cc)
+late_numbers r n whole (t ∷ rs) [] said follow k s at = absurd said
+late_numbers r n whole (t ∷ rs) (x ∷ []) said follow zero s at =
+    let own : t.inputs ≡ number_in r x = said.0.inputs in
+    ap (λ (y : CasesRead). y.inputs) (sym (one_there (t ∷ rs) 0 t s refl at)) ∙ own ∙ late_number r x n follow.0
+late_numbers r n whole (t ∷ []) (x ∷ []) said follow (suc k) s at = absurd (let bad : None ≡ Some s = at in cc)
+late_numbers r n whole (t ∷ u ∷ rs) (x ∷ []) said follow (suc k) s at = absurd said.1
+late_numbers r n whole (t ∷ rs) (x ∷ y ∷ xs) said follow zero s at =
+    let own : t.inputs ≡ number_in r x = said.0.inputs in
+    ap (λ (y : CasesRead). y.inputs) (sym (one_there (t ∷ rs) 0 t s refl at)) ∙ own ∙ late_number r x n follow.0
+late_numbers r n whole (t ∷ rs) (x ∷ y ∷ xs) said follow (suc k) s at = late_numbers r (end_of r x) whole rs (y ∷ xs) said.1 follow.1 k s at
+
+pub record TellNumber (rs : List CasesRead) : Type 0 where
+  pub number : Option ℕ
+  pub is : (k : ℕ) (s : CasesRead) → slice_get rs k ≡ Some s → s.inputs ≡ number
+
+pub one_number : (r : CaseRun) (from : ℕ) (whole : AskedRange) (rs : List CasesRead) (xs : List AskedRange) → AreSaid r rs xs → FollowToEnd r from whole xs
+    → All (λ (x : AskedRange). IsCasesText (printed_of r x) (cases_between r x)) xs → TellNumber rs
+one_number r from whole [] xs said follow printed = record { number = None; is = λ k s at. absurd (let bad : None ≡ Some s = at in cc) }
+one_number r from whole (t ∷ rs) [] said follow printed = absurd said
+one_number r from whole (t ∷ u ∷ rs) (x ∷ []) said follow printed = absurd said.1
+one_number r from whole (t ∷ []) (x ∷ []) said follow printed = record { number = t.inputs; is = own }
+  where
+    own : (k : ℕ) (s : CasesRead) → slice_get (t ∷ []) k ≡ Some s → s.inputs ≡ t.inputs
+    own zero s at = ap (λ (y : CasesRead). y.inputs) (sym (one_there (t ∷ []) 0 t s refl at))
+    own (suc k) s at = absurd (let bad : None ≡ Some s = at in cc)
+one_number r from whole (t ∷ rs) (x ∷ y ∷ xs) said follow printed = record { number = Some r.inputs; is = own }
+  where
+    own : (k : ℕ) (s : CasesRead) → slice_get (t ∷ rs) k ≡ Some s → s.inputs ≡ Some r.inputs
+    own zero s at =
+        let first : t.inputs ≡ number_in r x = said.0.inputs in
+        ap (λ (z : CasesRead). z.inputs) (sym (one_there (t ∷ rs) 0 t s refl at)) ∙ first ∙ followed_number r from whole x y xs follow (printed 1 y (omega arith))
+    own (suc k) s at = late_numbers r (end_of r x) whole rs (y ∷ xs) said.1 follow.1 k s at
+
+-- and that is the number of the whole range, where it is told
+number_is : (r : CaseRun) (ranges : List AskedRange) (whole : AskedRange) (inputs : Option ℕ) → (p : ArePartsOfCases r ranges whole) → inputs ≡ number_in r p.first → has_all r whole ≡ false → inputs ≡ number_in r whole
+number_is r ranges whole inputs p own part =
+    by_others p.others (subst (λ (xs : List AskedRange). FollowToEnd r (start_of whole) whole xs) p.are p.follow)
+    (subst (λ (xs : List AskedRange). All (λ (x : AskedRange). IsCasesText (printed_of r x) (cases_between r x)) xs) p.are p.printed)
+  where
+    same_range : (x y : AskedRange) → x.from ≡ y.from → x.to ≡ y.to → number_in r x ≡ number_in r y
+    same_range x y from to = rw (from, to) refl
+
+    by_others : (xs : List AskedRange) → FollowToEnd r (start_of whole) whole (p.first ∷ xs) → All (λ (x : AskedRange). IsCasesText (printed_of r x) (cases_between r x)) (p.first ∷ xs) → inputs ≡ number_in r whole
+    by_others [] follow printed = own ∙ same_range p.first whole p.begins follow.1
+    by_others (y ∷ xs) follow printed = own ∙ followed_number r (start_of whole) whole p.first y xs follow (printed 1 y (omega arith)) ∙ sym (part_number r whole part)
+
 -- HOW THE RANGE IS TOLD
 
 pub all_is : (r : CaseRun) (whole : AskedRange) (first last : CasesRead) → first.head.cuts.from ≡ whole.from → last.head.cuts.to ≡ whole.to → last.head.entries ≡ r.head.entries → have_all_cuts first last ≡ has_all r whole
@@ -347,27 +460,29 @@ all_cuts r whole all =
     let ends : end_of r whole ≡ r.head.entries = grind (arith, nat_tests, two) in
     ap (λ (n : ℕ). r.cuts n (end_of r whole)) begins ∙ ap (λ (n : ℕ). r.cuts 0 n) ends
 
-record IsTold (r : CaseRun) (whole told : AskedRange) (from to : Option ℕ) : Type 0 where
+record IsTold (r : CaseRun) (whole told : AskedRange) (inputs from to : Option ℕ) : Type 0 where
+  number : inputs ≡ number_in r told
   from_is : from ≡ told.from
   to_is : to ≡ told.to
   cuts : cuts_of_range r whole ≡ cuts_of_range r told
 
 told_range : (r : CaseRun) (whole : AskedRange) (first last : CasesRead) → have_all_cuts first last ≡ has_all r whole → first.head.cuts.from ≡ whole.from → last.head.cuts.to ≡ whole.to
-    → IsTold r whole (as_told r whole) (told_from first last) (told_to first last)
-told_range r whole first last all from to = by_test (have_all_cuts first last) (has_all r whole) all (all_cuts r whole)
+    → (has_all r whole ≡ false → first.inputs ≡ number_in r whole) → IsTold r whole (as_told r whole) (told_number first last) (told_from first last) (told_to first last)
+told_range r whole first last all from to number = by_test (have_all_cuts first last) (has_all r whole) all (all_cuts r whole) number
   where
-    by_test : (a b : Bool) → a ≡ b → (b ≡ true → cuts_of_range r whole ≡ cuts_of_range r no_range)
-        → IsTold r whole (if b then no_range else whole) (if a then None else first.head.cuts.from) (if a then None else last.head.cuts.to)
-    by_test true true e own = record { from_is = refl; to_is = refl; cuts = own refl }
-    by_test true false e own = absurd (let bad : true ≡ false = e in cc)
-    by_test false true e own = absurd (let bad : false ≡ true = e in cc)
-    by_test false false e own = record { from_is = from; to_is = to; cuts = refl }
+    by_test : (a b : Bool) → a ≡ b → (b ≡ true → cuts_of_range r whole ≡ cuts_of_range r no_range) → (b ≡ false → first.inputs ≡ number_in r whole)
+        → IsTold r whole (if b then no_range else whole) (if a then None else first.inputs) (if a then None else first.head.cuts.from) (if a then None else last.head.cuts.to)
+    by_test true true e own number = record { number = refl; from_is = refl; to_is = refl; cuts = own refl }
+    by_test true false e own number = absurd (let bad : true ≡ false = e in cc)
+    by_test false true e own number = absurd (let bad : false ≡ true = e in cc)
+    by_test false false e own number = record { number = number refl; from_is = from; to_is = to; cuts = refl }
 
 -- the text of a row that tells a range
-row_is : (r : CaseRun) (ranges : List AskedRange) (x told : AskedRange) (first last : CasesRead) (row : List CasesRead) (bytes : List ℕ) → SaysCases (cases_between r x) first → told_from first last ≡ told.from
+row_is : (r : CaseRun) (ranges : List AskedRange) (x told : AskedRange) (first last : CasesRead) (row : List CasesRead) (bytes : List ℕ) → SaysCases (cases_between r x) first → told_number first last ≡ number_in r told
+    → told_from first last ≡ told.from
     → told_to first last ≡ told.to → flat_map (cuts_of_range r) ranges ≡ cuts_of_range r told → AreSaid r row ranges → AreCasesParts 0 (map (printed_of r) ranges) row → all_cases row ≤ 16777216
     → bytes ≡ joined_cases first last row → bytes ≡ told_text (cases_between r told)
-row_is r ranges x told first last row bytes own from to cuts said parts few is =
+row_is r ranges x told first last row bytes own number from to cuts said parts few is =
     let alike : AreAlike first.head (head_between r.head x.from x.to) = own.head in
     let asked : first.asked ≡ r.asked = own.asked in
     let e1 : options_text (joined_head first last) first.asked ≡ options_text (head_between r.head told.from told.to) r.asked =
@@ -376,9 +491,10 @@ row_is r ranges x told first last row bytes own from to cuts said parts few is =
     let e2 : flat_map (λ (t : CasesRead). t.lines) row ≡ flat_map (told_line r.head.by) (flat_map r.told (cuts_of_range r told)) =
     lines_are r row ranges said ∙ ap (λ (ks : List ℕ). flat_map (told_line r.head.by) (flat_map r.told ks)) cuts in
     let e3 : all_totals row ≡ (cases_between r told).totals = totals_are r told ranges (map (printed_of r) ranges) row said parts cuts few in
-    is ∙ ap (λ (bs : List ℕ). (codes "crash cases 1\n" ++ bs) ++ (flat_map (λ (t : CasesRead). t.lines) row ++ totals_line (all_totals row))) e1
-    ∙ ap (λ (bs : List ℕ). head_text (head_between r.head told.from told.to) r.asked ++ (bs ++ totals_line (all_totals row))) e2
-    ∙ ap (λ (t : CaseTotals). head_text (head_between r.head told.from told.to) r.asked ++ (flat_map (told_line r.head.by) (flat_map r.told (cuts_of_range r told)) ++ totals_line t)) e3
+    is ∙ ap (λ (i : Option ℕ). cases_head i (joined_head first last) first.asked ++ (flat_map (λ (t : CasesRead). t.lines) row ++ totals_line (all_totals row))) number
+    ∙ ap (λ (bs : List ℕ). (opening_text (number_in r told) ++ bs) ++ (flat_map (λ (t : CasesRead). t.lines) row ++ totals_line (all_totals row))) e1
+    ∙ ap (λ (bs : List ℕ). cases_head (number_in r told) (head_between r.head told.from told.to) r.asked ++ (bs ++ totals_line (all_totals row))) e2
+    ∙ ap (λ (t : CaseTotals). cases_head (number_in r told) (head_between r.head told.from told.to) r.asked ++ (flat_map (told_line r.head.by) (flat_map r.told (cuts_of_range r told)) ++ totals_line t)) e3
     ∙ sym (text_is r told)
 
 pub law : JoinIsCases
@@ -392,5 +508,5 @@ law part r ranges whole bytes p j =
     let from : j.first.head.cuts.from ≡ whole.from = (let e : j.first.head.cuts.from ≡ p.first.from = own.head.options.from in e) ∙ p.begins in
     let to : j.last.head.cuts.to ≡ whole.to = last_to r (start_of whole) whole j.row ranges j.last row_said p.follow j.ends in
     let entries = entries_said r j.row ranges (length j.row - 1) j.last row_said j.ends in
-    let told = told_range r whole j.first j.last (all_is r whole j.first j.last from to entries) from to in
-    row_is r ranges p.first (as_told r whole) j.first j.last j.row bytes own told.from_is told.to_is (p.cuts ∙ told.cuts) row_said row_parts j.few j.is
+    let told = told_range r whole j.first j.last (all_is r whole j.first j.last from to entries) from to (number_is r ranges whole j.first.inputs p own.inputs) in
+    row_is r ranges p.first (as_told r whole) j.first j.last j.row bytes own told.number told.from_is told.to_is (p.cuts ∙ told.cuts) row_said row_parts j.few j.is

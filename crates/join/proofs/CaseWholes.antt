@@ -5,16 +5,16 @@ use Rattle.std.specs.List.{flat_map}
 use Rattle.std.specs.Str.{IsUtf8}
 use Rattle.std.proofs.lemmas.Bool.Decides.{nat_tests}
 use Rattle.epochs.specs.declared.part.By.{By}
-use Rattle.report.specs.Report.{HeadValue}
+use Rattle.report.specs.Report.{HeadValue, device_text}
 use Rattle.case_runs.specs.declared.found.Losses.{Losses}
-use Rattle.case_text.specs.Text.{options_text, place_text, counts_text}
+use Rattle.case_text.specs.Text.{opening_text, options_text, place_text, counts_text}
 use Rattle.join.specs.declared.case_parts.front.CaseFront.{CaseFront}
 use Rattle.join.specs.declared.case_parts.line.CaseTally.{CaseTally}
 use Rattle.join.specs.declared.case_parts.totals.CaseTotals.{CaseTotals}
 use Rattle.join.specs.Heads.{IsPrintedHead, NoProgram}
 use Rattle.join.specs.Reading.{HasFront}
-use Rattle.join.specs.CaseTexts.{ToldCase, CasesValue, IsToldCase, AreToldCases, AreLosses, AreTotals, IsCasesText, NoCasesText, are_totals_of_run, count_cuts, first_of, last_of, front_text, fronts_of, fronts_rise, goes_on, is_case_of_run, is_new_cut, told_body, told_line, told_text, totals_line}
-use Rattle.join.specs.CaseReading.{AreAlike, AreCasesRead, AreFirstLines, CasesRead, IsCaseHead, IsCasesPart, IsSmallTotals, NoCaseHead, NoCaseLine, ReadsTotals, SaysCases, all_counted, none_told, one_told, unbounded}
+use Rattle.join.specs.CaseTexts.{ToldCase, CasesValue, IsToldCase, AreToldCases, AreLosses, AreTotals, IsCasesText, NoCasesText, are_inputs_of_run, are_totals_of_run, count_cuts, first_of, last_of, front_text, fronts_of, fronts_rise, goes_on, is_case_of_run, is_new_cut, told_body, told_line, told_text, totals_line}
+use Rattle.join.specs.CaseReading.{AreAlike, AreCasesRead, AreFirstLines, CasesRead, IsCaseHead, IsCasesPart, IsOpening, IsSmallTotals, NoCaseHead, NoCaseLine, NoInputs, NoOpening, ReadsTotals, SaysCases, all_counted, none_told, one_told, unbounded}
 use Rattle.join.specs.CaseRows.{IsSmallPart}
 use Rattle.join.proofs.Texts.{cancel}
 use Rattle.join.proofs.CaseLasts.{and_both, within_log}
@@ -23,13 +23,21 @@ use Rattle.join.proofs.CaseLasts.{and_both, within_log}
 abbrev findings_of : CasesValue → List ℕ
 findings_of c = flat_map (told_line c.head.by) c.told ++ totals_line c.totals
 
-text_is : (c : CasesValue) → told_text c ≡ codes "crash cases 1\n" ++ (options_text c.head c.asked ++ findings_of c)
+text_is : (c : CasesValue) → told_text c ≡ opening_text c.inputs ++ (options_text c.head c.asked ++ findings_of c)
 unfolding told_text
-text_is c = append_assoc (codes "crash cases 1\n") (options_text c.head c.asked) (findings_of c)
+text_is c = append_assoc (opening_text c.inputs) (options_text c.head c.asked) (findings_of c)
 
--- after the title
-titled : (whole text : List ℕ) (c : CasesValue) → whole ≡ codes "crash cases 1\n" ++ text → IsCasesText whole c → text ≡ options_text c.head c.asked ++ findings_of c
-titled whole text c title is = cancel (codes "crash cases 1\n") text (options_text c.head c.asked ++ findings_of c) (sym title ∙ is.is ∙ text_is c)
+-- the options are no line of the number of the inputs
+option_byte : (h : HeadValue) (asked : Losses) (rest : List ℕ) → get_or (options_text h asked ++ rest) 0 0 ≡ 115
+unfolding options_text device_text
+option_byte h asked rest = refl
+
+no_inputs : (c : CasesValue) → NoInputs (options_text c.head c.asked ++ findings_of c)
+no_inputs c rest e = let bad : 115 ≡ 105 = sym (option_byte c.head c.asked (findings_of c)) ∙ ap (λ (bs : List ℕ). get_or bs 0 0) e in omega (arith, bad)
+
+-- after the first lines
+opened : (whole text : List ℕ) (inputs : Option ℕ) (c : CasesValue) → IsOpening whole inputs text → IsCasesText whole c → (inputs ≡ c.inputs) × (text ≡ options_text c.head c.asked ++ findings_of c)
+opened whole text inputs c opening is = opening.only c.inputs (options_text c.head c.asked ++ findings_of c) is.inputs.small (no_inputs c) (is.is ∙ text_is c)
 
 -- no line of a program
 first_byte : (way : By) (ts : List ToldCase) (t : CaseTotals) → get_or (flat_map (told_line way) ts ++ totals_line t) 0 0 ≡ 99
@@ -40,17 +48,42 @@ first_byte way (x ∷ ts) t = refl
 no_program : (c : CasesValue) → NoProgram (findings_of c)
 no_program c rest e = let bad : 99 ≡ 112 = sym (first_byte c.head.by c.told c.totals) ∙ ap (λ (bs : List ℕ). get_or bs 0 0) e in omega (arith, bad)
 
-pub no_title_no_cases : (whole : List ℕ) → ((rest : List ℕ) → whole ≢ codes "crash cases 1\n" ++ rest) → NoCasesText whole
-no_title_no_cases whole lack = record { none = λ c is. lack (options_text c.head c.asked ++ findings_of c) (is.is ∙ text_is c) }
+pub no_opening_no_cases : (whole : List ℕ) → NoOpening whole → NoCasesText whole
+no_opening_no_cases whole lack = record { none = λ c is. lack.none c.inputs (options_text c.head c.asked ++ findings_of c) is.inputs.small (no_inputs c) (is.is ∙ text_is c) }
 
 pub no_text_no_cases : (whole : List ℕ) → (IsUtf8 whole → ⊥) → NoCasesText whole
 no_text_no_cases whole lack = record { none = λ c is. lack is.utf8 }
 
-pub rest_short : (whole text : List ℕ) → length whole ≤ 2 ^ 30 → whole ≡ codes "crash cases 1\n" ++ text → length text ≤ 2 ^ 30
-rest_short whole text short is = let long = ap length is ∙ length-append (codes "crash cases 1\n") text in omega (arith, short, long)
+pub rest_short : (whole text : List ℕ) (inputs : Option ℕ) → length whole ≤ 2 ^ 30 → IsOpening whole inputs text → length text ≤ 2 ^ 30
+rest_short whole text inputs short opening =
+    let long = ap (λ (bs : List ℕ). length bs) opening.is ∙ length-append (opening_text inputs) text in
+    omega (arith, short, long)
 
-pub no_head_no_cases : (whole text : List ℕ) → whole ≡ codes "crash cases 1\n" ++ text → NoCaseHead text → NoCasesText whole
-no_head_no_cases whole text title lack = record { none = λ c is. lack.none c.head c.asked (findings_of c) is.head is.asked (no_program c) (titled whole text c title is) }
+pub no_head_no_cases : (whole text : List ℕ) (inputs : Option ℕ) → IsOpening whole inputs text → NoCaseHead text → NoCasesText whole
+no_head_no_cases whole text inputs opening lack = record { none = λ c is. lack.none c.head c.asked (findings_of c) is.head is.asked (no_program c) (opened whole text inputs c opening is).1 }
+
+-- the number of the inputs stands where it isn't told, or is lacking
+inputs_alike : (h v : HeadValue) (i j : Option ℕ) → AreAlike h v → i ≡ j → are_inputs_of_run h i ≡ are_inputs_of_run v j
+inputs_alike h v i j alike same =
+    let o = alike.options in
+    let e1 : h.cuts.from ≡ v.cuts.from = o.from in
+    let e2 : h.cuts.to ≡ v.cuts.to = o.to in
+    ap (λ (x : Option ℕ). are_inputs_of_run h x) same ∙ by_number j e1 e2
+  where
+    by_number : (x : Option ℕ) → h.cuts.from ≡ v.cuts.from → h.cuts.to ≡ v.cuts.to → are_inputs_of_run h x ≡ are_inputs_of_run v x
+    by_number None from to = rw (from, to) refl
+    by_number (Some n) from to = rw (from, to) refl
+
+pub other_inputs : (whole text found : List ℕ) (inputs : Option ℕ) (h : HeadValue) (asked : Losses) → IsOpening whole inputs text → IsCaseHead text h asked found → are_inputs_of_run h inputs ≡ false → NoCasesText whole
+other_inputs whole text found inputs h asked opening head lack = record { none = none }
+  where
+    none : (c : CasesValue) → IsCasesText whole c → ⊥
+    none c is =
+        let o = opened whole text inputs c opening is in
+        let p = head.only c.head c.asked (findings_of c) is.head is.asked (no_program c) o.1 in
+        let yes : are_inputs_of_run h inputs ≡ true = inputs_alike h c.head inputs c.inputs p.0 o.0 ∙ is.inputs.told in
+        let bad : true ≡ false = sym yes ∙ lack in
+        cc
 
 -- a line of a run is one of a run whose head says the same
 told_moved : (h v : HeadValue) (t : ToldCase) → AreAlike h v → IsToldCase v t → IsToldCase h t
@@ -160,25 +193,27 @@ small_totals c printed t =
 
 -- WHAT IS READ OF A TEXT IS WHAT IT SAYS
 
-pub record IsRead (whole text found tail : List ℕ) (h : HeadValue) (asked : Losses) (tally : CaseTally) (said : CaseTotals) : Type 0 where
+pub record IsRead (whole text found tail : List ℕ) (inputs : Option ℕ) (h : HeadValue) (asked : Losses) (tally : CaseTally) (said : CaseTotals) : Type 0 where
   pub utf8 : IsUtf8 whole
-  pub title : whole ≡ codes "crash cases 1\n" ++ text
+  pub opening : IsOpening whole inputs text
   pub head : IsCaseHead text h asked found
   pub lines : AreCasesRead h found tally tail
   pub end : NoCaseLine h tail
   pub totals : ReadsTotals tail said
 
-pub record SaysSame (c : CasesValue) (h : HeadValue) (w : Losses) (ts : List ToldCase) (tail : List ℕ) (said : CaseTotals) : Type 0 where
+pub record SaysSame (c : CasesValue) (inputs : Option ℕ) (h : HeadValue) (w : Losses) (ts : List ToldCase) (tail : List ℕ) (said : CaseTotals) : Type 0 where
+  pub inputs : inputs ≡ c.inputs
   pub head : AreAlike h c.head
   pub asked : w ≡ c.asked
   pub told : c.told ≡ ts
   pub last : tail ≡ totals_line c.totals
   pub totals : said ≡ c.totals
 
-says_same : (whole text found last : List ℕ) (h : HeadValue) (asked : Losses) (tally : CaseTally) (totals : CaseTotals) (c : CasesValue) → (r : IsRead whole text found last h asked tally totals) → IsCasesText whole c
-    → SaysSame c h asked r.lines.told last totals
-says_same whole text found last h asked tally totals c r is =
-    let p = r.head.only c.head c.asked (findings_of c) is.head is.asked (no_program c) (titled whole text c r.title is) in
+says_same : (whole text found last : List ℕ) (inputs : Option ℕ) (h : HeadValue) (asked : Losses) (tally : CaseTally) (totals : CaseTotals) (c : CasesValue) → (r : IsRead whole text found last inputs h asked tally totals) → IsCasesText whole c
+    → SaysSame c inputs h asked r.lines.told last totals
+says_same whole text found last inputs h asked tally totals c r is =
+    let o = opened whole text inputs c r.opening is in
+    let p = r.head.only c.head c.asked (findings_of c) is.head is.asked (no_program c) o.1 in
     let alike = p.0 in
     let way : h.by ≡ c.head.by = alike.options.way in
     let found_is : found ≡ flat_map (told_line h.by) c.told ++ totals_line c.totals = p.2 ∙ ap (λ (w : By). flat_map (told_line w) c.told ++ totals_line c.totals) (sym way) in
@@ -186,6 +221,7 @@ says_same whole text found last h asked tally totals c r is =
     let none : more ≡ [] = no_more more each last_is in
     let last_line : last ≡ totals_line c.totals = last_is ∙ ap (λ (xs : List ToldCase). flat_map (told_line h.by) xs ++ totals_line c.totals) none in
     record {
+      inputs = o.0;
       head = alike;
       asked = p.1;
       told = are ∙ ap (λ (xs : List ToldCase). r.lines.told ++ xs) none ∙ append-nil r.lines.told;
@@ -197,20 +233,20 @@ says_same whole text found last h asked tally totals c r is =
     no_more [] each e = refl
     no_more (x ∷ xs) each e = absurd (r.end.none x (flat_map (told_line h.by) xs ++ totals_line c.totals) each.0 (e ∙ append_assoc (told_line h.by x) (flat_map (told_line h.by) xs) (totals_line c.totals)))
 
-pub not_rising : (whole text found last : List ℕ) (h : HeadValue) (asked : Losses) (tally : CaseTally) (totals : CaseTotals) → IsRead whole text found last h asked tally totals → tally.rising ≡ false → NoCasesText whole
-not_rising whole text found last h asked tally totals r lack = record { none = none }
+pub not_rising : (whole text found last : List ℕ) (inputs : Option ℕ) (h : HeadValue) (asked : Losses) (tally : CaseTally) (totals : CaseTotals) → IsRead whole text found last inputs h asked tally totals → tally.rising ≡ false → NoCasesText whole
+not_rising whole text found last inputs h asked tally totals r lack = record { none = none }
   where
     none : (c : CasesValue) → IsCasesText whole c → ⊥
     none c is =
-        let s = says_same whole text found last h asked tally totals c r is in
+        let s = says_same whole text found last inputs h asked tally totals c r is in
         let k = counted r.lines.told tally r.lines.counted in
         let yes : tally.rising ≡ true = k.rising ∙ ap (λ (ts : List ToldCase). fronts_rise None (fronts_of ts)) (sym s.told) ∙ is.rising in
         let bad : true ≡ false = sym yes ∙ lack in
         cc
 
-totals_alike : (h : HeadValue) (asked : Losses) (c : CasesValue) (told : List ToldCase) (last : List ℕ) (tally : CaseTally) (totals : CaseTotals) → SaysSame c h asked told last totals → IsCounted told tally
+totals_alike : (inputs : Option ℕ) (h : HeadValue) (asked : Losses) (c : CasesValue) (told : List ToldCase) (last : List ℕ) (tally : CaseTally) (totals : CaseTotals) → SaysSame c inputs h asked told last totals → IsCounted told tally
     → are_totals_of_run h tally.lines tally.cuts totals ≡ are_totals_of_run c.head (length c.told) (count_cuts None (fronts_of c.told)) c.totals
-totals_alike h asked c told last tally totals s k =
+totals_alike inputs h asked c told last tally totals s k =
     let o = s.head.options in
     let e1 : h.entries ≡ c.head.entries = o.entries in
     let e2 : h.cuts.from ≡ c.head.cuts.from = o.from in
@@ -220,40 +256,40 @@ totals_alike h asked c told last tally totals s k =
     let e6 : tally.cuts ≡ count_cuts None (fronts_of c.told) = k.cuts ∙ ap (λ (ts : List ToldCase). count_cuts None (fronts_of ts)) (sym s.told) in
     rw (e1, e2, e3, e4, e5, e6) refl
 
-pub no_totals : (whole text found last : List ℕ) (h : HeadValue) (asked : Losses) (tally : CaseTally) (totals : CaseTotals) → IsRead whole text found last h asked tally totals
+pub no_totals : (whole text found last : List ℕ) (inputs : Option ℕ) (h : HeadValue) (asked : Losses) (tally : CaseTally) (totals : CaseTotals) → IsRead whole text found last inputs h asked tally totals
     → are_totals_of_run h tally.lines tally.cuts totals ≡ false → NoCasesText whole
-no_totals whole text found last h asked tally totals r lack = record { none = none }
+no_totals whole text found last inputs h asked tally totals r lack = record { none = none }
   where
     none : (c : CasesValue) → IsCasesText whole c → ⊥
     none c is =
-        let s = says_same whole text found last h asked tally totals c r is in
+        let s = says_same whole text found last inputs h asked tally totals c r is in
         let k = counted r.lines.told tally r.lines.counted in
-        let yes : are_totals_of_run h tally.lines tally.cuts totals ≡ true = totals_alike h asked c r.lines.told last tally totals s k ∙ is.totals.of_run in
+        let yes : are_totals_of_run h tally.lines tally.cuts totals ≡ true = totals_alike inputs h asked c r.lines.told last tally totals s k ∙ is.totals.of_run in
         let bad : true ≡ false = sym yes ∙ lack in
         cc
 
-pub other_last : (whole text found last : List ℕ) (h : HeadValue) (asked : Losses) (tally : CaseTally) (totals : CaseTotals) → IsRead whole text found last h asked tally totals
+pub other_last : (whole text found last : List ℕ) (inputs : Option ℕ) (h : HeadValue) (asked : Losses) (tally : CaseTally) (totals : CaseTotals) → IsRead whole text found last inputs h asked tally totals
     → (last ≡ totals_line totals → ⊥) → NoCasesText whole
-other_last whole text found last h asked tally totals r lack = record { none = none }
+other_last whole text found last inputs h asked tally totals r lack = record { none = none }
   where
     none : (c : CasesValue) → IsCasesText whole c → ⊥
     none c is =
-        let s = says_same whole text found last h asked tally totals c r is in
+        let s = says_same whole text found last inputs h asked tally totals c r is in
         lack (s.last ∙ ap (λ (t : CaseTotals). totals_line t) (sym s.totals))
 
 pub lines_in_front : (h : HeadValue) (found last : List ℕ) (tally : CaseTally) → AreCasesRead h found tally last → HasFront found last
 lines_in_front h found last tally r = record { front = flat_map (told_line h.by) r.told; is = r.is }
 
-pub is_part : (whole text found last lines : List ℕ) (h : HeadValue) (asked : Losses) (tally : CaseTally) (totals : CaseTotals) (file : ℕ) → IsRead whole text found last h asked tally totals → tally.rising ≡ true
+pub is_part : (whole text found last lines : List ℕ) (inputs : Option ℕ) (h : HeadValue) (asked : Losses) (tally : CaseTally) (totals : CaseTotals) (file : ℕ) → IsRead whole text found last inputs h asked tally totals → are_inputs_of_run h inputs ≡ true → tally.rising ≡ true
     → are_totals_of_run h tally.lines tally.cuts totals ≡ true → totals.torn < 2 ^ 64 → totals.lost < 2 ^ 64 → last ≡ totals_line totals → ((front : List ℕ) → found ≡ front ++ last → lines ≡ front)
-    → IsCasesPart whole (record { head = h; asked = asked; lines = lines; totals = totals; file = file })
-is_part whole text found last lines h asked tally totals file r rises of_run torn lost last_is front = record { cases = own; is = is_own; head = refl; only = only }
+    → IsCasesPart whole (record { inputs = inputs; head = h; asked = asked; lines = lines; totals = totals; file = file })
+is_part whole text found last lines inputs h asked tally totals file r told rises of_run torn lost last_is front = record { cases = own; is = is_own; head = refl; only = only }
   where
     k : IsCounted r.lines.told tally
     k = counted r.lines.told tally r.lines.counted
 
     own : CasesValue
-    own = record { head = h; asked = asked; told = r.lines.told; totals = totals }
+    own = record { inputs = inputs; head = h; asked = asked; told = r.lines.told; totals = totals }
 
     lines_are : lines ≡ flat_map (told_line h.by) r.lines.told
     lines_are = front (flat_map (told_line h.by) r.lines.told) r.lines.is
@@ -261,6 +297,7 @@ is_part whole text found last lines h asked tally totals file r rises of_run tor
     is_own : IsCasesText whole own
     is_own = record {
       utf8 = r.utf8;
+      inputs = record { told = told; small = r.opening.small };
       head = r.head.printed;
       asked = r.head.losses;
       told = r.lines.of_run;
@@ -271,15 +308,16 @@ is_part whole text found last lines h asked tally totals file r rises of_run tor
         lost = lost;
       };
       is =
-          r.title ∙ ap (λ (bs : List ℕ). codes "crash cases 1\n" ++ bs) (r.head.is ∙ ap (λ (bs : List ℕ). options_text h asked ++ bs) (r.lines.is ∙ ap (λ (bs : List ℕ). flat_map (told_line h.by) r.lines.told ++ bs) last_is))
+          r.opening.is ∙ ap (λ (bs : List ℕ). opening_text inputs ++ bs) (r.head.is ∙ ap (λ (bs : List ℕ). options_text h asked ++ bs) (r.lines.is ∙ ap (λ (bs : List ℕ). flat_map (told_line h.by) r.lines.told ++ bs) last_is))
           ∙ sym (text_is own);
     }
 
-    only : (c : CasesValue) → IsCasesText whole c → SaysCases c (record { head = h; asked = asked; lines = lines; totals = totals; file = file })
+    only : (c : CasesValue) → IsCasesText whole c → SaysCases c (record { inputs = inputs; head = h; asked = asked; lines = lines; totals = totals; file = file })
     only c is =
-        let s = says_same whole text found last h asked tally totals c r is in
+        let s = says_same whole text found last inputs h asked tally totals c r is in
         let way : h.by ≡ c.head.by = s.head.options.way in
         record {
+          inputs = s.inputs;
           head = s.head;
           asked = s.asked;
           lines = lines_are ∙ ap (λ (w : By). flat_map (told_line w) r.lines.told) way ∙ ap (λ (ts : List ToldCase). flat_map (told_line c.head.by) ts) (sym s.told);

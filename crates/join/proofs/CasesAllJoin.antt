@@ -1,5 +1,5 @@
 -- Texts of consecutive ranges of cuts of one run are joined, unless they are too long, have too many cases, or there is no memory.
-use Rattle.std.proofs.Common.{ℕ, zero, suc, ◌≡◌, ◌+◌, ◌-◌, ◌<◌, ◌≤◌, ◌⊎◌, ◌==◌, if◌then◌else◌, Bool, true, false, inl, inr, List, [], ◌∷◌, ◌++◌, length, map, slice_get, All, Some, None, refl, sym, ◌∙◌, ap, subst, arith}
+use Rattle.std.proofs.Common.{ℕ, zero, suc, ◌≡◌, ◌+◌, ◌-◌, ◌<◌, ◌≤◌, ◌⊎◌, ◌==◌, if◌then◌else◌, Bool, true, false, inl, inr, List, [], ◌∷◌, ◌++◌, length, map, slice_get, All, Option, Some, None, refl, sym, ◌∙◌, ap, subst, arith}
 use Rattle.std.specs.List.{flat_map, sum_by}
 use Rattle.std.specs.List.Sorted.{IsPermutation, IsNonDecreasingBy}
 use Rattle.std.proofs.lemmas.Int.{clamps}
@@ -10,7 +10,7 @@ use Rattle.std.proofs.lemmas.List.Sorted.{sum_by-IsPermutation}
 use Rattle.base.specs.declared.causes.JoinCause.TheVariants as cause
 use Rattle.case_runs.specs.declared.found.Losses.{Losses}
 use Rattle.case_runs.specs.Found.{most_cases}
-use Rattle.case_text.specs.Text.{in_word, options_text}
+use Rattle.case_text.specs.Text.{in_word, cases_head, opening_text, options_text}
 use Rattle.join.specs.declared.case_parts.fault.CasesFault.{CasesFault}
 use Rattle.join.specs.declared.case_parts.fault.CasesFault.TheVariants as refused
 use Rattle.join.specs.CaseTexts.{IsCasesText, NoCasesText, first_of, last_of}
@@ -19,7 +19,7 @@ use Rattle.join.specs.CaseJoining.{Adjoins, AreByCuts, AreShortOfCuts, FollowInR
 use Rattle.join.specs.CaseLaws.{ArePartsOfCases, AskedRange, CaseRun, CasesAreJoined, HasTooMany, cases_between, cuts_of_range, has_all, start_of}
 use Rattle.join.proofs.CaseLasts.{and_both}
 use Rattle.join.proofs.CaseRowed.{one_there}
-use Rattle.join.proofs.CaseLawful.{AreCounts, AreSaid, Rising, all_is, are_said, count_cases, entries_said, first_said, follow_said, head_is, in_order, key, last_to, printed_of, rises, rising_row}
+use Rattle.join.proofs.CaseLawful.{AreCounts, AreSaid, Rising, all_is, are_said, count_cases, entries_said, first_said, follow_said, head_is, in_order, key, last_to, one_number, printed_of, rises, rising_row}
 
 -- BY THEIR FIRST CUTS THEY STAND IN THE ORDER OF THEIR RANGES
 
@@ -119,17 +119,21 @@ said_at r (t ∷ rs) (x ∷ xs) zero s said at = (x, subst (λ (y : CasesRead). 
 said_at r (t ∷ rs) (x ∷ xs) (suc k) s said at = said_at r rs xs k s said.1 at
 
 -- all say the same of their run
-run_said : (r : CaseRun) (s : CasesRead) (x : AskedRange) → SaysCases (cases_between r x) s → run_text s ≡ options_text (head_between r.head None None) r.asked
+run_said : (r : CaseRun) (s : CasesRead) (x : AskedRange) → SaysCases (cases_between r x) s → run_text s ≡ cases_head s.inputs (head_between r.head None None) r.asked
 run_said r s x says =
     let asked : s.asked ≡ r.asked = says.asked in
-    head_is s.head (head_between r.head x.from x.to) s.asked None None None None says.head refl refl ∙ ap (λ (w : Losses). options_text (head_between r.head None None) w) asked
+    let same : options_text (head_between s.head None None) s.asked ≡ options_text (head_between r.head None None) r.asked =
+    head_is s.head (head_between r.head x.from x.to) s.asked None None None None says.head refl refl ∙ ap (λ (w : Losses). options_text (head_between r.head None None) w) asked in
+    ap (λ (bs : List ℕ). opening_text s.inputs ++ bs) same
 
 not_foreign : (r : CaseRun) (ranges : List AskedRange) (whole : AskedRange) (file : ℕ) → ArePartsOfCases r ranges whole → IsFirstForeign (map (printed_of r) ranges) file → ⊥
 not_foreign r ranges whole file p h =
     let said = are_said r 0 h.reads ranges h.each p.printed in
     let (x, own) = said_at r h.reads ranges 0 h.run said h.run_there in
     let (y, other) = said_at r h.reads ranges file h.read said h.there in
-    h.foreign (run_said r h.read y other ∙ sym (run_said r h.run x own))
+    let told = one_number r (start_of whole) whole h.reads ranges said p.follow p.printed in
+    let same : h.read.inputs ≡ h.run.inputs = told.is file h.read h.there ∙ sym (told.is 0 h.run h.run_there) in
+    h.foreign (run_said r h.read y other ∙ ap (λ (i : Option ℕ). cases_head i (head_between r.head None None) r.asked) same ∙ sym (run_said r h.run x own))
 
 -- each begins right after the one before it ends
 follow_rest : (r : CasesRead) (rs : List CasesRead) → FollowInRow (r ∷ rs) → FollowInRow rs

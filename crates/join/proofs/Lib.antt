@@ -30,6 +30,7 @@ pub mod CaseWalked
 pub mod CaseLines
 pub mod CaseLasts
 pub mod CaseHeads
+pub mod CaseOpenings
 pub mod CaseWholes
 pub mod CaseRowed
 pub mod CaseJoins

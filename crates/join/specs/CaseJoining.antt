@@ -7,7 +7,7 @@ use Rattle.base.specs.declared.causes.JoinCause.TheVariants as cause
 use Rattle.epochs.specs.declared.cuts.Cuts.{Cuts}
 use Rattle.report.specs.Report.{HeadValue}
 use Rattle.case_runs.specs.Found.{most_cases}
-use Rattle.case_text.specs.Text.{in_word, head_text, options_text}
+use Rattle.case_text.specs.Text.{in_word, cases_head}
 use Rattle.join.specs.declared.fault.JoinFault.{JoinFault}
 use Rattle.join.specs.declared.case_parts.fault.CasesFault.{CasesFault}
 use Rattle.join.specs.declared.case_parts.fault.CasesFault.TheVariants as refused
@@ -41,9 +41,9 @@ head_between h from to = record {
   base = h.base;
 }
 
--- what a text says of its run: its options and programs but for the range
+-- what a text says of its run: the number of the inputs, and its options and programs but for the range
 abbrev pub run_text : CasesRead → List ℕ
-run_text r = options_text (head_between r.head None None) r.asked
+run_text r = cases_head r.inputs (head_between r.head None None) r.asked
 
 -- two texts are of one run: they say the same of it
 abbrev pub IsOfCaseRun : CasesRead → CasesRead → Type 0
@@ -80,8 +80,8 @@ both_totals t u = record {
   lost = in_word (t.lost + u.lost);
 }
 
--- The range of cuts that the text of a row tells: from the first cut of its first text to the last cut of its last one. Where these are all
--- cuts of the log it tells none, as the run that was asked for no range.
+-- The range of cuts that the text of a row tells: from the first cut of its first text to the last cut of its last one, with the number of
+-- the inputs. Where these are all cuts of the log it tells none, and no number, as the run that was asked for no range.
 abbrev pub have_all_cuts : CasesRead → CasesRead → Bool
 have_all_cuts first last = (first_of first.head == 0) && (last_of last.head == last.head.entries)
 
@@ -91,13 +91,16 @@ told_from first last = if have_all_cuts first last then None else first.head.cut
 abbrev pub told_to : CasesRead → CasesRead → Option ℕ
 told_to first last = if have_all_cuts first last then None else last.head.cuts.to
 
+abbrev pub told_number : CasesRead → CasesRead → Option ℕ
+told_number first last = if have_all_cuts first last then None else first.inputs
+
 abbrev pub joined_head : CasesRead → CasesRead → HeadValue
 joined_head first last = head_between first.head (told_from first last) (told_to first last)
 
 -- the text of a row
 abbrev pub joined_cases : CasesRead → CasesRead → List CasesRead → List ℕ
 joined_cases first last row =
-    head_text (joined_head first last) first.asked ++ (flat_map (λ (r : CasesRead). r.lines) row ++ totals_line (all_totals row))
+    cases_head (told_number first last) (joined_head first last) first.asked ++ (flat_map (λ (r : CasesRead). r.lines) row ++ totals_line (all_totals row))
 
 -- a row has all cuts of its log: its first text begins at cut 0, and its last one ends at the last cut
 pub record HaveAllCuts (first last : CasesRead) : Type 0 where

@@ -6,14 +6,15 @@ use Rattle.base.specs.declared.causes.JoinCause.TheVariants as cause
 use Rattle.report.specs.Report.{HeadValue}
 use Rattle.case_runs.specs.Found.{most_cases}
 use Rattle.case_runs.specs.declared.found.Losses.{Losses}
-use Rattle.case_text.specs.Text.{in_word}
+use Rattle.case_text.specs.Text.{in_word, inputs_told}
 use Rattle.join.specs.declared.case_parts.fault.CasesFault.{CasesFault}
 use Rattle.join.specs.declared.case_parts.fault.CasesFault.TheVariants as refused
 use Rattle.join.specs.CaseTexts.{ToldCase, CasesValue, told_text, IsCasesText}
-use Rattle.join.specs.CaseJoining.{head_between, AreJoinedCases, IsTooLong, RefusesCases}
+use Rattle.join.specs.CaseJoining.{cuts_between, head_between, AreJoinedCases, IsTooLong, RefusesCases}
 
--- a run by its cuts: at which of a range cases are looked for, and what is found at each with all programs
+-- a run by its cuts: a number of its inputs, at which cuts of a range cases are looked for, and what is found at each with all programs
 pub record CaseRun : Type 0 where
+  pub inputs : ℕ
   pub head : HeadValue
   pub asked : Losses
   pub cuts : ℕ → ℕ → List ℕ
@@ -43,9 +44,14 @@ has_all r x = (start_of x == 0) && (end_of r x == r.head.entries)
 abbrev pub as_told : CaseRun → AskedRange → AskedRange
 as_told r x = if has_all r x then record { from = None; to = None } else x
 
+-- the number of the inputs, as that text tells it
+abbrev pub number_in : CaseRun → AskedRange → Option ℕ
+number_in r x = inputs_told (cuts_between r.head.cuts x.from x.to) r.inputs
+
 -- what a run of that range prints
 abbrev pub cases_between : CaseRun → AskedRange → CasesValue
 cases_between r x = record {
+  inputs = number_in r x;
   head = head_between r.head x.from x.to;
   asked = r.asked;
   told = flat_map r.told (cuts_of_range r x);

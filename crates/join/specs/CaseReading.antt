@@ -12,7 +12,7 @@ use Rattle.report.specs.Report.{HeadValue}
 use Rattle.report.specs.Text.{yes_or_no}
 use Rattle.losses.specs.declared.flushes.window.Window.{Window}
 use Rattle.case_runs.specs.declared.found.Losses.{Losses}
-use Rattle.case_text.specs.Text.{options_text, fate_word, fates_text}
+use Rattle.case_text.specs.Text.{opening_text, options_text, fate_word, fates_text}
 use Rattle.join.specs.declared.case_parts.names.PartName.{PartName}
 use Rattle.join.specs.declared.case_parts.names.Mixed.{Mixed}
 use Rattle.join.specs.declared.case_parts.front.CaseFront.{CaseFront}
@@ -20,7 +20,7 @@ use Rattle.join.specs.declared.case_parts.totals.CaseTotals.{CaseTotals}
 use Rattle.join.specs.declared.case_parts.line.CaseTally.{CaseTally}
 use Rattle.join.specs.declared.case_parts.known.KnownWords.{KnownWords}
 use Rattle.join.specs.Endings.{IsEnding}
-use Rattle.join.specs.Heads.{IsPrintedHead, IsSmallHead, HaveSameOptions, NoProgram, option_words, join_words, IsWord, AreWords, IsOtherFirst, device_words, given_words}
+use Rattle.join.specs.Heads.{IsPrintedHead, IsSmallHead, IsSmallOption, HaveSameOptions, NoProgram, option_words, join_words, IsWord, AreWords, IsOtherFirst, device_words, given_words}
 use Rattle.join.specs.CaseTexts.{ToldCase, MixedPart, front_text, parts_text, mixed_text, among_text, said_text, told_body, told_line, totals_line, IsToldCase, AreToldCases, goes_on, is_new_cut, fronts_of, AreLosses, CasesValue, IsCasesText}
 
 -- P is so of each
@@ -222,6 +222,25 @@ pub record AreCasesRead (h : HeadValue) (text : List ℕ) (tally : CaseTally) (r
   pub fewer : tally.cuts ≤ tally.lines
   pub first : AreFirstLines h text told rest
 
+-- THE FIRST LINES
+
+-- what stands after them: no line of the number of the inputs
+abbrev pub NoInputs : List ℕ → Type 0
+NoInputs text = (rest : List ℕ) → text ≢ codes "inputs " ++ rest
+
+-- of the first lines with which a text begins, that number is read, or that there is none
+pub record ReadsInputs (text : List ℕ) (found : Option ℕ) : Type 0 where
+  pub read : (i : Option ℕ) (more : List ℕ) → IsSmallOption i → NoInputs more → text ≡ opening_text i ++ more → found ≡ i
+
+-- a text begins with first lines, and with no others
+pub record IsOpening (text : List ℕ) (inputs : Option ℕ) (rest : List ℕ) : Type 0 where
+  pub small : IsSmallOption inputs
+  pub is : text ≡ opening_text inputs ++ rest
+  pub only : (i : Option ℕ) (more : List ℕ) → IsSmallOption i → NoInputs more → text ≡ opening_text i ++ more → (inputs ≡ i) × (rest ≡ more)
+
+pub record NoOpening (text : List ℕ) : Type 0 where
+  pub none : (i : Option ℕ) (more : List ℕ) → IsSmallOption i → NoInputs more → text ≡ opening_text i ++ more → ⊥
+
 -- THE HEAD
 
 -- without what a text of cases doesn't say
@@ -293,8 +312,10 @@ pub record ReadsTotals (line : List ℕ) (totals : CaseTotals) : Type 0 where
 
 -- A WHOLE TEXT
 
--- what is read of a text: its head, what is asked of losses, the bytes of its lines and what they come to; and the number of its file
+-- what is read of a text: the number of its inputs, its head, what is asked of losses, the bytes of its lines and what they come to; and
+-- the number of its file
 pub record CasesRead : Type 0 where
+  pub inputs : Option ℕ
   pub head : HeadValue
   pub asked : Losses
   pub lines : List ℕ
@@ -303,6 +324,7 @@ pub record CasesRead : Type 0 where
 
 -- it says that
 pub record SaysCases (c : CasesValue) (r : CasesRead) : Type 0 where
+  pub inputs : r.inputs ≡ c.inputs
   pub head : AreAlike r.head c.head
   pub asked : r.asked ≡ c.asked
   pub lines : r.lines ≡ flat_map (told_line c.head.by) c.told

@@ -15,12 +15,12 @@ use Rattle.report.specs.Report.{HeadValue}
 use Rattle.losses.specs.declared.flushes.window.Window.{Window}
 use Rattle.case_runs.specs.declared.found.Losses.{Losses}
 use Rattle.case_runs.specs.Found.{most_cases}
-use Rattle.case_text.specs.Text.{head_text, place_text, number_text, fates_text, window_text, counts_text, beyond_text, complete_word}
+use Rattle.case_text.specs.Text.{has_range, cases_head, place_text, number_text, fates_text, window_text, counts_text, beyond_text, complete_word}
 use Rattle.join.specs.declared.case_parts.names.PartName.{PartName}
 use Rattle.join.specs.declared.case_parts.front.CaseFront.{CaseFront}
 use Rattle.join.specs.declared.case_parts.totals.CaseTotals.{CaseTotals}
 use Rattle.join.specs.Endings.{IsEnding}
-use Rattle.join.specs.Heads.{IsPrintedHead}
+use Rattle.join.specs.Heads.{IsPrintedHead, IsSmallOption}
 use Rattle.join.specs.Printable.{has_program_and_cut}
 
 -- a part with what may become of it
@@ -78,15 +78,16 @@ told_line way t = told_body way t ++ codes "\n"
 unfoldable pub totals_line : CaseTotals → List ℕ
 totals_line t = counts_text t.cuts t.cases t.failing ++ beyond_text t.torn t.lost ++ complete_word t.torn t.lost ++ codes "\n"
 
--- a text of cases: its options and programs, what is asked of losses, its lines and what they come to
+-- a text of cases: the number of its inputs, its options and programs, what is asked of losses, its lines and what they come to
 pub record CasesValue : Type 0 where
+  pub inputs : Option ℕ
   pub head : HeadValue
   pub asked : Losses
   pub told : List ToldCase
   pub totals : CaseTotals
 
 unfoldable pub told_text : CasesValue → List ℕ
-told_text c = head_text c.head c.asked ++ (flat_map (told_line c.head.by) c.told ++ totals_line c.totals)
+told_text c = cases_head c.inputs c.head c.asked ++ (flat_map (told_line c.head.by) c.told ++ totals_line c.totals)
 
 -- the first and the last cut of its range
 abbrev pub first_of : HeadValue → ℕ
@@ -94,6 +95,15 @@ first_of h = unwrap_or h.cuts.from 0
 
 abbrev pub last_of : HeadValue → ℕ
 last_of h = unwrap_or h.cuts.to h.entries
+
+-- the number of the inputs is told where the run is of a range of the cuts, and nowhere else
+abbrev pub are_inputs_of_run : HeadValue → Option ℕ → Bool
+are_inputs_of_run h None = not (has_range h.cuts)
+are_inputs_of_run h (Some inputs) = has_range h.cuts
+
+pub record AreInputs (h : HeadValue) (inputs : Option ℕ) : Type 0 where
+  pub told : are_inputs_of_run h inputs ≡ true
+  pub small : IsSmallOption inputs
 
 -- with tears 1 to 3 parts may be torn, and without them none; at most 1 to 64 lost, where that is bounded
 abbrev pub are_torn_of_run : Losses → Bool
@@ -266,6 +276,7 @@ pub record AreTotals (c : CasesValue) : Type 0 where
 -- the bytes are the text of these cases, by the rules of docs/OUTPUT.md
 pub record IsCasesText (bytes : List ℕ) (c : CasesValue) : Type 0 where
   pub utf8 : IsUtf8 bytes
+  pub inputs : AreInputs c.head c.inputs
   pub head : IsPrintedHead c.head
   pub asked : AreLosses c.head c.asked
   pub told : AreToldCases c.head c.told

@@ -11,6 +11,7 @@ mod known;
 mod line;
 mod lists;
 mod names;
+mod opening;
 mod part;
 mod printing;
 mod row;

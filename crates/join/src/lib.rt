@@ -39,14 +39,15 @@
 //! (the clauses `short` and `first`). Any bytes are taken.
 //!
 //! Where `join_cases` answers `Ok`, each file is a text of cases by the rules of docs/OUTPUT.md, to the byte (`IsCasesText` in
-//! `specs/CaseTexts.antt`), and can be read in no other way; all say the same of their run but for the range; ordered by their first cuts
-//! each begins right after the one before it ends; they have at most 16,777,216 cases; without `part` they have all cuts of the log; and
-//! the bytes are the head over the whole range, which isn't told where it has all cuts, all lines in that order, and the sums of the totals
-//! (`AreJoinedCases` in `specs/CaseJoining.antt`). Where it answers `Err`, the fault is the first in the order of its page
-//! (`RefusesCases`), or there was no memory. The law `join_is_cases`: texts of ranges of one run that follow one another, and that together
-//! have the cuts of the whole range, come to what the run of the whole range prints, and where these are all cuts, the run that was asked
-//! for no range. The law `cases_are_joined`: such texts are refused for their length, for want of memory, or where the run of the whole
-//! range has more cases than a run may have; without `part` where these are all cuts (`specs/CaseLaws.antt`).
+//! `specs/CaseTexts.antt`), and can be read in no other way; all say the same of their run but for the range, and have the same number of
+//! its inputs; ordered by their first cuts each begins right after the one before it ends; they have at most 16,777,216 cases; without
+//! `part` they have all cuts of the log; and the bytes are the head over the whole range, which isn't told where it has all cuts, nor is
+//! the number of the inputs; all lines in that order, and the sums of the totals (`AreJoinedCases` in `specs/CaseJoining.antt`). Where it
+//! answers `Err`, the fault is the first in the order of its page (`RefusesCases`), or there was no memory. The law `join_is_cases`: texts
+//! of ranges of one run that follow one another, and that together have the cuts of the whole range, come to what the run of the whole
+//! range prints, and where these are all cuts, the run that was asked for no range. The law `cases_are_joined`: such texts are refused for
+//! their length, for want of memory, or where the run of the whole range has more cases than a run may have; without `part` where these are
+//! all cuts (`specs/CaseLaws.antt`).
 //!
 //! `read_report` answers something exactly where the bytes are a report of the run (`IsReport` in `specs/Given.antt`): the line of the
 //! options to the byte; checkers, or one program that is given images as files; lines of images of the run, by image and then by program,

@@ -1,5 +1,6 @@
 -- What is found of the cases of a run, and why they aren't told.
-use Rattle.std.proofs.Common.{ℕ, ◌≡◌, ◌<◌, ◌≤◌, ◌==◌, ◌||◌, ◌⊎◌, inl, inr, not, Bool, true, false, List, [], ◌∷◌, length, slice_get, Some, All, Ok, Err, Result, Vec, Global, IfOk, refl, sym, ◌∙◌, ap, subst, arith}
+use Rattle.std.proofs.Common.{ℕ, ◌≡◌, ◌<◌, ◌≤◌, ◌==◌, ◌||◌, ◌⊎◌, inl, inr, not, if◌then◌else◌, Bool, true, false, List, [], ◌∷◌, ◌++◌, length, slice_get, Option, Some, None, All, Ok, Err, Result, Vec, Global, IfOk, refl, sym, ◌∙◌, ap, subst, arith}
+use Rattle.std.specs.List.{flat_map}
 use Rattle.std.proofs.lemmas.List.Elements.{All-head, All-tail}
 use Rattle.std.proofs.lemmas.Option.{slice_get-get_or, slice_get_within, get_or_from_slice_get}
 use Rattle.std.specs.declared.alloc.AllocError.{AllocError}
@@ -22,15 +23,17 @@ use Rattle.case_runs.specs.declared.first.FirstCase.{FirstCase}
 use Rattle.case_runs.specs.declared.first.Sought.{Sought}
 use Rattle.case_runs.specs.declared.leaves.FailingCase.{FailingCase}
 use Rattle.case_runs.specs.First.{NoneFailsAt, NoneFails, IsFirstFailing, PassesMostIn, IsSought, EndsIn}
-use Rattle.case_text.specs.Text.{fails_at, is_any_failing}
+use Rattle.case_text.specs.Text.{cases_bytes, cases_head, cut_cases, fails_at, has_range, inputs_told, is_any_failing, totals_text}
 use Rattle.case_text.specs.First.{first_bytes}
 use Rattle.request.specs.declared.settings.CaseTelling.{CaseTelling}
+use Rattle.request.specs.declared.settings.CaseTelling.TheVariants as telling
 use Rattle.request.specs.declared.any_losses.AnyLosses.{AnyLosses}
 use Rattle.request.specs.declared.settings.Settings.{Settings}
 use Rattle.request.specs.Source.{Recording, plan_of, images_refusal, HasImages, for_plan, no_plan_memory}
 use Rattle.runs.specs.declared.task.Task.{Task}
 use Rattle.case_runs.specs.Cuts.{case_cuts}
 use Rattle.runs.specs.CaseCuts.{losses_of, AreMore, HasTooMany}
+use Rattle.runs.specs.Inputs.{case_number}
 use Rattle.runs.specs.CaseRefusals.{StopsFor, RefusesFor, RefusesAll}
 use Rattle.runs.specs.Cases.{IsTextOf, TellsCases, TellsFirst, of_first, of_none, IsByCases, TellsLosses}
 use Rattle.runs.specs.Judged.{takes}
@@ -78,22 +81,22 @@ found_so asked own log way by cuts checkers found same kind are =
 -- the text of what was found
 pub tells_found : (l : AnyLosses) (t : Task) (cuts : List ℕ) (found : List CutFound) (h : HeadValue) (bytes : List ℕ) (failing : Bool)
     → cuts ≡ case_cuts l.at_most t.options.now.cuts t.log.now.entries → AreFoundIn (losses_of l t.options.now) t.log.now t.options.now.by cuts t.checkers.now found → cases_in found ≤ most_cases
-    → h ≡ head_of (with_first false t.options.now) t.log.now t.checkers.now → IsTextOf l.telling h (losses_of l t.options.now) t.log.now found bytes
-    → failing ≡ is_any_failing found → TellsCases l t.options.now t.log.now t.checkers.now bytes failing
+    → h ≡ head_of (with_first false t.options.now) t.log.now t.checkers.now → IsTextOf l.telling t.span.inputs h (losses_of l t.options.now) t.log.now found bytes
+    → failing ≡ is_any_failing found → TellsCases t.span.inputs l t.options.now t.log.now t.checkers.now bytes failing
 tells_found l t cuts found h bytes failing are those few head text fails = record {
   found = found;
   are = subst (λ (cs : List ℕ). AreFoundIn (losses_of l t.options.now) t.log.now t.options.now.by cs t.checkers.now found) are those;
   few = few;
-  text = subst (λ (x : HeadValue). IsTextOf l.telling x (losses_of l t.options.now) t.log.now found bytes) head text;
+  text = subst (λ (x : HeadValue). IsTextOf l.telling t.span.inputs x (losses_of l t.options.now) t.log.now found bytes) head text;
   fails = fails;
 }
 
 -- the text is that which is asked for
-pub text_by : (t : CaseTelling) (telling : CaseTelling) (h : HeadValue) (asked own : Losses) (log : LogValue) (found : List CutFound) (r : Result (Vec ℕ Global) AllocError) → telling ≡ t
-    → own ≡ asked → IfOk r (λ bytes. IsTextOf t h own log found bytes.items) → IfOk r (λ bytes. IsTextOf telling h asked log found bytes.items)
-text_by t telling h asked own log found r same losses told =
-    subst (λ (x : CaseTelling). IfOk r (λ bytes. IsTextOf x h asked log found bytes.items)) (sym same)
-    (subst (λ (x : Losses). IfOk r (λ bytes. IsTextOf t h x log found bytes.items)) losses told)
+pub text_by : (t : CaseTelling) (telling : CaseTelling) (inputs : ℕ) (h : HeadValue) (asked own : Losses) (log : LogValue) (found : List CutFound) (r : Result (Vec ℕ Global) AllocError) → telling ≡ t
+    → own ≡ asked → IfOk r (λ bytes. IsTextOf t inputs h own log found bytes.items) → IfOk r (λ bytes. IsTextOf telling inputs h asked log found bytes.items)
+text_by t telling inputs h asked own log found r same losses told =
+    subst (λ (x : CaseTelling). IfOk r (λ bytes. IsTextOf x inputs h asked log found bytes.items)) (sym same)
+    (subst (λ (x : Losses). IfOk r (λ bytes. IsTextOf t inputs h x log found bytes.items)) losses told)
 
 -- at each cut something is found with each checker, of which there are few
 pub found_few : (asked : Losses) (log : LogValue) (way : By) (cuts : List ℕ) (checkers : List CheckerValue) (found : List CutFound) → AreFoundIn asked log way cuts checkers found
@@ -120,16 +123,16 @@ any_none (c ∷ found) none =
         let rest = none_at fs (All-tail (λ (g : FoundCases). g.failing.items ≡ []) f fs all) in
         λ i. not (here i == 0) || rest i
 
-pub tells_none : (l : AnyLosses) (s : Settings) (value : LogValue) (checkers : List CheckerValue) (bytes : List ℕ) (failing : Bool) (found : List CutFound) → NoneFails found
-    → failing ≡ is_any_failing found → TellsCases l s value checkers bytes failing → TellsFirst l s value checkers bytes failing
-tells_none l s value checkers bytes failing found none is tells =
+pub tells_none : (inputs : ℕ) (l : AnyLosses) (s : Settings) (value : LogValue) (checkers : List CheckerValue) (bytes : List ℕ) (failing : Bool) (found : List CutFound) → NoneFails found
+    → failing ≡ is_any_failing found → TellsCases inputs l s value checkers bytes failing → TellsFirst inputs l s value checkers bytes failing
+tells_none inputs l s value checkers bytes failing found none is tells =
     let passes : failing ≡ false = is ∙ any_none found none in
-    subst (λ b. TellsFirst l s value checkers bytes b) (sym passes) (of_none (subst (λ b. TellsCases l s value checkers bytes b) passes tells))
+    subst (λ b. TellsFirst inputs l s value checkers bytes b) (sym passes) (of_none (subst (λ b. TellsCases inputs l s value checkers bytes b) passes tells))
 
 pub tells_first : (l : AnyLosses) (t : Task) (cuts : List ℕ) (first : FirstCase) (h : HeadValue) (asked : Losses) (bytes : List ℕ)
     → cuts ≡ case_cuts l.at_most t.options.now.cuts t.log.now.entries → IsFirstFailing (losses_of l t.options.now) t.log.now t.options.now.by cuts t.checkers.now first
     → h ≡ head_of (with_first false t.options.now) t.log.now t.checkers.now → asked ≡ losses_of l t.options.now → bytes ≡ first_bytes h asked t.log.now first
-    → TellsFirst l t.options.now t.log.now t.checkers.now bytes true
+    → TellsFirst t.span.inputs l t.options.now t.log.now t.checkers.now bytes true
 tells_first l t cuts first h asked bytes are is head same text =
     of_first first (subst (λ (cs : List ℕ). IsFirstFailing (losses_of l t.options.now) t.log.now t.options.now.by cs t.checkers.now first) are is)
     (text ∙ (λ i. first_bytes (head i) (same i) t.log.now first))
@@ -163,9 +166,48 @@ first_refused l t cuts (fault.TooMany cut) r first are stops is =
     )
 
 -- what is told is what is asked for
-pub told_as : (l : AnyLosses) (s : Settings) (value : LogValue) (checkers : List CheckerValue) (b : Bool) (r : Result Explored Refusal) → s.first ≡ b
-    → IfOk r (λ e. TellsLosses b l s value checkers e.bytes.items e.failing) → IfOk r (λ e. TellsLosses s.first l s value checkers e.bytes.items e.failing)
-told_as l s value checkers b r same told = subst (λ (x : Bool). IfOk r (λ e. TellsLosses x l s value checkers e.bytes.items e.failing)) (sym same) told
+pub told_as : (inputs : ℕ) (l : AnyLosses) (s : Settings) (value : LogValue) (checkers : List CheckerValue) (b : Bool) (r : Result Explored Refusal) → s.first ≡ b
+    → IfOk r (λ e. TellsLosses b inputs l s value checkers e.bytes.items e.failing) → IfOk r (λ e. TellsLosses s.first inputs l s value checkers e.bytes.items e.failing)
+told_as inputs l s value checkers b r same told = subst (λ (x : Bool). IfOk r (λ e. TellsLosses x inputs l s value checkers e.bytes.items e.failing)) (sym same) told
+
+-- the number of the inputs counts where a range of the cuts is told alone
+told_again : (b : Bool) (n : ℕ) → (if b then Some (if b then n else 0) else None) ≡ (if b then Some n else None)
+told_again true n = refl
+told_again false n = refl
+
+same_cases : (told inputs : ℕ) (h : HeadValue) (asked : Losses) (log : LogValue) (found : List CutFound) → told ≡ (if has_range h.cuts then inputs else 0) → cases_bytes told h asked log found ≡ cases_bytes inputs h asked log found
+unfolding cases_bytes
+same_cases told inputs h asked log found is =
+    ap (λ (i : Option ℕ). cases_head i h asked ++ flat_map (cut_cases log h.by asked.tears) found ++ totals_text found)
+    (ap (λ (n : ℕ). inputs_told h.cuts n) is ∙ told_again (has_range h.cuts) inputs)
+
+text_by_number : (t : CaseTelling) (told inputs : ℕ) (h : HeadValue) (asked : Losses) (log : LogValue) (found : List CutFound) (bytes : List ℕ) → told ≡ case_number t h.cuts inputs
+    → IsTextOf t told h asked log found bytes → IsTextOf t inputs h asked log found bytes
+text_by_number telling.Cases told inputs h asked log found bytes is text = text ∙ same_cases told inputs h asked log found is
+text_by_number telling.Causes told inputs h asked log found bytes is text = text
+text_by_number telling.Page told inputs h asked log found bytes is text = text
+
+cases_by_number : (l : AnyLosses) (told inputs : ℕ) (s : Settings) (value : LogValue) (checkers : List CheckerValue) (bytes : List ℕ) (failing : Bool) → told ≡ case_number l.telling s.cuts inputs
+    → TellsCases told l s value checkers bytes failing → TellsCases inputs l s value checkers bytes failing
+unfolding head_of
+cases_by_number l told inputs s value checkers bytes failing is tells = record {
+  found = tells.found;
+  are = tells.are;
+  few = tells.few;
+  text = text_by_number l.telling told inputs (head_of (with_first false s) value checkers) (losses_of l s) value tells.found bytes is tells.text;
+  fails = tells.fails;
+}
+
+first_by_number : (l : AnyLosses) (told inputs : ℕ) (s : Settings) (value : LogValue) (checkers : List CheckerValue) (bytes : List ℕ) (failing : Bool) → told ≡ case_number l.telling s.cuts inputs
+    → TellsFirst told l s value checkers bytes failing → TellsFirst inputs l s value checkers bytes failing
+first_by_number l told inputs s value checkers bytes _ is (of_first first own text) = of_first first own text
+first_by_number l told inputs s value checkers bytes _ is (of_none tells) = of_none (cases_by_number l told inputs s value checkers bytes false is tells)
+
+-- what is told with the number that is told is told with the number of the inputs
+pub losses_by_number : (first : Bool) (l : AnyLosses) (told inputs : ℕ) (s : Settings) (value : LogValue) (checkers : List CheckerValue) (bytes : List ℕ) (failing : Bool)
+    → told ≡ case_number l.telling s.cuts inputs → TellsLosses first told l s value checkers bytes failing → TellsLosses first inputs l s value checkers bytes failing
+losses_by_number false l told inputs s value checkers bytes failing is tells = cases_by_number l told inputs s value checkers bytes failing is tells
+losses_by_number true l told inputs s value checkers bytes failing is tells = first_by_number l told inputs s value checkers bytes failing is tells
 
 -- what a run answers by cases
 pub is_cases : (Tells : Settings → LogValue → List CheckerValue → List ℕ → Bool → Type 0) (text : Recording) (files : List (List ℕ)) (s : Settings) (log : LogValue) (checkers now : List CheckerValue)

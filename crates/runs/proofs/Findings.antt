@@ -16,7 +16,7 @@ use Rattle.request.specs.declared.extent.Extent.TheVariants as extent
 use Rattle.request.specs.declared.settings.Telling.{Telling}
 use Rattle.request.specs.declared.settings.Telling.TheVariants as telling
 use Rattle.request.specs.Source.{plan_of, images_of}
-use Rattle.runs.specs.Inputs.{number_told}
+use Rattle.runs.specs.Inputs.{part_number}
 use Rattle.request.specs.Extents.{first_meant, end_meant}
 use Rattle.runs.specs.Judged.{IsJudged}
 use Rattle.runs.specs.Explore.{subject_of, head_of, images_text, report_of}
@@ -136,13 +136,13 @@ part_of_found s value checkers first head ls bytes span from to asked heads foun
     ∙ ap (λ (e : Extent). images_text e span.inputs h ms) part
 
 -- the number of the inputs counts where a part is meant alone
-pub same_text : (e : Extent) (inputs : ℕ) (h : HeadValue) (ls : List FailingLine) → images_text e (number_told e inputs) h ls ≡ images_text e inputs h ls
+pub same_text : (e : Extent) (inputs : ℕ) (h : HeadValue) (ls : List FailingLine) → images_text e (part_number e inputs) h ls ≡ images_text e inputs h ls
 same_text extent.Whole inputs h ls = refl
 same_text extent.Wide inputs h ls = refl
 same_text (extent.Part from to) inputs h ls = refl
 
 -- what is told with the number that is told is told with the number of the inputs
-pub told_by_number : (t : Telling) (inputs told : ℕ) (s : Settings) (value : LogValue) (checkers : List CheckerValue) (bytes : List ℕ) → told ≡ number_told s.extent inputs
+pub told_by_number : (t : Telling) (inputs told : ℕ) (s : Settings) (value : LogValue) (checkers : List CheckerValue) (bytes : List ℕ) → told ≡ part_number s.extent inputs
     → Tells t told s value checkers bytes → Tells t inputs s value checkers bytes
 told_by_number telling.Report inputs told s value checkers bytes is tells =
     tells

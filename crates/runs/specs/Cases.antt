@@ -19,35 +19,37 @@ use Rattle.request.specs.declared.settings.Settings.{Settings}
 use Rattle.request.specs.Source.{Recording, HasImages}
 use Rattle.case_runs.specs.Cuts.{case_cuts}
 use Rattle.runs.specs.CaseCuts.{losses_of}
+use Rattle.runs.specs.Inputs.{inputs_number}
 use Rattle.runs.specs.Explore.{IsProgramCount, AreCheckersOf, head_of}
 use Rattle.runs.specs.Why.{with_first}
 
--- the text of what was found: which cases fail, why they do, or the page of them
-abbrev pub IsTextOf : CaseTelling → HeadValue → Losses → LogValue → List CutFound → List ℕ → Type 0
-IsTextOf telling.Cases h asked value found bytes = bytes ≡ cases_bytes h asked value found
-IsTextOf telling.Causes h asked value found bytes = TellsWhy h asked value found bytes
-IsTextOf telling.Page h asked value found bytes = bytes ≡ case_page_text h asked value found
+-- the text of what was found: which cases fail, with a number of the inputs where these are of a range of the cuts; why they do; or the page
+-- of them
+abbrev pub IsTextOf : CaseTelling → ℕ → HeadValue → Losses → LogValue → List CutFound → List ℕ → Type 0
+IsTextOf telling.Cases inputs h asked value found bytes = bytes ≡ cases_bytes inputs h asked value found
+IsTextOf telling.Causes inputs h asked value found bytes = TellsWhy h asked value found bytes
+IsTextOf telling.Page inputs h asked value found bytes = bytes ≡ case_page_text h asked value found
 
 -- the cases of a log that fail, at each of these cuts, with each of these checkers: there aren't too many, the text tells of them, and
 -- whether there is one
-pub record TellsCases (l : AnyLosses) (s : Settings) (value : LogValue) (checkers : List CheckerValue) (bytes : List ℕ) (failing : Bool) : Type 0 where
+pub record TellsCases (inputs : ℕ) (l : AnyLosses) (s : Settings) (value : LogValue) (checkers : List CheckerValue) (bytes : List ℕ) (failing : Bool) : Type 0 where
   pub found : List CutFound
   pub are : AreFoundIn (losses_of l s) value s.by (case_cuts l.at_most s.cuts value.entries) checkers found
   pub few : cases_in found ≤ most_cases
-  pub text : IsTextOf l.telling (head_of (with_first false s) value checkers) (losses_of l s) value found bytes
+  pub text : IsTextOf l.telling inputs (head_of (with_first false s) value checkers) (losses_of l s) value found bytes
   pub fails : failing ≡ is_any_failing found
 
 -- the first of them alone: within 16,777,216 cases it is the first that fails, and the text has its line and no other; or none of all cases
 -- fails, and the text is that of all
-pub data TellsFirst (l : AnyLosses) (s : Settings) (value : LogValue) (checkers : List CheckerValue) (bytes : List ℕ) : Bool → Type 0 where
+pub data TellsFirst (inputs : ℕ) (l : AnyLosses) (s : Settings) (value : LogValue) (checkers : List CheckerValue) (bytes : List ℕ) : Bool → Type 0 where
   of_first : (first : FirstCase) → IsFirstFailing (losses_of l s) value s.by (case_cuts l.at_most s.cuts value.entries) checkers first
-      → bytes ≡ first_bytes (head_of (with_first false s) value checkers) (losses_of l s) value first → TellsFirst l s value checkers bytes true
-  of_none : TellsCases l s value checkers bytes false → TellsFirst l s value checkers bytes false
+      → bytes ≡ first_bytes (head_of (with_first false s) value checkers) (losses_of l s) value first → TellsFirst inputs l s value checkers bytes true
+  of_none : TellsCases inputs l s value checkers bytes false → TellsFirst inputs l s value checkers bytes false
 
 -- what is told of cases: of each that fails, or of the first alone
-abbrev pub TellsLosses : Bool → AnyLosses → Settings → LogValue → List CheckerValue → List ℕ → Bool → Type 0
-TellsLosses false l s value checkers bytes failing = TellsCases l s value checkers bytes failing
-TellsLosses true l s value checkers bytes failing = TellsFirst l s value checkers bytes failing
+abbrev pub TellsLosses : Bool → ℕ → AnyLosses → Settings → LogValue → List CheckerValue → List ℕ → Bool → Type 0
+TellsLosses false inputs l s value checkers bytes failing = TellsCases inputs l s value checkers bytes failing
+TellsLosses true inputs l s value checkers bytes failing = TellsFirst inputs l s value checkers bytes failing
 
 -- the bytes tell this of the programs and the log by their cases, whatever is lost
 pub record IsByCases (Tells : Settings → LogValue → List CheckerValue → List ℕ → Bool → Type 0) (text : Recording) (files : List (List ℕ)) (s : Settings) (bytes : List ℕ) (failing : Bool) : Type 0 where
@@ -60,7 +62,7 @@ pub record IsByCases (Tells : Settings → LogValue → List CheckerValue → Li
 
 -- which of them fail, or which first
 abbrev pub IsLosses : Bool → AnyLosses → Recording → List (List ℕ) → Settings → List ℕ → Bool → Type 0
-IsLosses first l text files s bytes failing = IsByCases (TellsLosses first l) text files s bytes failing
+IsLosses first l text files s bytes failing = IsByCases (TellsLosses first (inputs_number text.text files) l) text files s bytes failing
 
 -- which cases fail
 abbrev pub IsCases : AnyLosses → Recording → List (List ℕ) → Settings → List ℕ → Bool → Type 0

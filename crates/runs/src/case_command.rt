@@ -139,11 +139,19 @@ fn bytes_of(
 ) -> Result<Vec<u8>, AllocError>
     requires cuts { All (λ cut. cut.cut ≤ length task.now.log.now.entries) found.now }
     requires few { All (λ cut. length cut.programs.items ≤ 256) found.now }
-    ensures { IfOk result (λ bytes. IsTextOf losses.telling head.now (losses_of losses task.now.options.now) task.now.log.now found.now bytes.items) }
+    ensures { IfOk result (λ bytes. IsTextOf losses.telling task.now.span.inputs head.now (losses_of losses task.now.options.now) task.now.log.now found.now bytes.items) }
 {
     let asked = losses_of(losses, task.options);
     match losses.telling {
-        CaseTelling::Cases => write_cases(alloc, head, task.log, task.plan, asked, found),
+        CaseTelling::Cases => write_cases(
+            alloc,
+            task.span.inputs,
+            head,
+            task.log,
+            task.plan,
+            asked,
+            found,
+        ),
         CaseTelling::Causes => write_why(alloc, head, task.log, task.plan, asked, found),
         CaseTelling::Page => case_page(alloc, head, task.log, task.plan, asked, found),
     }
@@ -163,7 +171,7 @@ fn text_of(
     requires found { AreFoundIn (losses_of losses task.now.options.now) task.now.log.now task.now.options.now.by cuts.now task.now.checkers.now found.now }
     requires small { length task.now.checkers.now ≤ 8 }
     requires few { cases_in found.now ≤ most_cases }
-    ensures told { IfOk result (λ e. TellsCases losses task.now.options.now task.now.log.now task.now.checkers.now e.bytes.items e.failing) }
+    ensures told { IfOk result (λ e. TellsCases task.now.span.inputs losses task.now.options.now task.now.log.now task.now.checkers.now e.bytes.items e.failing) }
     ensures failing { IfOk result (λ e. e.failing ≡ is_any_failing found.now) }
     ensures left_out { out.new ≡ left_out_of found.now }
 {
@@ -220,7 +228,7 @@ fn first_text_of(
     requires cuts { cuts.now ≡ case_cuts losses.at_most task.now.options.now.cuts task.now.log.now.entries }
     requires within { All (λ cut. cut ≤ length task.now.log.now.entries) cuts.now }
     requires first { IsFirstFailing (losses_of losses task.now.options.now) task.now.log.now task.now.options.now.by cuts.now task.now.checkers.now first.now }
-    ensures { IfOk result (λ e. TellsFirst losses task.now.options.now task.now.log.now task.now.checkers.now e.bytes.items e.failing) }
+    ensures { IfOk result (λ e. TellsFirst task.now.span.inputs losses task.now.options.now task.now.log.now task.now.checkers.now e.bytes.items e.failing) }
 {
     let _cuts = cuts;
     let head = head_of_run(alloc, task, false)?;
@@ -246,7 +254,7 @@ fn passing_text_of(
     requires within { All (λ cut. cut ≤ length task.now.log.now.entries) cuts.now }
     requires small { length task.now.checkers.now ≤ 8 }
     requires passing { AllPass (losses_of losses task.now.options.now) task.now.log.now task.now.options.now.by cuts.now task.now.checkers.now found.now }
-    ensures { IfOk result (λ e. TellsFirst losses task.now.options.now task.now.log.now task.now.checkers.now e.bytes.items e.failing) }
+    ensures { IfOk result (λ e. TellsFirst task.now.span.inputs losses task.now.options.now task.now.log.now task.now.checkers.now e.bytes.items e.failing) }
 {
     let explored = text_of(alloc, task, losses, cuts, found, out)?;
     Ok(explored)
@@ -265,7 +273,7 @@ fn sought_text_of(
     requires within { All (λ cut. cut ≤ length task.now.log.now.entries) cuts.now }
     requires small { length task.now.checkers.now ≤ 8 }
     requires found { IsSought (losses_of losses task.now.options.now) task.now.log.now task.now.options.now.by cuts.now task.now.checkers.now sought.now }
-    ensures { IfOk result (λ e. TellsFirst losses task.now.options.now task.now.log.now task.now.checkers.now e.bytes.items e.failing) }
+    ensures { IfOk result (λ e. TellsFirst task.now.span.inputs losses task.now.options.now task.now.log.now task.now.checkers.now e.bytes.items e.failing) }
 {
     match sought {
         Sought::Passing(found) => {
@@ -290,7 +298,7 @@ fn all_told<G: Gate + Sync, R: Threads + Sync>(
     requires verified { AreFor task.now.options.now.sectors task.now.checkers.now }
     requires small { length task.now.checkers.now ≤ 8 }
     requires all { task.now.options.now.first ≡ false }
-    ensures told { IfOk result (λ e. TellsCases losses task.now.options.now task.now.log.now task.now.checkers.now e.bytes.items e.failing) }
+    ensures told { IfOk result (λ e. TellsCases task.now.span.inputs losses task.now.options.now task.now.log.now task.now.checkers.now e.bytes.items e.failing) }
     ensures refused { IfErr result (RefusesFor losses task.now) }
 {
     let found = cases_at(rt, alloc, gate, task, losses, cuts)?;
@@ -314,7 +322,7 @@ fn first_told<G: Gate>(
     requires verified { AreFor task.now.options.now.sectors task.now.checkers.now }
     requires small { length task.now.checkers.now ≤ 8 }
     requires first { task.now.options.now.first ≡ true }
-    ensures told { IfOk result (λ e. TellsFirst losses task.now.options.now task.now.log.now task.now.checkers.now e.bytes.items e.failing) }
+    ensures told { IfOk result (λ e. TellsFirst task.now.span.inputs losses task.now.options.now task.now.log.now task.now.checkers.now e.bytes.items e.failing) }
     ensures refused { IfErr result (RefusesFor losses task.now) }
 {
     let sought = first_at(alloc, gate, task, losses, cuts)?;
@@ -339,7 +347,7 @@ pub(crate) fn told_cases<'x, G: Gate + Sync, R: Threads + Sync>(
     requires small { length task.now.checkers.now ≤ 8 }
     requires fresh { blind.old.items ≡ [] }
     ensures blind { IfOk result (λ _. blind.new.items ≡ map (is_noticed task.now.plan.now) task.now.checkers.now) }
-    ensures told { IfOk result (λ e. TellsLosses task.now.options.now.first losses task.now.options.now task.now.log.now task.now.checkers.now e.bytes.items e.failing) }
+    ensures told { IfOk result (λ e. TellsLosses task.now.options.now.first task.now.span.inputs losses task.now.options.now task.now.log.now task.now.checkers.now e.bytes.items e.failing) }
     ensures refused { IfErr result (RefusesFor losses task.now) }
 {
     if find_blind_of(alloc, task, blind).is_err() {

@@ -29,7 +29,7 @@ use crate::blind::find_blind;
 use crate::case_command::told_cases;
 use crate::causes::causes_text;
 use crate::curing::{cured_cases, cured_images};
-use crate::inputs::number_told;
+use crate::inputs::{case_number, part_number};
 use crate::paging::page_bytes;
 use crate::reading::Reading;
 use crate::task::{Findings, Task};
@@ -358,17 +358,34 @@ fn tell(alloc: Global, telling: Telling, findings: &Findings<'_>) -> Result<Vec<
     }
 }
 
+/// The number of the inputs that is told of a run that is asked this.
+fn number_told(question: &Question<'_>) -> u64
+    ensures { result ≡ number_told question.now.wanted question.now.options.now.extent question.now.options.now.cuts (inputs_number question.now.recording.now.text (map (λ f. f.items) question.now.programs.now)) }
+{
+    let log = question.recording.log();
+    match question.wanted {
+        WantedAnswer::Told(_telling) => {
+            part_number(question.options.extent(), log, question.programs)
+        }
+        WantedAnswer::Cases(losses) => {
+            let cuts = question.options.cuts();
+            case_number(losses.telling, &cuts, log, question.programs)
+        }
+        WantedAnswer::Cured => 0,
+        WantedAnswer::CuredCases(_losses) => 0,
+    }
+}
+
 /// The images that are judged of a run that is asked this, of that many, with the number of its inputs.
 fn span_of(question: &Question<'_>, images: u64) -> Span
     requires taken { takes question.now.wanted question.now.options.now.extent ≡ true }
     requires few { images ≤ most_images question.now.options.now.extent }
     requires within { has_extent question.now.options.now.extent images ≡ true }
     ensures judged { IsJudged question.now.options.now.extent images result }
-    ensures number { result.inputs ≡ number_told question.now.options.now.extent (inputs_number question.now.recording.now.text (map (λ f. f.items) question.now.programs.now)) }
+    ensures number { result.inputs ≡ number_told question.now.wanted question.now.options.now.extent question.now.options.now.cuts (inputs_number question.now.recording.now.text (map (λ f. f.items) question.now.programs.now)) }
 {
-    let extent = question.options.extent();
-    let inputs = number_told(extent, question.recording.log(), question.programs);
-    span_with(question.wanted, extent, images, inputs)
+    let inputs = number_told(question);
+    span_with(question.wanted, question.options.extent(), images, inputs)
 }
 
 /// Whether blocks after the first failing image may be passed over.

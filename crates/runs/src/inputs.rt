@@ -2,9 +2,11 @@
 
 ghost use Rattle.std.specs.Prelude.{◌≡◌, map};
 ghost use Rattle.std.specs.List.{fold};
-ghost use Rattle.runs.specs.Inputs.{with_byte, file_bytes, inputs_number, number_told};
+ghost use Rattle.runs.specs.Inputs.{with_byte, file_bytes, inputs_number, part_number, case_number};
 
-use request::Extent;
+use case_text::has_range;
+use epochs::Cuts;
+use request::{CaseTelling, Extent};
 
 /// The factor by which the bytes of the inputs are joined to one number.
 const INPUT_FACTOR: u64 = 1_099_511_628_211;
@@ -51,9 +53,9 @@ fn number_of_inputs(log: &[u8], programs: &[Vec<u8>]) -> u64
     number
 }
 
-/// The number that is told of a log and of programs: 0 where no part of a run is meant.
-pub(crate) fn number_told(extent: Extent, log: &[u8], programs: &[Vec<u8>]) -> u64
-    ensures { result ≡ number_told extent (inputs_number log.now (map (λ f. f.items) programs.now)) }
+/// The number that is told of the images of a log and of programs: 0 where no part of a run is meant.
+pub(crate) fn part_number(extent: Extent, log: &[u8], programs: &[Vec<u8>]) -> u64
+    ensures { result ≡ part_number extent (inputs_number log.now (map (λ f. f.items) programs.now)) }
 {
     match extent {
         Extent::Part {
@@ -61,5 +63,23 @@ pub(crate) fn number_told(extent: Extent, log: &[u8], programs: &[Vec<u8>]) -> u
             to: _to,
         } => number_of_inputs(log, programs),
         Extent::Whole | Extent::Wide => 0,
+    }
+}
+
+/// The number that is told of their cases: 0 where why they fail is told, or where no range of the cuts is meant.
+pub(crate) fn case_number(
+    telling: CaseTelling,
+    cuts: &Cuts,
+    log: &[u8],
+    programs: &[Vec<u8>],
+) -> u64
+    ensures { result ≡ case_number telling cuts.now (inputs_number log.now (map (λ f. f.items) programs.now)) }
+{
+    let is_range = has_range(cuts);
+    match telling {
+        CaseTelling::Cases if is_range => number_of_inputs(log, programs),
+        CaseTelling::Cases => 0,
+        CaseTelling::Causes => 0,
+        CaseTelling::Page => 0,
     }
 }

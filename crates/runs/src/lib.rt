@@ -40,12 +40,13 @@
 //! order of docs/REFUSALS.md (`Refuses` in `specs/Explore.antt`): the number of programs, the log, the number of its images, then
 //! each program; or memory ran out.
 //!
-//! Where cases are wanted, they are looked for at the cuts that `case_cuts` of `case_runs` says: at the last ones of the range and its end, or at
-//! each that is wanted where not all cuts are or `--at-most` is given. The workers share the work, and how many there are changes nothing
-//! of the answer. The answer has each failing case of each program, and no other
-//! (`IsCases` in `specs/Cases.antt`). The run is refused at the cut with which there are more than 16,777,216 cases. With the option
-//! `first` one thread looks for them, and the answer has the first of them alone, or where none fails that of all (`TellsFirst`); it is
-//! refused where none of the first 16,777,216 cases fails, and there are more. `AnyLosses` says what is told of them (`IsTextOf`). The gate is told of each run of a program and of each case, as of a block. The law
+//! Where cases are wanted, they are looked for at the cuts that `case_cuts` of `case_runs` says: at the last ones of the range and its end,
+//! or at each that is wanted where not all cuts are or `--at-most` is given. The workers share the work, and how many there are changes
+//! nothing of the answer. The answer has each failing case of each program, and no other (`IsCases` in `specs/Cases.antt`). The run is
+//! refused at the cut with which there are more than 16,777,216 cases. With the option `first` one thread looks for them, and the answer
+//! has the first of them alone, or where none fails that of all (`TellsFirst`); it is refused where none of the first 16,777,216 cases
+//! fails, and there are more. `AnyLosses` says what is told of them (`IsTextOf`). The text of cases of a range of the cuts has the number
+//! of the inputs (`specs/Inputs.antt`). The gate is told of each run of a program and of each case, as of a block. The law
 //! `any_loss_is_told` says what this means where all cuts are wanted, and nothing bounds the losses: each image of any cut on which a
 //! program fails, with as few torn parts as is asked, is one of a failing case that is told. The law `told_cases_fail` says the other
 //! direction: on each image of a case that is told its program fails, and ends as the case says.

@@ -1,7 +1,7 @@
 //! The head of a text of cases: its options and programs.
 
 ghost use Rattle.std.specs.Prelude.{ℕ, ◌≡◌, ◌↔◌, ◌<◌, ◌^◌, ◌++◌, All, IfOk, IsTrue, MatchOption, Option, OnOk, string_bytes};
-ghost use Rattle.case_text.specs.Text.{options_text};
+ghost use Rattle.case_text.specs.Text.{cases_head, options_text};
 ghost use Rattle.join.specs.Heads.{IsFewOption, IsPrintedHead, IsProgramHead, IsSmallHead};
 ghost use Rattle.join.specs.CaseTexts.{AreLosses, are_lost_of_run, are_torn_of_run};
 ghost use Rattle.join.specs.CaseJoining.{cuts_between, head_between};
@@ -12,7 +12,7 @@ use crate::options::{device_said, given_said, is_yes, option_said};
 use crate::programs::programs_said;
 use crate::words::{beyond, cut, next_word};
 use case_runs::Losses;
-use case_text::put_options;
+use case_text::{put_opening, put_options};
 use epochs::Cuts;
 use report::{Head, ProgramHead};
 use std::alloc::{AllocError, Global};
@@ -122,10 +122,25 @@ fn are_losses(head: &Head, asked: Losses) -> bool
 }
 
 /// The options and the programs of a text.
-pub(crate) fn options_text(alloc: Global, head: &Head, asked: Losses) -> Result<String, AllocError>
+fn options_text(alloc: Global, head: &Head, asked: Losses) -> Result<String, AllocError>
     ensures { IfOk result (λ out. string_bytes out ≡ options_text head.now asked) }
 {
     let mut out = String::new(alloc);
+    put_options(&mut out, head, asked)?;
+    Ok(out)
+}
+
+/// The first lines, the options and the programs of a text.
+pub(crate) fn head_text(
+    alloc: Global,
+    inputs: Option<u64>,
+    head: &Head,
+    asked: Losses,
+) -> Result<String, AllocError>
+    ensures { IfOk result (λ out. string_bytes out ≡ cases_head inputs head.now asked) }
+{
+    let mut out = String::new(alloc);
+    put_opening(&mut out, inputs)?;
     put_options(&mut out, head, asked)?;
     Ok(out)
 }

@@ -7,21 +7,18 @@ ghost use Rattle.join.specs.declared.case_parts.fault.CasesFault.TheVariants as 
 ghost use Rattle.join.specs.Joining.{IsFirstLong, size_of};
 ghost use Rattle.join.specs.CaseTexts.{NoCasesText, totals_line};
 ghost use Rattle.join.specs.CaseReading.{IsCasesPart};
-ghost use Rattle.join.specs.CaseJoining.{AreCasesParts, AreJoinedCases, HasFailing, IsFirstNone, IsTooLong, RefusesCases, all_totals, both_totals, joined_head, told_from, told_to};
+ghost use Rattle.join.specs.CaseJoining.{AreCasesParts, AreJoinedCases, HasFailing, IsFirstNone, IsTooLong, RefusesCases, all_totals, both_totals, have_all_cuts, joined_head, told_from, told_number, told_to};
 ghost use Rattle.join.specs.CaseRows.{IsCasesRowText, IsCasesWritten, IsSmallPart, IsSortedCases, IsSortedFault, NoneIsForeign, WhyNoCases, WhyNoCasesRow};
-ghost use Rattle.case_text.specs.Text.{head_text};
+ghost use Rattle.case_text.specs.Text.{cases_head};
 
 use crate::case_parts::fault::CasesFault;
-use crate::case_parts::heading::head_between;
+use crate::case_parts::heading::{head_between, head_text};
 use crate::case_parts::part::{CasePart, read_part};
 use crate::case_parts::row::{first_foreign, put_in_order, row_fault};
 use crate::case_parts::totals::{CaseTotals, first_of, last_of, put_totals};
 use crate::fault::JoinFault;
 use crate::joining::{JoinedText, first_long};
 use base::causes::JoinCause;
-use case_runs::Losses;
-use case_text::put_options;
-use report::Head;
 use std::alloc::{AllocError, Global};
 
 /// The refusal for want of memory.
@@ -136,34 +133,42 @@ fn last_line(alloc: Global, totals: CaseTotals) -> Result<String, AllocError>
     Ok(out)
 }
 
-/// Appends what stands before the lines.
-fn put_head(out: &mut String, head: &Head, asked: Losses) -> Result<(), AllocError>
-    ensures { OnOk result (string_bytes out.new ≡ string_bytes out.old ++ head_text head.now asked) }
+/// Whether a row has all cuts of the log, by its first and its last text.
+fn have_all_cuts(first: &CasePart<'_>, last: &CasePart<'_>) -> bool
+    ensures { result ≡ have_all_cuts first.now last.now }
 {
-    write!(out, "crash cases 1\n")?;
-    put_options(out, head, asked)
+    first_of(&first.head) == 0 && last_of(&last.head) == u64::from(last.head.entries)
 }
 
-/// The range of cuts that the text of a row tells, by its first and its last text: none where they have all cuts of the log.
+/// The range of cuts that the text of a row tells: none where it has all cuts of the log.
 fn told_range(first: &CasePart<'_>, last: &CasePart<'_>) -> (Option<u64>, Option<u64>)
     ensures { result ≡ (told_from first.now last.now, told_to first.now last.now) }
 {
-    if first_of(&first.head) == 0 && last_of(&last.head) == u64::from(last.head.entries) {
+    if have_all_cuts(first, last) {
         (None, None)
     } else {
         (first.head.cuts.from, last.head.cuts.to)
     }
 }
 
+/// The number of the inputs that it tells: none where it has all cuts of the log.
+fn told_number(first: &CasePart<'_>, last: &CasePart<'_>) -> Option<u64>
+    ensures { result ≡ told_number first.now last.now }
+{
+    if have_all_cuts(first, last) {
+        None
+    } else {
+        first.inputs
+    }
+}
+
 /// What stands before the lines of texts in a row.
 fn opening(alloc: Global, first: &CasePart<'_>, last: &CasePart<'_>) -> Result<String, AllocError>
-    ensures { IfOk result (λ out. string_bytes out ≡ head_text (joined_head first.now last.now) first.now.asked) }
+    ensures { IfOk result (λ out. string_bytes out ≡ cases_head (told_number first.now last.now) (joined_head first.now last.now) first.now.asked) }
 {
     let (from, to) = told_range(first, last);
     let head = head_between(alloc, &first.head, from, to)?;
-    let mut out = String::new(alloc);
-    put_head(&mut out, &head, first.asked)?;
-    Ok(out)
+    head_text(alloc, told_number(first, last), &head, first.asked)
 }
 
 /// The text of a row.
@@ -260,8 +265,8 @@ fn join_short(alloc: Global, part: bool, files: &[Vec<u8>]) -> Result<JoinedText
 }
 
 /// The text of the run of all cuts with any number of losses, of the texts of runs of ranges of cuts that follow one another. Where `part`
-/// says so they may have some of the cuts: then it is the text of the run of these. A text of all cuts of the log tells no range, as that of
-/// a run that was asked for none. The files come in any order; there are 1 to 4,096 of them.
+/// says so they may have some of the cuts: then it is the text of the run of these. A text of all cuts of the log tells no range and no
+/// number of the inputs, as that of a run that was asked for no range. The files come in any order; there are 1 to 4,096 of them.
 ///
 /// # Errors
 ///

@@ -1,14 +1,15 @@
 //! A text of cases, read as a whole.
 
-ghost use Rattle.std.specs.Prelude.{◌≡◌, ◌≤◌, ◌^◌, ◌++◌, codes, IfOk, MatchOption, length};
+ghost use Rattle.std.specs.Prelude.{◌≡◌, ◌≤◌, ◌^◌, IfOk, MatchOption, length};
 ghost use Rattle.std.specs.Str.{IsUtf8};
 ghost use Rattle.join.specs.CaseTexts.{NoCasesText};
-ghost use Rattle.join.specs.CaseReading.{IsCasesPart};
+ghost use Rattle.join.specs.CaseReading.{IsCasesPart, IsOpening};
 
 use crate::case_parts::heading::read_head;
 use crate::case_parts::line::read_lines;
+use crate::case_parts::opening::{are_inputs_of_run, read_opening};
 use crate::case_parts::totals::{CaseTotals, are_totals_of_run, is_totals, totals_said};
-use crate::words::{before, beyond};
+use crate::words::before;
 use case_runs::Losses;
 use report::Head;
 use std::alloc::{AllocError, Global};
@@ -18,6 +19,8 @@ use std::str;
 /// What is read of a text of cases.
 #[derive(Drop)]
 pub struct CasePart<'t> {
+    /// The number of the inputs, where it tells one.
+    pub(crate) inputs: Option<u64>,
     /// Its options and programs.
     pub(crate) head: Head,
     /// What is asked of losses.
@@ -35,26 +38,30 @@ impl<'t> Model for CasePart<'t> {
 
     ghost Value = { CasesRead };
 
-    ghost view = { λ p. record { head = p.head; asked = p.asked; lines = p.lines.now; totals = p.totals; file = p.file } };
+    ghost view = { λ p. record { inputs = p.inputs; head = p.head; asked = p.asked; lines = p.lines.now; totals = p.totals; file = p.file } };
 }
 
-/// What is read of a text of cases after its title; none where it is the text of none.
+/// What is read of a text of cases after its first lines; none where it is the text of none.
 #[tactic(auto, using(crate::proofs::CaseWholes::no_head_no_cases))]
 fn read_rest<'t>(
     alloc: Global,
     file: u32,
     whole: &str,
+    inputs: Option<u64>,
     text: &'t str,
 ) -> Result<Option<CasePart<'t>>, AllocError>
     requires short { length text.now ≤ 2 ^ 30 }
     requires utf8 { IsUtf8 whole.now }
-    requires titled { whole.now ≡ codes "crash cases 1\n" ++ text.now }
+    requires opened { IsOpening whole.now inputs text.now }
     ensures { IfOk result (λ found. MatchOption found (NoCasesText whole.now) (λ part. IsCasesPart whole.now part × (part.file ≡ file))) }
 {
     let _whole = whole;
     let Some((head, asked, found)) = read_head(alloc, text)? else {
         return Ok(None);
     };
+    if !are_inputs_of_run(&head, inputs) {
+        return Ok(None);
+    }
     let (tally, last) = read_lines(alloc, &head, found)?;
     let totals = totals_said(last);
     if !tally.rising {
@@ -67,6 +74,7 @@ fn read_rest<'t>(
         return Ok(None);
     }
     Ok(Some(CasePart {
+        inputs,
         head,
         asked,
         lines: before(found, last),
@@ -76,7 +84,7 @@ fn read_rest<'t>(
 }
 
 /// What is read of a text of cases; none where it is the text of none.
-#[tactic(auto, using(crate::proofs::CaseWholes::no_title_no_cases, crate::proofs::CaseWholes::rest_short))]
+#[tactic(auto, using(crate::proofs::CaseWholes::no_opening_no_cases, crate::proofs::CaseWholes::rest_short))]
 fn read_text<'t>(
     alloc: Global,
     file: u32,
@@ -86,8 +94,8 @@ fn read_text<'t>(
     requires utf8 { IsUtf8 text.now }
     ensures { IfOk result (λ found. MatchOption found (NoCasesText text.now) (λ part. IsCasesPart text.now part × (part.file ≡ file))) }
 {
-    match beyond("crash cases 1\n", text) {
-        Some(rest) => read_rest(alloc, file, text, rest),
+    match read_opening(alloc, text)? {
+        Some((inputs, rest)) => read_rest(alloc, file, text, inputs, rest),
         None => Ok(None),
     }
 }

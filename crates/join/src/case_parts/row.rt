@@ -9,7 +9,7 @@ ghost use Rattle.join.specs.CaseRows.{IsApart, IsApartAt, IsCasesRow, IsForeignA
 ghost use Rattle.case_runs.specs.Found.{most_cases};
 
 use crate::case_parts::fault::CasesFault;
-use crate::case_parts::heading::{head_between, options_text};
+use crate::case_parts::heading::{head_between, head_text};
 use crate::case_parts::judging::MOST_CASES;
 use crate::case_parts::part::CasePart;
 use crate::case_parts::totals::{first_of, last_of};
@@ -17,12 +17,12 @@ use crate::fault::JoinFault;
 use base::causes::JoinCause;
 use std::alloc::{AllocError, Global};
 
-/// What a text says of its run: its options and programs but for the range.
+/// What a text says of its run: the number of the inputs, and its options and programs but for the range.
 fn run_text(alloc: Global, part: &CasePart<'_>) -> Result<String, AllocError>
     ensures { IfOk result (λ out. string_bytes out ≡ run_text part.now) }
 {
     let head = head_between(alloc, &part.head, None, None)?;
-    options_text(alloc, &head, part.asked)
+    head_text(alloc, part.inputs, &head, part.asked)
 }
 
 /// Whether a text is of the run of which that is said.

@@ -9,7 +9,7 @@ use Rattle.runs.specs.Cases.{TellsLosses}
 use Rattle.runs.specs.Cured.{TellsCure, Cures}
 use Rattle.runs.specs.Why.{Tells}
 use Rattle.runs.specs.Explore.{for_count, for_source, for_program, no_list_memory, for_rest}
-use Rattle.runs.specs.Inputs.{inputs_number}
+use Rattle.runs.specs.Inputs.{inputs_number, number_told}
 use Rattle.runs.specs.Judged.{takes, IsJudged}
 use Rattle.runs.specs.declared.explore_command.WantedAnswer.{WantedAnswer}
 use Rattle.runs.proofs.Judging.{whole_of}
@@ -20,7 +20,7 @@ use Rattle.runs.proofs.Fitting.{made_fit}
 use Rattle.request.proofs.Recorded.{promises_of_log, of_any_ok}
 use Rattle.request.proofs.Logs.{bounds_of, device_of, has_images}
 use Rattle.request.proofs.Results.{both_ok, one_err}
-use Rattle.runs.proofs.Casing.{is_cases, refused_for, cure_refused}
+use Rattle.runs.proofs.Casing.{is_cases, losses_by_number, refused_for, cure_refused}
 use Rattle.runs.proofs.Runs.{of_log, run_of}
 use Rattle.runs.proofs.Unseeing.{found_blind}
 use Rattle.runs.proofs.explore_command.make_run.Goals as goal
@@ -105,7 +105,8 @@ returns-in-Told-clause-told g c =
     (checkers_decoded _ _ _ c.as_slice.result.now _ _ c.as_slice.ensures.value c.in_ok-decoded.ensures.decoded c.in_default.not-Some
     c.in_ok-checkers.ensures.made c.in_ok-checkers.ensures.all)
     c.as_slice-made.ensures.value
-    (told_by_number c.in-Told.telling _ c.span_of.result.inputs c.args.question.now.options.now c.in_ok-log.log c.as_slice-made.result.now e.bytes.items c.span_of.ensures.number bytes)
+    (told_by_number c.in-Told.telling _ c.span_of.result.inputs c.args.question.now.options.now c.in_ok-log.log c.as_slice-made.result.now e.bytes.items
+    (c.span_of.ensures.number ∙ ap (λ (w : WantedAnswer). number_told w c.args.question.now.options.now.extent c.args.question.now.options.now.cuts (inputs_number c.args.question.now.recording.now.text (map (λ f. f.items) c.args.question.now.programs.now))) c.in-Told.is) bytes)
     failing))
 
 pub returns-in-Told-clause-blind : goal.returns-in-Told-clause-blind
@@ -272,12 +273,16 @@ returns-in-Cases-clause-told g c =
     rw c.in-Cases.is
     (both_ok c.told_cases.result _ _ _ c.told_cases.ensures.told c.told_cases.ensures.told
     (λ e tells again.
-    is_cases (TellsLosses c.args.question.now.options.now.first c.in-Cases.losses) _ _ c.args.question.now.options.now c.in_ok-log.log c.in_ok-checkers.checkers.items c.as_slice-made.result.now _ _
+    is_cases
+    (TellsLosses c.args.question.now.options.now.first (inputs_number c.args.question.now.recording.now.text (map (λ f. f.items) c.args.question.now.programs.now)) c.in-Cases.losses) _ _ c.args.question.now.options.now c.in_ok-log.log c.in_ok-checkers.checkers.items c.as_slice-made.result.now _ _
     (counted _ c.args.question.now.programs.now (c.is_program_count.ensures.0 c.if-not-is_program_count.false))
     (has_images _ _ _ _ c.in_ok-log.ensures.log c.in_ok-plan.ensures.count c.in_ok-plan.ensures.few c.in_ok-plan.ensures.within)
     (checkers_decoded _ _ _ c.as_slice.result.now _ _ c.as_slice.ensures.value c.in_ok-decoded.ensures.decoded c.in_default.not-Some
     c.in_ok-checkers.ensures.made c.in_ok-checkers.ensures.all)
-    c.as_slice-made.ensures.value tells))
+    c.as_slice-made.ensures.value
+    (losses_by_number c.args.question.now.options.now.first c.in-Cases.losses c.span_of-2.result.inputs _ c.args.question.now.options.now c.in_ok-log.log c.as_slice-made.result.now _ _
+    (c.span_of-2.ensures.number ∙ ap (λ (w : WantedAnswer). number_told w c.args.question.now.options.now.extent c.args.question.now.options.now.cuts (inputs_number c.args.question.now.recording.now.text (map (λ f. f.items) c.args.question.now.programs.now))) c.in-Cases.is)
+    tells)))
 
 pub returns-in-Cases-clause-blind : goal.returns-in-Cases-clause-blind
 returns-in-Cases-clause-blind g c =
