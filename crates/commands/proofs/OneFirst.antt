@@ -372,7 +372,7 @@ text_same : (telling : CaseTelling) (h : HeadValue) (asked : Losses) (log : LogV
     → IsTextOf telling h asked log ls bytes → IsTextOf telling h asked log ms others → bytes ≡ others
 text_same telling.Cases h asked log ls ms bytes others same a b = a ∙ bytes_same h asked log ls ms same ∙ sym b
 text_same telling.Causes h asked log ls ms bytes others same a b = why_same h asked log ls ms bytes others same a b
-text_same telling.Page h asked log ls ms bytes others same a b = a ∙ page_same h asked log ls ms same ∙ sym b
+text_same telling.Page h asked log ls ms bytes others same a b = page_same h asked log ls ms bytes others same a b
 
 tells_once : FindingIsOne → (l : AnyLosses) (s : Settings) (value : LogValue) (checkers : List CheckerValue) (bytes others : List ℕ) (failing fails : Bool)
     → TellsCases l s value checkers bytes failing → TellsCases l s value checkers others fails → (bytes ≡ others) × (failing ≡ fails)
