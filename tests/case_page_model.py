@@ -3,8 +3,8 @@
 As in page_model.py, the parts that are the same on each page are taken from where they stand (crates/crash_page/src/dress.rt).
 """
 from cases_model import ANY, Cut, head, judged_cuts, window_of
-from model import entry_line
-from page_model import LINES, MANY, OF_CUT, OF_FOLDED, OF_PROGRAM, dress, entry_cell, folded, folded_list, folded_strip, html, legend, shade, share
+from model import entry_line, missing_flushes
+from page_model import LINES, OF_CUT, OF_FOLDED, OF_PROGRAM, advice, dress, folded, folded_list, html, legend, shade, share, strip
 
 # How many parts of a case are shown in each colour.
 OF_COLOUR = 32
@@ -92,20 +92,12 @@ def verdict(cuts, complete):
     return f"<p class='good'>No case fails, of {all_cases} at {len(cuts)} cuts.</p>\n"
 
 
-def strip(run, program, cuts):
-    if folded(run):
-        return folded_strip(run, program, [], cuts, "cases")
-    cells = {it.number: it.cell(program) for it in cuts}
-    narrow = " many" if len(run.entries) > MANY else ""
-    text = f"<div tabindex='0' role='group' aria-label='The log: arrow keys move' class='log{narrow}'>\n"
-    for number in range(len(run.entries)):
-        text += cells.get(number, "") + entry_cell(run, number)
-    return text + cells.get(len(run.entries), "") + "</div>\n"
-
-
 def program_text(run, program, about, cuts, complete):
+    windows = [window_of(case) for cut in cuts for _number, case, _ending in cut.failing]
+    flushes = missing_flushes([it for it in windows if it])
     text = f"<section aria-labelledby='p{program}'>\n<h2 id='p{program}'>Program {program}: {about}</h2>\n" + verdict(cuts, complete)
-    text += strip(run, program, cuts) + legend("cases") + dress("CASE_KEYS")
+    text += advice(program, flushes, windows.count(None), "cases")
+    text += strip(run, program, flushes, cuts, "cases") + legend("cases") + dress("CASE_KEYS")
     left, bad = OF_FOLDED if folded(run) else OF_PROGRAM, [it for it in cuts if it.failing]
     for cut in bad[:LINES]:
         more, some = cut.text(program, left, cut is bad[0])

@@ -15,7 +15,7 @@ LOOKS = [
     ("light", 1200, 1400, []),
     ("dark", 1200, 1400, ["--blink-settings=preferredColorScheme=0"]),
     ("narrow", 500, 1600, []),
-    ("front", 1000, 530, []),
+    ("front", 1000, 575, []),
 ]
 
 

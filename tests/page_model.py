@@ -73,18 +73,18 @@ def share(images, failing):
 def legend(kind="images"):
     keys = "".join(f"<span><b class='{it[0]}'></b>{it[1]}</span>" for it in (NONE, *BOUNDED, MORE, ALL))
     others = "<span><b class='mark'></b>mark</span><span><b class='even'></b><b class='odd'></b>epochs in turn</span>"
-    lack = "<span><b class='lack'></b>flush missing</span>" if kind == "images" else ""
+    lack = "<span><b class='lack'></b>flush missing</span>"
     return f"{dress('LEGEND')}{lack}{others}<span>{kind} of a cut that fail:</span>" + keys.replace("no image", f"no {kind[:-1]}") + "</p>\n"
 
 
-def flush_cell(program, flush):
+def flush_cell(program, flush, kind="images"):
     last, first, count = flush
     place = f"{last}" if first == last else f"{last}, or any from {first} on"
-    title = f"a flush is missing before entry {place}; failing images: {count}"
+    title = f"a flush is missing before entry {place}; failing {kind}: {count}"
     return f"<a tabindex='-1' class='lack' id='p{program}f{last}' href='#e{last}' title='{title}'>flush missing</a>\n"
 
 
-def advice(program, flushes, uncured):
+def advice(program, flushes, uncured, kind="images"):
     """What flushes would do."""
     text = ""
     if flushes:
@@ -92,10 +92,10 @@ def advice(program, flushes, uncured):
         named = named[:NAMED] + ([f"{len(named) - NAMED} more"] if len(named) > NAMED else [])
         listed = ", ".join(named[:-1]) + " and " + named[-1] if len(named) > 1 else named[0]
         entries = "each of the entries" if len(named) > 1 else "entry"
-        text += f"<p class='cure'>A flush right before {entries} {listed} takes every failing image away against which a flush helps."
-        text += " This isn't tried here: crashbpf cure tries it.</p>\n"
+        text += f"<p class='cure'>A flush right before {entries} {listed} takes every failing {kind[:-1]} away against which a flush helps."
+        text += " This isn't tried here: crashbpf cure tries flushes where it runs programs; with --report it only names them.</p>\n"
     if uncured:
-        text += f"<p class='order'>Against {uncured} of the failing images no flush helps: the order of the writes is wrong there,"
+        text += f"<p class='order'>Against {uncured} of the failing {kind} no flush helps: the order of the writes is wrong there,"
         text += " or a write that may arrive in part is taken for whole.</p>\n"
     return text
 
@@ -190,7 +190,7 @@ def folded_strip(run, program, flushes, cuts, kind="images"):
             text += passing
         lacking = [it for it in flushes if start <= it[0] < beyond]
         for flush in [it for it in lacking if it in flushes[:NAMED]] or lacking[:1]:
-            text += flush_cell(program, flush).replace(f"href='#e{flush[0]}'", f"href='#e{start}'")
+            text += flush_cell(program, flush, kind).replace(f"href='#e{flush[0]}'", f"href='#e{start}'")
         if start < end:
             there = run.entries[start:end]
             words = " write" if any(it.count and not it.flags & DISCARD for it in there) else ""
@@ -215,12 +215,12 @@ def folded_list(run):
     return text + "</section>\n"
 
 
-def strip(run, program, flushes, cuts):
+def strip(run, program, flushes, cuts, kind="images"):
     """The row of entries and cuts, with the flushes that are missing."""
     if folded(run):
-        return folded_strip(run, program, flushes, cuts)
+        return folded_strip(run, program, flushes, cuts, kind)
     cells = {cut.number: cut.cell(program) for cut in cuts}
-    lacking = {it[0]: flush_cell(program, it) for it in flushes}
+    lacking = {it[0]: flush_cell(program, it, kind) for it in flushes}
     narrow = " many" if len(run.entries) > MANY else ""
     text = f"<div tabindex='0' role='group' aria-label='The log: arrow keys move' class='log{narrow}'>\n"
     for number in range(len(run.entries)):

@@ -9,7 +9,7 @@ from designs import LOGS as STORED
 from model import Run
 from notation import Long, explore
 
-from rows.browser import LATE, MARKUP
+from rows.browser import LATE, MARKUP, OFTEN
 from rows.cases import INDEXES, TABLE, runs, words_of
 from rows.modelled import CHECKERS, PROGRAMS
 
@@ -39,6 +39,8 @@ ROWS = [
     *(paged(name, run, checker[0], [checker[1]]) for name, run, checker, _count, _failing in TABLE[:6]),
     *(paged(name, run, PROGRAMS[:2], CHECKERS[:2], losses) for name, run, losses in list(runs())[::STEP]),
     paged("markup in a mark", Run(MARKUP, 64, by="write"), PROGRAMS[:1], CHECKERS[:1]),
+    paged("flushes missing often", Run(OFTEN, 4), PROGRAMS[:2], CHECKERS[:2], Losses(None, 1)),
     paged("many entries", Run(LATE, 4, first=995), PROGRAMS[:2], CHECKERS[:2], Losses(None, 1)),
+    paged("many entries, flushes missing often", Run([*LATE[:1000], *OFTEN], 4, first=995), PROGRAMS[:2], CHECKERS[:2], Losses(None, 1)),
     paged("no wanted cut", Run(INDEXES.entries, 4, cuts="flush", first=0, last=1), PROGRAMS[:2], CHECKERS[:2]),
 ]

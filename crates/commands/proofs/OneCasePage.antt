@@ -1,9 +1,14 @@
 -- The page of the same cases is the same.
-use Rattle.std.proofs.Common.{ℕ, zero, suc, ◌≡◌, ◌==◌, Bool, if◌then◌else◌, List, [], ◌∷◌, ◌++◌, ◌-◌, ◌+◌, length, map, take, slice_get, Option, None, Some, refl, sym, ◌∙◌, ap}
+use Rattle.std.proofs.Common.{ℕ, zero, suc, ◌≡◌, ◌==◌, Bool, if◌then◌else◌, List, [], ◌∷◌, ◌++◌, ◌-◌, ◌+◌, length, filter, map, take, slice_get, Option, None, Some, refl, sym, ◌∙◌, ap, subst}
 use Rattle.std.specs.Option.{option_map_or}
+use Rattle.std.proofs.lemmas.Option.{same_Some}
 use Rattle.logfmt.specs.Bounds.{LogValue}
 use Rattle.report.specs.Report.{HeadValue}
 use Rattle.report.specs.declared.head.ProgramHead.{ProgramHead}
+use Rattle.losses.specs.declared.cure.failure.Failure.{Failure}
+use Rattle.losses.specs.FailureWindows.{windows_in}
+use Rattle.losses.specs.Counted.{AreMissing}
+use Rattle.losses.specs.CureText.{is_uncured}
 use Rattle.cases.specs.AtCut.{CutValue, parts_of}
 use Rattle.case_runs.specs.declared.found.Losses.{Losses}
 use Rattle.case_runs.specs.declared.found.FoundCases.{FoundCases}
@@ -14,11 +19,19 @@ use Rattle.case_runs.specs.Found.{KnownCase, known_case, SameFound}
 use Rattle.crash_page.specs.Counts.{failing_of, cases_of, case_count, count_fails}
 use Rattle.crash_page.specs.Blocks.{most_cells}
 use Rattle.crash_page.specs.Groups.{cut_begin, cut_body, shown_of, one_failing, unlisted_text}
-use Rattle.crash_page.specs.Page.{most_of_program}
+use Rattle.crash_page.specs.Page.{title_text, strip_text, most_of_program}
+use Rattle.crash_page.specs.Lacking.{advice_text}
+use Rattle.crash_page.specs.declared.judge.PageJudge.TheVariants as judging
+use Rattle.crash_page.specs.declared.case_program.CaseProgram.{CaseProgram}
 use Rattle.crash_page.specs.CaseRows.{row_at, case_said, row_text, case_row}
-use Rattle.crash_page.specs.CasePage.{RunValue, cut_at, case_rows, rest_text, case_head, cut_shown, listed_text, cuts_text, counts_of, summary_text, shown_cuts, program_text, programs_text, is_complete, left_text, run_text, parts_text, case_page_text}
+use Rattle.crash_page.specs.CasePage.{RunValue, cut_at, case_rows, rest_text, case_head, cut_shown, listed_text, cuts_text, verdict_text, counts_of, said_text, summary_text, shown_cuts, program_text, programs_text, is_complete, left_text, run_text, run_with, parts_text, case_page_text}
+use Rattle.crash_page.specs.CaseFlushes.{failures_at, failures_of, IsLacking, IsCasePage}
+use Rattle.case_text.specs.Why.{ToldValue, program_failures, found_failures, failure_of}
 use Rattle.case_text.specs.Text.{options_text, count_torn_beyond, count_lost_beyond}
-use Rattle.commands.proofs.OneCases.{EachSame, CutsSame, cut_value, torn_same, lost_same}
+use Rattle.commands.proofs.Alike.{AreAlike, alike}
+use Rattle.commands.proofs.OneMissing.{same_missing}
+use Rattle.commands.proofs.OnePage.{same_advice, same_row, join_three}
+use Rattle.commands.proofs.OneCases.{EachSame, CutsSame, cut_value, torn_same, lost_same, told_same}
 
 -- a row says what is known of its case
 row_same : (at : CutValue) (tears : Bool) (f g : FailingCase) → known_case at tears f ≡ known_case at tears g → case_row at tears (failing_value f) ≡ case_row at tears (failing_value g)
@@ -150,30 +163,98 @@ shown_cuts_same run ls ms same program =
     (unlisted_same unlisted_text _ program (count_fails (counts_of program ls) - most_cells) (count_fails (counts_of program ms) - most_cells)
     (λ i. count_fails (counts_same run program ls ms same i) - most_cells))
 
-program_same : (run : RunValue) (ls ms : List CutFound) → CutsSame run.log run.way run.tears ls ms → (program : ℕ) (head : ProgramHead)
-    → program_text run ls program head ≡ program_text run ms program head
-unfolding program_text
-program_same run ls ms same program head =
-    join_program (summary_text run program head (counts_of program ls)) (summary_text run program head (counts_of program ms)) (shown_cuts run program ls) (shown_cuts run program ms) _
-    (λ i. summary_text run program head (counts_same run program ls ms same i)) (shown_cuts_same run ls ms same program)
+-- programs of which the report says the same, and for whose failing cases the same flushes are missing
+record SameProgram (p q : CaseProgram) : Type 0 where
+  pub head : p.head ≡ q.head
+  pub missing : p.missing.items ≡ q.missing.items
+  pub uncured : p.uncured ≡ q.uncured
 
-programs_same : (run : RunValue) (ls ms : List CutFound) → CutsSame run.log run.way run.tears ls ms → (program : ℕ) (heads : List ProgramHead)
-    → programs_text run ls program heads ≡ programs_text run ms program heads
-programs_same run ls ms same program [] = refl
-programs_same run ls ms same program (head ∷ heads) =
-    let first = program_same run ls ms same program head in
-    let rest = programs_same run ls ms same (program + 1) heads in
+said_same : (run : RunValue) (ls ms : List CutFound) → CutsSame run.log run.way run.tears ls ms → (program : ℕ) (p q : CaseProgram) → SameProgram p q
+    → said_text run program p (counts_of program ls) ≡ said_text run program q (counts_of program ms)
+unfolding said_text
+said_same run ls ms same program p q own =
+    join_three (title_text program (judging.Checker p.head)) (title_text program (judging.Checker q.head)) (verdict_text run.complete (counts_of program ls)) (verdict_text run.complete (counts_of program ms)) _ _
+    (ap (λ (h : ProgramHead). title_text program (judging.Checker h)) own.head) (λ i. verdict_text run.complete (counts_same run program ls ms same i))
+    (same_advice advice_text _ program p.missing.items q.missing.items p.uncured q.uncured own.missing own.uncured)
+
+join_summary : (a b c d e f : List ℕ) → a ≡ b → c ≡ d → a ++ c ++ e ++ f ≡ b ++ d ++ e ++ f
+join_summary a b c d e f first second = λ i. first i ++ second i ++ e ++ f
+
+summary_same : (run : RunValue) (ls ms : List CutFound) → CutsSame run.log run.way run.tears ls ms → (program : ℕ) (p q : CaseProgram) → SameProgram p q
+    → summary_text run program p (counts_of program ls) ≡ summary_text run program q (counts_of program ms)
+unfolding summary_text
+summary_same run ls ms same program p q own =
+    join_summary (said_text run program p (counts_of program ls)) (said_text run program q (counts_of program ms)) _ _ _ _ (said_same run ls ms same program p q own)
+    (same_row strip_text _ run.log.entries program p.missing.items q.missing.items (counts_of program ls) (counts_of program ms) own.missing (counts_same run program ls ms same))
+
+program_same : (run : RunValue) (ls ms : List CutFound) → CutsSame run.log run.way run.tears ls ms → (program : ℕ) (p q : CaseProgram) → SameProgram p q
+    → program_text run ls program p ≡ program_text run ms program q
+unfolding program_text
+program_same run ls ms same program p q own =
+    join_program (summary_text run program p (counts_of program ls)) (summary_text run program q (counts_of program ms)) (shown_cuts run program ls) (shown_cuts run program ms) _
+    (summary_same run ls ms same program p q own) (shown_cuts_same run ls ms same program)
+
+programs_same : (run : RunValue) (ls ms : List CutFound) → CutsSame run.log run.way run.tears ls ms → (program : ℕ) (ps qs : List CaseProgram) → AreAlike SameProgram ps qs
+    → programs_text run ls program ps ≡ programs_text run ms program qs
+programs_same run ls ms same program [] [] own = refl
+programs_same run ls ms same program [] (q ∷ qs) own = absurd own
+programs_same run ls ms same program (p ∷ ps) [] own = absurd own
+programs_same run ls ms same program (p ∷ ps) (q ∷ qs) own =
+    let first = program_same run ls ms same program p q own.0 in
+    let rest = programs_same run ls ms same (program + 1) ps qs own.1 in
     λ i. first i ++ rest i
 
-found_same : (run : RunValue) (about : List ℕ) (heads : List ProgramHead) (ls ms : List CutFound) → CutsSame run.log run.way run.tears ls ms → parts_text run about heads ls ≡ parts_text run about heads ms
+found_same : (run : RunValue) (about : List ℕ) (ps qs : List CaseProgram) (ls ms : List CutFound) → CutsSame run.log run.way run.tears ls ms → AreAlike SameProgram ps qs
+    → parts_text run about ps ls ≡ parts_text run about qs ms
 unfolding parts_text
-found_same run about heads ls ms same = let programs : programs_text run ls 0 heads ≡ programs_text run ms 0 heads = programs_same run ls ms same 0 heads in rw programs refl
+found_same run about ps qs ls ms same own = let programs : programs_text run ls 0 ps ≡ programs_text run ms 0 qs = programs_same run ls ms same 0 ps qs own in rw programs refl
 
-pub page_same : (h : HeadValue) (asked : Losses) (log : LogValue) (ls ms : List CutFound) → CutsSame log h.by asked.tears ls ms → case_page_text h asked log ls ≡ case_page_text h asked log ms
-page_same h asked log ls ms same =
+-- the failing cases of a program have the same windows
+of_failures : (at : CutValue) (tears : Bool) (it : Option FoundCases)
+    → program_failures at tears 0 (option_map_or (λ (f : FoundCases). f.failing.items) it []) ≡ option_map_or (found_failures at tears 0) it []
+of_failures at tears None = refl
+of_failures at tears (Some f) = refl
+
+failed_same : (run : RunValue) (program : ℕ) (c d : CutFound) → EachSame (cut_value run.log run.way c.cut) run.tears c.programs.items d.programs.items
+    → program_failures (cut_at run c.cut) run.tears 0 (failing_of program c) ≡ program_failures (cut_at run c.cut) run.tears 0 (failing_of program d)
+failed_same run program c d same =
+    let at = cut_value run.log run.way c.cut in
+    of_failures at run.tears (slice_get c.programs.items program)
+    ∙ each_at (found_failures at run.tears 0) [] at run.tears (λ f g own. ap (λ (ts : List ToldValue). map (failure_of 0) ts) (told_same at run.tears f g own)) program c.programs.items d.programs.items same
+    ∙ sym (of_failures at run.tears (slice_get d.programs.items program))
+
+failures_same : (run : RunValue) (program : ℕ) (ls ms : List CutFound) → CutsSame run.log run.way run.tears ls ms → failures_of run program ls ≡ failures_of run program ms
+failures_same run program [] [] same = refl
+failures_same run program [] (d ∷ ds) same = absurd same
+failures_same run program (c ∷ cs) [] same = absurd same
+failures_same run program (c ∷ cs) (d ∷ ds) same =
+    let here : failures_at run program c ≡ failures_at run program d =
+    failed_same run program c d same.1 ∙ ap (λ n. program_failures (cut_at run n) run.tears 0 (failing_of program d)) same.0 in
+    let rest = failures_same run program cs ds same.2 in
+    λ i. here i ++ rest i
+
+lacking_same : (run : RunValue) (heads : List ProgramHead) (ls ms : List CutFound) → CutsSame run.log run.way run.tears ls ms → (program : ℕ) (p q : CaseProgram)
+    → IsLacking run ls heads program p → IsLacking run ms heads program q → SameProgram p q
+lacking_same run heads ls ms same program p q a b =
+    let failures : failures_of run program ls ≡ failures_of run program ms = failures_same run program ls ms same in
+    record {
+      head = same_Some p.head q.head (sym a.head ∙ b.head);
+      missing = same_missing (windows_in (failures_of run program ls)) p.missing.items q.missing.items a.missing
+          (subst (λ (fs : List Failure). AreMissing (windows_in fs) q.missing.items) (sym failures) b.missing);
+      uncured = a.uncured ∙ ap (λ (fs : List Failure). length (filter (is_uncured 0) fs)) failures ∙ sym b.uncured;
+    }
+
+pub page_same : (h : HeadValue) (asked : Losses) (log : LogValue) (ls ms : List CutFound) (bytes others : List ℕ) → CutsSame log h.by asked.tears ls ms → IsCasePage h asked log ls bytes
+    → IsCasePage h asked log ms others → bytes ≡ others
+page_same h asked log ls ms bytes others same a b =
     let torn = torn_same log h.by asked.tears ls ms same in
     let lost = lost_same log h.by asked.tears ls ms same in
-    let run : RunValue = record { log = log; way = h.by; tears = asked.tears; complete = is_complete (count_torn_beyond ls) (count_lost_beyond ls) } in
-    let of_run : parts_text run (run_text h asked ls) h.programs ls ≡ parts_text run (run_text h asked ls) h.programs ms = found_same run (run_text h asked ls) h.programs ls ms same in
-    of_run
-    ∙ (λ i. parts_text (record { log = log; way = h.by; tears = asked.tears; complete = is_complete (torn i) (lost i) }) (options_text h asked ++ left_text (torn i) (lost i)) h.programs ms)
+    let run : RunValue = run_with h asked log ls in
+    let own : AreAlike SameProgram a.programs b.programs =
+    alike SameProgram a.programs b.programs (a.are.all ∙ sym b.are.all)
+    (λ i p q x y. let it : IsLacking run ms h.programs i q = (let e = b.are.each i q y in record { head = e.head; missing = e.missing; uncured = e.uncured }) in
+    lacking_same run h.programs ls ms same i p q (a.are.each i p x) it) in
+    let of_run : parts_text run (run_text h asked ls) a.programs ls ≡ parts_text run (run_text h asked ls) b.programs ms = found_same run (run_text h asked ls) a.programs b.programs ls ms same own in
+    a.page ∙ of_run
+    ∙ (λ i. parts_text (record { log = log; way = h.by; tears = asked.tears; complete = is_complete (torn i) (lost i) }) (options_text h asked ++ left_text (torn i) (lost i)) b.programs ms)
+    ∙ sym b.page

@@ -211,7 +211,7 @@ unfolding told_known
 told_all at tears [] = refl
 told_all at tears (f ∷ items) = ap (λ (xs : List ToldValue). told_of at tears (failing_value f) ∷ xs) (told_all at tears items)
 
-told_same : (at : CutValue) (tears : Bool) (f g : FoundCases) → SameFound at tears f g → all_told at tears f.failing.items ≡ all_told at tears g.failing.items
+pub told_same : (at : CutValue) (tears : Bool) (f g : FoundCases) → SameFound at tears f g → all_told at tears f.failing.items ≡ all_told at tears g.failing.items
 told_same at tears f g same =
     told_all at tears f.failing.items ∙ ap (λ (ks : List KnownCase). map (told_known at tears) ks) same.failing ∙ sym (told_all at tears g.failing.items)
 

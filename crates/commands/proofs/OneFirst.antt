@@ -373,7 +373,7 @@ text_same : (telling : CaseTelling) (inputs : ℕ) (h : HeadValue) (asked : Loss
     → IsTextOf telling inputs h asked log ls bytes → IsTextOf telling inputs h asked log ms others → bytes ≡ others
 text_same telling.Cases inputs h asked log ls ms bytes others same a b = a ∙ bytes_same inputs h asked log ls ms same ∙ sym b
 text_same telling.Causes inputs h asked log ls ms bytes others same a b = why_same h asked log ls ms bytes others same a b
-text_same telling.Page inputs h asked log ls ms bytes others same a b = a ∙ page_same h asked log ls ms same ∙ sym b
+text_same telling.Page inputs h asked log ls ms bytes others same a b = page_same h asked log ls ms bytes others same a b
 
 tells_once : FindingIsOne → (inputs : ℕ) (l : AnyLosses) (s : Settings) (value : LogValue) (checkers : List CheckerValue) (bytes others : List ℕ) (failing fails : Bool)
     → TellsCases inputs l s value checkers bytes failing → TellsCases inputs l s value checkers others fails → (bytes ≡ others) × (failing ≡ fails)

@@ -43,7 +43,7 @@ join_shown a b c d e f g first second third = λ i. first i ++ second i ++ third
 join_program : (a b c d e f g h : List ℕ) → a ≡ b → c ≡ d → f ≡ g → a ++ c ++ e ++ f ++ h ≡ b ++ d ++ e ++ g ++ h
 join_program a b c d e f g h first second third = λ i. first i ++ second i ++ e ++ third i ++ h
 
-join_three : (a b c d e f : List ℕ) → a ≡ b → c ≡ d → e ≡ f → a ++ c ++ e ≡ b ++ d ++ f
+pub join_three : (a b c d e f : List ℕ) → a ≡ b → c ≡ d → e ≡ f → a ++ c ++ e ≡ b ++ d ++ f
 join_three a b c d e f first second third = λ i. first i ++ second i ++ third i
 
 -- the head of a cut, by its groups
@@ -115,16 +115,18 @@ same_title : (program : ℕ) (f g : ProgramFailures) → judge_text f.judge ≡ 
 unfolding title_text name_text
 same_title program f g same = rw same refl
 
+-- what flushes would do, whatever is judged
+pub same_advice : {K : Type 0} (text : K → ℕ → List MissingFlush → ℕ → List ℕ) (of : K) (program : ℕ) (ms ns : List MissingFlush) (m n : ℕ) → ms ≡ ns → m ≡ n → text of program ms m ≡ text of program ns n
+same_advice text of program ms ns m n missing uncured = λ i. text of program (missing i) (uncured i)
+
 same_summary : (program : ℕ) (f g : ProgramFailures) → SameFailures f g → summary_text program f ≡ summary_text program g
 unfolding summary_text
 same_summary program f g h =
-    let missing : f.missing.items ≡ g.missing.items = h.missing in
-    let uncured : f.uncured ≡ g.uncured = h.uncured in
-    join_three (title_text program f.judge) (title_text program g.judge) (verdict_text f.failing (counts_of f)) (verdict_text g.failing (counts_of g)) (advice_text program f.missing.items f.uncured) (advice_text program g.missing.items g.uncured)
-    (same_title program f g h.judge_is) (same_verdict f g h) (λ i. advice_text program (missing i) (uncured i))
+    join_three (title_text program f.judge) (title_text program g.judge) (verdict_text f.failing (counts_of f)) (verdict_text g.failing (counts_of g)) _ _
+    (same_title program f g h.judge_is) (same_verdict f g h) (same_advice advice_text _ program f.missing.items g.missing.items f.uncured g.uncured h.missing h.uncured)
 
 -- the row of the log, whatever is judged there
-same_row : {K C : Type 0} (text : K → List Entry → ℕ → List MissingFlush → List C → List ℕ) (of : K) (es : List Entry) (program : ℕ) (ms ns : List MissingFlush) (cs ds : List C) → ms ≡ ns → cs ≡ ds
+pub same_row : {K C : Type 0} (text : K → List Entry → ℕ → List MissingFlush → List C → List ℕ) (of : K) (es : List Entry) (program : ℕ) (ms ns : List MissingFlush) (cs ds : List C) → ms ≡ ns → cs ≡ ds
     → text of es program ms cs ≡ text of es program ns ds
 same_row text of es program ms ns cs ds missing counts = λ i. text of es program (missing i) (counts i)
 

@@ -7,7 +7,6 @@ use Rattle.std.proofs.lemmas.List.{append-nil, length-map}
 use Rattle.std.proofs.lemmas.List.Concat.{flat_map-append}
 use Rattle.logfmt.specs.Bounds.{LogValue}
 use Rattle.epochs.specs.declared.part.Part.{Part}
-use Rattle.report.specs.declared.head.ProgramHead.{ProgramHead}
 use Rattle.cases.specs.Choices.{all_fates}
 use Rattle.cases.specs.Cases.{Case}
 use Rattle.cases.specs.Sets.{fates_in}
@@ -15,11 +14,11 @@ use Rattle.cases.specs.AtCut.{CutValue, Apart, parts_of, case_of}
 use Rattle.case_runs.specs.declared.leaves.FailingCase.{FailingCase}
 use Rattle.case_runs.specs.Leaves.{FailingValue, failing_value}
 use Rattle.case_runs.specs.declared.found.CutFound.{CutFound}
-use Rattle.case_text.specs.Known.{KnownValue, known_of}
-use Rattle.case_text.specs.Window.{last_staying, later, between, case_window}
+use Rattle.case_text.specs.Window.{case_window}
 use Rattle.case_text.proofs.Collecting.{case_at}
 use Rattle.crash_page.specs.declared.counts.CutCount.{CutCount}
 use Rattle.crash_page.specs.declared.cut.Showing.{Showing}
+use Rattle.crash_page.specs.declared.case_program.CaseProgram.{CaseProgram}
 use Rattle.crash_page.specs.declared.parts.Room.{Room}
 use Rattle.crash_page.specs.declared.parts.CaseRow.{CaseRow}
 use Rattle.crash_page.specs.declared.pieces.PagePart.TheVariants as piece
@@ -48,19 +47,19 @@ pub cuts_end : (run : RunValue) (program most lines left n : ℕ) (cs : List Cut
 cuts_end run program most lines left n cs start before past so_far =
     sym (ap (λ (rest : List CutFound). before ++ cuts_text run program lines left rest) (drop_all cs n past) ∙ append-nil before) ∙ so_far
 
-pub programs_more : (run : RunValue) (found : List CutFound) (n : ℕ) (hs : List ProgramHead) (h : ProgramHead) (start before now : List ℕ) → n < length hs → h ≡ get_or hs n h
-    → before ++ programs_text run found n (drop n hs) ≡ start ++ programs_text run found 0 hs → now ≡ before ++ program_text run found n h
-    → now ++ programs_text run found (n + 1) (drop (n + 1) hs) ≡ start ++ programs_text run found 0 hs
-programs_more run found n hs h start before now within is so_far written =
-    let split : drop n hs ≡ h ∷ drop (n + 1) hs = drop_next hs n h (slice_get_read hs (length hs) n h refl within is) in
-    let opened : before ++ (program_text run found n h ++ programs_text run found (n + 1) (drop (n + 1) hs)) ≡ start ++ programs_text run found 0 hs =
-    ap (λ (rest : List ProgramHead). before ++ programs_text run found n rest) (sym split) ∙ so_far in
-    next_piece start before (program_text run found n h) now _ _ opened written
+pub programs_more : (run : RunValue) (found : List CutFound) (n : ℕ) (ps : List CaseProgram) (p : CaseProgram) (start before now : List ℕ) → n < length ps → p ≡ get_or ps n p
+    → before ++ programs_text run found n (drop n ps) ≡ start ++ programs_text run found 0 ps → now ≡ before ++ program_text run found n p
+    → now ++ programs_text run found (n + 1) (drop (n + 1) ps) ≡ start ++ programs_text run found 0 ps
+programs_more run found n ps p start before now within is so_far written =
+    let split : drop n ps ≡ p ∷ drop (n + 1) ps = drop_next ps n p (slice_get_read ps (length ps) n p refl within is) in
+    let opened : before ++ (program_text run found n p ++ programs_text run found (n + 1) (drop (n + 1) ps)) ≡ start ++ programs_text run found 0 ps =
+    ap (λ (rest : List CaseProgram). before ++ programs_text run found n rest) (sym split) ∙ so_far in
+    next_piece start before (program_text run found n p) now _ _ opened written
 
-pub programs_end : (run : RunValue) (found : List CutFound) (n : ℕ) (hs : List ProgramHead) (start before : List ℕ) → length hs ≤ n
-    → before ++ programs_text run found n (drop n hs) ≡ start ++ programs_text run found 0 hs → before ≡ start ++ programs_text run found 0 hs
-programs_end run found n hs start before past so_far =
-    sym (ap (λ (rest : List ProgramHead). before ++ programs_text run found n rest) (drop_all hs n past) ∙ append-nil before) ∙ so_far
+pub programs_end : (run : RunValue) (found : List CutFound) (n : ℕ) (ps : List CaseProgram) (start before : List ℕ) → length ps ≤ n
+    → before ++ programs_text run found n (drop n ps) ≡ start ++ programs_text run found 0 ps → before ≡ start ++ programs_text run found 0 ps
+programs_end run found n ps start before past so_far =
+    sym (ap (λ (rest : List CaseProgram). before ++ programs_text run found n rest) (drop_all ps n past) ∙ append-nil before) ∙ so_far
 
 -- the cuts of what was found are cuts of the log
 pub counts_within : (l : LogValue) (program : ℕ) (cs : List CutFound) (counts : List CutCount) → All (λ (c : CutFound). c.cut ≤ length l.entries) cs → counts ≡ map (case_count program) cs
@@ -134,14 +133,9 @@ rows_next at tears xs n x y first before after more same was is =
     ap (flat_map own) more ∙ flat_map-append own (take n xs) (x ∷ []) ∙ ap (λ t. flat_map own (take n xs) ++ t) (append-nil (own x)) in
     is ∙ (λ i. was i ++ item i) ∙ append_assoc first (flat_map own (take n xs)) (own x) ∙ ap (λ t. first ++ t) (sym pushed)
 
--- a case, by what is known of it
-pub case_told : (at : CutValue) (tears : Bool) (f : FailingValue) (known : KnownValue) (row : CaseRow) (parts : List Part) (sets : List ℕ) (old now : List ℕ)
-    → parts ≡ parts_of at → sets ≡ f.sets → row.by ≡ at.way → row.tears ≡ tears → known ≡ known_of row.tears (case_of row.tears parts sets) parts
-    → row.window ≡ between known.first_lost (later (last_staying at) known.last_arrived) → now ≡ old ++ row_text row (case_of row.tears parts f.sets) parts f
-    → now ≡ old ++ case_row at tears f
-case_told at tears f known row parts sets old now parts_are sets_are by_is tears_are known_is window_is written =
-    let c : Case = case_of tears (parts_of at) f.sets in
-    let read : known ≡ known_of tears c (parts_of at) = known_is ∙ (λ i. known_of (tears_are i) (case_of (tears_are i) (parts_are i) (sets_are i)) (parts_are i)) in
-    let held : row.window ≡ case_window at c = window_is ∙ ap (λ (k : KnownValue). between k.first_lost (later (last_staying at) k.last_arrived)) read in
-    let same : row ≡ row_at at tears c = λ i. record { by = by_is i; tears = tears_are i; window = held i } in
-    written ∙ (λ i. old ++ row_text (same i) (case_of (tears_are i) (parts_are i) f.sets) (parts_are i) f)
+-- a case, by its window
+pub case_told : (at : CutValue) (tears : Bool) (f : FailingValue) (row : CaseRow) (parts : List Part) (old now : List ℕ) → parts ≡ parts_of at → row.by ≡ at.way → row.tears ≡ tears
+    → row.window ≡ case_window at (case_of tears (parts_of at) f.sets) → now ≡ old ++ row_text row (case_of row.tears parts f.sets) parts f → now ≡ old ++ case_row at tears f
+case_told at tears f row parts old now parts_are by_is tears_is window_is written =
+    let same : row ≡ row_at at tears (case_of tears (parts_of at) f.sets) = λ i. record { by = by_is i; tears = tears_is i; window = window_is i } in
+    written ∙ (λ i. old ++ row_text (same i) (case_of (tears_is i) (parts_are i) f.sets) (parts_are i) f)

@@ -7,3 +7,4 @@ pub mod Labels
 pub mod Owned
 pub mod Summed
 pub mod CaseTexts
+pub mod CaseFlushes

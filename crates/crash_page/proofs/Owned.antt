@@ -59,13 +59,12 @@ own_there p (f ∷ fs) i w at = by_test (λ k there. own_there p fs k w there) (
 own_inside : (n program : ℕ) (fs : List Failure) → AreWindows n (windows_in fs) → AreWindows n (windows_in (own_failures program fs))
 own_inside n program fs are i w at = let there = own_there (is_of program) fs i w at in are there.0 w there.1
 
-pub inside_of : (n program : ℕ) (fs own : List Failure) (ws now : List Window) → AreWindows n (windows_in fs) → own ≡ own_failures program fs → ws ≡ windows_in own → now ≡ ws → AreWindows n now
-inside_of n program fs own ws now are owns of is =
-    subst (λ (vs : List Window). AreWindows n vs) (sym (is ∙ of ∙ ap windows_in owns)) (own_inside n program fs are)
+pub inside_of : (n program : ℕ) (fs own now : List Failure) → AreWindows n (windows_in fs) → own ≡ own_failures program fs → now ≡ own → AreWindows n (windows_in now)
+inside_of n program fs own now are owns is = subst (λ (gs : List Failure). AreWindows n (windows_in gs)) (sym (is ∙ owns)) (own_inside n program fs are)
 
-pub missing_of_own : (program : ℕ) (fs own : List Failure) (ws now : List Window) (ms : List MissingFlush) → own ≡ own_failures program fs → ws ≡ windows_in own → now ≡ ws
-    → AreMissing now ms → AreMissing (windows_in (own_failures program fs)) ms
-missing_of_own program fs own ws now ms owns of is are = subst (λ (vs : List Window). AreMissing vs ms) (is ∙ of ∙ ap windows_in owns) are
+pub missing_of_own : (program : ℕ) (fs own now : List Failure) (ms : List MissingFlush) → own ≡ own_failures program fs → now ≡ own → AreMissing (windows_in now) ms
+    → AreMissing (windows_in (own_failures program fs)) ms
+missing_of_own program fs own now ms owns is are = subst (λ (gs : List Failure). AreMissing (windows_in gs) ms) (is ∙ owns) are
 
 pub failing_none : (s : StartsValue) (Said : ℕ → List ℕ → Type 0) (images : ℕ → List ℕ) (outcomes : ℕ → List (List ℕ)) (fs : List Failure) (programs : List ProgramFailures) → programs ≡ []
     → AreFailing s Said images outcomes fs 0 programs

@@ -9,6 +9,7 @@ use Rattle.losses.specs.declared.flushes.counted.MissingFlush.{MissingFlush}
 use Rattle.losses.specs.declared.why.cut.CutFailures.{CutFailures}
 use Rattle.crash_page.specs.declared.cut.Showing.{Showing}
 use Rattle.crash_page.specs.declared.counts.CutCount.{CutCount}
+use Rattle.crash_page.specs.declared.counts.JudgedKind.{JudgedKind}
 use Rattle.crash_page.specs.Counts.{image_count}
 use Rattle.crash_page.specs.declared.program.ProgramFailures.{ProgramFailures}
 use Rattle.crash_page.specs.Html.{sided_byte, sided_from}
@@ -59,22 +60,22 @@ counts_within s lines l cs counts same are is = subst (λ xs. All (λ (c : CutCo
 pub next_piece : (start before piece now rest all : List ℕ) → before ++ (piece ++ rest) ≡ start ++ all → now ≡ before ++ piece → now ++ rest ≡ start ++ all
 next_piece start before piece now rest all so_far is = ap (λ (text : List ℕ). text ++ rest) is ∙ append_assoc before piece rest ∙ so_far
 
-pub strip_more : (es : List Entry) (program : ℕ) (ms : List MissingFlush) (from n : ℕ) (cs : List CutCount) (c : CutCount) (start before cells now : List ℕ)
-    → n < length cs → c ≡ get_or cs n c → before ++ strip_from es program ms from (drop n cs) ≡ start ++ strip_from es program ms 0 cs
-    → cells ≡ before ++ cells_text es program ms from c.cut → now ≡ cells ++ cut_cell es program c
-    → now ++ strip_from es program ms c.cut (drop (n + 1) cs) ≡ start ++ strip_from es program ms 0 cs
-strip_more es program ms from n cs c start before cells now within is so_far first second =
+pub strip_more : (of : JudgedKind) (es : List Entry) (program : ℕ) (ms : List MissingFlush) (from n : ℕ) (cs : List CutCount) (c : CutCount) (start before cells now : List ℕ)
+    → n < length cs → c ≡ get_or cs n c → before ++ strip_from of es program ms from (drop n cs) ≡ start ++ strip_from of es program ms 0 cs
+    → cells ≡ before ++ cells_text of es program ms from c.cut → now ≡ cells ++ cut_cell es program c
+    → now ++ strip_from of es program ms c.cut (drop (n + 1) cs) ≡ start ++ strip_from of es program ms 0 cs
+strip_more of es program ms from n cs c start before cells now within is so_far first second =
     let split : drop n cs ≡ c ∷ drop (n + 1) cs = drop_next cs n c (slice_get_read cs (length cs) n c refl within is) in
-    let opened : before ++ (cells_text es program ms from c.cut ++ cut_cell es program c ++ strip_from es program ms c.cut (drop (n + 1) cs)) ≡ start ++ strip_from es program ms 0 cs =
-    ap (λ (rest : List CutCount). before ++ strip_from es program ms from rest) (sym split) ∙ so_far in
-    next_piece start before (cells_text es program ms from c.cut ++ cut_cell es program c) now _ _ opened
-    (second ∙ ap (λ (text : List ℕ). text ++ cut_cell es program c) first ∙ append_assoc before (cells_text es program ms from c.cut) (cut_cell es program c))
+    let opened : before ++ (cells_text of es program ms from c.cut ++ cut_cell es program c ++ strip_from of es program ms c.cut (drop (n + 1) cs)) ≡ start ++ strip_from of es program ms 0 cs =
+    ap (λ (rest : List CutCount). before ++ strip_from of es program ms from rest) (sym split) ∙ so_far in
+    next_piece start before (cells_text of es program ms from c.cut ++ cut_cell es program c) now _ _ opened
+    (second ∙ ap (λ (text : List ℕ). text ++ cut_cell es program c) first ∙ append_assoc before (cells_text of es program ms from c.cut) (cut_cell es program c))
 
-pub strip_end : (es : List Entry) (program : ℕ) (ms : List MissingFlush) (from n : ℕ) (cs : List CutCount) (start before now : List ℕ) → length cs ≤ n
-    → before ++ strip_from es program ms from (drop n cs) ≡ start ++ strip_from es program ms 0 cs → now ≡ before ++ cells_text es program ms from (length es)
-    → now ≡ start ++ strip_from es program ms 0 cs
-strip_end es program ms from n cs start before now past so_far is =
-    is ∙ ap (λ (rest : List CutCount). before ++ strip_from es program ms from rest) (sym (drop_all cs n past)) ∙ so_far
+pub strip_end : (of : JudgedKind) (es : List Entry) (program : ℕ) (ms : List MissingFlush) (from n : ℕ) (cs : List CutCount) (start before now : List ℕ) → length cs ≤ n
+    → before ++ strip_from of es program ms from (drop n cs) ≡ start ++ strip_from of es program ms 0 cs → now ≡ before ++ cells_text of es program ms from (length es)
+    → now ≡ start ++ strip_from of es program ms 0 cs
+strip_end of es program ms from n cs start before now past so_far is =
+    is ∙ ap (λ (rest : List CutCount). before ++ strip_from of es program ms from rest) (sym (drop_all cs n past)) ∙ so_far
 
 pub cuts_more : (s : StartsValue) (outcomes : List (List ℕ)) (program most lines fewer left less n : ℕ) (cs : List CutFailures) (c : CutFailures) (how : Showing) (start before now : List ℕ)
     → n < length cs → c ≡ get_or cs n c → how ≡ showing program lines left (length c.groups.items) → less ≡ left - how.rows → fewer ≡ lines - one_failing c.failing

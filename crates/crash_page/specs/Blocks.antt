@@ -85,22 +85,22 @@ block_cuts es program cs from to = option_map_or (block_failing es program cs fr
 unfoldable pub lack_link : ℕ → ℕ → ℕ → List ℕ
 lack_link program entry from = piece_text piece.LackOpen ++ flush_name program entry ++ piece_text piece.CellLink ++ decimal from
 
-unfoldable pub lack_text : ℕ → ℕ → MissingFlush → List ℕ
-lack_text program from m = lack_link program m.at from ++ flush_title m ++ piece_text piece.LackClose
+unfoldable pub lack_text : JudgedKind → ℕ → ℕ → MissingFlush → List ℕ
+lack_text of program from m = lack_link program m.at from ++ flush_title of m ++ piece_text piece.LackClose
 
 abbrev pub lacks_within : ℕ → ℕ → MissingFlush → Bool
 lacks_within from to m = nat_le from m.at && nat_lt m.at to
 
-abbrev pub block_lack : ℕ → ℕ → ℕ → MissingFlush → List ℕ
-block_lack program from to m = if lacks_within from to m then lack_text program from m else []
+abbrev pub block_lack : JudgedKind → ℕ → ℕ → ℕ → MissingFlush → List ℕ
+block_lack of program from to m = if lacks_within from to m then lack_text of program from m else []
 
-abbrev pub first_lack : ℕ → ℕ → ℕ → List MissingFlush → List ℕ
-first_lack program from to ms = option_map_or (lack_text program from) (find (lacks_within from to) ms) []
+abbrev pub first_lack : JudgedKind → ℕ → ℕ → ℕ → List MissingFlush → List ℕ
+first_lack of program from to ms = option_map_or (lack_text of program from) (find (lacks_within from to) ms) []
 
 -- those of a block that are named in words, or the first, where none is
-abbrev pub block_lacks : ℕ → ℕ → ℕ → List MissingFlush → List ℕ
-block_lacks program from to ms =
-    if list_any (lacks_within from to) (take most_named ms) then flat_map (block_lack program from to) (take most_named ms) else first_lack program from to ms
+abbrev pub block_lacks : JudgedKind → ℕ → ℕ → ℕ → List MissingFlush → List ℕ
+block_lacks of program from to ms =
+    if list_any (lacks_within from to) (take most_named ms) then flat_map (block_lack of program from to) (take most_named ms) else first_lack of program from to ms
 
 -- the cell of the entries of a block: whether some of them write, and whether one is a mark
 abbrev pub is_mark : Entry → Bool
@@ -122,15 +122,15 @@ abbrev pub block_cell : List Entry → ℕ → List ℕ
 block_cell es from = if nat_lt from (length es) then entries_cell es from (end_of es from) else []
 
 -- a block in the row: its cuts, the flushes that are missing, and its entries
-unfoldable pub row_block : List Entry → ℕ → List MissingFlush → List CutCount → ℕ → List ℕ
-row_block es program ms cs from =
-    block_cuts es program cs from (beyond es from) ++ block_lacks program from (beyond es from) ms ++ block_cell es from
+unfoldable pub row_block : JudgedKind → List Entry → ℕ → List MissingFlush → List CutCount → ℕ → List ℕ
+row_block of es program ms cs from =
+    block_cuts es program cs from (beyond es from) ++ block_lacks of program from (beyond es from) ms ++ block_cell es from
 
-abbrev pub row_at : List Entry → ℕ → List MissingFlush → List CutCount → ℕ → List ℕ
-row_at es program ms cs n = if begins_block es n then row_block es program ms cs n else []
+abbrev pub row_at : JudgedKind → List Entry → ℕ → List MissingFlush → List CutCount → ℕ → List ℕ
+row_at of es program ms cs n = if begins_block es n then row_block of es program ms cs n else []
 
-unfoldable pub row_blocks : List Entry → ℕ → List MissingFlush → List CutCount → List ℕ
-row_blocks es program ms cs = flat_map (row_at es program ms cs) (range_with_len 0 (length es + 1))
+unfoldable pub row_blocks : JudgedKind → List Entry → ℕ → List MissingFlush → List CutCount → List ℕ
+row_blocks of es program ms cs = flat_map (row_at of es program ms cs) (range_with_len 0 (length es + 1))
 
 -- for what a cell of a large log stands
 unfoldable pub cell_means : JudgedKind → List Entry → List ℕ

@@ -21,7 +21,9 @@ use Rattle.crash_page.specs.Counts.{count_fails, all_in, failing_in, failing_of,
 use Rattle.crash_page.specs.declared.cut.Showing.{Showing}
 use Rattle.crash_page.specs.declared.judge.PageJudge.TheVariants as judging
 use Rattle.crash_page.specs.declared.run.CaseRun.{CaseRun}
+use Rattle.crash_page.specs.declared.case_program.CaseProgram.{CaseProgram}
 use Rattle.crash_page.specs.Shares.{legend_text}
+use Rattle.crash_page.specs.Lacking.{advice_text}
 use Rattle.crash_page.specs.Blocks.{most_cells}
 use Rattle.crash_page.specs.Groups.{cut_begin, cut_body, shown_of, showing, one_failing, unlisted_text}
 use Rattle.crash_page.specs.Page.{title_text, strip_text, most_of_program, about_text, list_text, head_text}
@@ -98,11 +100,14 @@ verdict_text complete cs = if length cs == 0 then piece_text piece.NoCaseCuts el
 abbrev pub counts_of : ℕ → List CutFound → List CutCount
 counts_of program found = map (case_count program) found
 
--- what it comes to, and the log with its cuts; nothing is said of missing flushes
-unfoldable pub summary_text : RunValue → ℕ → ProgramHead → List CutCount → List ℕ
-summary_text run program head cs =
-    title_text program (judging.Checker head) ++ verdict_text run.complete cs ++ strip_text kind.Cases run.log.entries program [] cs ++ legend_text kind.Cases
-    ++ piece_text piece.CaseKeys
+-- what it comes to, and what flushes would do
+unfoldable pub said_text : RunValue → ℕ → CaseProgram → List CutCount → List ℕ
+said_text run program p cs = title_text program (judging.Checker p.head) ++ verdict_text run.complete cs ++ advice_text kind.Cases program p.missing.items p.uncured
+
+-- and the log with its cuts and the flushes that are missing
+unfoldable pub summary_text : RunValue → ℕ → CaseProgram → List CutCount → List ℕ
+summary_text run program p cs =
+    said_text run program p cs ++ strip_text kind.Cases run.log.entries program p.missing.items cs ++ legend_text kind.Cases ++ piece_text piece.CaseKeys
 
 -- the first cuts at which cases fail, and how many more there are
 unfoldable pub shown_cuts : RunValue → ℕ → List CutFound → List ℕ
@@ -111,14 +116,14 @@ shown_cuts run program found =
     ++ unlisted_text kind.Cases program (count_fails (counts_of program found) - most_cells)
 
 -- a program
-unfoldable pub program_text : RunValue → List CutFound → ℕ → ProgramHead → List ℕ
-program_text run found program head =
-    summary_text run program head (counts_of program found) ++ shown_cuts run program found ++ piece_text piece.SectionClose
+unfoldable pub program_text : RunValue → List CutFound → ℕ → CaseProgram → List ℕ
+program_text run found program p =
+    summary_text run program p (counts_of program found) ++ shown_cuts run program found ++ piece_text piece.SectionClose
 
 -- programs, of which the first has that number
-abbrev pub programs_text : RunValue → List CutFound → ℕ → List ProgramHead → List ℕ
+abbrev pub programs_text : RunValue → List CutFound → ℕ → List CaseProgram → List ℕ
 programs_text run found program [] = []
-programs_text run found program (head ∷ heads) = program_text run found program head ++ programs_text run found (program + 1) heads
+programs_text run found program (p ∷ ps) = program_text run found program p ++ programs_text run found (program + 1) ps
 
 -- how many cases were left out, where some were
 abbrev pub is_complete : ℕ → ℕ → Bool
@@ -135,11 +140,14 @@ abbrev pub run_text : HeadValue → Losses → List CutFound → List ℕ
 run_text h asked found = options_text h asked ++ left_text (count_torn_beyond found) (count_lost_beyond found)
 
 -- the page: the log, the text about the run, what was found with each program, and the entries
-unfoldable pub parts_text : RunValue → List ℕ → List ProgramHead → List CutFound → List ℕ
-parts_text run about heads found =
-    head_text kind.Cases run.log ++ about_text about ++ programs_text run found 0 heads ++ list_text run.log.entries ++ piece_text piece.Closing
+unfoldable pub parts_text : RunValue → List ℕ → List CaseProgram → List CutFound → List ℕ
+parts_text run about ps found =
+    head_text kind.Cases run.log ++ about_text about ++ programs_text run found 0 ps ++ list_text run.log.entries ++ piece_text piece.Closing
 
-abbrev pub case_page_text : HeadValue → Losses → LogValue → List CutFound → List ℕ
-case_page_text h asked log found =
-    parts_text (record { log = log; way = h.by; tears = asked.tears; complete = is_complete (count_torn_beyond found) (count_lost_beyond found) })
-    (run_text h asked found) h.programs found
+-- the run of a head, of what was asked of a log, and of what was found
+abbrev pub run_with : HeadValue → Losses → LogValue → List CutFound → RunValue
+run_with h asked log found =
+    record { log = log; way = h.by; tears = asked.tears; complete = is_complete (count_torn_beyond found) (count_lost_beyond found) }
+
+abbrev pub case_page_text : HeadValue → Losses → LogValue → List CaseProgram → List CutFound → List ℕ
+case_page_text h asked log ps found = parts_text (run_with h asked log found) (run_text h asked found) ps found

@@ -7,6 +7,7 @@ use Rattle.losses.specs.declared.flushes.counted.MissingFlush.{MissingFlush}
 use Rattle.crash_page.specs.declared.pieces.PagePart.TheVariants as piece
 use Rattle.crash_page.specs.Pieces.{piece_text}
 use Rattle.crash_page.specs.declared.counts.CutCount.{CutCount}
+use Rattle.crash_page.specs.declared.counts.JudgedKind.{JudgedKind}
 use Rattle.crash_page.specs.Counts.{kind_word}
 use Rattle.crash_page.specs.declared.share.Share.TheVariants as share
 use Rattle.crash_page.specs.Shares.{share_of, share_class}
@@ -41,6 +42,6 @@ abbrev pub cut_cell : List Entry → ℕ → CutCount → List ℕ
 cut_cell es program c = if c.failing == 0 then passing_text (epoch_at es c.cut) else failing_text program (epoch_at es c.cut) c
 
 -- the entries from `from` on with the flushes that are missing, and each of the cuts before the entry of its number
-abbrev pub strip_from : List Entry → ℕ → List MissingFlush → ℕ → List CutCount → List ℕ
-strip_from es program ms from [] = cells_text es program ms from (length es)
-strip_from es program ms from (c ∷ cs) = cells_text es program ms from c.cut ++ cut_cell es program c ++ strip_from es program ms c.cut cs
+abbrev pub strip_from : JudgedKind → List Entry → ℕ → List MissingFlush → ℕ → List CutCount → List ℕ
+strip_from of es program ms from [] = cells_text of es program ms from (length es)
+strip_from of es program ms from (c ∷ cs) = cells_text of es program ms from c.cut ++ cut_cell es program c ++ strip_from of es program ms c.cut cs

@@ -15,6 +15,11 @@ unfoldable pub kind_word : JudgedKind → List ℕ
 kind_word kind.Images = codes "images"
 kind_word kind.Cases = codes "cases"
 
+-- and one of it
+unfoldable pub single_word : JudgedKind → List ℕ
+single_word kind.Images = codes "image"
+single_word kind.Cases = codes "case"
+
 -- something fails at a cut, and at how many of some cuts something does
 abbrev pub fails : CutCount → Bool
 fails c = not (c.failing == 0)

@@ -9,6 +9,7 @@ use Rattle.epochs.specs.Units.{epoch_at}
 use Rattle.notes.specs.LogTable.{word_text, is_write, line_at}
 use Rattle.crash_page.specs.declared.pieces.PagePart.TheVariants as piece
 use Rattle.crash_page.specs.Pieces.{piece_text}
+use Rattle.crash_page.specs.declared.counts.JudgedKind.{JudgedKind}
 use Rattle.crash_page.specs.Html.{html, mark_label}
 use Rattle.crash_page.specs.Lacking.{lack_at}
 
@@ -40,12 +41,12 @@ abbrev pub cell_at : List Entry → ℕ → List ℕ
 cell_at es n = option_map_or (cell_text n (epoch_at es n)) (slice_get es n) []
 
 -- the flush that is missing before entry n, and its cell
-unfoldable pub place_at : List Entry → ℕ → List MissingFlush → ℕ → List ℕ
-place_at es program ms n = lack_at program ms n ++ cell_at es n
+unfoldable pub place_at : JudgedKind → List Entry → ℕ → List MissingFlush → ℕ → List ℕ
+place_at of es program ms n = lack_at of program ms n ++ cell_at es n
 
 -- the cells of the entries from `from` to before `to`
-unfoldable pub cells_text : List Entry → ℕ → List MissingFlush → ℕ → ℕ → List ℕ
-cells_text es program ms from to = flat_map (place_at es program ms) (range_with_len from (to - from))
+unfoldable pub cells_text : JudgedKind → List Entry → ℕ → List MissingFlush → ℕ → ℕ → List ℕ
+cells_text of es program ms from to = flat_map (place_at of es program ms) (range_with_len from (to - from))
 
 -- the line of entry n, as `log` prints it
 unfoldable pub row_text : List Entry → ℕ → List ℕ

@@ -6,6 +6,8 @@ use Rattle.std.specs.Fmt.{decimal}
 use Rattle.losses.specs.declared.flushes.counted.MissingFlush.{MissingFlush}
 use Rattle.crash_page.specs.declared.pieces.PagePart.TheVariants as piece
 use Rattle.crash_page.specs.Pieces.{piece_text}
+use Rattle.crash_page.specs.declared.counts.JudgedKind.{JudgedKind}
+use Rattle.crash_page.specs.Counts.{kind_word, single_word}
 
 -- the name of the place on the page of the one before an entry
 unfoldable pub flush_name : ℕ → ℕ → List ℕ
@@ -15,21 +17,26 @@ flush_name program entry = codes "p" ++ decimal program ++ codes "f" ++ decimal 
 unfoldable pub from_text : MissingFlush → List ℕ
 from_text m = if m.from == m.at then [] else piece_text piece.LackFrom ++ decimal m.from ++ piece_text piece.LackOn
 
--- what stands beside the pointer: where it may stand, and how many failing images it takes away
-unfoldable pub flush_title : MissingFlush → List ℕ
-flush_title m = piece_text piece.LackTitle ++ decimal m.at ++ from_text m ++ piece_text piece.LackImages ++ decimal m.failing
+-- how many failing images or cases it takes away
+unfoldable pub taken_text : JudgedKind → MissingFlush → List ℕ
+taken_text of m = piece_text piece.LackFailing ++ kind_word of ++ codes ": " ++ decimal m.failing
+
+-- what stands beside the pointer: where it may stand, and how many it takes away
+unfoldable pub flush_title : JudgedKind → MissingFlush → List ℕ
+flush_title of m = piece_text piece.LackTitle ++ decimal m.at ++ from_text m ++ taken_text of m
 
 -- its place, and to which line it leads
 unfoldable pub flush_link : ℕ → ℕ → List ℕ
 flush_link program entry = piece_text piece.LackOpen ++ flush_name program entry ++ piece_text piece.CellLink ++ decimal entry
 
 -- a missing flush in the row
-unfoldable pub flush_text : ℕ → MissingFlush → List ℕ
-flush_text program m = flush_link program m.at ++ flush_title m ++ piece_text piece.LackClose
+unfoldable pub flush_text : JudgedKind → ℕ → MissingFlush → List ℕ
+flush_text of program m = flush_link program m.at ++ flush_title of m ++ piece_text piece.LackClose
 
 -- the one before entry n, if there is one
-abbrev pub lack_at : ℕ → List MissingFlush → ℕ → List ℕ
-lack_at program ms n = option_map_or (flush_text program) (option_and_then (λ (i : ℕ). slice_get ms i) (position (λ (m : MissingFlush). m.at == n) ms)) []
+abbrev pub lack_at : JudgedKind → ℕ → List MissingFlush → ℕ → List ℕ
+lack_at of program ms n =
+    option_map_or (flush_text of program) (option_and_then (λ (i : ℕ). slice_get ms i) (position (λ (m : MissingFlush). m.at == n) ms)) []
 
 -- how many of them are named in words
 abbrev pub most_named : ℕ
@@ -56,17 +63,22 @@ more_text n = if n == 0 then [] else codes " and " ++ decimal n ++ codes " more"
 abbrev pub entries_word : ℕ → List ℕ
 entries_word count = if count == 1 then piece_text piece.CureEntry else piece_text piece.CureEntries
 
--- the flushes that take every failing image away against which a flush helps
-unfoldable pub flushes_text : ℕ → List MissingFlush → List ℕ
-flushes_text program ms =
-    entries_word (length ms) ++ named_from program (length ms) 0 (take most_named ms) ++ more_text (length ms - length (take most_named ms)) ++ piece_text piece.CureClose
+-- what they take away
+unfoldable pub every_text : JudgedKind → List ℕ
+every_text of = piece_text piece.CureEvery ++ single_word of ++ piece_text piece.CureClose
 
-abbrev pub cure_text : ℕ → List MissingFlush → List ℕ
-cure_text program ms = if length ms == 0 then [] else flushes_text program ms
+-- the flushes that take every failing image or case away against which a flush helps
+unfoldable pub flushes_text : JudgedKind → ℕ → List MissingFlush → List ℕ
+flushes_text of program ms =
+    entries_word (length ms) ++ named_from program (length ms) 0 (take most_named ms) ++ more_text (length ms - length (take most_named ms)) ++ every_text of
 
--- and against how many of the failing images no flush helps
-unfoldable pub uncured_text : ℕ → List ℕ
-uncured_text count = if count == 0 then [] else piece_text piece.UncuredOpen ++ decimal count ++ piece_text piece.UncuredClose
+abbrev pub cure_text : JudgedKind → ℕ → List MissingFlush → List ℕ
+cure_text of program ms = if length ms == 0 then [] else flushes_text of program ms
 
-abbrev pub advice_text : ℕ → List MissingFlush → ℕ → List ℕ
-advice_text program ms uncured = cure_text program ms ++ uncured_text uncured
+-- and against how many of the failing images or cases no flush helps
+unfoldable pub uncured_text : JudgedKind → ℕ → List ℕ
+uncured_text of count =
+    if count == 0 then [] else piece_text piece.UncuredOpen ++ decimal count ++ piece_text piece.UncuredOf ++ kind_word of ++ piece_text piece.UncuredClose
+
+abbrev pub advice_text : JudgedKind → ℕ → List MissingFlush → ℕ → List ℕ
+advice_text of program ms uncured = cure_text of program ms ++ uncured_text of uncured

@@ -12,5 +12,6 @@ pub mod Groups
 pub mod Page
 pub mod CaseRows
 pub mod CasePage
+pub mod CaseFlushes
 pub mod Failing
 pub mod Laws

@@ -44,11 +44,11 @@ verdict_text failing cs = if length cs == 0 then piece_text piece.NoCuts else ju
 unfoldable pub strip_open : JudgedKind → List Entry → List ℕ
 strip_open of es = width_text of es ++ piece_text piece.StripOpen ++ word_text (nat_lt 400 (length es)) (codes "many") ++ piece_text piece.OpenEnd
 
-abbrev pub row_of : List Entry → ℕ → List MissingFlush → List CutCount → List ℕ
-row_of es program ms cs = if is_large es then row_blocks es program ms cs else strip_from es program ms 0 cs
+abbrev pub row_of : JudgedKind → List Entry → ℕ → List MissingFlush → List CutCount → List ℕ
+row_of of es program ms cs = if is_large es then row_blocks of es program ms cs else strip_from of es program ms 0 cs
 
 unfoldable pub strip_text : JudgedKind → List Entry → ℕ → List MissingFlush → List CutCount → List ℕ
-strip_text of es program ms cs = strip_open of es ++ row_of es program ms cs ++ piece_text piece.StripClose
+strip_text of es program ms cs = strip_open of es ++ row_of of es program ms cs ++ piece_text piece.StripClose
 
 -- how many groups or cases of a program are shown, fewer where the log is large
 abbrev pub most_of_program : List Entry → ℕ
@@ -65,7 +65,7 @@ title_text program j =
 
 -- what it comes to, and what flushes would do
 unfoldable pub summary_text : ℕ → ProgramFailures → List ℕ
-summary_text program f = title_text program f.judge ++ verdict_text f.failing (counts_of f) ++ advice_text program f.missing.items f.uncured
+summary_text program f = title_text program f.judge ++ verdict_text f.failing (counts_of f) ++ advice_text kind.Images program f.missing.items f.uncured
 
 -- what it ends in on each image on which it fails
 abbrev pub outcomes_of : ProgramFailures → List (List ℕ)

@@ -49,13 +49,8 @@ share_words of s = codes "up to 1 in " ++ decimal (one_in s)
 unfoldable pub key_text : JudgedKind → Share → List ℕ
 key_text of s = piece_text piece.KeyOpen ++ share_class s ++ piece_text piece.KeyColour ++ share_words of s ++ piece_text piece.KeyClose
 
--- a missing flush, which rows with images have alone
-abbrev pub lack_key : JudgedKind → List ℕ
-lack_key kind.Images = piece_text piece.LackKey
-lack_key kind.Cases = []
-
 unfoldable pub keys_open : JudgedKind → List ℕ
-keys_open of = piece_text piece.Legend ++ lack_key of ++ piece_text piece.LegendRest ++ piece_text piece.KeysOpen ++ kind_word of ++ piece_text piece.KeysClose
+keys_open of = piece_text piece.Legend ++ piece_text piece.LegendRest ++ piece_text piece.KeysOpen ++ kind_word of ++ piece_text piece.KeysClose
 
 unfoldable pub legend_text : JudgedKind → List ℕ
 legend_text of =

@@ -264,14 +264,15 @@ fn put_lack_link(out: &mut String, program: usize, entry: u32, from: u32) -> Res
 #[tactic(auto, unfolding(crate::specs::Blocks::lack_text))]
 fn put_lack(
     out: &mut String,
+    of: JudgedKind,
     program: usize,
     from: u32,
     flush: MissingFlush,
 ) -> Result<(), AllocError>
-    ensures { OnOk result (string_bytes out.new ≡ string_bytes out.old ++ lack_text program from flush) }
+    ensures { OnOk result (string_bytes out.new ≡ string_bytes out.old ++ lack_text of program from flush) }
 {
     put_lack_link(out, program, flush.at, from)?;
-    put_flush_title(out, flush)?;
+    put_flush_title(out, of, flush)?;
     put(out, PagePart::LackClose)
 }
 
@@ -285,14 +286,15 @@ fn lacks_within(block: Block, flush: MissingFlush) -> bool
 /// Appends a flush where it is missing in a block.
 fn put_block_lack(
     out: &mut String,
+    of: JudgedKind,
     program: usize,
     block: Block,
     flush: MissingFlush,
 ) -> Result<(), AllocError>
-    ensures { OnOk result (string_bytes out.new ≡ string_bytes out.old ++ block_lack program block.from block.to flush) }
+    ensures { OnOk result (string_bytes out.new ≡ string_bytes out.old ++ block_lack of program block.from block.to flush) }
 {
     if lacks_within(block, flush) {
-        put_lack(out, program, block.from, flush)
+        put_lack(out, of, program, block.from, flush)
     } else {
         Ok(())
     }
@@ -301,14 +303,15 @@ fn put_block_lack(
 /// Appends those of the flushes that are missing in a block.
 fn put_lacks(
     out: &mut String,
+    of: JudgedKind,
     program: usize,
     block: Block,
     flushes: &[MissingFlush],
 ) -> Result<(), AllocError>
-    ensures { OnOk result (string_bytes out.new ≡ string_bytes out.old ++ flat_map (block_lack program block.from block.to) flushes.now) }
+    ensures { OnOk result (string_bytes out.new ≡ string_bytes out.old ++ flat_map (block_lack of program block.from block.to) flushes.now) }
 {
     for flush in flushes {
-        put_block_lack(out, program, block, *flush)?;
+        put_block_lack(out, of, program, block, *flush)?;
     }
     Ok(())
 }
@@ -330,28 +333,29 @@ fn first_lacking(block: Block, flushes: &[MissingFlush]) -> Option<&MissingFlush
 /// Appends the first of the flushes that is missing in a block, if one is.
 fn put_first_lack(
     out: &mut String,
+    of: JudgedKind,
     program: usize,
     block: Block,
     flushes: &[MissingFlush],
 ) -> Result<(), AllocError>
-    ensures { OnOk result (string_bytes out.new ≡ string_bytes out.old ++ first_lack program block.from block.to flushes.now) }
+    ensures { OnOk result (string_bytes out.new ≡ string_bytes out.old ++ first_lack of program block.from block.to flushes.now) }
 {
     match first_lacking(block, flushes) {
-        Some(flush) => put_lack(out, program, block.from, *flush),
+        Some(flush) => put_lack(out, of, program, block.from, *flush),
         None => Ok(()),
     }
 }
 
 /// Appends the flushes that are missing in a block and named in words, or the first, where none is.
 fn put_block_lacks(out: &mut String, lacking: &Lacking<'_>, block: Block) -> Result<(), AllocError>
-    ensures { OnOk result (string_bytes out.new ≡ string_bytes out.old ++ block_lacks lacking.now.program block.from block.to lacking.now.flushes.now) }
+    ensures { OnOk result (string_bytes out.new ≡ string_bytes out.old ++ block_lacks lacking.now.of lacking.now.program block.from block.to lacking.now.flushes.now) }
 {
     let named = lacking.flushes.len().min(MOST_NAMED);
     let flushes = &lacking.flushes[..named];
     if has_lack(block, flushes) {
-        put_lacks(out, lacking.program, block, flushes)
+        put_lacks(out, lacking.of, lacking.program, block, flushes)
     } else {
-        put_first_lack(out, lacking.program, block, lacking.flushes)
+        put_first_lack(out, lacking.of, lacking.program, block, lacking.flushes)
     }
 }
 
@@ -448,7 +452,7 @@ fn put_row_block(
     from: u32,
 ) -> Result<(), AllocError>
     requires from { from ≤ length logged.now.log.now.entries }
-    ensures { OnOk result (string_bytes out.new ≡ string_bytes out.old ++ row_block logged.now.log.now.entries lacking.now.program lacking.now.flushes.now cuts.now from) }
+    ensures { OnOk result (string_bytes out.new ≡ string_bytes out.old ++ row_block lacking.now.of logged.now.log.now.entries lacking.now.program lacking.now.flushes.now cuts.now from) }
 {
     let block = block_at(logged.log, from);
     put_block_cuts(out, logged, lacking.program, cuts, block)?;
@@ -465,7 +469,7 @@ fn put_row_at(
     number: u32,
 ) -> Result<(), AllocError>
     requires number { number ≤ length logged.now.log.now.entries }
-    ensures { OnOk result (string_bytes out.new ≡ string_bytes out.old ++ row_at logged.now.log.now.entries lacking.now.program lacking.now.flushes.now cuts.now number) }
+    ensures { OnOk result (string_bytes out.new ≡ string_bytes out.old ++ row_at lacking.now.of logged.now.log.now.entries lacking.now.program lacking.now.flushes.now cuts.now number) }
 {
     if begins_block(logged.log, number) {
         put_row_block(out, logged, lacking, cuts, number)
@@ -482,7 +486,7 @@ pub(crate) fn put_row_blocks(
     lacking: &Lacking<'_>,
     cuts: &[CutCount],
 ) -> Result<(), AllocError>
-    ensures { OnOk result (string_bytes out.new ≡ string_bytes out.old ++ row_blocks logged.now.log.now.entries lacking.now.program lacking.now.flushes.now cuts.now) }
+    ensures { OnOk result (string_bytes out.new ≡ string_bytes out.old ++ row_blocks lacking.now.of logged.now.log.now.entries lacking.now.program lacking.now.flushes.now cuts.now) }
 {
     let count = logged.log.entries().len() as u32;
     for number in 0..count + 1 {

@@ -6,6 +6,7 @@ ghost use Rattle.cases.specs.AtCut.{Apart, case_of};
 ghost use Rattle.case_runs.specs.Leaves.{failing_value};
 ghost use Rattle.crash_page.specs.CaseRows.{window_words, helps_text, case_said, row_text, case_row};
 
+use crate::case_program::window_of;
 use crate::parts::{CaseRow, put_parts};
 use crate::pieces::{PagePart, put, put_number};
 use case_runs::FailingCase;
@@ -82,13 +83,12 @@ pub(crate) fn put_case(
 ) -> Result<(), AllocError>
     ensures { OnOk result (string_bytes out.new ≡ string_bytes out.old ++ case_row site.now.at site.now.tears (failing_value case.now)) }
 {
-    let (tears, parts) = (site.tears(), site.parts());
-    known.read(tears, parts, case.sets.as_slice())?;
+    let window = window_of(known, site, case)?;
     let row = CaseRow {
         by: site.by(),
-        tears,
-        window: site.window(known),
+        tears: site.tears(),
+        window,
     };
-    put_row(out, &row, parts, case)?;
+    put_row(out, &row, site.parts(), case)?;
     Ok(())
 }

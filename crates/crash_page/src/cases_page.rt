@@ -1,18 +1,20 @@
 //! The page of a run of any number of losses.
 
 ghost use Rattle.std.specs.Prelude.{◌≡◌, ◌≤◌, ◌<◌, ◌==◌, ◌++◌, if◌then◌else◌, All, length, map, IfOk, OnOk, string_bytes};
-ghost use Rattle.report.specs.declared.head.ProgramHead.{ProgramHead as HeadOfProgram};
 ghost use Rattle.case_runs.specs.declared.found.CutFound.{CutFound as FoundValue};
 ghost use Rattle.case_text.specs.Text.{options_text, count_torn_beyond, count_lost_beyond};
 ghost use Rattle.crash_page.specs.declared.counts.CutCount.{CutCount as CountValue};
+ghost use Rattle.crash_page.specs.declared.counts.JudgedKind.TheVariants as kind;
+ghost use Rattle.crash_page.specs.CaseFlushes.{IsCasePage};
 ghost use Rattle.crash_page.specs.Counts.{count_fails, all_in, failing_in, case_count};
-ghost use Rattle.crash_page.specs.CasePage.{run_of, bad_text, good_text, open_text, passing_text, judged_text, verdict_text, counts_of, summary_text, shown_cuts, program_text, programs_text, is_complete, left_counts, left_text, run_text, parts_text, case_page_text};
+ghost use Rattle.crash_page.specs.CasePage.{run_of, bad_text, good_text, open_text, passing_text, judged_text, verdict_text, counts_of, said_text, summary_text, shown_cuts, program_text, programs_text, is_complete, left_counts, left_text, run_text, parts_text};
 
 use crate::block::MOST_CELLS;
 use crate::case_cut::put_cuts;
+use crate::case_program::{CaseProgram, case_programs};
 use crate::counts::{CutCount, JudgedKind, all_in, case_counts, count_failing, failing_in};
 use crate::judge::PageJudge;
-use crate::lacking::Lacking;
+use crate::lacking::{Lacking, put_advice};
 use crate::page::{put_about, put_head, put_list};
 use crate::pieces::{PagePart, put, put_number};
 use crate::program::{most_of_program, put_row, put_title, put_unlisted};
@@ -22,7 +24,7 @@ use case_runs::{CutFound, Losses};
 use case_text::{left_out, put_options};
 use epochs::Plan;
 use logfmt::Log;
-use report::{Head, ProgramHead};
+use report::Head;
 use std::alloc::{AllocError, Global};
 
 /// Appends how many cases fail, at how many cuts.
@@ -102,30 +104,56 @@ fn put_verdict(out: &mut String, complete: bool, cuts: &[CutCount]) -> Result<()
     }
 }
 
-/// Appends what a program comes to, and the log with its cuts.
+/// The flushes that are missing for a program.
+fn lacking_of(number: usize, program: &CaseProgram) -> Lacking<'_>
+    ensures of { result.of ≡ kind.Cases }
+    ensures program { result.program ≡ number }
+    ensures flushes { result.flushes.now ≡ program.now.missing.items }
+{
+    Lacking {
+        of: JudgedKind::Cases,
+        program: number,
+        flushes: program.missing.as_slice(),
+    }
+}
+
+/// Appends what a program comes to, and what flushes would do.
+#[tactic(auto, unfolding(crate::specs::CasePage::said_text))]
+fn put_said(
+    out: &mut String,
+    run: &CaseRun<'_>,
+    number: usize,
+    program: &CaseProgram,
+    cuts: &[CutCount],
+) -> Result<(), AllocError>
+    ensures { OnOk result (string_bytes out.new ≡ string_bytes out.old ++ said_text (run_of run.now) number program.now cuts.now) }
+{
+    let lacking = lacking_of(number, program);
+    put_title(out, number, &PageJudge::Checker(program.head))?;
+    put_verdict(out, run.complete, cuts)?;
+    put_advice(out, &lacking, program.uncured)
+}
+
+/// Appends the same, and the log with its cuts and the flushes that are missing.
 #[tactic(auto, unfolding(crate::specs::CasePage::summary_text))]
 fn put_summary(
     alloc: Global,
     out: &mut String,
     run: &CaseRun<'_>,
-    program: usize,
-    head: ProgramHead,
+    number: usize,
+    program: &CaseProgram,
     cuts: &[CutCount],
 ) -> Result<(), AllocError>
     requires cuts { All (λ (c : CountValue). c.cut ≤ length run.now.log.now.entries) cuts.now }
-    ensures { OnOk result (string_bytes out.new ≡ string_bytes out.old ++ summary_text (run_of run.now) program head cuts.now) }
+    ensures { OnOk result (string_bytes out.new ≡ string_bytes out.old ++ summary_text (run_of run.now) number program.now cuts.now) }
 {
     let logged = Logged {
         plan: run.plan,
         log: run.log,
     };
-    let lacking = Lacking {
-        program,
-        flushes: &[],
-    };
-    put_title(out, program, &PageJudge::Checker(head))?;
-    put_verdict(out, run.complete, cuts)?;
-    put_row(alloc, out, JudgedKind::Cases, &logged, &lacking, cuts)?;
+    let lacking = lacking_of(number, program);
+    put_said(out, run, number, program, cuts)?;
+    put_row(alloc, out, &logged, &lacking, cuts)?;
     put_legend(out, JudgedKind::Cases)?;
     put(out, PagePart::CaseKeys)
 }
@@ -157,15 +185,15 @@ fn put_program(
     out: &mut String,
     run: &CaseRun<'_>,
     found: &[CutFound],
-    program: usize,
-    head: ProgramHead,
+    number: usize,
+    program: &CaseProgram,
 ) -> Result<(), AllocError>
     requires cuts { All (λ (c : FoundValue). c.cut ≤ length run.now.log.now.entries) found.now }
-    ensures { OnOk result (string_bytes out.new ≡ string_bytes out.old ++ program_text (run_of run.now) found.now program head) }
+    ensures { OnOk result (string_bytes out.new ≡ string_bytes out.old ++ program_text (run_of run.now) found.now number program.now) }
 {
-    let counts = case_counts(alloc, program, found)?;
-    put_summary(alloc, out, run, program, head, counts.as_slice())?;
-    put_shown_cuts(alloc, out, run, program, found, counts.as_slice())?;
+    let counts = case_counts(alloc, number, found)?;
+    put_summary(alloc, out, run, number, program, counts.as_slice())?;
+    put_shown_cuts(alloc, out, run, number, found, counts.as_slice())?;
     put(out, PagePart::SectionClose)
 }
 
@@ -176,13 +204,13 @@ fn put_programs(
     out: &mut String,
     run: &CaseRun<'_>,
     found: &[CutFound],
-    heads: &[ProgramHead],
+    programs: &[CaseProgram],
 ) -> Result<(), AllocError>
     requires cuts { All (λ (c : FoundValue). c.cut ≤ length run.now.log.now.entries) found.now }
-    ensures { OnOk result (string_bytes out.new ≡ string_bytes out.old ++ programs_text (run_of run.now) found.now 0 heads.now) }
+    ensures { OnOk result (string_bytes out.new ≡ string_bytes out.old ++ programs_text (run_of run.now) found.now 0 programs.now) }
 {
-    for (program, head) in heads.iter().enumerate() {
-        put_program(alloc, out, run, found, program, *head)?;
+    for (number, program) in programs.iter().enumerate() {
+        put_program(alloc, out, run, found, number, program)?;
     }
     Ok(())
 }
@@ -239,11 +267,11 @@ fn put_page(
     out: &mut String,
     run: &CaseRun<'_>,
     about: &str,
-    heads: &[ProgramHead],
+    programs: &[CaseProgram],
     found: &[CutFound],
 ) -> Result<(), AllocError>
     requires cuts { All (λ (c : FoundValue). c.cut ≤ length run.now.log.now.entries) found.now }
-    ensures { OnOk result (string_bytes out.new ≡ string_bytes out.old ++ parts_text (run_of run.now) about.now heads.now found.now) }
+    ensures { OnOk result (string_bytes out.new ≡ string_bytes out.old ++ parts_text (run_of run.now) about.now programs.now found.now) }
 {
     let logged = Logged {
         plan: run.plan,
@@ -251,16 +279,17 @@ fn put_page(
     };
     put_head(out, JudgedKind::Cases, run.log)?;
     put_about(out, about)?;
-    put_programs(alloc, out, run, found, heads)?;
+    put_programs(alloc, out, run, found, programs)?;
     put_list(alloc, out, &logged)?;
     put(out, PagePart::Closing)
 }
 
 /// The page of the failing cases of a run (docs/OUTPUT.md, The page of `page --bound any`): the options and the programs, what was found
-/// with each program, and the entries of the log. The plan is that of the log; of the head's bound, tears, `first` and number of images
+/// with each program and which flushes are missing for it, and the entries of the log. The plan is that of the log; of the head's bound, tears, `first` and number of images
 /// nothing is printed.
 ///
-/// It takes time and memory for each entry and each cut of each program, and for the parts at risk at each cut that is shown.
+/// It takes time and memory for each entry, each cut and each failing case of each program, and for the parts at risk at each cut at which
+/// cases fail.
 ///
 /// # Errors
 ///
@@ -275,7 +304,7 @@ pub fn case_page(
 ) -> Result<Vec<u8>, AllocError>
     requires plan { plan.now.log ≡ log.now }
     requires cuts { All (λ (c : FoundValue). c.cut ≤ length log.now.entries) found.now }
-    ensures { IfOk result (λ bytes. bytes.items ≡ case_page_text head.now asked log.now found.now) }
+    ensures { IfOk result (λ bytes. IsCasePage head.now asked log.now found.now bytes.items) }
 {
     let (torn, lost) = left_out(found);
     let run = CaseRun {
@@ -286,13 +315,14 @@ pub fn case_page(
         complete: is_complete(torn, lost),
     };
     let about = about_run(alloc, head, asked, found)?;
+    let programs = case_programs(alloc, &run, found, head.programs.as_slice())?;
     let mut out = String::new(alloc);
     put_page(
         alloc,
         &mut out,
         &run,
         about.as_str(),
-        head.programs.as_slice(),
+        programs.as_slice(),
         found,
     )?;
     Ok(out.into_bytes())

@@ -1,7 +1,7 @@
 //! How much of a cut fails: of its images, or of its cases.
 
 ghost use Rattle.std.specs.Prelude.{◌≡◌, ◌≤◌, ◌++◌, ◌∷◌, [], length, map, filter, IfOk, OnOk, string_bytes};
-ghost use Rattle.crash_page.specs.Counts.{kind_word, fails, count_fails, all_in, failing_in, image_count, failing_of, cases_of, case_count};
+ghost use Rattle.crash_page.specs.Counts.{kind_word, single_word, fails, count_fails, all_in, failing_in, image_count, failing_of, cases_of, case_count};
 
 use case_runs::{CutFound, FailingCase};
 use losses::why::CutFailures;
@@ -31,6 +31,17 @@ pub(crate) fn put_kind(out: &mut String, of: JudgedKind) -> Result<(), AllocErro
     match of {
         JudgedKind::Images => out.push_str("images"),
         JudgedKind::Cases => out.push_str("cases"),
+    }
+}
+
+/// Appends one of what is judged, by its name.
+#[tactic(auto, unfolding(crate::specs::Counts::single_word))]
+pub(crate) fn put_single(out: &mut String, of: JudgedKind) -> Result<(), AllocError>
+    ensures { OnOk result (string_bytes out.new ≡ string_bytes out.old ++ single_word of) }
+{
+    match of {
+        JudgedKind::Images => out.push_str("image"),
+        JudgedKind::Cases => out.push_str("case"),
     }
 }
 

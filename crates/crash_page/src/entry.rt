@@ -130,7 +130,7 @@ fn put_place(
     number: u32,
 ) -> Result<(), AllocError>
     requires there { number < length logged.now.log.now.entries }
-    ensures { OnOk result (string_bytes out.new ≡ string_bytes out.old ++ place_at logged.now.log.now.entries lacking.now.program lacking.now.flushes.now number) }
+    ensures { OnOk result (string_bytes out.new ≡ string_bytes out.old ++ place_at lacking.now.of logged.now.log.now.entries lacking.now.program lacking.now.flushes.now number) }
 {
     put_lacking(out, lacking, number)?;
     put_cell_of(alloc, out, logged, number)
@@ -147,7 +147,7 @@ pub(crate) fn put_cells(
     to: u32,
 ) -> Result<(), AllocError>
     requires to { to ≤ length logged.now.log.now.entries }
-    ensures { OnOk result (string_bytes out.new ≡ string_bytes out.old ++ cells_text logged.now.log.now.entries lacking.now.program lacking.now.flushes.now from to) }
+    ensures { OnOk result (string_bytes out.new ≡ string_bytes out.old ++ cells_text lacking.now.of logged.now.log.now.entries lacking.now.program lacking.now.flushes.now from to) }
 {
     for step in 0..to.saturating_sub(from) {
         put_place(alloc, out, logged, lacking, from + step)?;

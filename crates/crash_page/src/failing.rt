@@ -55,7 +55,7 @@ fn count_uncured(failure: Failure, program: usize) -> usize
 
 /// How many failures of a program have no window.
 #[tactic(auto, using(crate::proofs::Owned::uncured_more))]
-fn uncured_of(failures: &[Failure], program: usize) -> usize
+pub(crate) fn uncured_of(failures: &[Failure], program: usize) -> usize
     ensures value { result ≡ length (filter (is_uncured program) failures.now) }
     ensures bound { result ≤ length failures.now }
 {
@@ -64,6 +64,20 @@ fn uncured_of(failures: &[Failure], program: usize) -> usize
         count += count_uncured(*failure, program);
     }
     count
+}
+
+/// The flushes that are missing for failures, of a log with that many entries.
+pub(crate) fn missing_of(
+    alloc: Global,
+    failures: &[Failure],
+    entries: usize,
+) -> Result<Vec<MissingFlush>, AllocError>
+    requires few { entries ≤ 65536 }
+    requires inside { AreWindows entries (windows_in failures.now) }
+    ensures { IfOk result (λ ms. AreMissing (windows_in failures.now) ms.items) }
+{
+    let windows = windows_of(alloc, failures)?;
+    missing_flushes(alloc, windows.as_slice(), entries)
 }
 
 /// The flushes that are missing for the failures of a program, of those of a run of a log with that many entries.
@@ -78,8 +92,7 @@ fn missing_for(
     ensures { IfOk result (λ ms. AreMissing (windows_in (own_failures program failures.now)) ms.items) }
 {
     let own = failures_of(alloc, failures, program)?;
-    let windows = windows_of(alloc, own.as_slice())?;
-    missing_flushes(alloc, windows.as_slice(), entries)
+    missing_of(alloc, own.as_slice(), entries)
 }
 
 /// What a page takes of the program of that number, which fails on these images of a run and ends so on each, of all failures of the run.

@@ -3,8 +3,9 @@
 ghost use Rattle.std.specs.Prelude.{◌≡◌, ◌<◌, ◌≤◌, ◌==◌, ◌++◌, length, OnOk, string_bytes};
 ghost use Rattle.std.specs.List.{position};
 ghost use Rattle.losses.specs.declared.flushes.counted.MissingFlush.{MissingFlush as FlushValue};
-ghost use Rattle.crash_page.specs.Lacking.{flush_name, from_text, flush_title, flush_link, flush_text, lack_at, between_text, named_text, named_from, more_text, entries_word, flushes_text, cure_text, uncured_text, advice_text};
+ghost use Rattle.crash_page.specs.Lacking.{flush_name, from_text, taken_text, flush_title, flush_link, flush_text, lack_at, between_text, named_text, named_from, more_text, entries_word, every_text, flushes_text, cure_text, uncured_text, advice_text};
 
+use crate::counts::{JudgedKind, put_kind, put_single};
 use crate::pieces::{PagePart, put, put_number};
 use losses::flushes::MissingFlush;
 use std::alloc::AllocError;
@@ -12,9 +13,10 @@ use std::alloc::AllocError;
 /// How many flushes are named in words.
 pub(crate) const MOST_NAMED: usize = 16;
 
-/// The flushes that are missing for the program of that number.
+/// The flushes that are missing for the program of that number, of which images or cases fail.
 #[derive(Clone, Copy)]
 pub(crate) struct Lacking<'a> {
+    pub(crate) of: JudgedKind,
     pub(crate) program: usize,
     pub(crate) flushes: &'a [MissingFlush],
 }
@@ -40,16 +42,30 @@ fn put_from(out: &mut String, flush: MissingFlush) -> Result<(), AllocError>
     put(out, PagePart::LackOn)
 }
 
-/// Appends what stands beside the pointer at a flush: where it may stand, and how many failing images it takes away.
+/// Appends how many failing images or cases a flush takes away.
+#[tactic(auto, unfolding(crate::specs::Lacking::taken_text))]
+fn put_taken(out: &mut String, of: JudgedKind, flush: MissingFlush) -> Result<(), AllocError>
+    ensures { OnOk result (string_bytes out.new ≡ string_bytes out.old ++ taken_text of flush) }
+{
+    put(out, PagePart::LackFailing)?;
+    put_kind(out, of)?;
+    out.push_str(": ")?;
+    put_number(out, flush.failing as u64)
+}
+
+/// Appends what stands beside the pointer at a flush: where it may stand, and how many failing images or cases it takes away.
 #[tactic(auto, unfolding(crate::specs::Lacking::flush_title))]
-pub(crate) fn put_flush_title(out: &mut String, flush: MissingFlush) -> Result<(), AllocError>
-    ensures { OnOk result (string_bytes out.new ≡ string_bytes out.old ++ flush_title flush) }
+pub(crate) fn put_flush_title(
+    out: &mut String,
+    of: JudgedKind,
+    flush: MissingFlush,
+) -> Result<(), AllocError>
+    ensures { OnOk result (string_bytes out.new ≡ string_bytes out.old ++ flush_title of flush) }
 {
     put(out, PagePart::LackTitle)?;
     put_number(out, u64::from(flush.at))?;
     put_from(out, flush)?;
-    put(out, PagePart::LackImages)?;
-    put_number(out, flush.failing as u64)
+    put_taken(out, of, flush)
 }
 
 /// Appends the place of a flush in the row, and to which line it leads.
@@ -65,11 +81,16 @@ fn put_flush_link(out: &mut String, program: usize, entry: u32) -> Result<(), Al
 
 /// Appends a flush in the row.
 #[tactic(auto, unfolding(crate::specs::Lacking::flush_text))]
-fn put_flush(out: &mut String, program: usize, flush: MissingFlush) -> Result<(), AllocError>
-    ensures { OnOk result (string_bytes out.new ≡ string_bytes out.old ++ flush_text program flush) }
+fn put_flush(
+    out: &mut String,
+    of: JudgedKind,
+    program: usize,
+    flush: MissingFlush,
+) -> Result<(), AllocError>
+    ensures { OnOk result (string_bytes out.new ≡ string_bytes out.old ++ flush_text of program flush) }
 {
     put_flush_link(out, program, flush.at)?;
-    put_flush_title(out, flush)?;
+    put_flush_title(out, of, flush)?;
     put(out, PagePart::LackClose)
 }
 
@@ -86,10 +107,10 @@ pub(crate) fn put_lacking(
     lacking: &Lacking<'_>,
     entry: u32,
 ) -> Result<(), AllocError>
-    ensures { OnOk result (string_bytes out.new ≡ string_bytes out.old ++ lack_at lacking.now.program lacking.now.flushes.now entry) }
+    ensures { OnOk result (string_bytes out.new ≡ string_bytes out.old ++ lack_at lacking.now.of lacking.now.program lacking.now.flushes.now entry) }
 {
     match flush_before(lacking.flushes, entry) {
-        Some(number) => put_flush(out, lacking.program, lacking.flushes[number]),
+        Some(number) => put_flush(out, lacking.of, lacking.program, lacking.flushes[number]),
         None => Ok(()),
     }
 }
@@ -167,22 +188,32 @@ fn put_entries_word(out: &mut String, count: usize) -> Result<(), AllocError>
     }
 }
 
-/// Appends the flushes that take every failing image away against which a flush helps.
+/// Appends what the flushes take away.
+#[tactic(auto, unfolding(crate::specs::Lacking::every_text))]
+fn put_every(out: &mut String, of: JudgedKind) -> Result<(), AllocError>
+    ensures { OnOk result (string_bytes out.new ≡ string_bytes out.old ++ every_text of) }
+{
+    put(out, PagePart::CureEvery)?;
+    put_single(out, of)?;
+    put(out, PagePart::CureClose)
+}
+
+/// Appends the flushes that take every failing image or case away against which a flush helps.
 #[tactic(auto, unfolding(crate::specs::Lacking::flushes_text))]
 fn put_flushes(out: &mut String, lacking: &Lacking<'_>) -> Result<(), AllocError>
-    ensures { OnOk result (string_bytes out.new ≡ string_bytes out.old ++ flushes_text lacking.now.program lacking.now.flushes.now) }
+    ensures { OnOk result (string_bytes out.new ≡ string_bytes out.old ++ flushes_text lacking.now.of lacking.now.program lacking.now.flushes.now) }
 {
     let count = lacking.flushes.len();
     let named = count.min(MOST_NAMED);
     put_entries_word(out, count)?;
     put_names(out, lacking.program, count, &lacking.flushes[..named])?;
     put_more(out, count - named)?;
-    put(out, PagePart::CureClose)
+    put_every(out, lacking.of)
 }
 
 /// Appends where a flush is missing, if one is.
 fn put_cure(out: &mut String, lacking: &Lacking<'_>) -> Result<(), AllocError>
-    ensures { OnOk result (string_bytes out.new ≡ string_bytes out.old ++ cure_text lacking.now.program lacking.now.flushes.now) }
+    ensures { OnOk result (string_bytes out.new ≡ string_bytes out.old ++ cure_text lacking.now.of lacking.now.program lacking.now.flushes.now) }
 {
     if lacking.flushes.is_empty() {
         return Ok(());
@@ -190,27 +221,29 @@ fn put_cure(out: &mut String, lacking: &Lacking<'_>) -> Result<(), AllocError>
     put_flushes(out, lacking)
 }
 
-/// Appends against how many failing images no flush helps, if there are any.
+/// Appends against how many failing images or cases no flush helps, if there are any.
 #[tactic(auto, unfolding(crate::specs::Lacking::uncured_text))]
-fn put_uncured(out: &mut String, count: usize) -> Result<(), AllocError>
-    ensures { OnOk result (string_bytes out.new ≡ string_bytes out.old ++ uncured_text count) }
+fn put_uncured(out: &mut String, of: JudgedKind, count: usize) -> Result<(), AllocError>
+    ensures { OnOk result (string_bytes out.new ≡ string_bytes out.old ++ uncured_text of count) }
 {
     if count == 0 {
         return Ok(());
     }
     put(out, PagePart::UncuredOpen)?;
     put_number(out, count as u64)?;
+    put(out, PagePart::UncuredOf)?;
+    put_kind(out, of)?;
     put(out, PagePart::UncuredClose)
 }
 
-/// Appends what flushes would do: which are missing, and how many failing images none takes away.
+/// Appends what flushes would do: which are missing, and how many failing images or cases none takes away.
 pub(crate) fn put_advice(
     out: &mut String,
     lacking: &Lacking<'_>,
     uncured: usize,
 ) -> Result<(), AllocError>
-    ensures { OnOk result (string_bytes out.new ≡ string_bytes out.old ++ advice_text lacking.now.program lacking.now.flushes.now uncured) }
+    ensures { OnOk result (string_bytes out.new ≡ string_bytes out.old ++ advice_text lacking.now.of lacking.now.program lacking.now.flushes.now uncured) }
 {
     put_cure(out, lacking)?;
-    put_uncured(out, uncured)
+    put_uncured(out, lacking.of, uncured)
 }

@@ -1,7 +1,8 @@
 //! crash_page, a run as a page for a browser: the log as a row of entries with the cuts between them and the flushes that are
 //! missing, and of each cut at which images fail its groups, each with the image of its example in words (docs/OUTPUT.md, The page
 //! of `page`). Of a run of any number of losses the page has cases in place of images: of each cut at which cases fail its first ones,
-//! each with a row of the parts at risk, and which of these are lost, kept or either.
+//! each with a row of the parts at risk, and which of these are lost, kept or either. The flushes that are missing are then those for the
+//! failing cases.
 //!
 //! # Place
 //!
@@ -25,16 +26,18 @@
 //! `put_page` asks of the failures that it is given holds of what `program_failures` answers: these are, of the images on which a program
 //! fails, what fails at each cut and which flushes are missing (`specs/Failing.antt`).
 //!
-//! `case_page` gives exactly the bytes of its definition (`case_page_text` in `specs/CasePage.antt`). A case is a row of the parts at risk
-//! (`case_row` in `specs/CaseRows.antt`), by its fates and by its window, which are those of the text of cases (`case_text`). Its one
-//! error is want of memory.
+//! `case_page` gives exactly the bytes of its definition (`IsCasePage` in `specs/CaseFlushes.antt`, `case_page_text` in
+//! `specs/CasePage.antt`). A case is a row of the parts at risk (`case_row` in `specs/CaseRows.antt`), by its fates and by its window, which
+//! are those of the text of cases (`case_text`). The flushes that are missing for a program are those of the windows of its failing cases,
+//! by the definition that `why` and `cure` have (`AreMissing` of `losses`). Its one error is want of memory.
 //!
 //! # How it is written
 //!
 //! Each call appends to the page, piece after piece, as its definition is composed. `entry` has the cells and lines of entries,
 //! `lacking` the flushes that are missing, in the row and in words, `strip` the cells of cuts between entries, `share` their colours,
 //! `cut` and `group` what stands after a click on a cut. How much of a cut fails is one type, whether these are images or cases
-//! (`counts`), so the row is the same of both. `parts`, `case_row` and `case_cut` have the cases of a cut. Of a large log `block` has the cells and the lines, many entries and cuts a
+//! (`counts`), so the row is the same of both. `parts`, `case_row` and `case_cut` have the cases of a cut, `case_program` finds the flushes
+//! that are missing for those of a program. Of a large log `block` has the cells and the lines, many entries and cuts a
 //! block, so that the page of any log stays small: at most some thousand cells, thousand cuts and five hundred groups or cases a
 //! program, 32 parts of each colour a case, and a line for each entry.
 //!
@@ -76,6 +79,7 @@
 
 mod block;
 mod case_cut;
+mod case_program;
 mod case_row;
 mod cases_page;
 mod counts;
@@ -96,6 +100,7 @@ mod run;
 mod share;
 mod strip;
 
+pub use case_program::CaseProgram;
 pub use cases_page::case_page;
 pub use failing::program_failures;
 pub use judge::PageJudge;

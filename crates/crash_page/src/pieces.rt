@@ -15,7 +15,6 @@ pub(crate) enum PagePart {
     CaseStyle,
     StyleEnd,
     Legend,
-    LackKey,
     LegendRest,
     CaseKeys,
     Closing,
@@ -43,10 +42,12 @@ pub(crate) enum PagePart {
     Of,
     CureEntry,
     CureEntries,
+    CureEvery,
     CureClose,
     NamedOpen,
     NamedClose,
     UncuredOpen,
+    UncuredOf,
     UncuredClose,
     StripOpen,
     OpenEnd,
@@ -59,7 +60,7 @@ pub(crate) enum PagePart {
     LackTitle,
     LackFrom,
     LackOn,
-    LackImages,
+    LackFailing,
     LackClose,
     PassingOpen,
     PassingClose,
@@ -150,9 +151,8 @@ fn text_of(piece: PagePart) -> &'static str
         PagePart::CaseStyle => CASE_STYLE,
         PagePart::StyleEnd => STYLE_END,
         PagePart::Legend => LEGEND,
-        PagePart::LackKey => "<span><b class='lack'></b>flush missing</span>",
         PagePart::LegendRest => {
-            "<span><b class='mark'></b>mark</span><span><b class='even'></b><b class='odd'></b>epochs in turn</span>"
+            "<span><b class='lack'></b>flush missing</span><span><b class='mark'></b>mark</span><span><b class='even'></b><b class='odd'></b>epochs in turn</span>"
         }
         PagePart::CaseKeys => CASE_KEYS,
         PagePart::Closing => CLOSING,
@@ -182,14 +182,16 @@ fn text_of(piece: PagePart) -> &'static str
         PagePart::Of => " of ",
         PagePart::CureEntry => "<p class='cure'>A flush right before entry ",
         PagePart::CureEntries => "<p class='cure'>A flush right before each of the entries ",
+        PagePart::CureEvery => " takes every failing ",
         PagePart::CureClose => {
-            " takes every failing image away against which a flush helps. This isn't tried here: crashbpf cure tries it.</p>\n"
+            " away against which a flush helps. This isn't tried here: crashbpf cure tries flushes where it runs programs; with --report it only names them.</p>\n"
         }
         PagePart::NamedOpen => "<a href='#",
         PagePart::NamedClose => "</a>",
         PagePart::UncuredOpen => "<p class='order'>Against ",
+        PagePart::UncuredOf => " of the failing ",
         PagePart::UncuredClose => {
-            " of the failing images no flush helps: the order of the writes is wrong there, or a write that may arrive in part is taken for whole.</p>\n"
+            " no flush helps: the order of the writes is wrong there, or a write that may arrive in part is taken for whole.</p>\n"
         }
         PagePart::StripOpen => {
             "<div tabindex='0' role='group' aria-label='The log: arrow keys move' class='log"
@@ -204,7 +206,7 @@ fn text_of(piece: PagePart) -> &'static str
         PagePart::LackTitle => "' title='a flush is missing before entry ",
         PagePart::LackFrom => ", or any from ",
         PagePart::LackOn => " on",
-        PagePart::LackImages => "; failing images: ",
+        PagePart::LackFailing => "; failing ",
         PagePart::LackClose => "'>flush missing</a>\n",
         PagePart::PassingOpen => "<i class='c ",
         PagePart::PassingClose => "'></i>\n",

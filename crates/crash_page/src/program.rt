@@ -115,7 +115,7 @@ fn put_row_of(
     cuts: &[CutCount],
 ) -> Result<(), AllocError>
     requires cuts { All (λ (c : CutValue). c.cut ≤ length logged.now.log.now.entries) cuts.now }
-    ensures { OnOk result (string_bytes out.new ≡ string_bytes out.old ++ row_of logged.now.log.now.entries lacking.now.program lacking.now.flushes.now cuts.now) }
+    ensures { OnOk result (string_bytes out.new ≡ string_bytes out.old ++ row_of lacking.now.of logged.now.log.now.entries lacking.now.program lacking.now.flushes.now cuts.now) }
 {
     if is_large(logged.log) {
         put_row_blocks(out, logged, lacking, cuts)
@@ -129,15 +129,14 @@ fn put_row_of(
 pub(crate) fn put_row(
     alloc: Global,
     out: &mut String,
-    of: JudgedKind,
     logged: &Logged<'_>,
     lacking: &Lacking<'_>,
     cuts: &[CutCount],
 ) -> Result<(), AllocError>
     requires cuts { All (λ (c : CutValue). c.cut ≤ length logged.now.log.now.entries) cuts.now }
-    ensures { OnOk result (string_bytes out.new ≡ string_bytes out.old ++ strip_text of logged.now.log.now.entries lacking.now.program lacking.now.flushes.now cuts.now) }
+    ensures { OnOk result (string_bytes out.new ≡ string_bytes out.old ++ strip_text lacking.now.of logged.now.log.now.entries lacking.now.program lacking.now.flushes.now cuts.now) }
 {
-    put_strip_open(out, of, logged.log)?;
+    put_strip_open(out, lacking.of, logged.log)?;
     put_row_of(alloc, out, logged, lacking, cuts)?;
     put(out, PagePart::StripClose)
 }
@@ -262,10 +261,12 @@ fn put_shown_cuts(
 
 /// The flushes that are missing for a program.
 fn lacking_of<'a>(program: usize, failures: &'a ProgramFailures<'_>) -> Lacking<'a>
+    ensures of { result.of ≡ kind.Images }
     ensures program { result.program ≡ program }
     ensures flushes { result.flushes.now ≡ failures.now.missing.items }
 {
     Lacking {
+        of: JudgedKind::Images,
         program,
         flushes: failures.missing.as_slice(),
     }
@@ -330,14 +331,7 @@ pub(crate) fn put_program(
     let counts = image_counts(alloc, failures.cuts.as_slice())?;
     let (logged, lacking) = (logged_of(run), lacking_of(program, failures));
     put_summary(out, program, failures, counts.as_slice())?;
-    put_row(
-        alloc,
-        out,
-        JudgedKind::Images,
-        &logged,
-        &lacking,
-        counts.as_slice(),
-    )?;
+    put_row(alloc, out, &logged, &lacking, counts.as_slice())?;
     put_legend(out, JudgedKind::Images)?;
     put_shown_cuts(alloc, out, run, program, failures, counts.as_slice())?;
     put(out, PagePart::SectionClose)

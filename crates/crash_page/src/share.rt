@@ -1,7 +1,7 @@
 //! Which share of the images of a cut fails, with its colour, and the legend.
 
 ghost use Rattle.std.specs.Prelude.{◌≡◌, ◌≤◌, ◌++◌, OnOk, string_bytes};
-ghost use Rattle.crash_page.specs.Shares.{one_in, is_within, share_of, share_class, none_words, share_words, key_text, lack_key, keys_open, legend_text};
+ghost use Rattle.crash_page.specs.Shares.{one_in, is_within, share_of, share_class, none_words, share_words, key_text, keys_open, legend_text};
 
 use crate::counts::{JudgedKind, put_kind};
 use crate::pieces::{PagePart, put};
@@ -114,23 +114,12 @@ fn put_key(out: &mut String, of: JudgedKind, share: Share) -> Result<(), AllocEr
     put(out, PagePart::KeyClose)
 }
 
-/// Appends how a missing flush is shown, which rows with images have alone.
-fn put_lack_key(out: &mut String, of: JudgedKind) -> Result<(), AllocError>
-    ensures { OnOk result (string_bytes out.new ≡ string_bytes out.old ++ lack_key of) }
-{
-    match of {
-        JudgedKind::Images => put(out, PagePart::LackKey),
-        JudgedKind::Cases => Ok(()),
-    }
-}
-
 /// Appends what the colours and lines of entries mean, and of what those of cuts tell.
 #[tactic(auto, unfolding(crate::specs::Shares::keys_open))]
 fn put_keys_open(out: &mut String, of: JudgedKind) -> Result<(), AllocError>
     ensures { OnOk result (string_bytes out.new ≡ string_bytes out.old ++ keys_open of) }
 {
     put(out, PagePart::Legend)?;
-    put_lack_key(out, of)?;
     put(out, PagePart::LegendRest)?;
     put(out, PagePart::KeysOpen)?;
     put_kind(out, of)?;

@@ -128,7 +128,7 @@ pub(crate) fn put_strip(
     cuts: &[CutCount],
 ) -> Result<(), AllocError>
     requires cuts { All (λ (c : CutValue). c.cut ≤ length logged.now.log.now.entries) cuts.now }
-    ensures { OnOk result (string_bytes out.new ≡ string_bytes out.old ++ strip_from logged.now.log.now.entries lacking.now.program lacking.now.flushes.now 0 cuts.now) }
+    ensures { OnOk result (string_bytes out.new ≡ string_bytes out.old ++ strip_from lacking.now.of logged.now.log.now.entries lacking.now.program lacking.now.flushes.now 0 cuts.now) }
 {
     let (plan, log) = (logged.plan, logged.log);
     let mut from = 0;

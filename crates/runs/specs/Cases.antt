@@ -11,7 +11,7 @@ use Rattle.case_runs.specs.First.{IsFirstFailing}
 use Rattle.case_text.specs.First.{first_bytes}
 use Rattle.case_text.specs.Text.{cases_bytes, is_any_failing}
 use Rattle.case_text.specs.Why.{TellsWhy}
-use Rattle.crash_page.specs.CasePage.{case_page_text}
+use Rattle.crash_page.specs.CaseFlushes.{IsCasePage}
 use Rattle.request.specs.declared.any_losses.AnyLosses.{AnyLosses}
 use Rattle.request.specs.declared.settings.CaseTelling.{CaseTelling}
 use Rattle.request.specs.declared.settings.CaseTelling.TheVariants as telling
@@ -28,7 +28,7 @@ use Rattle.runs.specs.Why.{with_first}
 abbrev pub IsTextOf : CaseTelling → ℕ → HeadValue → Losses → LogValue → List CutFound → List ℕ → Type 0
 IsTextOf telling.Cases inputs h asked value found bytes = bytes ≡ cases_bytes inputs h asked value found
 IsTextOf telling.Causes inputs h asked value found bytes = TellsWhy h asked value found bytes
-IsTextOf telling.Page inputs h asked value found bytes = bytes ≡ case_page_text h asked value found
+IsTextOf telling.Page inputs h asked value found bytes = IsCasePage h asked value found bytes
 
 -- the cases of a log that fail, at each of these cuts, with each of these checkers: there aren't too many, the text tells of them, and
 -- whether there is one

@@ -4,4 +4,4 @@ use Rattle.crash_page.specs.Blocks.{block_lack}
 use Rattle.crash_page.proofs.block.put_lacks.Given as goal
 
 abbrev pub invariant-loop-flush : goal.invariant-loop-flush
-invariant-loop-flush l = string_bytes l.out ≡ string_bytes l.initial.out ++ flat_map (block_lack l.program l.block.from l.block.to) (take l.flush-index l.flushes)
+invariant-loop-flush l = string_bytes l.out ≡ string_bytes l.initial.out ++ flat_map (block_lack l.of l.program l.block.from l.block.to) (take l.flush-index l.flushes)

@@ -4,6 +4,5 @@ use Rattle.crash_page.proofs.case_row.put_case.Goals as goal
 
 pub returns : goal.returns
 returns c =
-    case_told c.args.site.now.at c.args.site.now.tears (failing_value c.args.case.now) c.read.new.self (record { by = c.by.result; tears = c.tears-tears.result; window = c.window.result })
-    c.parts-parts.result.now c.as_slice.result.now _ _ c.parts-parts.ensures.value c.as_slice.ensures.value c.by.ensures c.tears-tears.ensures c.in_ok-read.ensures c.window.ensures
-    c.in_ok-put_row.ensures
+    case_told c.args.site.now.at c.args.site.now.tears (failing_value c.args.case.now) (record { by = c.by.result; tears = c.tears.result; window = c.in_ok-window.window }) c.parts.result.now _ _
+    c.parts.ensures.value c.by.ensures c.tears.ensures c.in_ok-window.ensures c.in_ok-put_row.ensures
