@@ -19,7 +19,7 @@ complete -c crashbpf -n __fish_use_subcommand -a help -d 'Print this message or 
 complete -c crashbpf -n '__fish_use_subcommand' -s h -l help -d 'Print help'
 complete -c crashbpf -n '__fish_use_subcommand' -s V -l version -d 'Print version'
 complete -c crashbpf -n '__fish_seen_subcommand_from help' -a 'explore why cure page images export image show log import verify check asm list join help'
-complete -c crashbpf -n '__fish_seen_subcommand_from explore' -l sectors -x -d 'Sectors of the device, 1 to 16384, with --large to 33554432'
+complete -c crashbpf -n '__fish_seen_subcommand_from explore' -l sectors -x -d 'Sectors of the device, 1 to 16384, with --large to 33554432, or base (not verify): as many as FILE of --base has'
 complete -c crashbpf -n '__fish_seen_subcommand_from explore' -l large -d 'Allow a device of 33554432 sectors, 16 GiB, and a log of 1 GiB'
 complete -c crashbpf -n '__fish_seen_subcommand_from explore' -l flush -x -d 'Go as if a flush stood right before each of these entries, up to 64'
 complete -c crashbpf -n '__fish_seen_subcommand_from explore' -l base -r -F -d 'What the device held before entry 0, from sector 0 on [default: zeros]'
@@ -40,7 +40,7 @@ complete -c crashbpf -n '__fish_seen_subcommand_from explore' -l first -d 'Repor
 complete -c crashbpf -n '__fish_seen_subcommand_from explore' -l images -x -d 'Judge the images from A to below B alone, and print the text of a part, for \'join\''
 complete -c crashbpf -n '__fish_seen_subcommand_from explore' -s h -l help -d 'Print help'
 complete -c crashbpf -n '__fish_seen_subcommand_from explore' -F
-complete -c crashbpf -n '__fish_seen_subcommand_from why' -l sectors -x -d 'Sectors of the device, 1 to 16384, with --large to 33554432'
+complete -c crashbpf -n '__fish_seen_subcommand_from why' -l sectors -x -d 'Sectors of the device, 1 to 16384, with --large to 33554432, or base (not verify): as many as FILE of --base has'
 complete -c crashbpf -n '__fish_seen_subcommand_from why' -l large -d 'Allow a device of 33554432 sectors, 16 GiB, and a log of 1 GiB'
 complete -c crashbpf -n '__fish_seen_subcommand_from why' -l flush -x -d 'Go as if a flush stood right before each of these entries, up to 64'
 complete -c crashbpf -n '__fish_seen_subcommand_from why' -l base -r -F -d 'What the device held before entry 0, from sector 0 on [default: zeros]'
@@ -60,7 +60,7 @@ complete -c crashbpf -n '__fish_seen_subcommand_from why' -l torn -x -d 'With --
 complete -c crashbpf -n '__fish_seen_subcommand_from why' -l at-most -x -d 'With --bound any, how many of them may be lost or torn, 1 to 64 [default: any number]'
 complete -c crashbpf -n '__fish_seen_subcommand_from why' -s h -l help -d 'Print help'
 complete -c crashbpf -n '__fish_seen_subcommand_from why' -F
-complete -c crashbpf -n '__fish_seen_subcommand_from cure' -l sectors -x -d 'Sectors of the device, 1 to 16384, with --large to 33554432'
+complete -c crashbpf -n '__fish_seen_subcommand_from cure' -l sectors -x -d 'Sectors of the device, 1 to 16384, with --large to 33554432, or base (not verify): as many as FILE of --base has'
 complete -c crashbpf -n '__fish_seen_subcommand_from cure' -l large -d 'Allow a device of 33554432 sectors, 16 GiB, and a log of 1 GiB'
 complete -c crashbpf -n '__fish_seen_subcommand_from cure' -l flush -x -d 'Go as if a flush stood right before each of these entries, up to 64'
 complete -c crashbpf -n '__fish_seen_subcommand_from cure' -l base -r -F -d 'What the device held before entry 0, from sector 0 on [default: zeros]'
@@ -80,7 +80,7 @@ complete -c crashbpf -n '__fish_seen_subcommand_from cure' -l torn -x -d 'With -
 complete -c crashbpf -n '__fish_seen_subcommand_from cure' -l at-most -x -d 'With --bound any, how many of them may be lost or torn, 1 to 64 [default: any number]'
 complete -c crashbpf -n '__fish_seen_subcommand_from cure' -s h -l help -d 'Print help'
 complete -c crashbpf -n '__fish_seen_subcommand_from cure' -F
-complete -c crashbpf -n '__fish_seen_subcommand_from page' -l sectors -x -d 'Sectors of the device, 1 to 16384, with --large to 33554432'
+complete -c crashbpf -n '__fish_seen_subcommand_from page' -l sectors -x -d 'Sectors of the device, 1 to 16384, with --large to 33554432, or base (not verify): as many as FILE of --base has'
 complete -c crashbpf -n '__fish_seen_subcommand_from page' -l large -d 'Allow a device of 33554432 sectors, 16 GiB, and a log of 1 GiB'
 complete -c crashbpf -n '__fish_seen_subcommand_from page' -l flush -x -d 'Go as if a flush stood right before each of these entries, up to 64'
 complete -c crashbpf -n '__fish_seen_subcommand_from page' -l base -r -F -d 'What the device held before entry 0, from sector 0 on [default: zeros]'
@@ -100,7 +100,7 @@ complete -c crashbpf -n '__fish_seen_subcommand_from page' -l torn -x -d 'With -
 complete -c crashbpf -n '__fish_seen_subcommand_from page' -l at-most -x -d 'With --bound any, how many of them may be lost or torn, 1 to 64 [default: any number]'
 complete -c crashbpf -n '__fish_seen_subcommand_from page' -s h -l help -d 'Print help'
 complete -c crashbpf -n '__fish_seen_subcommand_from page' -F
-complete -c crashbpf -n '__fish_seen_subcommand_from images' -l sectors -x -d 'Sectors of the device, 1 to 16384, with --large to 33554432'
+complete -c crashbpf -n '__fish_seen_subcommand_from images' -l sectors -x -d 'Sectors of the device, 1 to 16384, with --large to 33554432, or base (not verify): as many as FILE of --base has'
 complete -c crashbpf -n '__fish_seen_subcommand_from images' -l large -d 'Allow a device of 33554432 sectors, 16 GiB, and a log of 1 GiB'
 complete -c crashbpf -n '__fish_seen_subcommand_from images' -l flush -x -d 'Go as if a flush stood right before each of these entries, up to 64'
 complete -c crashbpf -n '__fish_seen_subcommand_from images' -l base -r -F -d 'What the device held before entry 0, from sector 0 on [default: zeros]'
@@ -115,7 +115,7 @@ complete -c crashbpf -n '__fish_seen_subcommand_from images' -l at-most -x -d 'W
 complete -c crashbpf -n '__fish_seen_subcommand_from images' -l parts -x -d 'Print also how the run is laid out in N parts, for \'explore --images\', or with --bound any for --from and --to'
 complete -c crashbpf -n '__fish_seen_subcommand_from images' -s h -l help -d 'Print help'
 complete -c crashbpf -n '__fish_seen_subcommand_from images' -F
-complete -c crashbpf -n '__fish_seen_subcommand_from export' -l sectors -x -d 'Sectors of the device, 1 to 16384, with --large to 33554432'
+complete -c crashbpf -n '__fish_seen_subcommand_from export' -l sectors -x -d 'Sectors of the device, 1 to 16384, with --large to 33554432, or base (not verify): as many as FILE of --base has'
 complete -c crashbpf -n '__fish_seen_subcommand_from export' -l large -d 'Allow a device of 33554432 sectors, 16 GiB, and a log of 1 GiB'
 complete -c crashbpf -n '__fish_seen_subcommand_from export' -l flush -x -d 'Go as if a flush stood right before each of these entries, up to 64'
 complete -c crashbpf -n '__fish_seen_subcommand_from export' -l base -r -F -d 'What the device held before entry 0, from sector 0 on [default: zeros]'
@@ -128,7 +128,7 @@ complete -c crashbpf -n '__fish_seen_subcommand_from export' -l by -x -a 'sector
 complete -c crashbpf -n '__fish_seen_subcommand_from export' -l images -x -d 'Write the images from A to below B alone'
 complete -c crashbpf -n '__fish_seen_subcommand_from export' -s h -l help -d 'Print help'
 complete -c crashbpf -n '__fish_seen_subcommand_from export' -F
-complete -c crashbpf -n '__fish_seen_subcommand_from image' -l sectors -x -d 'Sectors of the device, 1 to 16384, with --large to 33554432'
+complete -c crashbpf -n '__fish_seen_subcommand_from image' -l sectors -x -d 'Sectors of the device, 1 to 16384, with --large to 33554432, or base (not verify): as many as FILE of --base has'
 complete -c crashbpf -n '__fish_seen_subcommand_from image' -l large -d 'Allow a device of 33554432 sectors, 16 GiB, and a log of 1 GiB'
 complete -c crashbpf -n '__fish_seen_subcommand_from image' -l flush -x -d 'Go as if a flush stood right before each of these entries, up to 64'
 complete -c crashbpf -n '__fish_seen_subcommand_from image' -l base -r -F -d 'What the device held before entry 0, from sector 0 on [default: zeros]'
@@ -143,7 +143,7 @@ complete -c crashbpf -n '__fish_seen_subcommand_from image' -l choice -x -d 'Wha
 complete -c crashbpf -n '__fish_seen_subcommand_from image' -l images -d 'Allow fewer than 2^63 images, as a run has that is laid out in parts'
 complete -c crashbpf -n '__fish_seen_subcommand_from image' -s h -l help -d 'Print help'
 complete -c crashbpf -n '__fish_seen_subcommand_from image' -F
-complete -c crashbpf -n '__fish_seen_subcommand_from show' -l sectors -x -d 'Sectors of the device, 1 to 16384, with --large to 33554432'
+complete -c crashbpf -n '__fish_seen_subcommand_from show' -l sectors -x -d 'Sectors of the device, 1 to 16384, with --large to 33554432, or base (not verify): as many as FILE of --base has'
 complete -c crashbpf -n '__fish_seen_subcommand_from show' -l large -d 'Allow a device of 33554432 sectors, 16 GiB, and a log of 1 GiB'
 complete -c crashbpf -n '__fish_seen_subcommand_from show' -l flush -x -d 'Go as if a flush stood right before each of these entries, up to 64'
 complete -c crashbpf -n '__fish_seen_subcommand_from show' -l base -r -F -d 'What the device held before entry 0, from sector 0 on [default: zeros]'
@@ -158,7 +158,7 @@ complete -c crashbpf -n '__fish_seen_subcommand_from show' -l choice -x -d 'What
 complete -c crashbpf -n '__fish_seen_subcommand_from show' -l images -d 'Allow fewer than 2^63 images, as a run has that is laid out in parts'
 complete -c crashbpf -n '__fish_seen_subcommand_from show' -s h -l help -d 'Print help'
 complete -c crashbpf -n '__fish_seen_subcommand_from show' -F
-complete -c crashbpf -n '__fish_seen_subcommand_from log' -l sectors -x -d 'Sectors of the device, 1 to 16384, with --large to 33554432 [default: the most]'
+complete -c crashbpf -n '__fish_seen_subcommand_from log' -l sectors -x -d 'Sectors of the device, 1 to 16384, with --large to 33554432, or base (not verify): as many as FILE of --base has [default: the most]'
 complete -c crashbpf -n '__fish_seen_subcommand_from log' -l large -d 'Allow a device of 33554432 sectors, 16 GiB, and a log of 1 GiB'
 complete -c crashbpf -n '__fish_seen_subcommand_from log' -l flush -x -d 'Go as if a flush stood right before each of these entries, up to 64'
 complete -c crashbpf -n '__fish_seen_subcommand_from log' -l base -r -F -d 'What the device held before entry 0, from sector 0 on [default: zeros]'
@@ -167,7 +167,7 @@ complete -c crashbpf -n '__fish_seen_subcommand_from log' -F
 complete -c crashbpf -n '__fish_seen_subcommand_from import' -l large -d 'Allow a device of 33554432 sectors, 16 GiB, and a log of 1 GiB'
 complete -c crashbpf -n '__fish_seen_subcommand_from import' -s h -l help -d 'Print help'
 complete -c crashbpf -n '__fish_seen_subcommand_from import' -F
-complete -c crashbpf -n '__fish_seen_subcommand_from verify' -l sectors -x -d 'Sectors of the device, 1 to 16384, with --large to 33554432'
+complete -c crashbpf -n '__fish_seen_subcommand_from verify' -l sectors -x -d 'Sectors of the device, 1 to 16384, with --large to 33554432, or base (not verify): as many as FILE of --base has'
 complete -c crashbpf -n '__fish_seen_subcommand_from verify' -l large -d 'Allow a device of 33554432 sectors, 16 GiB, and a log of 1 GiB'
 complete -c crashbpf -n '__fish_seen_subcommand_from verify' -l guards -d 'Accept by weaker rules: runs test the places that aren\'t proved, and end where one is outside'
 complete -c crashbpf -n '__fish_seen_subcommand_from verify' -l list -d 'List each guarded slot, at which runs test a place, with its instruction'

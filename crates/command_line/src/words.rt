@@ -1,9 +1,10 @@
 //! The words of the command line, and what they ask for.
 
 ghost use Rattle.std.specs.Prelude.{◌≡◌, ◌≢◌, [], IfOk, IsOkAnd, map, option_map, string_bytes};
-ghost use Rattle.command_line.specs.Words.{limits_asked, sectors_asked, stored_run, AreAsked, AreFound, AreTaken};
+ghost use Rattle.command_line.specs.Words.{limits_asked, sectors_asked, sized_by, stored_run, AreAsked, AreFound, AreTaken};
 
 use crate::parsed::{NoNumber, Parsed};
+use crate::sized::request_on;
 use base::limits::Limits;
 use clap::builder::ValueParser;
 use clap::error::ErrorKind;
@@ -20,6 +21,7 @@ pub struct Words {
     base: Option<String>,
     choice: String,
     progress: bool,
+    is_sized: bool,
 }
 
 impl Model for Words {
@@ -28,7 +30,7 @@ impl Model for Words {
 
     ghost Value = { WordsValue };
 
-    ghost view = { λ w. record { request = w.request; files = map string_bytes w.files.items; base = option_map string_bytes w.base; choice = string_bytes w.choice; progress = w.progress } };
+    ghost view = { λ w. record { request = w.request; files = map string_bytes w.files.items; base = option_map string_bytes w.base; choice = string_bytes w.choice; progress = w.progress; is_sized = w.is_sized } };
 }
 
 /// The version of the program, and the kit that it is proved with.
@@ -223,14 +225,41 @@ fn number_option<'a>(alloc: Global, name: &'a str, help: &'a str) -> Arg<'a> {
         .help(help)
 }
 
-/// The option that says the size of the device.
-fn sectors_option<'a>(alloc: Global) -> Arg<'a> {
+/// Which words are taken where a number stands mostly. Where one is, `clap` takes each word there.
+#[derive(Clone, Copy)]
+struct Taken {
+    /// `any` after `--bound`.
+    any: bool,
+    /// `base` after `--sectors`.
+    base: bool,
+}
+
+/// What takes a number, or where a word is taken too each word.
+fn number_or_word<'a>(word: bool) -> ValueParser<'a> {
+    if word {
+        ValueParser::String
+    } else {
+        clap::value_parser!(u64)
+    }
+}
+
+/// An option that says the size of the device.
+fn size_option<'a>(alloc: Global, taken: Taken, help: &'a str) -> Arg<'a> {
     Arg::new(alloc, "sectors")
         .long("sectors")
         .value_name("N")
-        .required(true)
-        .value_parser(clap::value_parser!(u64))
-        .help("Sectors of the device, 1 to 16384, with --large to 33554432")
+        .value_parser(number_or_word(taken.base))
+        .help(help)
+}
+
+/// The option that says the size of the device.
+fn sectors_option<'a>(alloc: Global, taken: Taken) -> Arg<'a> {
+    size_option(
+        alloc,
+        taken,
+        "Sectors of the device, 1 to 16384, with --large to 33554432, or base (not verify): as many as FILE of --base has",
+    )
+    .required(true)
 }
 
 /// The option that allows large logs and devices.
@@ -279,17 +308,12 @@ fn range_option<'a>(alloc: Global, name: &'a str, help: &'a str) -> Arg<'a> {
         .help(help)
 }
 
-/// The option that says how many parts may depart. Where it is to take `any` it takes each word.
-fn bound_option<'a>(alloc: Global, any: bool) -> Arg<'a> {
-    let parser = if any {
-        ValueParser::String
-    } else {
-        clap::value_parser!(u64)
-    };
+/// The option that says how many parts may depart.
+fn bound_option<'a>(alloc: Global, taken: Taken) -> Arg<'a> {
     Arg::new(alloc, "bound")
         .long("bound")
         .value_name("N")
-        .value_parser(parser)
+        .value_parser(number_or_word(taken.any))
         .help(
             "How many sectors, or by write how many writes, may be lost or torn, 0 to 3, or any (not export) [default: 1]",
         )
@@ -320,9 +344,9 @@ fn with_command<'a>(
 }
 
 /// A command on a log, with the options that say which of its crash images are meant.
-fn log_command<'a>(alloc: Global, name: &'a str, any: bool) -> Result<Command<'a>, AllocError> {
+fn log_command<'a>(alloc: Global, name: &'a str, taken: Taken) -> Result<Command<'a>, AllocError> {
     Command::new(alloc, name)
-        .arg(sectors_option(alloc))?
+        .arg(sectors_option(alloc, taken))?
         .arg(large_option(alloc))?
         .arg(flush_option(alloc))?
         .arg(base_option(alloc))?
@@ -338,7 +362,7 @@ fn log_command<'a>(alloc: Global, name: &'a str, any: bool) -> Result<Command<'a
             "to",
             "The last of the cuts [default: the last of the log]",
         ))?
-        .arg(bound_option(alloc, any))?
+        .arg(bound_option(alloc, taken))?
         .arg(flag_option(
             alloc,
             "tears",
@@ -456,32 +480,32 @@ fn with_losses<'a>(alloc: Global, command: Command<'a>) -> Result<Command<'a>, A
 }
 
 /// The command `why`.
-fn why_command<'a>(alloc: Global, any: bool) -> Result<Command<'a>, AllocError> {
-    let command = log_command(alloc, "why", any)?
+fn why_command<'a>(alloc: Global, taken: Taken) -> Result<Command<'a>, AllocError> {
+    let command = log_command(alloc, "why", taken)?
         .about("Tells which losses make a checker fail, cut by cut")
         .after_help(AFTER_WHY);
     with_losses(alloc, with_report(alloc, command)?)
 }
 
 /// The command `cure`.
-fn cure_command<'a>(alloc: Global, any: bool) -> Result<Command<'a>, AllocError> {
-    let command = log_command(alloc, "cure", any)?
+fn cure_command<'a>(alloc: Global, taken: Taken) -> Result<Command<'a>, AllocError> {
+    let command = log_command(alloc, "cure", taken)?
         .about("Tells before which entries a flush is missing, and what fails with these flushes")
         .after_help(AFTER_CURE);
     with_losses(alloc, with_report(alloc, command)?)
 }
 
 /// The command `page`.
-fn page_command<'a>(alloc: Global, any: bool) -> Result<Command<'a>, AllocError> {
-    let command = log_command(alloc, "page", any)?
+fn page_command<'a>(alloc: Global, taken: Taken) -> Result<Command<'a>, AllocError> {
+    let command = log_command(alloc, "page", taken)?
         .about("Shows the log and the failing cuts as a page for a browser")
         .after_help(AFTER_PAGE);
     with_losses(alloc, with_report(alloc, command)?)
 }
 
 /// The command `explore`.
-fn explore_command<'a>(alloc: Global, any: bool) -> Result<Command<'a>, AllocError> {
-    let command = log_command(alloc, "explore", any)?
+fn explore_command<'a>(alloc: Global, taken: Taken) -> Result<Command<'a>, AllocError> {
+    let command = log_command(alloc, "explore", taken)?
         .about("Reports the crash images on which a checker doesn't answer 0")
         .after_help(AFTER_EXPLORE);
     with_run_options(alloc, command)?
@@ -510,8 +534,8 @@ fn wide_option<'a>(alloc: Global) -> Arg<'a> {
 }
 
 /// The command `images`.
-fn images_command<'a>(alloc: Global, any: bool) -> Result<Command<'a>, AllocError> {
-    log_command(alloc, "images", any)?
+fn images_command<'a>(alloc: Global, taken: Taken) -> Result<Command<'a>, AllocError> {
+    log_command(alloc, "images", taken)?
         .about("Tells how many crash images each cut of a log has")
         .after_help(AFTER_IMAGES)
         .arg(wide_option(alloc))?
@@ -524,8 +548,8 @@ fn images_command<'a>(alloc: Global, any: bool) -> Result<Command<'a>, AllocErro
 }
 
 /// The command `export`.
-fn export_command<'a>(alloc: Global, any: bool) -> Result<Command<'a>, AllocError> {
-    log_command(alloc, "export", any)?
+fn export_command<'a>(alloc: Global, taken: Taken) -> Result<Command<'a>, AllocError> {
+    log_command(alloc, "export", taken)?
         .about("Writes the bytes of all crash images, each by the sectors in which it differs")
         .after_help(AFTER_EXPORT)
         .arg(word_option(
@@ -575,26 +599,30 @@ fn choice_option<'a>(alloc: Global) -> Result<Arg<'a>, AllocError> {
 }
 
 /// A command on one crash image of a log.
-fn named_command<'a>(alloc: Global, name: &'a str, any: bool) -> Result<Command<'a>, AllocError> {
-    let command = with_arg(log_command(alloc, name, any)?, cut_option(alloc))?;
+fn named_command<'a>(
+    alloc: Global,
+    name: &'a str,
+    taken: Taken,
+) -> Result<Command<'a>, AllocError> {
+    let command = with_arg(log_command(alloc, name, taken)?, cut_option(alloc))?;
     let command = with_arg(command, choice_option(alloc))?;
     let command = command.arg(wide_option(alloc))?;
     with_arg(command, image_number(alloc))
 }
 
 /// The command `image`.
-fn image_command<'a>(alloc: Global, any: bool) -> Result<Command<'a>, AllocError> {
+fn image_command<'a>(alloc: Global, taken: Taken) -> Result<Command<'a>, AllocError> {
     Ok(
-        named_command(alloc, "image", any)?
+        named_command(alloc, "image", taken)?
             .about("Writes the bytes of one crash image, sector after sector")
             .after_help(AFTER_IMAGE),
     )
 }
 
 /// The command `show`.
-fn show_command<'a>(alloc: Global, any: bool) -> Result<Command<'a>, AllocError> {
+fn show_command<'a>(alloc: Global, taken: Taken) -> Result<Command<'a>, AllocError> {
     Ok(
-        named_command(alloc, "show", any)?
+        named_command(alloc, "show", taken)?
             .about(
                 "Tells one crash image in words: its cut, what was lost or torn, and which bytes differ",
             )
@@ -603,14 +631,14 @@ fn show_command<'a>(alloc: Global, any: bool) -> Result<Command<'a>, AllocError>
 }
 
 /// The command `log`.
-fn table_command<'a>(alloc: Global) -> Result<Command<'a>, AllocError> {
+fn table_command<'a>(alloc: Global, taken: Taken) -> Result<Command<'a>, AllocError> {
     Command::new(alloc, "log")
         .about("Prints the entries of a log")
         .after_help(AFTER_LOG)
-        .arg(number_option(
+        .arg(size_option(
             alloc,
-            "sectors",
-            "Sectors of the device, 1 to 16384, with --large to 33554432 [default: the most]",
+            taken,
+            "Sectors of the device, 1 to 16384, with --large to 33554432, or base (not verify): as many as FILE of --base has [default: the most]",
         ))?
         .arg(large_option(alloc))?
         .arg(flush_option(alloc))?
@@ -656,11 +684,11 @@ fn guards_list_option<'a>(alloc: Global) -> Result<Arg<'a>, AllocError> {
 }
 
 /// The command `verify`.
-fn verify_command<'a>(alloc: Global) -> Result<Command<'a>, AllocError> {
+fn verify_command<'a>(alloc: Global, taken: Taken) -> Result<Command<'a>, AllocError> {
     let command = file_command(alloc, "verify", "PROGRAM", "A BPF program, as bytes")?
         .about("Says with which budget of steps the verifier accepts a program")
         .after_help(AFTER_VERIFY)
-        .arg(sectors_option(alloc))?
+        .arg(sectors_option(alloc, taken))?
         .arg(large_option(alloc))?
         .arg(guards_option(alloc))?;
     with_arg(command, guards_list_option(alloc))
@@ -748,8 +776,8 @@ fn join_command<'a>(alloc: Global) -> Result<Command<'a>, AllocError> {
         .arg(texts)
 }
 
-/// All commands. Where `--bound` is to take `any` it takes each word.
-fn commands<'a>(alloc: Global, any: bool) -> Result<Command<'a>, AllocError> {
+/// All commands.
+fn commands<'a>(alloc: Global, taken: Taken) -> Result<Command<'a>, AllocError> {
     let command = Command::new(alloc, "crashbpf")
         .bin_name("crashbpf")?
         .about(ABOUT)
@@ -757,17 +785,17 @@ fn commands<'a>(alloc: Global, any: bool) -> Result<Command<'a>, AllocError> {
         .version(VERSION)
         .no_binary_name(true)
         .subcommand_required(true);
-    let command = with_command(command, explore_command(alloc, any))?;
-    let command = with_command(command, why_command(alloc, any))?;
-    let command = with_command(command, cure_command(alloc, any))?;
-    let command = with_command(command, page_command(alloc, any))?;
-    let command = with_command(command, images_command(alloc, any))?;
-    let command = with_command(command, export_command(alloc, any))?;
-    let command = with_command(command, image_command(alloc, any))?;
-    let command = with_command(command, show_command(alloc, any))?;
-    let command = with_command(command, table_command(alloc))?;
+    let command = with_command(command, explore_command(alloc, taken))?;
+    let command = with_command(command, why_command(alloc, taken))?;
+    let command = with_command(command, cure_command(alloc, taken))?;
+    let command = with_command(command, page_command(alloc, taken))?;
+    let command = with_command(command, images_command(alloc, taken))?;
+    let command = with_command(command, export_command(alloc, taken))?;
+    let command = with_command(command, image_command(alloc, taken))?;
+    let command = with_command(command, show_command(alloc, taken))?;
+    let command = with_command(command, table_command(alloc, taken))?;
     let command = with_command(command, import_command(alloc))?;
-    let command = with_command(command, verify_command(alloc))?;
+    let command = with_command(command, verify_command(alloc, taken))?;
     let command = with_command(command, check_command(alloc))?;
     let command = with_command(command, asm_command(alloc))?;
     let command = with_command(command, list_command(alloc))?;
@@ -783,24 +811,36 @@ fn number_fault(alloc: Global, no: &NoNumber<'_>) -> Result<Error, AllocError> {
         message,
         "invalid value '{word}' for '{option}': a number has no sign and no zero in front"
     )?;
-    let mut command = commands(alloc, false)?;
+    let taken = Taken {
+        any: false,
+        base: false,
+    };
+    let mut command = commands(alloc, taken)?;
     command.error(ErrorKind::ValueValidation, message.as_str())
 }
 
-/// Whether `any` stands after `--bound`. Without it `--bound` takes numbers alone, and `clap` says what is wrong with others.
-fn has_any(words: &[String]) -> bool {
-    let mut is_bound = false;
+/// Which words stand in the place of a number. Without them options take numbers alone, and `clap` says what is wrong with others.
+fn taken_of(words: &[String]) -> Taken {
+    let mut taken = Taken {
+        any: false,
+        base: false,
+    };
+    let (mut is_bound, mut is_sectors) = (false, false);
     for word in words {
         let word = word.as_str();
-        if word == "--bound=any" || (is_bound && word == "any") {
-            return true;
-        }
         if word == "--" {
-            return false;
+            return taken;
+        }
+        if word == "--bound=any" || (is_bound && word == "any") {
+            taken.any = true;
+        }
+        if word == "--sectors=base" || (is_sectors && word == "base") {
+            taken.base = true;
         }
         is_bound = word == "--bound";
+        is_sectors = word == "--sectors";
     }
-    false
+    taken
 }
 
 impl Words {
@@ -814,6 +854,7 @@ impl Words {
             base: None,
             choice: String::new(alloc),
             progress: false,
+            is_sized: false,
         }
     }
 
@@ -827,6 +868,7 @@ impl Words {
             base: parsed.base_file(alloc)?,
             choice: parsed.choice_text(alloc)?,
             progress: parsed.progress,
+            is_sized: parsed.is_sized,
         })
     }
 
@@ -859,7 +901,7 @@ impl Words {
         if words.is_empty() {
             return Ok(Words::of_stored_run(alloc));
         }
-        let matches = commands(alloc, has_any(words))?.try_get_matches_from(words)?;
+        let matches = commands(alloc, taken_of(words))?.try_get_matches_from(words)?;
         Ok(Words::of_matches(alloc, &matches)?)
     }
 
@@ -928,6 +970,24 @@ impl Words {
             Request::Import(limits) => limits,
             Request::StoredRun | Request::Join { .. } => Limits::Usual,
             Request::Asm | Request::List { .. } => Limits::Usual,
+        }
+    }
+
+    /// Whether the device has the size of what it held before: `base` stands after `--sectors`.
+    pub fn is_sized(&self) -> bool
+        ensures { result ≡ self.now.is_sized }
+    {
+        self.is_sized
+    }
+
+    /// From here on a device of that many sectors is asked for, where it is to have the size of what it held before and that is known.
+    pub fn set_size(&mut self, sectors: Option<u64>)
+        ensures { self.new ≡ sized_by self.old sectors }
+    {
+        if let Some(sectors) = sectors {
+            if self.is_sized {
+                self.request = request_on(&self.request, sectors);
+            }
         }
     }
 

@@ -21,7 +21,8 @@
 //! `run` performs the command on what was read of its files, and ends by that (`specs/Ending.antt`): with an answer of the command, all of
 //! it written, and its status; or with status 2, where only the first bytes of an answer were written, or where the command is refused
 //! and nothing was. `read_and_run` does so on what `Inputs::read` read for the words: of the files that they name, in their order, and
-//! of the one after `--base`, within the limits that they ask for; the file of `--report` is read as a report (`files_name`). What a file of the system holds and what standard output takes
+//! of the one after `--base`, within the limits that they ask for; the file of `--report` is read as a report (`files_name`). With
+//! `--sectors base` the command is performed as with the number of whole sectors of the file after `--base` (`meant`). What a file of the system holds and what standard output takes
 //! no contract can say. Nor does one say what stands on standard error. That is shown by runs of the built program.
 #![tactic(auto)]
 
@@ -33,7 +34,7 @@ ghost use Rattle.commands.specs.Acting.{Answers, RefusesToAct};
 ghost use Rattle.commands.specs.Exits.{Exits};
 ghost use Rattle.std.specs.Thread.{IsSync};
 ghost use Rattle.input_files.specs.Reads.{AreInputs};
-ghost use Rattle.crashbpf.specs.Ending.{held_in, files_name, Ends, EndsOn};
+ghost use Rattle.crashbpf.specs.Ending.{held_in, files_name, meant, Ends, EndsOn};
 
 use base::refusal::Refusal;
 use clap::error::ErrorKind as WordsFault;
@@ -303,15 +304,29 @@ fn files_name<'a>(command: &'a str, words: &Words) -> &'a str
     }
 }
 
+/// Performs a command on the files that were read for it, with `--sectors base` on a device of the size that one of them has, and ends
+/// as it says.
+fn run_on_device<R: AllocGlobal + Eprint + Clock + Threads + Wait + Sync, W: Write>(
+    rt: &R,
+    words: &mut Words,
+    inputs: &Inputs,
+    writer: W,
+) -> CommandEnd<W>
+    ensures { Ends (Answers (meant words.old inputs.now).request (held_in inputs.now (meant words.old inputs.now).choice)) (RefusesToAct (meant words.old inputs.now).request (held_in inputs.now (meant words.old inputs.now).choice)) (W.contents writer) (W.contents result.writer) result.status }
+{
+    words.set_size(inputs.base_sectors());
+    run(rt, words, inputs, writer)
+}
+
 /// Reads the files of a command, and performs it.
 fn read_and_run<S: FileSource + AllocGlobal + Eprint + Clock + Threads + Wait + Sync, W: Write>(
     rt: &S,
     command: &str,
-    words: &Words,
+    words: &mut Words,
     writer: W,
 ) -> CommandEnd<W>
-    ensures { EndsOn (AreInputs S.named S.File.remaining (files_name words.now.request command.now) (sectors_asked words.now.request) (limits_asked words.now.request) words.now.files words.now.base)
-        (λ i. Ends (Answers words.now.request (held_in i words.now.choice)) (RefusesToAct words.now.request (held_in i words.now.choice)) (W.contents writer) (W.contents result.writer) result.status)
+    ensures { EndsOn (AreInputs S.named S.File.remaining (files_name words.old.request command.now) (sectors_asked words.old.request) (limits_asked words.old.request) words.old.files words.old.base)
+        (λ i. Ends (Answers (meant words.old i).request (held_in i (meant words.old i).choice)) (RefusesToAct (meant words.old i).request (held_in i (meant words.old i).choice)) (W.contents writer) (W.contents result.writer) result.status)
         (W.contents writer) (W.contents result.writer) result.status }
 {
     let size = DeviceSize {
@@ -325,7 +340,7 @@ fn read_and_run<S: FileSource + AllocGlobal + Eprint + Clock + Threads + Wait + 
         words.base(),
         &size,
     ) {
-        Ok(inputs) => run(rt, words, &inputs, writer),
+        Ok(inputs) => run_on_device(rt, words, &inputs, writer),
         Err(refusal) => {
             let status = print_refusal(rt, &refusal);
             print_notes(
@@ -388,7 +403,7 @@ fn start<R: Env + FileSource + AllocGlobal + Print + Eprint + Clock + Threads + 
     };
     let command = words.first().map(|word| word.as_str()).unwrap_or("");
     match Words::of(rt.alloc(), words.as_slice()) {
-        Ok(words) => read_and_run(rt, command, &words, io::writer(rt)).status,
+        Ok(mut words) => read_and_run(rt, command, &mut words, io::writer(rt)).status,
         Err(fault) if fault.kind() == WordsFault::OutOfMemory => print_text(rt, &fault),
         Err(_fault) => print_fault(rt, words.as_slice()),
     }
