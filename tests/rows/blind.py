@@ -104,7 +104,7 @@ def noted(name, run, names, more="", checked=None, command="explore", out=None, 
     words = f"{command} log {' '.join(f'p{number}' for number in range(len(programs)))} {options}"
     text = Long(lambda: explored(run, checkers, " --first" in more)) if out is None else out(run, programs, checkers)
     told = f"{more} --checked {checked}" if checked else more
-    return Row(f"blind: {command}, {name}: {', '.join(names)}{told}", words, content, text, status, notes=[*said, *promise_notes(run), *flush_notes(run), *large_notes(run), *forced_notes(run), *one_loss_notes(run, command)])
+    return Row(f"blind: {command}, {name}: {', '.join(names)}{told}", words, content, text, status, notes=[*said, *promise_notes(run), *flush_notes(run), *large_notes(run), *forced_notes(run), *([] if "--images" in more else one_loss_notes(run, command))])
 
 
 def anything(run, programs, checkers):

@@ -192,7 +192,7 @@ PAIRS["at-most"]["images"] = dict(two=["images log --sectors 4 --bound any", "im
 # A part of the images, and a log with too many.
 TOO_MANY = "--sectors 3000 --bound 3"
 PAIRS["images"] = {
-    "explore": dict(two=["explore log p0 --sectors 4", "explore log p0 --sectors 4 --images 0..2"], statuses=(1, 1), differ=("out 1", "out -1"), holds=("crash part 1\n",)),
+    "explore": dict(two=["explore log p0 --sectors 4", "explore log p0 --sectors 4 --images 0..2"], statuses=(1, 1), differ=("out 1", "out -1", "error"), holds=("crash part 1\n",)),
     "export": dict(two=["export log --sectors 4", "export log --sectors 4 --images 0..2"], differ=("out",), holds=("total 2 new 2\n",)),
     "images": refusing(f"images wide {TOO_MANY}", "--images", "", "refused 12 at 1"),
     "image": refusing(f"image wide 0 {TOO_MANY}", "--images", "", "refused 12 at 1"),

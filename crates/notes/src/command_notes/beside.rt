@@ -10,7 +10,7 @@ use crate::put_note;
 use command_line::Words;
 use epochs::{By, CutKind};
 use request::facts::Facts;
-use request::{OptionWords, Request};
+use request::{Extent, OptionWords, Request};
 use std::alloc::{AllocError, Global};
 
 /// Appends what no run reaches of the programs that were verified for a run, by their numbers, and which pass without looking at what
@@ -71,9 +71,9 @@ fn put_flush_notes(
     }
 }
 
-/// Appends that an image loses at most one part, where that is asked for: so it is without an option.
+/// Appends that an image loses at most one part, where that is asked of a whole run: so it is without an option.
 fn put_one_loss(out: &mut String, options: OptionWords) -> Result<(), AllocError> {
-    if options.bound != 1 {
+    if options.bound != 1 || !matches!(options.images, Some(Extent::Whole)) {
         return Ok(());
     }
     match options.by {
@@ -105,7 +105,7 @@ fn put_survey_notes(
 /// promise what nothing made durable (`log` and the commands of a run), that `--cuts flush` has one cut (the commands of a run, `images`
 /// and `export`, where no entry is a flush), how many writes never depart as a whole, and how many entries
 /// with FUA aren't torn (`images` and the commands of a run; not where any number of losses is explored, by which each write may be
-/// dropped, and one with FUA torn while it is in flight), and that an image loses at most one part (`explore`). Each line begins with
+/// dropped, and one with FUA torn while it is in flight), and that an image loses at most one part (`explore` of a whole run). Each line begins with
 /// `note: `; mostly there is none.
 pub fn notes_beside(alloc: Global, words: &Words, facts: &Facts) -> Result<String, AllocError> {
     let mut out = String::new(alloc);
