@@ -11,7 +11,8 @@
 //! The top. What a command answers, with which status, and when it is refused, is all decided by
 //! `commands`, whose `perform` takes what the files hold and tells how the process ends. `input_files` reads
 //! them. Here that is carried out: the answer is written to standard output, or a refusal's line to standard
-//! error, and the status is the one that `perform` tells, or 2 where standard output takes no more. Notes stand
+//! error, and the status is the one that `perform` tells, or 2 where standard output takes no more. That has a line on standard error,
+//! but for a pipe that nobody reads any more (`unwritten_line`): so a command ends quietly before `head`. Notes stand
 //! on standard error in both cases, and change neither the status nor standard output; nor do the line that
 //! says how far an exploration is, and the note of how large its report may get, which come before them. Want
 //! of memory is a refusal wherever it is met, and its line is written also where there is no memory for a text.
@@ -26,7 +27,7 @@
 //! no contract can say. Nor does one say what stands on standard error. That is shown by runs of the built program.
 #![tactic(auto)]
 
-ghost use Rattle.std.specs.Prelude.{◌≡◌, ◌<◌, length, take, OnOk, OnErr, IfErr};
+ghost use Rattle.std.specs.Prelude.{◌≡◌, ◌<◌, [], IsTrue, length, take, OnOk, OnErr, IfErr};
 ghost use Rattle.std.specs.Io.KnownBytes.{Appends};
 ghost use Rattle.request.specs.declared.command.Request.TheVariants as asks;
 ghost use Rattle.command_line.specs.Words.{limits_asked, sectors_asked};
@@ -58,6 +59,13 @@ const REFUSED: u8 = 2;
 
 /// The line of a standard output that takes no more.
 const UNWRITTEN: &str = "crashbpf: standard output can't be written\n";
+
+/// The line of a standard output that takes no more: none where it is a pipe that nobody reads any more.
+fn unwritten_line(is_unread: bool) -> &'static str
+    ensures { IsTrue is_unread → result.now ≡ [] }
+{
+    if is_unread { "" } else { UNWRITTEN }
+}
 
 /// The line of words that are no text.
 const NO_TEXT: &str = "error: the command line is not UTF-8\n";
@@ -105,14 +113,15 @@ fn print_notes<R: Eprint>(rt: &R, notes: Result<String, AllocError>) {
     }
 }
 
-/// Writes an answer, and says whether all of it was written: else how many bytes were.
-fn put_answer<W: Write>(writer: W, answer: &[u8]) -> (Result<(), u64>, W)
+/// Writes an answer, and says whether all of it was written: else how many bytes were, and last whether that is since nobody reads it.
+fn put_answer<W: Write>(writer: W, answer: &[u8]) -> (Result<(), u64>, W, bool)
     ensures whole { OnOk result.0 (Appends (W.contents writer) (W.contents result.1) answer.now) }
     ensures part { IfErr result.0 (λ n. (n < length answer.now) × Appends (W.contents writer) (W.contents result.1) (take n answer.now)) }
 {
     let mut output = Output::new(writer);
     let written = emit(&mut output, answer);
-    (written, output.into_writer())
+    let is_unread = output.is_unread();
+    (written, output.into_writer(), is_unread)
 }
 
 /// Performs a command on the files that were read for it.
@@ -191,9 +200,9 @@ fn run_whole<R: AllocGlobal + Eprint + Clock + Threads + Wait + Sync, W: Write>(
     let exit = performed(rt, words, inputs);
     match exit.refusal {
         None => {
-            let (written, writer) = put_answer(writer, exit.output.as_slice());
+            let (written, writer, is_unread) = put_answer(writer, exit.output.as_slice());
             if written.is_err() {
-                let status = print_line(rt, UNWRITTEN);
+                let status = print_line(rt, unwritten_line(is_unread));
                 return CommandEnd { status, writer };
             }
             print_notes(rt, notes_beside(rt.alloc(), words, &exit.facts));
@@ -275,7 +284,8 @@ fn print_cut<R: AllocGlobal + Eprint>(rt: &R, fault: StreamFault) -> u8
 {
     match fault {
         StreamFault::Memory => print_refusal(rt, &Refusal::of_memory()),
-        StreamFault::Unwritten => print_line(rt, UNWRITTEN),
+        StreamFault::Unwritten => print_line(rt, unwritten_line(false)),
+        StreamFault::Unread => print_line(rt, unwritten_line(true)),
     }
 }
 
@@ -380,7 +390,10 @@ fn status_after<R: Eprint>(rt: &R, printed: io::Result<()>, status: u8) -> u8
 {
     match printed {
         Ok(()) => status,
-        Err(_error) => print_line(rt, UNWRITTEN),
+        Err(error) => {
+            let is_unread = error.kind() == ErrorKind::BrokenPipe;
+            print_line(rt, unwritten_line(is_unread))
+        }
     }
 }
 
