@@ -34,7 +34,7 @@
 //! printed of it, and what is asked for is what
 //! docs/COMMANDS.md says of them: the command, its options, the image that is meant, the files, and whether `--progress` stands
 //! there (`asked`; `specs/Parsed.antt`, `specs/Words.antt`). What `clap` takes, and what it finds, is `clap`'s: runs of the
-//! built program show it.
+//! built program show it. What `--sectors base` asks for once the size is known is what the number asks for (`sized_is_numbered`).
 //!
 //! # Example
 //!
@@ -75,4 +75,5 @@ mod sized;
 mod words;
 
 pub use parsed::Parsed;
+pub use sized::sized_is_numbered;
 pub use words::Words;

@@ -1,6 +1,7 @@
 //! What is asked for on a device that has the size of what it held before.
 
 ghost use Rattle.std.specs.Prelude.{◌≡◌};
+ghost use Rattle.command_line.specs.Sized.{SizedIsNumbered};
 ghost use Rattle.command_line.specs.Words.{options_on, request_on};
 
 use request::{OptionWords, Request};
@@ -60,3 +61,9 @@ pub(crate) fn request_on(request: &Request, sectors: u64) -> Request
         Request::Join { part } => Request::Join { part: *part },
     }
 }
+
+/// What the words ask for on a device of some sectors is what they ask for with that number after `--sectors`. The function does
+/// nothing; its contract is a theorem.
+pub fn sized_is_numbered()
+    ensures { SizedIsNumbered }
+{}
