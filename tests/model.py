@@ -314,6 +314,12 @@ def forced_notes(run):
     return [f"entries with FUA: {forced}; {words}"]
 
 
+def flush_notes(run):
+    """What is noted of a log without a flush where the cuts before flushes are asked for."""
+    flushed = any(it.flags & FLUSH for it in run.entries)
+    return ["no entry is a flush, so --cuts flush has the one cut at the end; ask without --cuts"] if run.cuts == "flush" and not flushed else []
+
+
 def one_loss_notes(run, command="explore"):
     """What is noted of a run in whose images at most one part is lost or torn, as it is without an option."""
     words = "is lost or torn; --bound any explores every loss (docs/CRASH-MODEL.md, What a clean report doesn't say)"

@@ -16,7 +16,8 @@ A pair is two runs that differ in one option, and the places where what they pri
 
 After the rows it looks whether docs/crashbpf.1 is what the program's help says, whether the tables of docs/ that
 tools/document_tables.py makes are those of the help and the sources, and whether text on a page has enough contrast. It also looks
-whether each command and each option of the help is tried: by a pair, and by an output that can't be written.
+whether each command and each option of the help is tried: by a pair, and by an output that can't be written; and whether each help
+fits in 80 columns.
 
 What is printed is a line for each row that failed, with what differed, and last
 
@@ -440,6 +441,12 @@ def manual_differs(program):
     return output_differs("the man page", (TOP / "docs/crashbpf.1").read_bytes(), made.stdout)
 
 
+def help_too_wide(program):
+    """Which lines of the program's helps are wider than a terminal of 80 columns."""
+    helps = {name: man_page.help_of(program, *name.split()) for name in ["", *man_page.commands_in(man_page.help_of(program))]}
+    return [f"the help of '{name}' has {len(line)} columns: {line}" for name, text in helps.items() for line in text.split("\n") if len(line) > 80]
+
+
 def progress_lacks(program):
     """What is wrong with the progress of a run whose one image takes seconds: each second has a line."""
     with tempfile.TemporaryDirectory() as folder:
@@ -483,8 +490,8 @@ def main(words):
     names = [row.name for row in rows]
     names += ["the man page is the program's help", "the tables of docs/ are those of the help and the sources"]
     names += ["a run that takes long says its progress each second"]
-    names += ["text on a page has enough contrast", "each option and each command of the help is tried"]
-    results += [manual_differs(program), tables_differ(), progress_lacks(program), contrast.too_low(), help_lacks(program)]
+    names += ["text on a page has enough contrast", "each option and each command of the help is tried", "each help fits in 80 columns"]
+    results += [manual_differs(program), tables_differ(), progress_lacks(program), contrast.too_low(), help_lacks(program), help_too_wide(program)]
     failed = 0
     for name, found in zip(names, results):
         if found:

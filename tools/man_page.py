@@ -58,15 +58,21 @@ def is_list(block):
 
 
 def items_of(block):
-    """Returns the items of such a block, each with what is said of it."""
-    return [re.split(r" {2,}", it.strip(), maxsplit=1) for it in block.split("\n")[1:]]
+    """Returns the items of such a block, each with what is said of it, in its lines."""
+    items = []
+    for line in block.split("\n")[1:]:
+        if re.match(r"(?: {2}| {6})(?=\S)", line):
+            items.append(re.split(r" {2,}", line.strip(), maxsplit=1))
+        else:
+            items[-1][1] += f"\n{line.strip()}"
+    return items
 
 
 def block_of(title, items):
-    """Returns such a block as the help has it: what is said of the items begins in one column."""
+    """Returns such a block as the help has it: what is said of the items begins in one column, each line of it."""
     begun = [f"{'      ' if item.startswith('--') else '  '}{item}" for item, _ in items]
     width = max(map(len, begun)) + 2
-    return "\n".join([f"{title}:", *(item.ljust(width) + says for item, (_, says) in zip(begun, items))])
+    return "\n".join([f"{title}:", *(item.ljust(width) + says.replace("\n", "\n" + " " * width) for item, (_, says) in zip(begun, items))])
 
 
 def set_out(text):

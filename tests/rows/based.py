@@ -1,9 +1,10 @@
 """Devices that held something before entry 0: reports, surveys, images, images in words, causes, cures and pages over what `--base`
 gives, compared with the model (model.py); how long it may be, and what is refused."""
+import re
 from dataclasses import replace
 
 from model import Run, explored, shown
-from notation import SECTOR, D, Folder, Long, Row, S, W, explore, files, refused
+from notation import SECTOR, D, Folder, Hole, Long, Row, S, W, explore, files, lines, log, refused
 
 from rows.browser import modelled as paged
 from rows.flushes import modelled as cured
@@ -104,6 +105,42 @@ ENDS = [
     ),
 ]
 
+# With `--sectors base` the device has as many sectors as its base.
+def sized(row):
+    """A row, with the word `base` in place of the number of sectors."""
+    words = re.sub(r"--sectors \d+", "--sectors base", row.words)
+    assert words != row.words, row.words
+    return replace(row, name=f"sized: {row.name}", words=words)
+
+
+SIZED_BASE = "refused 13 at 14", "with --sectors base the file of --base has 1 to 16384 whole sectors of 512 bytes, with --large to 33554432"
+SIZED_LARGE = "with --sectors base and --large the file of --base has 1 to 33554432 whole sectors of 512 bytes"
+UNSIZED = "--sectors base takes the size from the file of --base, and there is none"
+
+
+def unsized(name, words, content, error, *notes):
+    return Row(f"sized: {name}", words, content, status=2, error=error, notes=notes or None)
+
+
+SIZED = [
+    *(sized(with_base(row, run)) for name, run in ALL[4::12] if len(run.base) == SECTOR * run.sectors for row in modelled(name, run)),
+    *(sized(row) for row in in_words(TORN)),
+    sized(with_base(cured("cure", TORN), TORN)),
+    sized(with_base(replace(paged("torn", TORN), name="page"), TORN)),
+    sized(with_base(explore("explore", FULL.options(), FULL.recorded, PROGRAMS, explored(FULL, CHECKERS), 1), FULL)),
+    Row("sized: log", "log log --sectors base --base base", held(bytes(4 * SECTOR)), "entry 0 epoch 0 write sector 0 count 1\n"),
+    Row("sized: the largest device", "images log --sectors base --base base --cuts flush", held(Hole(16384 * SECTOR)), lines("cut 1 epoch 0 marks 0 volatile 1 images 2\ntotal 2")),
+    *(unsized(f"{bytes_} bytes", "explore log p0 --sectors base --base base", held(bytes(bytes_)), *SIZED_BASE) for bytes_ in (SECTOR + 1, 2 * SECTOR - 1, 4 * SECTOR + 511)),
+    *(unsized(f"{bytes_} bytes", "explore log p0 --sectors base --base base", held(bytes(bytes_)), "refused 13 at 1", SIZED_BASE[1]) for bytes_ in (0, 1, SECTOR - 1)),
+    *(unsized(f"{more} bytes more than the largest device", "images log --sectors base --base base", held(Hole(16384 * SECTOR + more)), *SIZED_BASE) for more in (1, SECTOR)),
+    unsized("a base of large devices", "images log --sectors base --base base --large", held(Hole(16385 * SECTOR + 1)), "refused 13 at 14", SIZED_LARGE),
+    unsized("no base", "explore log p0 --sectors base", ONE, "refused 13 at 1", UNSIZED),
+    unsized("no base of verify", "verify p0 --sectors base", ONE, "refused 13 at 1", UNSIZED),
+    unsized("no base, after a word", "images log --sectors=base --cuts x", ONE, "refused 13 at 7", "--cuts is all, flush or mark"),
+    unsized("a base that can't be read", "explore log p0 --sectors base --base other", ONE, "refused 14 at 2"),
+    unsized("a base that is shorter than the log", "images log --sectors base --base base", {"log": log([W(1, 1, 1)]), "base": bytes(SECTOR)}, "refused 9 at 0"),
+]
+
 ROWS = [
     *(with_base(row, run) for name, run in ALL[::3] for row in modelled(name, run)),
     *(with_base(row, run) for run in [TORN, LARGE] for row in imaged(run.options(), run, range(0, count(run), 7))),
@@ -113,5 +150,6 @@ ROWS = [
     *(with_base(cured(f"cure, {name}", run), run) for name, run in ALL[2::12] if count(run) <= 300),
     *(with_base(replace(paged(name, run), name=f"page, {name}"), run) for name, run in ALL[::24] if count(run) <= 300),
     *ENDS,
+    *SIZED,
     *REFUSED,
 ]

@@ -111,6 +111,9 @@ NUMBERED = {it: f"{words} 0" if it in ("image", "show") else words for it, words
 PAIRS["sectors"] = {it: refusing(words, "--sectors 4", "--sectors 3", "refused 9 at 5", STATUS[it]) for it, words in NUMBERED.items()}
 PAIRS["sectors"]["log"] = refusing("log log", "--sectors 4", "--sectors 3", "refused 9 at 5")
 PAIRS["sectors"]["verify"] = refusing("verify four", "--sectors 4", "--sectors 5", "refused 50 at 3")
+# `base` is as many sectors as the file of --base has: the file has four, and a byte of a fifth one is refused.
+SIZED = "--sectors base --base base", "--sectors base --base long"
+PAIRS["sectors base"] = {it: refusing(words, *SIZED, "refused 13 at 14", STATUS.get(it, 0)) for it, words in {**NUMBERED, "log": "log log"}.items()}
 
 LARGE = "--sectors 16385 --large", "--sectors 16385"
 PAIRS["large"] = {it: refusing(words, *LARGE, "refused 13 at 1", STATUS[it]) for it, words in NUMBERED.items()}
@@ -189,7 +192,7 @@ PAIRS["at-most"]["images"] = dict(two=["images log --sectors 4 --bound any", "im
 # A part of the images, and a log with too many.
 TOO_MANY = "--sectors 3000 --bound 3"
 PAIRS["images"] = {
-    "explore": dict(two=["explore log p0 --sectors 4", "explore log p0 --sectors 4 --images 0..2"], statuses=(1, 1), differ=("out 1", "out -1"), holds=("crash part 1\n",)),
+    "explore": dict(two=["explore log p0 --sectors 4", "explore log p0 --sectors 4 --images 0..2"], statuses=(1, 1), differ=("out 1", "out -1", "error"), holds=("crash part 1\n",)),
     "export": dict(two=["export log --sectors 4", "export log --sectors 4 --images 0..2"], differ=("out",), holds=("total 2 new 2\n",)),
     "images": refusing(f"images wide {TOO_MANY}", "--images", "", "refused 12 at 1"),
     "image": refusing(f"image wide 0 {TOO_MANY}", "--images", "", "refused 12 at 1"),
@@ -232,7 +235,7 @@ def lacking(commands):
     """Which options of the commands that a help lists have no pair, and which pairs have no option."""
     listed = {(command.name, name[2:]) for command in commands for option in command.options for name in option.names if name.startswith("--")}
     listed = {(command, name) for command, name in listed if name not in ("help", "version") and command != "help"}
-    paired = {(command, option) for option, found in PAIRS.items() for command in found}
+    paired = {(command, option.split()[0]) for option, found in PAIRS.items() for command in found}
     lack = [f"--{name} of {command} has no pair in rows/each_option.py" for command, name in sorted(listed - paired)]
     return lack + [f"{command} has no option --{name}" for command, name in sorted(paired - listed)]
 

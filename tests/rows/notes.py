@@ -542,6 +542,7 @@ LOOKS_AT_NOTHING = "looks at no sector that an entry writes, so no crash makes i
 NOT_AMONG = "none is ever dropped as a whole"
 BY_WRITE = "with --by write each may be dropped as a whole"
 LEFT_OUT = "is lost or torn; --bound any explores every loss (docs/CRASH-MODEL.md, What a clean report doesn't say)"
+NO_FLUSH = "no entry is a flush, so --cuts flush has the one cut at the end; ask without --cuts"
 ONE_SECTOR, ONE_WRITE = (f"in each image at most 1 {part} {LEFT_OUT}" for part in ("sector", "write"))
 LOOKS = program("mov64 r1, 0; call 5; mov64 r0, 0; exit")
 FAILS = program("mov64 r1, 0; call 5; mov64 r0, 1; exit")
@@ -668,7 +669,7 @@ ANSWERS = [
         for command, options, *said in (
             ("explore", "", ONE_SECTOR),
             ("explore", " --first", ONE_SECTOR),
-            ("explore", " --images 0..1", ONE_SECTOR),
+            ("explore", " --images 0..1"),
             ("explore", " --cuts flush", ONE_SECTOR),
             ("explore", " --by write", ONE_WRITE),
             ("explore", " --bound 0"),
@@ -677,6 +678,24 @@ ANSWERS = [
             ("why", ""),
             ("cure", ""),
             ("page", ""),
+        )
+    ),
+    *(
+        answered(f"no flush: {words}{options}", f"{words} --sectors 4{options}", files([W(0, 1, 1)], LOOKS), Something(), *said)
+        for words, options, *said in (
+            ("explore log p0", " --cuts flush", NO_FLUSH, ONE_SECTOR),
+            ("explore log p0", " --cuts flush --bound 0", NO_FLUSH),
+            ("explore log p0", " --cuts flush --flush 0", ONE_SECTOR),
+            ("explore log p0", " --cuts flush --bound any", NO_FLUSH),
+            ("explore log p0", " --cuts flush --images 0..1", NO_FLUSH),
+            ("explore log p0", " --cuts mark", ONE_SECTOR),
+            *((f"{command} log p0", f" --cuts flush{more}", NO_FLUSH) for command in ("why", "cure", "page") for more in ("", " --bound any")),
+            ("images log", " --cuts flush", NO_FLUSH),
+            ("images log", " --cuts flush --bound any", NO_FLUSH),
+            ("images log", ""),
+            ("export log", " --cuts flush", NO_FLUSH),
+            ("image log 0", " --cuts flush"),
+            ("log log", ""),
         )
     ),
     answered("how much explore leaves out of large writes", "explore log p0 --sectors 4", files([W(0, 2, 1), F], LOOKS), Something(), f"entries with more than 1 sectors: 1; {NOT_AMONG}", BY_WRITE, ONE_SECTOR),
@@ -690,7 +709,7 @@ ANSWERS = [
 WIDE = [W(0, 24, 0xAA)]
 WIDE_OPTIONS = "--sectors 24 --cuts flush --bound 3 --tears"
 WIDE_IMAGES = sum(comb(24, lost) * 15**lost for lost in range(4))
-WIDE_NOTES = [f"entries with more than 3 sectors: 1; {NOT_AMONG}", BY_WRITE]
+WIDE_NOTES = [NO_FLUSH, f"entries with more than 3 sectors: 1; {NOT_AMONG}", BY_WRITE]
 GIB = 2**30
 
 

@@ -101,9 +101,9 @@ WHOLE_PART = part(SMALL, [Checker("slots 2 budget 2", one)], 0, sum(1 for _image
 
 
 def unwritten(what, words, content):
-    """A run with each kind of standard output that takes nothing."""
+    """A run with each kind of standard output that takes nothing. Of a pipe that nobody reads nothing is said."""
     return [
-        Row(f"standard output {to}: {what}", words, content, status=2, error=UNWRITABLE, to=to)
+        Row(f"standard output {to}: {what}", words, content, status=2, error="" if to == "unread" else UNWRITABLE, to=to, notes=() if to == "unread" else None)
         for to in ["closed", "full", "unread"]
     ]
 

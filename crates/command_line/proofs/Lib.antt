@@ -1,3 +1,4 @@
 mod Numbers
 mod FlushLists
 mod ImageRanges
+mod Sized

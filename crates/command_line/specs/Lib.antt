@@ -4,3 +4,4 @@ pub mod FlushList
 pub mod Extents
 pub mod Parsed
 pub mod Words
+pub mod Sized

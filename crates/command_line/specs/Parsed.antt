@@ -1,5 +1,5 @@
 -- What the words of a command ask for (docs/COMMANDS.md, Commands and Options).
-use Rattle.std.specs.Prelude.{ℕ, ◌≡◌, ◌<◌, ◌++◌, Bool, true, false, ◌||◌, List, [], ◌∷◌, length, map, Option, None, Some, is_some, option_map, unwrap_or, MatchOption, IsSomeAnd, codes, bytes_eq, if◌then◌else◌}
+use Rattle.std.specs.Prelude.{ℕ, ◌≡◌, ◌<◌, ◌++◌, Bool, true, false, ◌||◌, ◌&&◌, List, [], ◌∷◌, length, map, Option, None, Some, is_none, is_some, option_map, unwrap_or, MatchOption, IsSomeAnd, codes, bytes_eq, if◌then◌else◌}
 use Rattle.std.specs.Borrow.{Bor}
 use Rattle.base.specs.Sizes.{sector_limit}
 use Rattle.base.specs.declared.limits.Limits.{Limits}
@@ -78,6 +78,11 @@ abbrev pub any_named : Option (List ℕ) → Bool
 any_named None = false
 any_named (Some word) = bytes_eq word (codes "any")
 
+-- whether the word after --sectors is `base`
+abbrev pub base_named : Option (List ℕ) → Bool
+base_named None = false
+base_named (Some word) = bytes_eq word (codes "base")
+
 -- the flushes that are asked for: none without a word, and else those of the list that the word is; where it is none of 1 to 64
 -- entries, that is kept
 abbrev pub AreFlushes : Option (List ℕ) → Option Flushes → Type 0
@@ -99,11 +104,16 @@ limits_named large = if large then limits.Large else limits.Usual
 abbrev pub bound_named : Parsed → ℕ → ℕ
 bound_named p any = if p.any then any else unwrap_or p.bound 1
 
+-- the number of sectors of the device: the most where none is written, or where `base` is and the file after --base is to say it; 0 where
+-- `base` is and no file says it
+abbrev pub sectors_named : Parsed → ℕ
+sectors_named p = if p.is_sized && is_none p.base then 0 else unwrap_or p.sectors (sector_limit (limits_named p.large))
+
 -- the options, each that isn't written by its default, with that bound for `any`, and these flushes and images. All commands on a device
 -- but `log` want --sectors.
 abbrev pub options_with : Parsed → ℕ → Option Flushes → Option Extent → OptionWords
 options_with p any added meant = record {
-  sectors = unwrap_or p.sectors (sector_limit (limits_named p.large));
+  sectors = sectors_named p;
   limits = limits_named p.large;
   flushes = added;
   cuts = cuts_named (word_bytes p.cuts);
@@ -238,6 +248,11 @@ abbrev pub IsBoundOf : Found → Bool → Option ℕ → Type 0
 IsBoundOf found true number = number ≡ None
 IsBoundOf found false number = IsNumberOf found (codes "bound") number
 
+-- the number after --sectors: none where `base` stands there
+abbrev pub IsSizeOf : Found → Bool → Option ℕ → Type 0
+IsSizeOf found true number = number ≡ None
+IsSizeOf found false number = IsNumberOf found (codes "sectors") number
+
 -- whether a flag was found
 pub record IsFlagOf (found : Found) (option : List ℕ) (flag : Bool) : Type 0 where
   pub absent : one_text found option ≡ None → flag ≡ false
@@ -251,7 +266,8 @@ pub record IsRead (found : Found) (p : Parsed) : Type 0 where
   pub lines : word_bytes p.lines ≡ first_value found (codes "lines")
   pub programs : option_map (λ ws. map (λ w. w.now) ws.now) p.programs ≡ option_map raw_values (matched_of found (codes "programs"))
   pub report : word_bytes p.report ≡ first_value found (codes "report")
-  pub sectors : IsNumberOf found (codes "sectors") p.sectors
+  pub sized : p.is_sized ≡ base_named (first_value found (codes "sectors"))
+  pub sectors : IsSizeOf found p.is_sized p.sectors
   pub large : IsFlagOf found (codes "large") p.large
   pub flush : word_bytes p.flush ≡ first_value found (codes "flush")
   pub base : word_bytes p.base ≡ first_value found (codes "base")

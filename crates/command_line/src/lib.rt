@@ -14,12 +14,15 @@
 //! | `words.request()` | what it asks for |
 //! | `words.choice()` | the text of the choice of an image |
 //! | `words.progress()` | whether it is to be said how far an exploration is |
+//! | `words.set_size(sectors)` | nothing: it asks for a device of that many sectors from here on, where `base` stands after `--sectors` |
 //!
 //! Without a word, the run that the program holds itself is asked for. A word that names no kind of cut or part, or that is no
 //! list of entries or no range of images, is kept as none, and the text of a choice that is longer than any choice's likewise:
 //! these are refusals of the command, with a number and notes, and no faults of the command line. A word in the place of a number
 //! that has a sign or a zero in front is such a fault: `clap` takes it, and `Words::of` doesn't. `--bound` takes `any` too. That asks
-//! for any number of losses of `explore`, and of `image` and `show` with `--cut`, and else for a bound that is too great.
+//! for any number of losses of `explore`, and of `image` and `show` with `--cut`, and else for a bound that is too great. `--sectors`
+//! takes `base`, beside `--base FILE`: that asks for the largest device, so that all of FILE is read, and `set_size` for one of the size
+//! that FILE has. Without `--base` it asks for a device of no sectors, which there is none of.
 //!
 //! The texts of the help stand in `words.rt`. `tools/man_page.py` makes `docs/crashbpf.1` of what the built program prints of
 //! them.
@@ -31,7 +34,7 @@
 //! printed of it, and what is asked for is what
 //! docs/COMMANDS.md says of them: the command, its options, the image that is meant, the files, and whether `--progress` stands
 //! there (`asked`; `specs/Parsed.antt`, `specs/Words.antt`). What `clap` takes, and what it finds, is `clap`'s: runs of the
-//! built program show it.
+//! built program show it. What `--sectors base` asks for once the size is known is what the number asks for (`sized_is_numbered`).
 //!
 //! # Example
 //!
@@ -68,7 +71,9 @@ mod extents;
 mod flush_list;
 mod number;
 mod parsed;
+mod sized;
 mod words;
 
 pub use parsed::Parsed;
+pub use sized::sized_is_numbered;
 pub use words::Words;

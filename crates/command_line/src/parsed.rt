@@ -1,11 +1,10 @@
 //! What `clap` read of the words, and what that asks for.
 
 ghost use Rattle.std.specs.Prelude.{◌≡◌, ◌<◌, ◌++◌, codes, length, map, option_map, unwrap_or, is_some, string_bytes, Some, IfOk, MatchOption, MatchResult, OnOk};
-ghost use Rattle.base.specs.Sizes.{sector_limit};
 ghost use Rattle.clap.specs.Words.{first_value, found_of};
 ghost use Rattle.command_line.specs.Number.{NoNumber as NoNumberText};
 ghost use Rattle.request.specs.declared.settings.Retelling.TheVariants as retelling;
-ghost use Rattle.command_line.specs.Parsed.{Asks, AsksBounded, AsksImage, AsksTold, AreFlushes, AreOptions, AreOptionsWith, IsBoundOf, IsExtent, any_named, asks_losses, bound_named, choice_named, command_named, counted, cured, cuts_named, explained, explored, files_named, first_file, program_files, limits_named, losses_named, options_with, paged, parts_named, trial_asked, word_bytes, IsFlagOf, IsNumberOf, IsRead, IsWhich};
+ghost use Rattle.command_line.specs.Parsed.{Asks, AsksBounded, AsksImage, AsksTold, AreFlushes, AreOptions, AreOptionsWith, IsBoundOf, IsExtent, any_named, asks_losses, base_named, bound_named, choice_named, command_named, counted, cured, cuts_named, explained, explored, files_named, first_file, program_files, limits_named, losses_named, options_with, paged, parts_named, sectors_named, trial_asked, word_bytes, IsFlagOf, IsNumberOf, IsRead, IsSizeOf, IsWhich};
 
 use crate::extents::extent_in;
 use crate::flush_list::flushes_in;
@@ -36,6 +35,8 @@ pub struct Parsed<'a> {
     pub programs: Option<&'a [&'a str]>,
     /// The name after `--report`.
     pub report: Option<&'a str>,
+    /// Whether `base` stands after `--sectors`.
+    pub is_sized: bool,
     /// The number after `--sectors`.
     pub sectors: Option<u64>,
     /// Whether `--large` stands there.
@@ -153,13 +154,6 @@ fn limits_of(large: bool) -> Limits
     if large { Limits::Large } else { Limits::Usual }
 }
 
-/// The number of sectors that is asked for: without a number that of the largest device.
-fn sectors_of(number: Option<u64>, limits: Limits) -> u64
-    ensures { result ≡ unwrap_or number (sector_limit limits) }
-{
-    number.unwrap_or(u64::from(limits.sectors()))
-}
-
 /// The kind of cut that a word names: all cuts where there is no word.
 fn cuts_of(word: Option<&str>) -> Option<CutKind>
     ensures { result ≡ cuts_named (option_map (λ w. w.now) word.entry) }
@@ -189,6 +183,16 @@ fn any_of(word: Option<&str>) -> bool
 {
     match word {
         Some("any") => true,
+        _ => false,
+    }
+}
+
+/// Whether the word after `--sectors` is `base`.
+fn base_of(word: Option<&str>) -> bool
+    ensures { result ≡ base_named (option_map (λ w. w.now) word.entry) }
+{
+    match word {
+        Some("base") => true,
         _ => false,
     }
 }
@@ -297,6 +301,20 @@ fn bound_of<'a>(matches: &'a ArgMatches<'_>) -> Result<Option<u64>, NoNumber<'a>
     number_of(matches, "bound")
 }
 
+/// The number after `--sectors`, if there is one: none where `base` stands there.
+///
+/// # Errors
+///
+/// What stands there is neither.
+fn sectors_of<'a>(matches: &'a ArgMatches<'_>) -> Result<Option<u64>, NoNumber<'a>>
+    ensures { IfOk result (IsSizeOf (found_of matches.entry.now) (base_named (first_value (found_of matches.entry.now) (codes "sectors")))) }
+{
+    if base_of(matches.get_str("sectors")) {
+        return Ok(None);
+    }
+    number_of(matches, "sectors")
+}
+
 /// Whether a flag stands there.
 fn flag_of(matches: &ArgMatches<'_>, option: &str) -> bool
     ensures { IsFlagOf (found_of matches.now) option.now result }
@@ -324,7 +342,8 @@ impl<'a> Parsed<'a> {
             lines: matches.get_str("lines"),
             programs: matches.get_strs("programs"),
             report: matches.get_str("report"),
-            sectors: number_of(matches, "sectors")?,
+            is_sized: base_of(matches.get_str("sectors")),
+            sectors: sectors_of(matches)?,
             large: flag_of(matches, "large"),
             flush: matches.get_str("flush"),
             base: matches.get_str("base"),
@@ -369,6 +388,17 @@ impl<'a> Parsed<'a> {
         self.bound.unwrap_or(1)
     }
 
+    /// The number of sectors that is asked for: without a number that of the largest device, and of a size that no file says 0.
+    fn sectors(&self) -> u64
+        ensures { result ≡ sectors_named self.now }
+    {
+        if self.is_sized && self.base.is_none() {
+            return 0;
+        }
+        let most = limits_of(self.large).sectors();
+        self.sectors.unwrap_or(u64::from(most))
+    }
+
     /// The options that were written, each that wasn't by its default, with that bound for `any`, and these flushes and images.
     fn options_with(
         &self,
@@ -380,7 +410,7 @@ impl<'a> Parsed<'a> {
     {
         let limits = limits_of(self.large);
         OptionWords {
-            sectors: sectors_of(self.sectors, limits),
+            sectors: self.sectors(),
             limits,
             flushes,
             cuts: cuts_of(self.cuts),

@@ -9,7 +9,9 @@ use Rattle.inspect.specs.declared.looks.export_command.Stopped.{Stopped}
 use Rattle.inspect.specs.declared.looks.export_command.Stopped.TheVariants as stopped
 use Rattle.commands.specs.Exits.{Exits, IsWritten, IsStopped}
 use Rattle.input_files.specs.Reads.{InputsValue}
-use Rattle.crashbpf.specs.Ending.{held_in, Ends, answered, refused, unwritten}
+use Rattle.input_files.specs.Sized.{base_sectors}
+use Rattle.command_line.specs.Words.{WordsValue, sized_by}
+use Rattle.crashbpf.specs.Ending.{held_in, meant, Ends, answered, refused, unwritten}
 
 -- what the command is given is what was read
 pub given_as_read : {V : Type 0} → (items : V → List ℕ) (named : List (Option V)) (base : Option (Option V)) (given choice : List ℕ) (inputs : InputsValue)
@@ -75,3 +77,10 @@ ends_stopped request asked given held before after r why last same files is stop
     let s : IsStopped asked given before after why = subst (λ (x : Result _ Stopped). IfErr x (IsStopped asked given before after)) is stops in
     subst (λ (n : ℕ). Ends (Answers request held) (RefusesToAct request held) before after n) (sym two)
     (subst (λ q. Ends (Answers q held) (RefusesToAct q held) before after 2) (sym same) (subst (λ f. Ends (Answers asked f) (RefusesToAct asked f) before after 2) files (stops_so asked given before after why s)))
+
+-- a command on a device of the size that one of its files has
+pub ends_meant : (old new : WordsValue) (size : Option ℕ) (inputs : InputsValue) (before after : Option (List ℕ)) (status : ℕ) → new ≡ sized_by old size → size ≡ base_sectors inputs.base
+    → Ends (Answers new.request (held_in inputs new.choice)) (RefusesToAct new.request (held_in inputs new.choice)) before after status
+    → Ends (Answers (meant old inputs).request (held_in inputs (meant old inputs).choice)) (RefusesToAct (meant old inputs).request (held_in inputs (meant old inputs).choice)) before after status
+ends_meant old new size inputs before after status is so ends =
+    subst (λ (w : WordsValue). Ends (Answers w.request (held_in inputs w.choice)) (RefusesToAct w.request (held_in inputs w.choice)) before after status) (is ∙ ap (sized_by old) so) ends

@@ -5,7 +5,9 @@ use Rattle.base.specs.declared.refusal.Refusal.{Refusal}
 use Rattle.request.specs.declared.command.Request.{Request}
 use Rattle.request.specs.declared.command.Request.TheVariants as request
 use Rattle.commands.specs.Acting.{Files}
+use Rattle.command_line.specs.Words.{WordsValue, sized_by}
 use Rattle.input_files.specs.Reads.{InputsValue}
+use Rattle.input_files.specs.Sized.{base_sectors}
 
 -- what the files of a command hold, as they were read, beside the text after --choice
 abbrev pub held_in : InputsValue → List ℕ → Files
@@ -15,6 +17,10 @@ held_in inputs choice = record { named = inputs.files; base = inputs.base; choic
 abbrev pub files_name : Request → List ℕ → List ℕ
 files_name (request.Retold w t) command = codes "report"
 files_name r command = command
+
+-- what the words ask for beside what was read: with `--sectors base` a run on a device of as many sectors as the file after --base has
+abbrev pub meant : WordsValue → InputsValue → WordsValue
+meant words inputs = sized_by words (base_sectors inputs.base)
 
 -- By what a command answers and when it is refused, what standard output has before and after, where that is known, and the status: an
 -- answer that was written whole, with its status; an answer of which the first bytes alone were written, or a refusal with nothing on standard

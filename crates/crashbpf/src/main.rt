@@ -11,7 +11,8 @@
 //! The top. What a command answers, with which status, and when it is refused, is all decided by
 //! `commands`, whose `perform` takes what the files hold and tells how the process ends. `input_files` reads
 //! them. Here that is carried out: the answer is written to standard output, or a refusal's line to standard
-//! error, and the status is the one that `perform` tells, or 2 where standard output takes no more. Notes stand
+//! error, and the status is the one that `perform` tells, or 2 where standard output takes no more. That has a line on standard error,
+//! but for a pipe that nobody reads any more (`unwritten_line`): so a command ends quietly before `head`. Notes stand
 //! on standard error in both cases, and change neither the status nor standard output; nor do the line that
 //! says how far an exploration is, and the note of how large its report may get, which come before them. Want
 //! of memory is a refusal wherever it is met, and its line is written also where there is no memory for a text.
@@ -21,11 +22,12 @@
 //! `run` performs the command on what was read of its files, and ends by that (`specs/Ending.antt`): with an answer of the command, all of
 //! it written, and its status; or with status 2, where only the first bytes of an answer were written, or where the command is refused
 //! and nothing was. `read_and_run` does so on what `Inputs::read` read for the words: of the files that they name, in their order, and
-//! of the one after `--base`, within the limits that they ask for; the file of `--report` is read as a report (`files_name`). What a file of the system holds and what standard output takes
+//! of the one after `--base`, within the limits that they ask for; the file of `--report` is read as a report (`files_name`). With
+//! `--sectors base` the command is performed as with the number of whole sectors of the file after `--base` (`meant`). What a file of the system holds and what standard output takes
 //! no contract can say. Nor does one say what stands on standard error. That is shown by runs of the built program.
 #![tactic(auto)]
 
-ghost use Rattle.std.specs.Prelude.{◌≡◌, ◌<◌, length, take, OnOk, OnErr, IfErr};
+ghost use Rattle.std.specs.Prelude.{◌≡◌, ◌<◌, [], IsTrue, length, take, OnOk, OnErr, IfErr};
 ghost use Rattle.std.specs.Io.KnownBytes.{Appends};
 ghost use Rattle.request.specs.declared.command.Request.TheVariants as asks;
 ghost use Rattle.command_line.specs.Words.{limits_asked, sectors_asked};
@@ -33,7 +35,7 @@ ghost use Rattle.commands.specs.Acting.{Answers, RefusesToAct};
 ghost use Rattle.commands.specs.Exits.{Exits};
 ghost use Rattle.std.specs.Thread.{IsSync};
 ghost use Rattle.input_files.specs.Reads.{AreInputs};
-ghost use Rattle.crashbpf.specs.Ending.{held_in, files_name, Ends, EndsOn};
+ghost use Rattle.crashbpf.specs.Ending.{held_in, files_name, meant, Ends, EndsOn};
 
 use base::refusal::Refusal;
 use clap::error::ErrorKind as WordsFault;
@@ -57,6 +59,13 @@ const REFUSED: u8 = 2;
 
 /// The line of a standard output that takes no more.
 const UNWRITTEN: &str = "crashbpf: standard output can't be written\n";
+
+/// The line of a standard output that takes no more: none where it is a pipe that nobody reads any more.
+fn unwritten_line(is_unread: bool) -> &'static str
+    ensures { IsTrue is_unread → result.now ≡ [] }
+{
+    if is_unread { "" } else { UNWRITTEN }
+}
 
 /// The line of words that are no text.
 const NO_TEXT: &str = "error: the command line is not UTF-8\n";
@@ -104,14 +113,15 @@ fn print_notes<R: Eprint>(rt: &R, notes: Result<String, AllocError>) {
     }
 }
 
-/// Writes an answer, and says whether all of it was written: else how many bytes were.
-fn put_answer<W: Write>(writer: W, answer: &[u8]) -> (Result<(), u64>, W)
+/// Writes an answer, and says whether all of it was written: else how many bytes were, and last whether that is since nobody reads it.
+fn put_answer<W: Write>(writer: W, answer: &[u8]) -> (Result<(), u64>, W, bool)
     ensures whole { OnOk result.0 (Appends (W.contents writer) (W.contents result.1) answer.now) }
     ensures part { IfErr result.0 (λ n. (n < length answer.now) × Appends (W.contents writer) (W.contents result.1) (take n answer.now)) }
 {
     let mut output = Output::new(writer);
     let written = emit(&mut output, answer);
-    (written, output.into_writer())
+    let is_unread = output.is_unread();
+    (written, output.into_writer(), is_unread)
 }
 
 /// Performs a command on the files that were read for it.
@@ -190,9 +200,9 @@ fn run_whole<R: AllocGlobal + Eprint + Clock + Threads + Wait + Sync, W: Write>(
     let exit = performed(rt, words, inputs);
     match exit.refusal {
         None => {
-            let (written, writer) = put_answer(writer, exit.output.as_slice());
+            let (written, writer, is_unread) = put_answer(writer, exit.output.as_slice());
             if written.is_err() {
-                let status = print_line(rt, UNWRITTEN);
+                let status = print_line(rt, unwritten_line(is_unread));
                 return CommandEnd { status, writer };
             }
             print_notes(rt, notes_beside(rt.alloc(), words, &exit.facts));
@@ -274,7 +284,8 @@ fn print_cut<R: AllocGlobal + Eprint>(rt: &R, fault: StreamFault) -> u8
 {
     match fault {
         StreamFault::Memory => print_refusal(rt, &Refusal::of_memory()),
-        StreamFault::Unwritten => print_line(rt, UNWRITTEN),
+        StreamFault::Unwritten => print_line(rt, unwritten_line(false)),
+        StreamFault::Unread => print_line(rt, unwritten_line(true)),
     }
 }
 
@@ -303,15 +314,29 @@ fn files_name<'a>(command: &'a str, words: &Words) -> &'a str
     }
 }
 
+/// Performs a command on the files that were read for it, with `--sectors base` on a device of the size that one of them has, and ends
+/// as it says.
+fn run_on_device<R: AllocGlobal + Eprint + Clock + Threads + Wait + Sync, W: Write>(
+    rt: &R,
+    words: &mut Words,
+    inputs: &Inputs,
+    writer: W,
+) -> CommandEnd<W>
+    ensures { Ends (Answers (meant words.old inputs.now).request (held_in inputs.now (meant words.old inputs.now).choice)) (RefusesToAct (meant words.old inputs.now).request (held_in inputs.now (meant words.old inputs.now).choice)) (W.contents writer) (W.contents result.writer) result.status }
+{
+    words.set_size(inputs.base_sectors());
+    run(rt, words, inputs, writer)
+}
+
 /// Reads the files of a command, and performs it.
 fn read_and_run<S: FileSource + AllocGlobal + Eprint + Clock + Threads + Wait + Sync, W: Write>(
     rt: &S,
     command: &str,
-    words: &Words,
+    words: &mut Words,
     writer: W,
 ) -> CommandEnd<W>
-    ensures { EndsOn (AreInputs S.named S.File.remaining (files_name words.now.request command.now) (sectors_asked words.now.request) (limits_asked words.now.request) words.now.files words.now.base)
-        (λ i. Ends (Answers words.now.request (held_in i words.now.choice)) (RefusesToAct words.now.request (held_in i words.now.choice)) (W.contents writer) (W.contents result.writer) result.status)
+    ensures { EndsOn (AreInputs S.named S.File.remaining (files_name words.old.request command.now) (sectors_asked words.old.request) (limits_asked words.old.request) words.old.files words.old.base)
+        (λ i. Ends (Answers (meant words.old i).request (held_in i (meant words.old i).choice)) (RefusesToAct (meant words.old i).request (held_in i (meant words.old i).choice)) (W.contents writer) (W.contents result.writer) result.status)
         (W.contents writer) (W.contents result.writer) result.status }
 {
     let size = DeviceSize {
@@ -325,7 +350,7 @@ fn read_and_run<S: FileSource + AllocGlobal + Eprint + Clock + Threads + Wait + 
         words.base(),
         &size,
     ) {
-        Ok(inputs) => run(rt, words, &inputs, writer),
+        Ok(inputs) => run_on_device(rt, words, &inputs, writer),
         Err(refusal) => {
             let status = print_refusal(rt, &refusal);
             print_notes(
@@ -365,7 +390,10 @@ fn status_after<R: Eprint>(rt: &R, printed: io::Result<()>, status: u8) -> u8
 {
     match printed {
         Ok(()) => status,
-        Err(_error) => print_line(rt, UNWRITTEN),
+        Err(error) => {
+            let is_unread = error.kind() == ErrorKind::BrokenPipe;
+            print_line(rt, unwritten_line(is_unread))
+        }
     }
 }
 
@@ -388,7 +416,7 @@ fn start<R: Env + FileSource + AllocGlobal + Print + Eprint + Clock + Threads + 
     };
     let command = words.first().map(|word| word.as_str()).unwrap_or("");
     match Words::of(rt.alloc(), words.as_slice()) {
-        Ok(words) => read_and_run(rt, command, &words, io::writer(rt)).status,
+        Ok(mut words) => read_and_run(rt, command, &mut words, io::writer(rt)).status,
         Err(fault) if fault.kind() == WordsFault::OutOfMemory => print_text(rt, &fault),
         Err(_fault) => print_fault(rt, words.as_slice()),
     }

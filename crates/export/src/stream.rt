@@ -17,6 +17,8 @@ pub enum StreamFault {
     Memory,
     /// The writer took no more.
     Unwritten,
+    /// The writer is a pipe that nobody reads any more.
+    Unread,
 }
 
 /// A text on its way to a writer. What waits to be written is less than a piece, and what was put last. Once a write has failed, or
@@ -60,6 +62,8 @@ impl<W: Write> Stream<W> {
     pub(crate) fn fault(&self) -> StreamFault {
         if self.is_short {
             StreamFault::Memory
+        } else if self.output.is_unread() {
+            StreamFault::Unread
         } else {
             StreamFault::Unwritten
         }

@@ -3,7 +3,7 @@
 ghost use Rattle.std.specs.Prelude.{◌≡◌, ◌≢◌, ◌<◌, ◌≤◌, length, take, true, false, OnOk, OnErr, IfOk, IfErr};
 ghost use Rattle.std.specs.Io.KnownBytes.{Appends, WriteAppends};
 ghost use Rattle.std.specs.IoError.{error_kind};
-ghost use Rattle.std.specs.declared.io.ErrorKind.TheVariants.{Interrupted};
+ghost use Rattle.std.specs.declared.io.ErrorKind.TheVariants.{BrokenPipe, Interrupted};
 
 use std::io::{self, ErrorKind, Write};
 
@@ -12,6 +12,8 @@ use std::io::{self, ErrorKind, Write};
 pub struct Output<W> {
     writer: W,
     has_failed: bool,
+    /// Whether the last write failed since it is a pipe that nobody reads any more.
+    is_unread: bool,
 }
 
 impl<W: Write> Output<W> {
@@ -19,10 +21,12 @@ impl<W: Write> Output<W> {
     pub fn new(writer: W) -> Output<W>
         ensures writer { result.writer ≡ writer }
         ensures going { result.has_failed ≡ false }
+        ensures read { result.is_unread ≡ false }
     {
         Output {
             writer,
             has_failed: false,
+            is_unread: false,
         }
     }
 
@@ -40,6 +44,13 @@ impl<W: Write> Output<W> {
         self.has_failed
     }
 
+    /// Whether the last write failed since it is a pipe that nobody reads any more.
+    pub fn is_unread(&self) -> bool
+        ensures { result ≡ self.now.is_unread }
+    {
+        self.is_unread
+    }
+
     /// It is asked for no more.
     pub(crate) fn close(&mut self)
         ensures writer { self.new.writer ≡ self.old.writer }
@@ -49,7 +60,7 @@ impl<W: Write> Output<W> {
     }
 
     /// One write, with the writer's own answer. It has failed where the writer took no byte, or has a fault other than that
-    /// a signal came between.
+    /// a signal came between. Nobody reads the writer where its fault is that of a broken pipe, and of no other.
     fn write(&mut self, bytes: &[u8]) -> io::Result<usize>
         requires going { self.old.has_failed ≡ false }
         ensures bound { IfOk result (λ n. n ≤ length bytes.now) }
@@ -58,6 +69,8 @@ impl<W: Write> Output<W> {
         ensures none { IfOk result (λ n. n ≡ 0 → self.new.has_failed ≡ true) }
         ensures interrupted { IfErr result (λ e. error_kind e ≡ Interrupted → self.new.has_failed ≡ false) }
         ensures failed { IfErr result (λ e. error_kind e ≢ Interrupted → self.new.has_failed ≡ true) }
+        ensures unread { IfErr result (λ e. error_kind e ≡ BrokenPipe → self.new.is_unread ≡ true) }
+        ensures other { IfErr result (λ e. error_kind e ≢ BrokenPipe → self.new.is_unread ≡ false) }
     {
         match self.writer.write(bytes) {
             Ok(more) => {
@@ -66,6 +79,7 @@ impl<W: Write> Output<W> {
             }
             Err(error) => {
                 self.has_failed = error.kind() != ErrorKind::Interrupted;
+                self.is_unread = error.kind() == ErrorKind::BrokenPipe;
                 Err(error)
             }
         }

@@ -6,4 +6,5 @@ pub mod Logs
 pub mod PartTexts
 pub mod RawLogs
 pub mod Reaching
+pub mod Sized
 pub mod Standing

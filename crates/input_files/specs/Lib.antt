@@ -4,4 +4,5 @@ pub mod Logs
 pub mod PartTexts
 pub mod RawLogs
 pub mod Reads
+pub mod Sized
 pub mod Standing

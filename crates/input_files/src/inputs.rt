@@ -4,6 +4,7 @@ ghost use Rattle.std.specs.Prelude.{ℕ, ◌≡◌, ◌≢◌, ◌+◌, ◌++◌
 ghost use Rattle.std.specs.IoError.{error_kind};
 ghost use Rattle.std.specs.declared.io.ErrorKind.TheVariants.{OutOfMemory};
 ghost use Rattle.input_files.specs.Kinds.{are_too_many};
+ghost use Rattle.input_files.specs.Sized.{base_sectors};
 ghost use Rattle.input_files.specs.Reads.{AreInputs, AreRead, HoldsBase, IsBase, IsRead};
 ghost use Rattle.input_files.specs.Standing.{refusal_of_files};
 
@@ -213,6 +214,16 @@ impl Inputs {
         ensures { option_map (option_map (λ f. f.items)) result.now ≡ self.now.base }
     {
         &self.base
+    }
+
+    /// How many whole sectors the file holds that is named for what the device held before; none where none is named, or it can't be read.
+    pub fn base_sectors(&self) -> Option<u64>
+        ensures { result ≡ base_sectors self.now.base }
+    {
+        match &self.base {
+            Some(Some(bytes)) => Some(bytes.len() as u64 / 512),
+            _ => None,
+        }
     }
 
     /// The refusal of the files, made of that of what stands for them.

@@ -5,6 +5,7 @@ ghost use Rattle.input_files.specs.Contents.{ShortIsKeptWhole, LongIsNeverRun};
 ghost use Rattle.input_files.specs.Logs.{ShortLogIsRead, LongLogIsRefusedAlike};
 ghost use Rattle.input_files.specs.PartTexts.{PartIsReadAlike};
 ghost use Rattle.input_files.specs.RawLogs.{RawIsImportedAlike, RawIsRefusedAlike, NoMoreIsRead, ReadRawIsShort};
+ghost use Rattle.input_files.specs.Sized.{BaseIsReadAlike};
 ghost use Rattle.input_files.specs.Standing.{ShortStandsForItself, LongIsRefusedAlike, LongIsRefused};
 
 /// A log that has no more bytes than the limits allow is read whole.
@@ -20,6 +21,11 @@ pub fn long_log_is_refused_alike()
 /// Where not all is read of the text of a part that may be, it is neither the text of a part nor that of cases, and what is read is neither.
 pub fn part_is_read_alike()
     ensures { PartIsReadAlike }
+{}
+
+/// Of what a device held, whose size its file says, all is read, as it is for a device of that size.
+pub fn base_is_read_alike()
+    ensures { BaseIsReadAlike }
 {}
 
 /// What is imported of the bytes that are read of a raw log is imported of the raw log.

@@ -39,7 +39,9 @@
 //! `Inputs::read` reads the files in their order, each from the file that was opened by its name, as its kind and within the limits of
 //! its device (`specs/Reads.antt`). Of a file whose bytes are known it keeps what `specs/Contents.antt` says, and tells its length. One
 //! that can't be read is told as such, and is never empty. Parts are counted together. What a device held before is read from the file
-//! that is named for it, to the device's size and a byte. Whatever a program's file is said to have, a program that isn't too long is
+//! that is named for it, to the device's size and a byte. Where it is to say that size itself it is read to the largest
+//! device's and a byte, and `base_sectors` tells it: so all of a file of whole sectors is read, as for a device of its size
+//! (`base_is_read_alike`). Whatever a program's file is said to have, a program that isn't too long is
 //! kept whole, and what is kept of a longer one has a fault (`short_is_kept_whole`, `long_is_never_run`). How far a raw log is to be read
 //! is worked out header by header (`reach`). What opens files by their names is a `Source`, as the system is. What a file of the system
 //! holds, and how long it says it is, no contract can say: runs of the built program show that it is read so
@@ -88,8 +90,9 @@ pub use cut::{refusal_of_whole, standing_length};
 pub use inputs::{DeviceSize, Inputs};
 pub use kind::FileKind;
 pub use laws::{
-    long_is_never_run, long_is_refused, long_is_refused_alike, long_log_is_refused_alike,
-    no_more_is_read, part_is_read_alike, raw_is_imported_alike, raw_is_refused_alike,
-    read_raw_is_short, short_is_kept_whole, short_log_is_read, short_stands_for_itself,
+    base_is_read_alike, long_is_never_run, long_is_refused, long_is_refused_alike,
+    long_log_is_refused_alike, no_more_is_read, part_is_read_alike, raw_is_imported_alike,
+    raw_is_refused_alike, read_raw_is_short, short_is_kept_whole, short_log_is_read,
+    short_stands_for_itself,
 };
 pub use source::FileSource;

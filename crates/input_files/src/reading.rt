@@ -392,6 +392,15 @@ fn said_length<F: OpenFile>(file: &F) -> Option<u64> {
     }
 }
 
+/// How many bytes what a device held is expected to have. Where its file isn't a regular one, these are no more than those of the largest
+/// device without `--large`.
+fn expected_of_base(most: usize, said: Option<u64>) -> usize {
+    match said {
+        Some(_length) => expected_length(most, said),
+        None => most.min(FileKind::Image(Limits::Usual).most_read()),
+    }
+}
+
 /// How many bytes are read of what a device of that many sectors held, within these limits.
 fn most_of_base(sectors: u64, limits: Limits) -> usize
     ensures { result ≡ base_read sectors limits }
@@ -415,7 +424,7 @@ pub(crate) fn read_base<S: FileSource + AllocGlobal>(
     let mut file = rt.open_named(name)?;
     let said = said_length(&file);
     let most = most_of_base(sectors, limits);
-    read_first(rt.alloc(), &mut file, most, expected_length(most, said))
+    read_first(rt.alloc(), &mut file, most, expected_of_base(most, said))
 }
 
 /// Reads the file of that name.

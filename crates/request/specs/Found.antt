@@ -18,6 +18,7 @@ abbrev pub RecordingValue : Type 0
 RecordingValue = Recording
 
 pub record IsEmpty (facts : Facts) : Type 0 where
+  pub flushes : facts.flushes ≡ None
   pub promises : facts.promises ≡ None
   pub fewer : facts.fewer ≡ None
   pub unreached : facts.unreached.items ≡ []
@@ -68,6 +69,7 @@ pub record KeepsPrograms (old new : Facts) : Type 0 where
 pub record KeepsLog (old new : Facts) : Type 0 where
   pub large : new.large ≡ old.large
   pub forced : new.forced ≡ old.forced
+  pub flushes : new.flushes ≡ old.flushes
   pub promises : new.promises ≡ old.promises
   pub fewer : new.fewer ≡ old.fewer
   pub blind : new.blind.items ≡ old.blind.items

@@ -10,6 +10,7 @@ pub mod Refusals
 pub mod FaultLine
 -- What a command finds for its notes.
 pub mod Large
+pub mod Flushes
 pub mod Forced
 pub mod Promises
 pub mod Search

@@ -2,6 +2,7 @@
 #![tactic(auto)]
 
 mod fewer;
+mod flushes;
 mod forced;
 mod found;
 mod large;

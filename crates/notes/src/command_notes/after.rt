@@ -516,6 +516,19 @@ fn bound_rule(options: OptionWords) -> &'static str {
     }
 }
 
+/// What the file has to be by which a device has its size.
+fn sized_rule(words: &Words) -> &'static str {
+    match (words.base(), words.limits()) {
+        (None, _) => "--sectors base takes the size from the file of --base, and there is none",
+        (Some(_name), Limits::Usual) => {
+            "with --sectors base the file of --base has 1 to 16384 whole sectors of 512 bytes, with --large to 33554432"
+        }
+        (Some(_name), Limits::Large) => {
+            "with --sectors base and --large the file of --base has 1 to 33554432 whole sectors of 512 bytes"
+        }
+    }
+}
+
 /// What an option of a command has to be, within its limits: some options don't go with any number of losses.
 fn rule_of(words: &Words, place: u64) -> &'static str {
     match (place, words.request()) {
@@ -535,6 +548,7 @@ fn rule_of(words: &Words, place: u64) -> &'static str {
         (11, Request::AnyImage { .. }) => {
             "no image of that cut has that choice, as 'explore --bound any' prints it with the same --cuts, --by and --tears"
         }
+        (1 | 14, _) if words.is_sized() => sized_rule(words),
         (2, Request::Image(options, _)) => bound_rule(options),
         (2, Request::Show(options, _)) => bound_rule(options),
         _ => rule_within(place, words.limits()),

@@ -8,9 +8,9 @@ use crate::command_notes::promises::put_promises;
 use crate::command_notes::unreached::put_unreached;
 use crate::put_note;
 use command_line::Words;
-use epochs::By;
+use epochs::{By, CutKind};
 use request::facts::Facts;
-use request::{OptionWords, Request};
+use request::{Extent, OptionWords, Request};
 use std::alloc::{AllocError, Global};
 
 /// Appends what no run reaches of the programs that were verified for a run, by their numbers, and which pass without looking at what
@@ -56,9 +56,24 @@ fn put_forced_notes(
     put_forced(out, facts.forced)
 }
 
-/// Appends that an image loses at most one part, where that is asked for: so it is without an option.
+/// Appends that a log has no flush entry, where the cuts before flushes are asked for.
+fn put_flush_notes(
+    out: &mut String,
+    options: OptionWords,
+    facts: &Facts,
+) -> Result<(), AllocError> {
+    match (options.cuts, facts.flushes) {
+        (Some(CutKind::BeforeFlush), Some(0)) => put_note(
+            out,
+            "no entry is a flush, so --cuts flush has the one cut at the end; ask without --cuts",
+        ),
+        _ => Ok(()),
+    }
+}
+
+/// Appends that an image loses at most one part, where that is asked of a whole run: so it is without an option.
 fn put_one_loss(out: &mut String, options: OptionWords) -> Result<(), AllocError> {
-    if options.bound != 1 {
+    if options.bound != 1 || !matches!(options.images, Some(Extent::Whole)) {
         return Ok(());
     }
     match options.by {
@@ -74,21 +89,23 @@ fn put_one_loss(out: &mut String, options: OptionWords) -> Result<(), AllocError
     }
 }
 
-/// Appends what no image of a log has, by the options.
+/// Appends which cuts and which losses no image of a log has, by the options.
 fn put_survey_notes(
     out: &mut String,
     options: OptionWords,
     facts: &Facts,
 ) -> Result<(), AllocError> {
+    put_flush_notes(out, options, facts)?;
     put_large_notes(out, options, facts)?;
     put_forced_notes(out, options, facts)
 }
 
 /// The notes beside the answer of a command that succeeded, by what it found: what no run of a program reaches (`verify`, `check`
 /// and the commands of a run), which programs pass without looking at what the log writes (`explore`, `why` and `page`), which marks
-/// promise what nothing made durable (`log` and the commands of a run), how many writes never depart as a whole, and how many entries
+/// promise what nothing made durable (`log` and the commands of a run), that `--cuts flush` has one cut (the commands of a run, `images`
+/// and `export`, where no entry is a flush), how many writes never depart as a whole, and how many entries
 /// with FUA aren't torn (`images` and the commands of a run; not where any number of losses is explored, by which each write may be
-/// dropped, and one with FUA torn while it is in flight), and that an image loses at most one part (`explore`). Each line begins with
+/// dropped, and one with FUA torn while it is in flight), and that an image loses at most one part (`explore` of a whole run). Each line begins with
 /// `note: `; mostly there is none.
 pub fn notes_beside(alloc: Global, words: &Words, facts: &Facts) -> Result<String, AllocError> {
     let mut out = String::new(alloc);
@@ -109,13 +126,15 @@ pub fn notes_beside(alloc: Global, words: &Words, facts: &Facts) -> Result<Strin
             put_mark_notes(&mut out, facts)?;
             put_survey_notes(&mut out, options, facts)?
         }
-        Request::CureCases(_options, _losses) => {
+        Request::CureCases(options, _losses) => {
             put_explored_notes(&mut out, facts)?;
             put_mark_notes(&mut out, facts)?;
+            put_flush_notes(&mut out, options, facts)?
         }
-        Request::Cases(_options, losses) => {
+        Request::Cases(options, losses) => {
             put_explored_notes(&mut out, facts)?;
             put_mark_notes(&mut out, facts)?;
+            put_flush_notes(&mut out, options, facts)?;
             if let Some(left) = &facts.left_out {
                 put_left_out(&mut out, &losses, left)?;
             }
@@ -126,6 +145,7 @@ pub fn notes_beside(alloc: Global, words: &Words, facts: &Facts) -> Result<Strin
         }
         Request::Export(options) => put_survey_notes(&mut out, options, facts)?,
         Request::Images(options, _) => put_survey_notes(&mut out, options, facts)?,
+        Request::Cuts(options, _, _) => put_flush_notes(&mut out, options, facts)?,
         Request::Log(_) => put_mark_notes(&mut out, facts)?,
         _ => (),
     }

@@ -38,6 +38,8 @@ pub struct Facts {
     pub large: usize,
     /// How many entries of its log have FUA, and write or discard something.
     pub forced: usize,
+    /// How many entries of its log are flush entries, with those that are added; none where no log was read.
+    pub flushes: Option<usize>,
     /// Which marks of its log promise what nothing made durable; none where there was no memory to find them.
     pub promises: Option<Promises>,
     /// What makes its log have fewer images, where it has too many.
@@ -60,6 +62,7 @@ impl Facts {
         Facts {
             large: 0,
             forced: 0,
+            flushes: None,
             promises: None,
             fewer: None,
             unreached: ArrayVec::new(),
@@ -89,6 +92,7 @@ impl Facts {
         ensures fewer { IfSome self.new.fewer (AreFewer options.now log.now) }
         ensures large { self.new.large ≡ self.old.large }
         ensures forced { self.new.forced ≡ self.old.forced }
+        ensures flushes { self.new.flushes ≡ self.old.flushes }
         ensures promises { self.new.promises ≡ self.old.promises }
         ensures others { KeepsPrograms self.old self.new }
     {

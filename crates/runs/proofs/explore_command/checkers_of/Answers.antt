@@ -41,6 +41,7 @@ loop-number-preserved c =
       record {
         large = c.in_ok-checker.ensures.others.large ∙ before.3.large;
         forced = c.in_ok-checker.ensures.others.forced ∙ before.3.forced;
+        flushes = c.in_ok-checker.ensures.others.flushes ∙ before.3.flushes;
         promises = c.in_ok-checker.ensures.others.promises ∙ before.3.promises;
         fewer = c.in_ok-checker.ensures.others.fewer ∙ before.3.fewer;
         blind = c.in_ok-checker.ensures.others.blind ∙ before.3.blind;
