@@ -15,7 +15,7 @@ use Rattle.cases.specs.Trees.{Subject, AreLeaves, no_case, is_beyond, is_leaf, i
 use Rattle.cases.specs.AtCut.{CutValue}
 use Rattle.cases.specs.Search.{LeadTo, are_there, past_beyond, past_leaf, past_split}
 use Rattle.case_runs.specs.declared.found.Losses.{Losses}
-use Rattle.case_runs.specs.declared.found.FoundCases.{FoundCases}
+use Rattle.case_runs.specs.declared.found.CaseFindings.{CaseFindings}
 use Rattle.case_runs.specs.declared.found.CutFound.{CutFound}
 use Rattle.case_runs.specs.Leaves.{IsFit}
 use Rattle.case_runs.specs.declared.found.SearchFault.{SearchFault}
@@ -25,20 +25,20 @@ use Rattle.case_runs.specs.Found.{IsFoundAt, IsBegunAt, AreFoundAt, AreFoundIn, 
 pub found_none : (asked : Losses) (at : CutValue) (checkers : List CheckerValue) → AreFirstAt asked at checkers 0 []
 found_none asked at checkers = record { count = refl; each = λ i c f one two. absurd (let bad : None ≡ Some f = two in cc) }
 
-pub found_more : (asked : Losses) (at : CutValue) (checkers : List CheckerValue) (n : ℕ) (found now : List FoundCases) (c : CheckerValue) (f : FoundCases) → AreFirstAt asked at checkers n found
+pub found_more : (asked : Losses) (at : CutValue) (checkers : List CheckerValue) (n : ℕ) (found now : List CaseFindings) (c : CheckerValue) (f : CaseFindings) → AreFirstAt asked at checkers n found
     → now ≡ found ++ f ∷ [] → slice_get checkers n ≡ Some c → IsFoundAt asked at c f → AreFirstAt asked at checkers (n + 1) now
 found_more asked at checkers n found now c f so is there own = record {
-  count = let many = so.count in ap (λ (fs : List FoundCases). length fs) is ∙ (omega (arith, many, length-append found (f ∷ [])));
-  each = λ i d g one two. elim (slice_get_of_push found f i g (subst (λ (fs : List FoundCases). slice_get fs i ≡ Some g) is two)) [
+  count = let many = so.count in ap (λ (fs : List CaseFindings). length fs) is ∙ (omega (arith, many, length-append found (f ∷ [])));
+  each = λ i d g one two. elim (slice_get_of_push found f i g (subst (λ (fs : List CaseFindings). slice_get fs i ≡ Some g) is two)) [
     | inl was ↦ so.each i d g one was
     | inr last ↦
         let at_end : i ≡ n = last.0 ∙ so.count in
         let same : Some c ≡ Some d = sym there ∙ ap (λ j. slice_get checkers j) (sym at_end) ∙ one in
-        subst (λ (x : CheckerValue). IsFoundAt asked at x g) (same_Some c d same) (subst (λ (h : FoundCases). IsFoundAt asked at c h) (sym last.1) own)
+        subst (λ (x : CheckerValue). IsFoundAt asked at x g) (same_Some c d same) (subst (λ (h : CaseFindings). IsFoundAt asked at c h) (sym last.1) own)
   ];
 }
 
-pub found_all : (asked : Losses) (at : CutValue) (checkers : List CheckerValue) (n : ℕ) (found : List FoundCases) → AreFirstAt asked at checkers n found → n ≤ length checkers → length checkers ≤ n
+pub found_all : (asked : Losses) (at : CutValue) (checkers : List CheckerValue) (n : ℕ) (found : List CaseFindings) → AreFirstAt asked at checkers n found → n ≤ length checkers → length checkers ≤ n
     → AreFoundAt asked at checkers found
 found_all asked at checkers n found so low high = record { count = (let many = so.count in omega (arith, many, low, high)); each = so.each }
 
@@ -83,9 +83,9 @@ in_all asked log way cuts checkers n found so low high = record { count = (let m
 
 -- how many cases may still be met
 
-pub counted_one : (first was now : ℕ) (found next : List FoundCases) (f : FoundCases) → first ≡ was + cases_at found → was ≡ now + f.cases → next ≡ found ++ f ∷ [] → first ≡ now + cases_at next
+pub counted_one : (first was now : ℕ) (found next : List CaseFindings) (f : CaseFindings) → first ≡ was + cases_at found → was ≡ now + f.cases → next ≡ found ++ f ∷ [] → first ≡ now + cases_at next
 counted_one first was now found next f so took put =
-    let all = ap (λ (fs : List FoundCases). cases_at fs) put ∙ sum_by_push (λ (g : FoundCases). g.cases) found f in
+    let all = ap (λ (fs : List CaseFindings). cases_at fs) put ∙ sum_by_push (λ (g : CaseFindings). g.cases) found f in
     omega (arith, so, took, all)
 
 pub counted_cut : (first was now : ℕ) (found next : List CutFound) (f : CutFound) → first ≡ was + cases_in found → was ≡ now + cases_at f.programs.items → next ≡ found ++ f ∷ []
@@ -102,7 +102,7 @@ led s cs leaves left (is_beyond c xs ls more out rest) = past_beyond c xs ls mor
 led s cs leaves left (is_leaf c xs ls more within none rest) = past_leaf c xs ls more within none (led s xs ls more rest)
 led s cs leaves left (is_split c it xs ls more within some rest) = past_split c it xs ls more within some (led s _ ls more rest)
 
-pub begun_of : (asked : Losses) (at : CutValue) (checker : CheckerValue) (found : FoundCases) → IsFoundAt asked at checker found → IsBegunAt asked at checker found.cases
+pub begun_of : (asked : Losses) (at : CutValue) (checker : CheckerValue) (found : CaseFindings) → IsFoundAt asked at checker found → IsBegunAt asked at checker found.cases
 begun_of asked at checker found is =
     let those = is.those in
     record {
@@ -120,7 +120,7 @@ begun_of asked at checker found is =
 
 -- where it stops
 
-pub stops_here : (asked : Losses) (at : CutValue) (checkers : List CheckerValue) (n first left : ℕ) (found : List FoundCases) (c : CheckerValue) (why : SearchFault) → AreFirstAt asked at checkers n found
+pub stops_here : (asked : Losses) (at : CutValue) (checkers : List CheckerValue) (n first left : ℕ) (found : List CaseFindings) (c : CheckerValue) (why : SearchFault) → AreFirstAt asked at checkers n found
     → slice_get checkers n ≡ Some c → first ≡ left + cases_at found → StopsAtOne asked at c left why → StopsAt asked at checkers first why
 stops_here asked at checkers n first left found c fault.Memory so there counted stop = tt
 stops_here asked at checkers n first left found c (fault.TooMany cut) so there counted stop =

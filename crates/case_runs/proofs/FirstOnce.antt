@@ -12,7 +12,7 @@ use Rattle.cases.specs.Trees.{Subject, split_of, ending_of}
 use Rattle.cases.specs.Once.{TreeIsOne}
 use Rattle.cases.specs.Search.{LeafValue, leaf_case, LeadTo, are_there, past_beyond, past_leaf, past_split, BegunCases}
 use Rattle.case_runs.specs.declared.found.Losses.{Losses}
-use Rattle.case_runs.specs.declared.found.FoundCases.{FoundCases}
+use Rattle.case_runs.specs.declared.found.CaseFindings.{CaseFindings}
 use Rattle.case_runs.specs.declared.leaves.FailingCase.{FailingCase}
 use Rattle.case_runs.specs.Laws.{subject_at}
 use Rattle.case_runs.specs.Leaves.{FailingValue, failing_if, failing_from}
@@ -119,7 +119,7 @@ longer ls ms few ([], inr is) = ([], sym (append-nil ls ∙ is ∙ append-nil ms
 longer ls ms few (c ∷ rest, inr is) = absurd (let long = ap (λ (cs : List Case). length cs) is ∙ length-append ms (c ∷ rest) in omega (arith, few, long))
 
 pub first_found : TreeIsOne
-    → (asked : Losses) (at : CutValue) (checker : CheckerValue) (f : FailingCase) (found : FoundCases) → FailsFirst asked at checker f → IsFoundAt asked at checker found
+    → (asked : Losses) (at : CutValue) (checker : CheckerValue) (f : FailingCase) (found : CaseFindings) → FailsFirst asked at checker f → IsFoundAt asked at checker found
     → (rest : List KnownCase) × (map (known_case at asked.tears) found.failing.items ≡ known_case at asked.tears f ∷ rest)
 first_found tree asked at checker f found a is = (bad s (0 + length (map F a.those.told)) it.0, told)
   where

@@ -12,7 +12,7 @@ use Rattle.cases.specs.Trees.{Subject, ending_of}
 use Rattle.cases.specs.Search.{LeafValue, leaf_case, EndsSo, is_torn_beyond, plus}
 use Rattle.cases.specs.Once.{TreeIsOne}
 use Rattle.case_runs.specs.declared.found.Losses.{Losses}
-use Rattle.case_runs.specs.declared.found.FoundCases.{FoundCases}
+use Rattle.case_runs.specs.declared.found.CaseFindings.{CaseFindings}
 use Rattle.case_runs.specs.declared.leaves.FailingCase.{FailingCase}
 use Rattle.case_runs.specs.Leaves.{FailingValue, failing_value, failing_if, failing_from}
 use Rattle.case_runs.specs.Laws.{subject_at}
@@ -61,7 +61,7 @@ endings_told s tears at [] all = refl
 endings_told s tears at (leaf ∷ leaves) all =
     λ i. All-head (EndsSo s tears at) leaf leaves all i ∷ endings_told s tears at leaves (All-tail (EndsSo s tears at) leaf leaves all) i
 
-same_found : TreeIsOne → (asked : Losses) (at : CutValue) (checker : CheckerValue) (found other : FoundCases) → IsFoundAt asked at checker found → IsFoundAt asked at checker other
+same_found : TreeIsOne → (asked : Losses) (at : CutValue) (checker : CheckerValue) (found other : CaseFindings) → IsFoundAt asked at checker found → IsFoundAt asked at checker other
     → SameFound at asked.tears found other
 same_found tree asked at checker found other a b = record {
   cases =
@@ -92,12 +92,12 @@ same_found tree asked at checker found other a b = record {
         endings_told s asked.tears at a.those.told a.those.endings ∙ ap (map (λ (c : Case). ending_of s (representative c))) same
         ∙ sym (endings_told s asked.tears at b.those.told b.those.endings)
 
-    told : (f : FoundCases) → (is : IsFoundAt asked at checker f) → map (known_case at asked.tears) f.failing.items ≡ known_from 0 (map F is.those.told) (map ending_in is.those.told)
+    told : (f : CaseFindings) → (is : IsFoundAt asked at checker f) → map (known_case at asked.tears) f.failing.items ≡ known_from 0 (map F is.those.told) (map ending_in is.those.told)
     told f is =
         known_items at asked.tears f.failing.items ∙ ap (map (known_value at asked.tears)) (is.failing ∙ ap (failing_from 0) is.those.added)
         ∙ known_all at asked.tears 0 is.those.told
 
-fewer_begun : TreeIsOne → (asked : Losses) (at : CutValue) (checker : CheckerValue) (found : FoundCases) (most : ℕ) → IsFoundAt asked at checker found → IsBegunAt asked at checker most
+fewer_begun : TreeIsOne → (asked : Losses) (at : CutValue) (checker : CheckerValue) (found : CaseFindings) (most : ℕ) → IsFoundAt asked at checker found → IsBegunAt asked at checker most
     → most ≤ found.cases
 fewer_begun tree asked at checker found most a b =
     let F : LeafValue → Case = leaf_case asked.tears at in

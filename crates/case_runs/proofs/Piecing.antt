@@ -9,7 +9,7 @@ use Rattle.cases.specs.Cases.{Case}
 use Rattle.cases.specs.AtCut.{CutValue, parts_of, case_of}
 use Rattle.cases.specs.Trees.{Subject}
 use Rattle.case_runs.specs.declared.found.Losses.{Losses}
-use Rattle.case_runs.specs.declared.found.FoundCases.{FoundCases}
+use Rattle.case_runs.specs.declared.found.CaseFindings.{CaseFindings}
 use Rattle.case_runs.specs.declared.pieces.Start.{Start}
 use Rattle.case_runs.specs.declared.pieces.Subtree.{Subtree}
 use Rattle.case_runs.specs.declared.pieces.Subtree.TheVariants as piece
@@ -51,7 +51,7 @@ pieces_ran asked at checker most from ran pieces so is =
 
 -- one piece
 
-pub told_step : (s : Subject) (tears : Bool) (at : CutValue) (found : FoundCases) (most : ℕ) → IsStep s tears at (piece.Told found) found most
+pub told_step : (s : Subject) (tears : Bool) (at : CutValue) (found : CaseFindings) (most : ℕ) → IsStep s tears at (piece.Told found) found most
 told_step s tears at found most = record { step = λ pieces from it. record { to = it.0; stretch = it.1; rest = λ few. it.2 } }
 
 pub open_step : (asked : Losses) (at : CutValue) (checker : CheckerValue) (most : ℕ) (start : Start) (ran : Ran) → RanFrom asked at checker most (start_case asked.tears at start ∷ []) ran

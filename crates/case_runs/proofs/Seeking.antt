@@ -15,7 +15,7 @@ use Rattle.cases.specs.Trees.{Program, ending_of}
 use Rattle.cases.specs.Search.{Asked, subject_of, SearchValue, case_in, SameSearch, Went, LeafValue, Ran, FoundCases, BegunCases}
 use Rattle.cases.proofs.Runs.{ran_start, ran_more, ran_end, found_all, begun_all}
 use Rattle.case_runs.specs.declared.found.Losses.{Losses}
-use Rattle.case_runs.specs.declared.found.FoundCases.{FoundCases}
+use Rattle.case_runs.specs.declared.found.CaseFindings.{CaseFindings}
 use Rattle.case_runs.specs.declared.found.CutFound.{CutFound}
 use Rattle.case_runs.specs.declared.found.SearchFault.{SearchFault}
 use Rattle.case_runs.specs.declared.found.SearchFault.TheVariants as fault
@@ -163,7 +163,7 @@ passes_most checker context was old now new n is begins same so ends =
     }
 
 -- no leaf more: all pass
-pub all_pass : (checker : CheckerValue) (context : Context) (was : Program) (old now new : SearchValue) (n left : ℕ) (it : FoundCases) → context ≡ context_at old.asked.at.log old.asked.at.cut
+pub all_pass : (checker : CheckerValue) (context : Context) (was : Program) (old now new : SearchValue) (n left : ℕ) (it : CaseFindings) → context ≡ context_at old.asked.at.log old.asked.at.cut
     → BeginsAt old → was ≡ program_of checker context → PassedSo (program_of checker context) old now n → n ≤ left → Went (subject_of now.asked was) now new false → IsPassing new n it
     → IsFoundAt (losses_in old) old.asked.at checker it × (it.failing.items ≡ []) × (it.cases ≤ left)
 all_pass checker context was old now new n left it is begins same so few went passing =
@@ -201,13 +201,13 @@ ends_of asked at checker own v left why same tears is ends =
 
 -- with each checker, and at each cut
 
-pub none_more : (found now : List FoundCases) (f : FoundCases) → NoneFailsAt found → f.failing.items ≡ [] → now ≡ found ++ f ∷ [] → NoneFailsAt now
-none_more found now f none own put = subst NoneFailsAt (sym put) (All-push (λ (g : FoundCases). g.failing.items ≡ []) found f none own)
+pub none_more : (found now : List CaseFindings) (f : CaseFindings) → NoneFailsAt found → f.failing.items ≡ [] → now ≡ found ++ f ∷ [] → NoneFailsAt now
+none_more found now f none own put = subst NoneFailsAt (sym put) (All-push (λ (g : CaseFindings). g.failing.items ≡ []) found f none own)
 
 pub none_at_all : (found now : List CutFound) (c : CutFound) → NoneFails found → NoneFailsAt c.programs.items → now ≡ found ++ c ∷ [] → NoneFails now
 none_at_all found now c none own put = subst NoneFails (sym put) (All-push (λ (d : CutFound). NoneFailsAt d.programs.items) found c none own)
 
-pub ends_here : (asked : Losses) (at : CutValue) (checkers : List CheckerValue) (n first left : ℕ) (found : List FoundCases) (c : CheckerValue) (why : SearchFault) → AreFirstAt asked at checkers n found
+pub ends_here : (asked : Losses) (at : CutValue) (checkers : List CheckerValue) (n first left : ℕ) (found : List CaseFindings) (c : CheckerValue) (why : SearchFault) → AreFirstAt asked at checkers n found
     → NoneFailsAt found → slice_get checkers n ≡ Some c → first ≡ left + cases_at found → EndsAtOne asked at c left why → EndsAt asked at checkers first why
 ends_here asked at checkers n first left found c fault.Memory so none there counted stop = tt
 ends_here asked at checkers n first left found c (fault.TooMany cut) so none there counted stop =

@@ -12,7 +12,7 @@ use Rattle.cases.specs.Trees.{Subject}
 use Rattle.cases.specs.Search.{LeadTo, are_there, past_beyond, past_leaf, past_split, LeafValue, leaf_case, EndsSo, is_torn_beyond, plus}
 use Rattle.cases.proofs.Runs.{leads_all}
 use Rattle.case_runs.specs.declared.found.Losses.{Losses}
-use Rattle.case_runs.specs.declared.found.FoundCases.{FoundCases}
+use Rattle.case_runs.specs.declared.found.CaseFindings.{CaseFindings}
 use Rattle.case_runs.specs.declared.leaves.FailingCase.{FailingCase}
 use Rattle.case_runs.specs.Leaves.{FailingValue, failing_value, failing_if, failing_from}
 use Rattle.case_runs.specs.Found.{IsFoundAt, IsPastOne}
@@ -95,7 +95,7 @@ below_items m [] all = tt
 below_items m (f ∷ fs) all = (all.0, below_items m fs all.1)
 
 -- the numbers of failing leaves are those of leaves
-pub numbers_below : (s : Subject) (tears : Bool) (at : CutValue) (from to : List Case) (found : FoundCases) → IsStretch s tears at from found to
+pub numbers_below : (s : Subject) (tears : Bool) (at : CutValue) (from to : List Case) (found : CaseFindings) → IsStretch s tears at from found to
     → All (λ (f : FailingCase). f.number < found.cases) found.failing.items
 numbers_below s tears at from to found is =
     let cases = is.cases in
@@ -104,7 +104,7 @@ numbers_below s tears at from to found is =
     (subst (AllByRecursion (λ (v : FailingValue). v.number < found.cases)) (sym is.failing) (below_from 0 found.cases is.leaves (omega (arith, cases)))))
 
 -- nothing was found yet
-pub stretch_none : (s : Subject) (tears : Bool) (at : CutValue) (from : List Case) (found : FoundCases) → (found.cases ≡ 0) × (found.torn_beyond ≡ 0) × (found.lost_beyond ≡ 0)
+pub stretch_none : (s : Subject) (tears : Bool) (at : CutValue) (from : List Case) (found : CaseFindings) → (found.cases ≡ 0) × (found.torn_beyond ≡ 0) × (found.lost_beyond ≡ 0)
     → found.failing.items ≡ [] → IsStretch s tears at from found from
 stretch_none s tears at from found none empty = record {
   leaves = [];
@@ -117,7 +117,7 @@ stretch_none s tears at from found none empty = record {
   failing = ap (map failing_value) empty;
 }
 
-pub stretch_beside : (s : Subject) (tears : Bool) (at : CutValue) (from to cs : List Case) (found : FoundCases) → IsStretch s tears at from found to → IsStretch s tears at (from ++ cs) found (to ++ cs)
+pub stretch_beside : (s : Subject) (tears : Bool) (at : CutValue) (from to cs : List Case) (found : CaseFindings) → IsStretch s tears at from found to → IsStretch s tears at (from ++ cs) found (to ++ cs)
 stretch_beside s tears at from to cs found is = record {
   leaves = is.leaves;
   left = is.left;
@@ -129,14 +129,14 @@ stretch_beside s tears at from to cs found is = record {
   failing = is.failing;
 }
 
-leads_both : (s : Subject) (tears : Bool) (at : CutValue) (from mid to : List Case) (found more : FoundCases) (one : IsStretch s tears at from found mid) (on : IsStretch s tears at mid more to)
+leads_both : (s : Subject) (tears : Bool) (at : CutValue) (from mid to : List Case) (found more : CaseFindings) (one : IsStretch s tears at from found mid) (on : IsStretch s tears at mid more to)
     → LeadTo s to from (map (leaf_case tears at) (one.leaves ++ on.leaves)) (one.left ++ on.left)
 leads_both s tears at from mid to found more one on =
     let F : LeafValue → Case = leaf_case tears at in
     subst (λ (cs : List Case). LeadTo s to from cs (one.left ++ on.left)) (sym (map-append F one.leaves on.leaves))
     (leads_on s to mid from (map F one.leaves) (map F on.leaves) one.left on.left one.leads on.leads)
 
-pub stretch_on : (s : Subject) (tears : Bool) (at : CutValue) (from mid to : List Case) (found more both : FoundCases) → IsStretch s tears at from found mid → IsStretch s tears at mid more to
+pub stretch_on : (s : Subject) (tears : Bool) (at : CutValue) (from mid to : List Case) (found more both : CaseFindings) → IsStretch s tears at from found mid → IsStretch s tears at mid more to
     → IsJoined found more both → IsStretch s tears at from both to
 stretch_on s tears at from mid to found more both one on so =
     let own = one.cases in
@@ -160,7 +160,7 @@ stretch_on s tears at from mid to found more both one on so =
     }
 
 -- all leaves were found
-pub found_whole : (asked : Losses) (at : CutValue) (checker : CheckerValue) (found : FoundCases) (to : List Case) → to ≡ []
+pub found_whole : (asked : Losses) (at : CutValue) (checker : CheckerValue) (found : CaseFindings) (to : List Case) → to ≡ []
     → IsStretch (subject_in asked at checker) asked.tears at (whole_case asked.tears ∷ []) found to → IsFoundAt asked at checker found
 found_whole asked at checker found to none is =
     let s = subject_in asked at checker in
@@ -181,7 +181,7 @@ found_whole asked at checker found to none is =
     }
 
 -- there are more than the limit
-pub past_both : (asked : Losses) (at : CutValue) (checker : CheckerValue) (mid to : List Case) (found more : FoundCases) (left : ℕ)
+pub past_both : (asked : Losses) (at : CutValue) (checker : CheckerValue) (mid to : List Case) (found more : CaseFindings) (left : ℕ)
     → IsStretch (subject_in asked at checker) asked.tears at (whole_case asked.tears ∷ []) found mid → IsStretch (subject_in asked at checker) asked.tears at mid more to
     → left < found.cases + more.cases → IsPastOne asked at checker left
 past_both asked at checker mid to found more left one on low =

@@ -6,7 +6,7 @@ use Rattle.checker.specs.Checker.{CheckerValue}
 use Rattle.cases.specs.Cases.{Case, whole_case}
 use Rattle.cases.specs.AtCut.{CutValue, parts_of, case_of}
 use Rattle.cases.specs.Trees.{Subject}
-use Rattle.case_runs.specs.declared.found.FoundCases.{FoundCases}
+use Rattle.case_runs.specs.declared.found.CaseFindings.{CaseFindings}
 use Rattle.case_runs.specs.declared.work.CaseWork.{CaseWork}
 use Rattle.case_runs.specs.declared.pieces.Start.{Start}
 use Rattle.case_runs.specs.declared.pieces.Subtree.{Subtree}
@@ -22,7 +22,7 @@ inner_starts s tears at [] rest start cs it = it.2
 inner_starts s tears at (piece.Told found ∷ out) rest start cs it = inner_starts s tears at out rest start it.0 it.2
 inner_starts s tears at (piece.Open first ∷ out) rest start cs it = inner_starts s tears at out rest start it.0 it.3
 
-pub same_told : (work : CaseWork) (cut program : ℕ) (out new : List Subtree) (found : FoundCases) → new ≡ out ++ told_as found ∷ [] → (rest : List Subtree) → HaveSame work cut program (out ++ (told_as found ∷ rest)) (new ++ rest)
+pub same_told : (work : CaseWork) (cut program : ℕ) (out new : List Subtree) (found : CaseFindings) → new ≡ out ++ told_as found ∷ [] → (rest : List Subtree) → HaveSame work cut program (out ++ (told_as found ∷ rest)) (new ++ rest)
 same_told work cut program out new found is rest = record {
   same = λ c from at own.
       subst (λ (ps : List Subtree). AreOf work cut c ps from) (sym (append_assoc out (told_as found ∷ []) rest) ∙ ap (λ (xs : List Subtree). xs ++ rest) (sym is)) own;

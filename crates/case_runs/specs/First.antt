@@ -9,7 +9,7 @@ use Rattle.cases.specs.AtCut.{CutValue}
 use Rattle.cases.specs.Trees.{Program, ending_of}
 use Rattle.cases.specs.Search.{SearchValue, LeafValue, BegunCases, SameSearch, Went, pending, case_in, subject_of}
 use Rattle.case_runs.specs.declared.found.Losses.{Losses}
-use Rattle.case_runs.specs.declared.found.FoundCases.{FoundCases}
+use Rattle.case_runs.specs.declared.found.CaseFindings.{CaseFindings}
 use Rattle.case_runs.specs.declared.found.CutFound.{CutFound}
 use Rattle.case_runs.specs.declared.found.SearchFault.{SearchFault}
 use Rattle.case_runs.specs.declared.found.SearchFault.TheVariants as fault
@@ -28,8 +28,8 @@ use Rattle.case_runs.specs.Laws.{subject_at}
 use Rattle.case_runs.specs.Found.{IsFoundAt, AreFoundAt, AreFoundIn, AreFirstAt, AreFirstIn, KnownCase, known_case, cases_at, cases_in, most_cases}
 
 -- no case fails, of those that were found at a cut, and at some cuts
-abbrev pub NoneFailsAt : List FoundCases → Type 0
-NoneFailsAt found = All (λ (f : FoundCases). f.failing.items ≡ []) found
+abbrev pub NoneFailsAt : List CaseFindings → Type 0
+NoneFailsAt found = All (λ (f : CaseFindings). f.failing.items ≡ []) found
 
 abbrev pub NoneFails : List CutFound → Type 0
 NoneFails found = All (λ (c : CutFound). NoneFailsAt c.programs.items) found
@@ -77,20 +77,20 @@ GoesTo program now new n next.Passing = (ending : Ending) × NextLeaf program no
 GoesTo program now new n (next.Failing f) = (ending : Ending) × NextLeaf program now new ending × (failing_if n (leaf_at new ending) ≡ failing_value f ∷ [])
 
 -- that many leaves were found, which all pass
-pub record IsPassing (v : SearchValue) (count : ℕ) (found : FoundCases) : Type 0 where
+pub record IsPassing (v : SearchValue) (count : ℕ) (found : CaseFindings) : Type 0 where
   pub cases : found.cases ≡ count
   pub torn : found.torn_beyond ≡ v.torn_beyond
   pub lost : found.lost_beyond ≡ v.lost_beyond
   pub none : found.failing.items ≡ []
 
 -- where that many leaves pass, there is no other, or there is one
-abbrev pub EndsWith : Program → SearchValue → SearchValue → ℕ → Option FoundCases → Type 0
+abbrev pub EndsWith : Program → SearchValue → SearchValue → ℕ → Option CaseFindings → Type 0
 EndsWith program now new count None = (ending : Ending) × NextLeaf program now new ending
 EndsWith program now new count (Some found) = Went (subject_of now.asked program) now new false × IsPassing new count found
 
 -- the first failing case at a cut, within the first `left` cases there: with the checkers before its own no case fails
 pub record FailsFirstAt (asked : Losses) (at : CutValue) (checkers : List CheckerValue) (left : ℕ) (first : FirstCase) : Type 0 where
-  pub before : List FoundCases
+  pub before : List CaseFindings
   pub are : AreFirstAt asked at checkers first.program before
   pub none : NoneFailsAt before
   pub checker : CheckerValue
@@ -103,7 +103,7 @@ pub record FailsFirstAt (asked : Losses) (at : CutValue) (checkers : List Checke
 -- the first `left` cases at a cut pass, and there is one more
 pub record PassesMostAt (asked : Losses) (at : CutValue) (checkers : List CheckerValue) (left : ℕ) : Type 0 where
   pub number : ℕ
-  pub before : List FoundCases
+  pub before : List CaseFindings
   pub are : AreFirstAt asked at checkers number before
   pub none : NoneFailsAt before
   pub checker : CheckerValue
@@ -181,6 +181,6 @@ EndsIn asked log way cuts checkers (fault.TooMany cut) = PassesMostIn asked log 
 pub record FirstIsOne : Type 0 where
   pub same : (asked : Losses) (at : CutValue) (checker : CheckerValue) (f g : FailingCase) → FailsFirst asked at checker f → FailsFirst asked at checker g
       → known_case at asked.tears f ≡ known_case at asked.tears g
-  pub found : (asked : Losses) (at : CutValue) (checker : CheckerValue) (f : FailingCase) (found : FoundCases) → FailsFirst asked at checker f → IsFoundAt asked at checker found
+  pub found : (asked : Losses) (at : CutValue) (checker : CheckerValue) (f : FailingCase) (found : CaseFindings) → FailsFirst asked at checker f → IsFoundAt asked at checker found
       → (rest : List KnownCase) × (map (known_case at asked.tears) found.failing.items ≡ known_case at asked.tears f ∷ rest)
   pub after : (asked : Losses) (at : CutValue) (checker : CheckerValue) (f : FailingCase) (most : ℕ) → FailsFirst asked at checker f → PassesMost asked at checker most → most ≤ f.number

@@ -12,7 +12,7 @@ use Rattle.cases.specs.Laws.{Includes}
 use Rattle.cases.specs.AtCut.{CutValue, parts_of, case_of}
 use Rattle.cases.specs.Search.{LeafValue, FoundCases, BegunCases}
 use Rattle.case_runs.specs.declared.found.Losses.{Losses}
-use Rattle.case_runs.specs.declared.found.FoundCases.{FoundCases}
+use Rattle.case_runs.specs.declared.found.CaseFindings.{CaseFindings}
 use Rattle.case_runs.specs.declared.found.CutFound.{CutFound}
 use Rattle.case_runs.specs.declared.found.SearchFault.{SearchFault}
 use Rattle.case_runs.specs.declared.found.SearchFault.TheVariants as fault
@@ -22,7 +22,7 @@ use Rattle.case_runs.specs.Laws.{subject_at, judged_at}
 
 -- At a cut with a checker: of exactly its leaves, in the order of the tree, those that fail, by their numbers, and how many leaves there
 -- are, and cases that were left out.
-pub record IsFoundAt (asked : Losses) (at : CutValue) (checker : CheckerValue) (found : FoundCases) : Type 0 where
+pub record IsFoundAt (asked : Losses) (at : CutValue) (checker : CheckerValue) (found : CaseFindings) : Type 0 where
   pub leaves : List LeafValue
   pub those : FoundCases (subject_at at.log at.way at.cut checker asked.torn asked.lost) asked.tears at [] leaves found.torn_beyond found.lost_beyond
   pub cases : found.cases ≡ length leaves
@@ -34,9 +34,9 @@ pub record IsBegunAt (asked : Losses) (at : CutValue) (checker : CheckerValue) (
   pub those : BegunCases (subject_at at.log at.way at.cut checker asked.torn asked.lost) asked.tears at [] leaves most
 
 -- at a cut, with each of some checkers, in order
-pub record AreFoundAt (asked : Losses) (at : CutValue) (checkers : List CheckerValue) (found : List FoundCases) : Type 0 where
+pub record AreFoundAt (asked : Losses) (at : CutValue) (checkers : List CheckerValue) (found : List CaseFindings) : Type 0 where
   pub count : length found ≡ length checkers
-  pub each : (i : ℕ) (c : CheckerValue) (f : FoundCases) → slice_get checkers i ≡ Some c → slice_get found i ≡ Some f → IsFoundAt asked at c f
+  pub each : (i : ℕ) (c : CheckerValue) (f : CaseFindings) → slice_get checkers i ≡ Some c → slice_get found i ≡ Some f → IsFoundAt asked at c f
 
 -- at each of some cuts, in order
 pub record AreFoundIn (asked : Losses) (log : LogValue) (way : By) (cuts : List ℕ) (checkers : List CheckerValue) (found : List CutFound) : Type 0 where
@@ -46,8 +46,8 @@ pub record AreFoundIn (asked : Losses) (log : LogValue) (way : By) (cuts : List 
       → AreFoundAt asked (record { log = log; way = way; cut = k }) checkers f.programs.items
 
 -- how many cases were found at a cut, and at some cuts
-abbrev pub cases_at : List FoundCases → ℕ
-cases_at found = sum_by (λ (f : FoundCases). f.cases) found
+abbrev pub cases_at : List CaseFindings → ℕ
+cases_at found = sum_by (λ (f : CaseFindings). f.cases) found
 
 abbrev pub cases_in : List CutFound → ℕ
 cases_in found = sum_by (λ (c : CutFound). cases_at c.programs.items) found
@@ -57,9 +57,9 @@ abbrev pub most_cases : ℕ
 most_cases = 16777216
 
 -- at a cut, with each of the first n of some checkers, in order
-pub record AreFirstAt (asked : Losses) (at : CutValue) (checkers : List CheckerValue) (n : ℕ) (found : List FoundCases) : Type 0 where
+pub record AreFirstAt (asked : Losses) (at : CutValue) (checkers : List CheckerValue) (n : ℕ) (found : List CaseFindings) : Type 0 where
   pub count : length found ≡ n
-  pub each : (i : ℕ) (c : CheckerValue) (f : FoundCases) → slice_get checkers i ≡ Some c → slice_get found i ≡ Some f → IsFoundAt asked at c f
+  pub each : (i : ℕ) (c : CheckerValue) (f : CaseFindings) → slice_get checkers i ≡ Some c → slice_get found i ≡ Some f → IsFoundAt asked at c f
 
 -- at each of the first n of some cuts, in order
 pub record AreFirstIn (asked : Losses) (log : LogValue) (way : By) (cuts : List ℕ) (checkers : List CheckerValue) (n : ℕ) (found : List CutFound) : Type 0 where
@@ -77,7 +77,7 @@ pub record IsPastOne (asked : Losses) (at : CutValue) (checker : CheckerValue) (
 -- there are more than that many at a cut with some checkers: with those before one as many as are found, and with that one more than are left
 pub record IsPastAt (asked : Losses) (at : CutValue) (checkers : List CheckerValue) (left : ℕ) : Type 0 where
   pub number : ℕ
-  pub before : List FoundCases
+  pub before : List CaseFindings
   pub are : AreFirstAt asked at checkers number before
   pub checker : CheckerValue
   pub own : slice_get checkers number ≡ Some checker
@@ -118,7 +118,7 @@ abbrev pub known_case : CutValue → Bool → FailingCase → KnownCase
 known_case at tears f = record { number = f.number; ending = ending_of f.outcome; is = case_of tears (parts_of at) f.sets.items }
 
 -- the same was found twice
-pub record SameFound (at : CutValue) (tears : Bool) (found other : FoundCases) : Type 0 where
+pub record SameFound (at : CutValue) (tears : Bool) (found other : CaseFindings) : Type 0 where
   pub cases : found.cases ≡ other.cases
   pub torn : found.torn_beyond ≡ other.torn_beyond
   pub lost : found.lost_beyond ≡ other.lost_beyond
@@ -126,16 +126,16 @@ pub record SameFound (at : CutValue) (tears : Bool) (found other : FoundCases) :
 
 -- at a cut with a checker one thing is found, and where it is told of cases that there are more, there are as many
 pub record FindingIsOne : Type 0 where
-  pub same : (asked : Losses) (at : CutValue) (checker : CheckerValue) (found other : FoundCases) → IsFoundAt asked at checker found → IsFoundAt asked at checker other
+  pub same : (asked : Losses) (at : CutValue) (checker : CheckerValue) (found other : CaseFindings) → IsFoundAt asked at checker found → IsFoundAt asked at checker other
       → SameFound at asked.tears found other
-  pub fewer : (asked : Losses) (at : CutValue) (checker : CheckerValue) (found : FoundCases) (most : ℕ) → IsFoundAt asked at checker found → IsBegunAt asked at checker most
+  pub fewer : (asked : Losses) (at : CutValue) (checker : CheckerValue) (found : CaseFindings) (most : ℕ) → IsFoundAt asked at checker found → IsBegunAt asked at checker most
       → most ≤ found.cases
 
 -- on each image of a failing case that was found the checker ends as the case says, and so it fails there
 abbrev pub TheirImagesFail : Type 0
 TheirImagesFail = (asked : Losses) (log : LogValue) (way : By) (cuts : List ℕ) (checkers : List CheckerValue) (found : List CutFound)
     → IsLog log → AreFoundIn asked log way cuts checkers found
-    → (i j n k : ℕ) (f : CutFound) (checker : CheckerValue) (own : FoundCases) (it : FailingCase) (choice : Choice) → k ≤ length log.entries
+    → (i j n k : ℕ) (f : CutFound) (checker : CheckerValue) (own : CaseFindings) (it : FailingCase) (choice : Choice) → k ≤ length log.entries
     → slice_get cuts i ≡ Some k → slice_get found i ≡ Some f → slice_get checkers j ≡ Some checker → slice_get f.programs.items j ≡ Some own → slice_get own.failing.items n ≡ Some it
     → Includes choice (case_of asked.tears (parts_of (record { log = log; way = way; cut = k })) it.sets.items)
     → (judged_at log way k checker choice ≡ ending_of it.outcome) × (fails (ending_of it.outcome) ≡ true)

@@ -7,7 +7,7 @@ use Rattle.cases.specs.AtCut.{CutValue, parts_of, case_of}
 use Rattle.cases.specs.Trees.{Subject}
 use Rattle.cases.specs.Search.{SearchValue, LeadTo, LeafValue, leaf_case, EndsSo, is_torn_beyond, plus}
 use Rattle.case_runs.specs.declared.found.Losses.{Losses}
-use Rattle.case_runs.specs.declared.found.FoundCases.{FoundCases}
+use Rattle.case_runs.specs.declared.found.CaseFindings.{CaseFindings}
 use Rattle.case_runs.specs.declared.pieces.Start.{Start}
 use Rattle.case_runs.specs.declared.pieces.Subtree.{Subtree}
 use Rattle.case_runs.specs.declared.pieces.Subtree.TheVariants as piece
@@ -32,7 +32,7 @@ IsStart at start = start.whole ≡ false → length start.sets.items ≡ length 
 
 -- the leaves from some cases up to others: those of them that fail, by their numbers, and how many leaves there are, and cases that were
 -- left out
-pub record IsStretch (s : Subject) (tears : Bool) (at : CutValue) (from : List Case) (found : FoundCases) (to : List Case) : Type 0 where
+pub record IsStretch (s : Subject) (tears : Bool) (at : CutValue) (from : List Case) (found : CaseFindings) (to : List Case) : Type 0 where
   pub leaves : List LeafValue
   pub left : List Case
   pub leads : LeadTo s to from (map (leaf_case tears at) leaves) left
@@ -48,7 +48,7 @@ ArePieces s tears at [] from = from ≡ []
 ArePieces s tears at (piece.Told found ∷ pieces) from = (to : List Case) × IsStretch s tears at from found to × ArePieces s tears at pieces to
 ArePieces s tears at (piece.Open start ∷ pieces) from = (rest : List Case) × (from ≡ start_case tears at start ∷ rest) × IsStart at start × ArePieces s tears at pieces rest
 
-abbrev pub told_as : FoundCases → Subtree
+abbrev pub told_as : CaseFindings → Subtree
 told_as found = piece.Told found
 
 abbrev pub open_as : Start → Subtree
@@ -70,12 +70,12 @@ pub record RanFrom (asked : Losses) (at : CutValue) (checker : CheckerValue) (mo
   pub ended : ran.found.cases < most → ran.left.items ≡ []
 
 -- a piece, and what was found of it before the next ones
-pub record StepsTo (s : Subject) (tears : Bool) (at : CutValue) (pieces : List Subtree) (from : List Case) (found : FoundCases) (most : ℕ) : Type 0 where
+pub record StepsTo (s : Subject) (tears : Bool) (at : CutValue) (pieces : List Subtree) (from : List Case) (found : CaseFindings) (most : ℕ) : Type 0 where
   pub to : List Case
   pub stretch : IsStretch s tears at from found to
   pub rest : found.cases < most → ArePieces s tears at pieces to
 
-pub record IsStep (s : Subject) (tears : Bool) (at : CutValue) (it : Subtree) (found : FoundCases) (most : ℕ) : Type 0 where
+pub record IsStep (s : Subject) (tears : Bool) (at : CutValue) (it : Subtree) (found : CaseFindings) (most : ℕ) : Type 0 where
   pub step : (pieces : List Subtree) (from : List Case) → ArePieces s tears at (it ∷ pieces) from → StepsTo s tears at pieces from found most
 
 -- a failing case that comes after other leaves
@@ -83,13 +83,13 @@ abbrev pub later : ℕ → FailingValue → FailingValue
 later leaves f = record { number = leaves + f.number; ending = f.ending; sets = f.sets }
 
 -- what was found and what was found after it, put together
-pub record IsJoined (old more new : FoundCases) : Type 0 where
+pub record IsJoined (old more new : CaseFindings) : Type 0 where
   pub cases : new.cases ≡ old.cases + more.cases
   pub torn : new.torn_beyond ≡ min (old.torn_beyond + more.torn_beyond) (2 ^ 64 - 1)
   pub lost : new.lost_beyond ≡ min (old.lost_beyond + more.lost_beyond) (2 ^ 64 - 1)
   pub failing : map failing_value new.failing.items ≡ map failing_value old.failing.items ++ map (later old.cases) (map failing_value more.failing.items)
 
 -- it is put together where there are no more leaves than that
-abbrev pub JoinsSo : FoundCases → FoundCases → ℕ → FoundCases → Bool → Type 0
+abbrev pub JoinsSo : CaseFindings → CaseFindings → ℕ → CaseFindings → Bool → Type 0
 JoinsSo old more left new true = IsJoined old more new × (old.cases + more.cases ≤ left)
 JoinsSo old more left new false = left < old.cases + more.cases

@@ -8,7 +8,7 @@ ghost use Rattle.case_runs.specs.Judges.{program_of};
 ghost use Rattle.case_runs.specs.Leaves.{IsFit, failing_value, failing_if};
 ghost use Rattle.case_runs.specs.First.{losses_in, BeginsAt, IsMetAt, GoesTo, IsPassing, EndsWith, MeetsOne, TakesOne, MeetsAt, TakesAt, IsSought, EndsAtOne, EndsAt, EndsIn};
 
-use crate::found::{CutFound, FoundCases, Losses, MOST_CASES, SearchFault};
+use crate::found::{CaseFindings, CutFound, Losses, MOST_CASES, SearchFault};
 use crate::gate::{CaseGate, Watched};
 use crate::judge::CaseJudge;
 use crate::leaves::{FailingCase, put_failing};
@@ -43,7 +43,7 @@ pub enum Sought {
 #[derive(Drop)]
 pub(crate) enum Met {
     /// All leaves pass.
-    Passing(FoundCases),
+    Passing(CaseFindings),
     /// The first one that fails.
     Failing(FailingCase),
 }
@@ -83,10 +83,10 @@ fn failing_leaf(
 }
 
 /// What was found where all leaves pass.
-fn passing(alloc: Global, search: &Search<'_>, cases: u32) -> FoundCases
+fn passing(alloc: Global, search: &Search<'_>, cases: u32) -> CaseFindings
     ensures { IsPassing search.now cases result }
 {
-    FoundCases {
+    CaseFindings {
         cases: cases as usize,
         torn_beyond: search.torn_beyond(),
         lost_beyond: search.lost_beyond(),
@@ -128,7 +128,7 @@ fn all_passing<G: CaseGate>(
     search: &mut Search<'_>,
     judge: &mut Watched<'_, '_, '_, G>,
     count: u32,
-) -> Result<Option<FoundCases>, AllocError>
+) -> Result<Option<CaseFindings>, AllocError>
     ensures { IfOk result (EndsWith (program_of judge.old.checker judge.old.context) search.old search.new count) }
 {
     if search.next(judge)? {

@@ -33,7 +33,7 @@ pub struct Losses {
 
 /// What was found at a cut with a checker.
 #[derive(Drop)]
-pub struct FoundCases {
+pub struct CaseFindings {
     /// How many leaves there are.
     pub cases: usize,
     /// How many cases were left out, since more parts are torn than is asked.
@@ -48,7 +48,7 @@ pub struct FoundCases {
 #[derive(Drop)]
 pub struct CutFound {
     pub cut: u32,
-    pub programs: Vec<FoundCases>,
+    pub programs: Vec<CaseFindings>,
 }
 
 /// Why the cases weren't found.
@@ -89,7 +89,7 @@ fn find_at<G: CaseGate>(
     checker: &Checker<'_>,
     asked: Losses,
     most: u32,
-) -> Result<Option<FoundCases>, AllocError>
+) -> Result<Option<CaseFindings>, AllocError>
     requires context { context ≡ context_at cut.now.log cut.now.cut }
     requires fit { IsFit checker.now context }
     ensures { IfOk result (λ found. MatchOption found (IsBegunAt asked cut.now checker.now most) (IsFoundAt asked cut.now checker.now)) }
@@ -108,7 +108,7 @@ fn find_at<G: CaseGate>(
         return Ok(None);
     };
     let cases = judge.judge().cases();
-    Ok(Some(FoundCases {
+    Ok(Some(CaseFindings {
         cases,
         torn_beyond: beyond.torn,
         lost_beyond: beyond.lost,
@@ -125,7 +125,7 @@ fn find_within<G: CaseGate>(
     checker: &Checker<'_>,
     asked: Losses,
     left: &mut u32,
-) -> Result<FoundCases, SearchFault>
+) -> Result<CaseFindings, SearchFault>
     requires context { context ≡ context_at cut.now.log cut.now.cut }
     requires fit { IsFit checker.now context }
     requires few { left.old ≤ most_cases }
@@ -153,7 +153,7 @@ fn find_each<G: CaseGate>(
     checkers: &[Checker<'_>],
     asked: Losses,
     left: &mut u32,
-) -> Result<Vec<FoundCases>, SearchFault>
+) -> Result<Vec<CaseFindings>, SearchFault>
     requires context { context ≡ context_at cut.now.log cut.now.cut }
     requires small { (context.epoch ≤ 65536) × (context.marks ≤ 65536) }
     requires device { AreFor cut.now.log.sectors checkers.now }

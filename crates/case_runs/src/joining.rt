@@ -7,7 +7,7 @@ ghost use Rattle.case_runs.specs.Found.{IsFoundAt, AreFoundAt, AreFoundIn, cases
 ghost use Rattle.case_runs.specs.Pieces.{subject_in, start_case, IsStart, StartsSo, IsStep, RanFrom, later, JoinsSo};
 ghost use Rattle.case_runs.specs.Shares.{cut_in, AreAllOf, IsBegun};
 
-use crate::found::{CutFound, FoundCases, MOST_CASES, SearchFault};
+use crate::found::{CaseFindings, CutFound, MOST_CASES, SearchFault};
 use crate::gate::CaseGate;
 use crate::leaves::FailingCase;
 use crate::pieces::{Begun, Ran, Start, Subtree, run_start};
@@ -18,11 +18,11 @@ use checker::Checker;
 use std::alloc::{AllocError, Global};
 
 /// Nothing was found yet.
-fn nothing(alloc: Global) -> FoundCases
+fn nothing(alloc: Global) -> CaseFindings
     ensures counts { (result.cases ≡ 0) × (result.torn_beyond ≡ 0) × (result.lost_beyond ≡ 0) }
     ensures failing { result.failing.items ≡ [] }
 {
-    FoundCases {
+    CaseFindings {
         cases: 0,
         torn_beyond: 0,
         lost_beyond: 0,
@@ -55,7 +55,7 @@ fn put_after(
 }
 
 /// Puts together what was found and what was found after it, if these have no more than `left` leaves.
-fn put_found(found: &mut FoundCases, more: FoundCases, left: u32) -> Result<bool, AllocError>
+fn put_found(found: &mut CaseFindings, more: CaseFindings, left: u32) -> Result<bool, AllocError>
     requires { All (λ f. f.number < more.cases) more.failing.items }
     ensures { IfOk result (JoinsSo found.old more left found.new) }
 {
@@ -114,7 +114,7 @@ fn found_of<G: CaseGate>(
     checker: &Checker<'_>,
     piece: Subtree,
     most: u32,
-) -> Result<FoundCases, AllocError>
+) -> Result<CaseFindings, AllocError>
     requires device { AreFor work.now.log.now.sectors work.now.checkers.now }
     requires cut { number ≤ length work.now.log.now.entries }
     requires checker { slice_get work.now.checkers.now program ≡ Some checker.now }
@@ -140,7 +140,7 @@ fn joined_at<G: CaseGate>(
     checker: &Checker<'_>,
     pieces: Vec<Subtree>,
     left: u32,
-) -> Result<FoundCases, SearchFault>
+) -> Result<CaseFindings, SearchFault>
     requires device { AreFor work.now.log.now.sectors work.now.checkers.now }
     requires cut { number ≤ length work.now.log.now.entries }
     requires checker { slice_get work.now.checkers.now program ≡ Some checker.now }
@@ -171,7 +171,7 @@ fn joined_within<G: CaseGate>(
     checker: &Checker<'_>,
     pieces: Vec<Subtree>,
     left: &mut u32,
-) -> Result<FoundCases, SearchFault>
+) -> Result<CaseFindings, SearchFault>
     requires device { AreFor work.now.log.now.sectors work.now.checkers.now }
     requires cut { number ≤ length work.now.log.now.entries }
     requires checker { slice_get work.now.checkers.now program ≡ Some checker.now }
@@ -215,7 +215,7 @@ fn joined_each<G: CaseGate>(
     number: u32,
     begun: &mut Vec<Begun>,
     left: &mut u32,
-) -> Result<Vec<FoundCases>, SearchFault>
+) -> Result<Vec<CaseFindings>, SearchFault>
     requires checkers { work.now.checkers.now ≡ checkers.now }
     requires device { AreFor work.now.log.now.sectors work.now.checkers.now }
     requires cut { number ≤ length work.now.log.now.entries }

@@ -101,7 +101,7 @@ mod work;
 
 pub use cuts::{case_cuts, first_wanted, last_wanted};
 pub use first::{FirstCase, Sought, find_first};
-pub use found::{CutFound, FoundCases, Losses, MOST_CASES, SearchFault, find_failing};
+pub use found::{CaseFindings, CutFound, Losses, MOST_CASES, SearchFault, find_failing};
 pub use gate::CaseGate;
 pub use image::CaseImage;
 pub use judge::CaseJudge;

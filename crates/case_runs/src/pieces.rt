@@ -6,7 +6,7 @@ ghost use Rattle.cases.specs.Search.{pending};
 ghost use Rattle.case_runs.specs.Leaves.{IsFit};
 ghost use Rattle.case_runs.specs.Pieces.{IsSearchOf, IsStart, start_case, RanFrom, told_as, open_at};
 
-use crate::found::{FoundCases, Losses};
+use crate::found::{CaseFindings, Losses};
 use crate::gate::{CaseGate, Watched};
 use crate::judge::CaseJudge;
 use cases::{Cut, Search};
@@ -27,7 +27,7 @@ pub(crate) struct Start {
 #[derive(Drop)]
 pub(crate) enum Subtree {
     /// What was found there.
-    Told(FoundCases),
+    Told(CaseFindings),
     /// A case that is still to be explored.
     Open(Start),
 }
@@ -59,7 +59,7 @@ pub(crate) struct SubtreeAnswer {
 /// What a run found, and the cases that are still to be explored after it.
 #[derive(Drop)]
 pub(crate) struct Ran {
-    pub(crate) found: FoundCases,
+    pub(crate) found: CaseFindings,
     pub(crate) left: Vec<Vec<u16>>,
 }
 
@@ -151,7 +151,7 @@ fn run_from<G: CaseGate>(
 {
     let mut judge = Watched::new(CaseJudge::new(alloc, checker, context)?, gate);
     let _ended = search.run(&mut judge, most)?;
-    let found = FoundCases {
+    let found = CaseFindings {
         cases: judge.judge().cases(),
         torn_beyond: search.torn_beyond(),
         lost_beyond: search.lost_beyond(),

@@ -6,7 +6,7 @@ ghost use Rattle.case_runs.specs.declared.pieces.Subtree.{Subtree as PieceValue}
 ghost use Rattle.case_runs.specs.Pieces.{told_as, open_as};
 ghost use Rattle.case_runs.specs.Shares.{IsAnswer, AreAnswers, IsBegun, AreAllOf, AreBelow, HaveSame};
 
-use crate::found::{FoundCases, MOST_CASES};
+use crate::found::{CaseFindings, MOST_CASES};
 use crate::gate::CaseGate;
 use crate::pieces::{Begun, Start, Subtree, SubtreeAnswer, all_choices, are_same};
 use crate::sharing::answers;
@@ -87,7 +87,7 @@ fn put_told(
     out: &mut Vec<Subtree>,
     cut: u32,
     program: usize,
-    found: FoundCases,
+    found: CaseFindings,
 ) -> Result<(), AllocError>
     ensures same { (rest : List PieceValue) → OnOk result (HaveSame work.now cut program (out.old.items ++ (told_as found ∷ rest)) (out.new.items ++ rest)) }
 {

@@ -5,7 +5,7 @@ use Rattle.std.proofs.lemmas.Grind.{flat_map-append}
 use Rattle.std.proofs.lemmas.Int.{clamps}
 use Rattle.std.proofs.lemmas.List.{take_all}
 use Rattle.std.proofs.lemmas.List.Sums.{sum_by_push}
-use Rattle.case_runs.specs.declared.found.FoundCases.{FoundCases}
+use Rattle.case_runs.specs.declared.found.CaseFindings.{CaseFindings}
 use Rattle.case_runs.specs.declared.found.CutFound.{CutFound}
 use Rattle.case_text.specs.declared.totals.Totals.{Totals}
 use Rattle.case_text.specs.Text.{in_word, all_found, count_cases, count_failing, count_torn_beyond, count_lost_beyond, complete_word, counts_text, beyond_text, totals_text}
@@ -15,37 +15,37 @@ use Rattle.case_text.specs.Counts.{with_all, with_found}
 in_word_twice : (a b : ℕ) → in_word (in_word a + b) ≡ in_word (a + b)
 in_word_twice a b = omega (arith, clamps)
 
-pub with_push : (t : Totals) (fs : List FoundCases) (x : FoundCases) → with_all t (fs ++ x ∷ []) ≡ with_found (with_all t fs) x
+pub with_push : (t : Totals) (fs : List CaseFindings) (x : CaseFindings) → with_all t (fs ++ x ∷ []) ≡ with_found (with_all t fs) x
 with_push t [] x = refl
 with_push t (f ∷ fs) x = with_push (with_found t f) fs x
 
-pub with_next : (t : Totals) (fs : List FoundCases) (n : ℕ) (x y : FoundCases) (old new : Totals) → take (n + 1) fs ≡ take n fs ++ x ∷ [] → y ≡ x
+pub with_next : (t : Totals) (fs : List CaseFindings) (n : ℕ) (x y : CaseFindings) (old new : Totals) → take (n + 1) fs ≡ take n fs ++ x ∷ [] → y ≡ x
     → old ≡ with_all t (take n fs) → new ≡ with_found old y → new ≡ with_all t (take (n + 1) fs)
 with_next t fs n x y old new more same was is =
     is ∙ ap (λ o. with_found o y) was ∙ ap (with_found (with_all t (take n fs))) same ∙ sym (with_push t (take n fs) x) ∙ ap (with_all t) (sym more)
 
 -- the totals of some programs
-pub sums_of : List FoundCases → Totals
+pub sums_of : List CaseFindings → Totals
 sums_of fs = record {
-  cases = in_word (sum_by (λ (f : FoundCases). f.cases) fs);
-  failing = in_word (sum_by (λ (f : FoundCases). length f.failing.items) fs);
-  torn_beyond = in_word (sum_by (λ (f : FoundCases). f.torn_beyond) fs);
-  lost_beyond = in_word (sum_by (λ (f : FoundCases). f.lost_beyond) fs);
+  cases = in_word (sum_by (λ (f : CaseFindings). f.cases) fs);
+  failing = in_word (sum_by (λ (f : CaseFindings). length f.failing.items) fs);
+  torn_beyond = in_word (sum_by (λ (f : CaseFindings). f.torn_beyond) fs);
+  lost_beyond = in_word (sum_by (λ (f : CaseFindings). f.lost_beyond) fs);
 }
 
-one_more : (f : FoundCases → ℕ) (fs : List FoundCases) (x : FoundCases) → in_word (in_word (sum_by f fs) + f x) ≡ in_word (sum_by f (fs ++ x ∷ []))
+one_more : (f : CaseFindings → ℕ) (fs : List CaseFindings) (x : CaseFindings) → in_word (in_word (sum_by f fs) + f x) ≡ in_word (sum_by f (fs ++ x ∷ []))
 one_more f fs x = in_word_twice (sum_by f fs) (f x) ∙ ap in_word (sym (sum_by_push f fs x))
 
-sums_push : (fs : List FoundCases) (x : FoundCases) → with_found (sums_of fs) x ≡ sums_of (fs ++ x ∷ [])
+sums_push : (fs : List CaseFindings) (x : CaseFindings) → with_found (sums_of fs) x ≡ sums_of (fs ++ x ∷ [])
 unfolding sums_of
 sums_push fs x =
-    let a = one_more (λ (f : FoundCases). f.cases) fs x in
-    let b = one_more (λ (f : FoundCases). length f.failing.items) fs x in
-    let c = one_more (λ (f : FoundCases). f.torn_beyond) fs x in
-    let d = one_more (λ (f : FoundCases). f.lost_beyond) fs x in
+    let a = one_more (λ (f : CaseFindings). f.cases) fs x in
+    let b = one_more (λ (f : CaseFindings). length f.failing.items) fs x in
+    let c = one_more (λ (f : CaseFindings). f.torn_beyond) fs x in
+    let d = one_more (λ (f : CaseFindings). f.lost_beyond) fs x in
     λ i. record { cases = a i; failing = b i; torn_beyond = c i; lost_beyond = d i }
 
-sums_all : (fs more : List FoundCases) → with_all (sums_of fs) more ≡ sums_of (fs ++ more)
+sums_all : (fs more : List CaseFindings) → with_all (sums_of fs) more ≡ sums_of (fs ++ more)
 sums_all fs [] = ap sums_of (sym (append-nil fs))
 sums_all fs (x ∷ more) =
     ap (λ t. with_all t more) (sums_push fs x) ∙ sums_all (fs ++ x ∷ []) more ∙ ap sums_of (append_assoc fs (x ∷ []) more)

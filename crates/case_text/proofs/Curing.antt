@@ -21,7 +21,7 @@ use Rattle.cases.specs.AtCut.{CutValue, parts_of, case_of}
 use Rattle.cases.specs.Cases.{Case}
 use Rattle.case_runs.specs.declared.leaves.FailingCase.{FailingCase}
 use Rattle.case_runs.specs.declared.found.Losses.{Losses}
-use Rattle.case_runs.specs.declared.found.FoundCases.{FoundCases}
+use Rattle.case_runs.specs.declared.found.CaseFindings.{CaseFindings}
 use Rattle.case_runs.specs.declared.found.CutFound.{CutFound}
 use Rattle.case_runs.specs.Leaves.{failing_value}
 use Rattle.case_text.specs.Known.{KnownValue, known_of}
@@ -70,7 +70,7 @@ kept_next f xs n x y o was now more same before after =
     (sym (ap (flat_map f) more ∙ flat_map-append f (take n xs) (x ∷ []) ∙ ap (λ ys. flat_map f (take n xs) ++ ys) (append-nil (f x))))
 
 -- with what one more program has
-pub kept_program : {A : Type 0} (own : ℕ → FoundCases → List A) (fs : List FoundCases) (n : ℕ) (x y : FoundCases) (o was now : Option A) → take (n + 1) fs ≡ take n fs ++ x ∷ [] → length (take n fs) ≡ n → y ≡ x
+pub kept_program : {A : Type 0} (own : ℕ → CaseFindings → List A) (fs : List CaseFindings) (n : ℕ) (x y : CaseFindings) (o was now : Option A) → take (n + 1) fs ≡ take n fs ++ x ∷ [] → length (take n fs) ≡ n → y ≡ x
     → was ≡ option_or o (slice_get (by_program own 0 (take n fs)) 0) → now ≡ option_or was (slice_get (own n y) 0) → now ≡ option_or o (slice_get (by_program own 0 (take (n + 1) fs)) 0)
 kept_program own fs n x y o was now more long same before after =
     kept_more o (by_program own 0 (take n fs)) (own n y) was now before after
@@ -150,7 +150,7 @@ program_calm at tears program (f ∷ failing) within =
     both_calm at.log.entries (own_window (failure_of program (told_of at tears (failing_value f)))) (windows_in (program_failures at tears program failing))
     (case_calm at (case_of tears (parts_of at) (failing_value f).sets) within) (program_calm at tears program failing within)
 
-each_calm : (at : CutValue) (tears : Bool) (program : ℕ) (fs : List FoundCases) → at.cut ≤ length at.log.entries
+each_calm : (at : CutValue) (tears : Bool) (program : ℕ) (fs : List CaseFindings) → at.cut ≤ length at.log.entries
     → HoldNoFlush at.log.entries (windows_in (by_program (found_failures at tears) program fs))
 each_calm at tears program [] within = none_calm at.log.entries
 each_calm at tears program (f ∷ fs) within =

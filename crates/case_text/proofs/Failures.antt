@@ -12,7 +12,7 @@ use Rattle.losses.specs.FailureWindows.{if_window, own_window, windows_in}
 use Rattle.cases.specs.AtCut.{CutValue, parts_of, case_of}
 use Rattle.cases.specs.Cases.{Case}
 use Rattle.case_runs.specs.declared.leaves.FailingCase.{FailingCase}
-use Rattle.case_runs.specs.declared.found.FoundCases.{FoundCases}
+use Rattle.case_runs.specs.declared.found.CaseFindings.{CaseFindings}
 use Rattle.case_runs.specs.declared.found.CutFound.{CutFound}
 use Rattle.case_runs.specs.Leaves.{failing_value}
 use Rattle.case_text.specs.Window.{case_window}
@@ -20,18 +20,18 @@ use Rattle.case_text.specs.Laws.{IsWindow, HasNoWindow}
 use Rattle.case_text.specs.Why.{by_program, program_failures, found_failures, cut_failures, all_failures, failure_of, told_of}
 use Rattle.case_text.proofs.Windowed.{window_is_told}
 
-by_program-push : {A : Type 0} (own : ℕ → FoundCases → List A) (n : ℕ) (fs : List FoundCases) (x : FoundCases) → by_program own n (fs ++ x ∷ []) ≡ by_program own n fs ++ own (n + length fs) x
+by_program-push : {A : Type 0} (own : ℕ → CaseFindings → List A) (n : ℕ) (fs : List CaseFindings) (x : CaseFindings) → by_program own n (fs ++ x ∷ []) ≡ by_program own n fs ++ own (n + length fs) x
 by_program-push own n [] x = append-nil (own n x) ∙ ap (λ m. own m x) (let e : n ≡ n + 0 = omega arith in e)
 by_program-push own n (f ∷ fs) x =
     ap (λ ys. own n f ++ ys)
     (by_program-push own (n + 1) fs x ∙ ap (λ m. by_program own (n + 1) fs ++ own m x) (let e : n + 1 + length fs ≡ n + suc (length fs) = omega arith in e))
     ∙ sym (append_assoc (own n f) (by_program own (n + 1) fs) (own (n + suc (length fs)) x))
 
-pub program_next : {A : Type 0} (own : ℕ → FoundCases → List A) (fs : List FoundCases) (n : ℕ) (x y : FoundCases) (first before after : List A)
+pub program_next : {A : Type 0} (own : ℕ → CaseFindings → List A) (fs : List CaseFindings) (n : ℕ) (x y : CaseFindings) (first before after : List A)
     → take (n + 1) fs ≡ take n fs ++ x ∷ [] → length (take n fs) ≡ n → y ≡ x
     → before ≡ first ++ by_program own 0 (take n fs) → after ≡ before ++ own n y → after ≡ first ++ by_program own 0 (take (n + 1) fs)
 program_next own fs n x y first before after more long same was is =
-    is ∙ ap (λ (z : FoundCases). before ++ own n z) same
+    is ∙ ap (λ (z : CaseFindings). before ++ own n z) same
     ∙ ap (λ ys. ys ++ own n x) was
     ∙ append_assoc first (by_program own 0 (take n fs)) (own n x)
     ∙ ap (λ m. first ++ (by_program own 0 (take n fs) ++ own m x)) (let e : n ≡ 0 + length (take n fs) = omega (arith, long) in e)
@@ -72,7 +72,7 @@ program_inside at tears program (f ∷ failing) within =
 failures_both : (n : ℕ) (fs gs : List Failure) → AreWindows n (windows_in fs) → AreWindows n (windows_in gs) → AreWindows n (windows_in (fs ++ gs))
 failures_both n fs gs one two = subst (AreWindows n) (sym (flat_map-append own_window fs gs)) (both_inside n (windows_in fs) (windows_in gs) one two)
 
-each_inside : (at : CutValue) (tears : Bool) (program : ℕ) (fs : List FoundCases) → at.cut ≤ length at.log.entries
+each_inside : (at : CutValue) (tears : Bool) (program : ℕ) (fs : List CaseFindings) → at.cut ≤ length at.log.entries
     → AreWindows (length at.log.entries) (windows_in (by_program (found_failures at tears) program fs))
 each_inside at tears program [] within = none_inside (length at.log.entries)
 each_inside at tears program (f ∷ fs) within =

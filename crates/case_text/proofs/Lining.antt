@@ -1,6 +1,6 @@
 -- The lines of cases, one program after the other.
 use Rattle.std.proofs.Common.{ℕ, suc, ◌≡◌, ◌+◌, Bool, List, [], ◌∷◌, ◌++◌, length, take, codes, Option, sym, ◌∙◌, ap, arith, append_assoc, append-nil}
-use Rattle.case_runs.specs.declared.found.FoundCases.{FoundCases}
+use Rattle.case_runs.specs.declared.found.CaseFindings.{CaseFindings}
 use Rattle.epochs.specs.declared.part.Part.{Part}
 use Rattle.epochs.specs.declared.part.By.{By}
 use Rattle.epochs.specs.Units.{epoch_at, marks_at}
@@ -12,7 +12,7 @@ use Rattle.case_text.specs.Known.{KnownValue, known_of}
 use Rattle.case_text.specs.Window.{last_staying, later, between, case_window}
 use Rattle.case_text.specs.Text.{place_text, number_text, known_text, window_text, case_line, program_cases, programs_cases}
 
-programs-push : (at : CutValue) (tears : Bool) (n : ℕ) (fs : List FoundCases) (x : FoundCases)
+programs-push : (at : CutValue) (tears : Bool) (n : ℕ) (fs : List CaseFindings) (x : CaseFindings)
     → programs_cases at tears n (fs ++ x ∷ []) ≡ programs_cases at tears n fs ++ program_cases at tears (n + length fs) x.failing.items
 programs-push at tears n [] x =
     append-nil (program_cases at tears n x.failing.items) ∙ ap (λ m. program_cases at tears m x.failing.items) (let e : n ≡ n + 0 = omega arith in e)
@@ -21,12 +21,12 @@ programs-push at tears n (f ∷ fs) x =
     (programs-push at tears (n + 1) fs x ∙ ap (λ m. programs_cases at tears (n + 1) fs ++ program_cases at tears m x.failing.items) (let e : n + 1 + length fs ≡ n + suc (length fs) = omega arith in e))
     ∙ sym (append_assoc (program_cases at tears n f.failing.items) (programs_cases at tears (n + 1) fs) (program_cases at tears (n + suc (length fs)) x.failing.items))
 
-pub programs_next : (at : CutValue) (tears : Bool) (fs : List FoundCases) (n : ℕ) (x y : FoundCases) (first before after : List ℕ)
+pub programs_next : (at : CutValue) (tears : Bool) (fs : List CaseFindings) (n : ℕ) (x y : CaseFindings) (first before after : List ℕ)
     → take (n + 1) fs ≡ take n fs ++ x ∷ [] → length (take n fs) ≡ n → y ≡ x
     → before ≡ first ++ programs_cases at tears 0 (take n fs) → after ≡ before ++ program_cases at tears n y.failing.items
     → after ≡ first ++ programs_cases at tears 0 (take (n + 1) fs)
 programs_next at tears fs n x y first before after more long same was is =
-    is ∙ ap (λ (z : FoundCases). before ++ program_cases at tears n z.failing.items) same
+    is ∙ ap (λ (z : CaseFindings). before ++ program_cases at tears n z.failing.items) same
     ∙ ap (λ bytes. bytes ++ program_cases at tears n x.failing.items) was
     ∙ append_assoc first (programs_cases at tears 0 (take n fs)) (program_cases at tears n x.failing.items)
     ∙ ap (λ m. first ++ (programs_cases at tears 0 (take n fs) ++ program_cases at tears m x.failing.items)) (let e : n ≡ 0 + length (take n fs) = omega (arith, long) in e)

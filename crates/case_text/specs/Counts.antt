@@ -1,11 +1,11 @@
 -- How the totals are counted, program by program.
 use Rattle.std.specs.Prelude.{◌+◌, List, [], ◌∷◌, length}
-use Rattle.case_runs.specs.declared.found.FoundCases.{FoundCases}
+use Rattle.case_runs.specs.declared.found.CaseFindings.{CaseFindings}
 use Rattle.case_text.specs.declared.totals.Totals.{Totals}
 use Rattle.case_text.specs.Text.{in_word}
 
 -- some totals, and what was found with one more program
-abbrev pub with_found : Totals → FoundCases → Totals
+abbrev pub with_found : Totals → CaseFindings → Totals
 with_found t f = record {
   cases = in_word (t.cases + f.cases);
   failing = in_word (t.failing + length f.failing.items);
@@ -14,6 +14,6 @@ with_found t f = record {
 }
 
 -- and with more, one after the other
-abbrev pub with_all : Totals → List FoundCases → Totals
+abbrev pub with_all : Totals → List CaseFindings → Totals
 with_all t [] = t
 with_all t (f ∷ found) = with_all (with_found t f) found

@@ -10,7 +10,7 @@ use Rattle.losses.specs.CureText.{programs_text}
 use Rattle.cases.specs.AtCut.{CutValue, parts_of, case_of}
 use Rattle.case_runs.specs.declared.leaves.FailingCase.{FailingCase}
 use Rattle.case_runs.specs.declared.found.Losses.{Losses}
-use Rattle.case_runs.specs.declared.found.FoundCases.{FoundCases}
+use Rattle.case_runs.specs.declared.found.CaseFindings.{CaseFindings}
 use Rattle.case_runs.specs.declared.found.CutFound.{CutFound}
 use Rattle.case_runs.specs.Leaves.{FailingValue, failing_value}
 use Rattle.case_text.specs.Window.{case_window}
@@ -29,7 +29,7 @@ uncured_line at tears program f = line_without (case_window at (case_of tears (p
 abbrev pub program_uncured : CutValue → Bool → ℕ → List FailingCase → List (List ℕ)
 program_uncured at tears program failing = flat_map (λ (f : FailingCase). uncured_line at tears program (failing_value f)) failing
 
-abbrev pub found_uncured : CutValue → Bool → ℕ → FoundCases → List (List ℕ)
+abbrev pub found_uncured : CutValue → Bool → ℕ → CaseFindings → List (List ℕ)
 found_uncured at tears program found = program_uncured at tears program found.failing.items
 
 -- those of a cut

@@ -16,7 +16,7 @@ use Rattle.losses.specs.declared.flushes.window.Window.{Window}
 use Rattle.cases.specs.AtCut.{CutValue, parts_of, case_of}
 use Rattle.case_runs.specs.declared.leaves.FailingCase.{FailingCase}
 use Rattle.case_runs.specs.declared.found.Losses.{Losses}
-use Rattle.case_runs.specs.declared.found.FoundCases.{FoundCases}
+use Rattle.case_runs.specs.declared.found.CaseFindings.{CaseFindings}
 use Rattle.case_runs.specs.declared.found.CutFound.{CutFound}
 use Rattle.case_runs.specs.Leaves.{FailingValue, failing_value}
 use Rattle.case_text.specs.Known.{PartFates, KnownValue, known_of}
@@ -130,7 +130,7 @@ abbrev pub program_cases : CutValue → Bool → ℕ → List FailingCase → Li
 program_cases at tears program failing = flat_map (λ (f : FailingCase). case_line at tears program (failing_value f)) failing
 
 -- those of all programs at a cut
-abbrev pub programs_cases : CutValue → Bool → ℕ → List FoundCases → List ℕ
+abbrev pub programs_cases : CutValue → Bool → ℕ → List CaseFindings → List ℕ
 programs_cases at tears program [] = []
 programs_cases at tears program (found ∷ rest) = program_cases at tears program found.failing.items ++ programs_cases at tears (program + 1) rest
 
@@ -139,7 +139,7 @@ abbrev pub cut_cases : LogValue → By → Bool → CutFound → List ℕ
 cut_cases log way tears found = programs_cases (record { log = log; way = way; cut = found.cut }) tears 0 found.programs.items
 
 -- what was found at all cuts with all programs
-abbrev pub all_found : List CutFound → List FoundCases
+abbrev pub all_found : List CutFound → List CaseFindings
 all_found found = flat_map (λ (c : CutFound). c.programs.items) found
 
 -- a number, up to what a word holds
@@ -148,16 +148,16 @@ in_word n = min n (2 ^ 64 - 1)
 
 -- how many cases there are, how many of them fail, and how many were left out
 abbrev pub count_cases : List CutFound → ℕ
-count_cases found = in_word (sum_by (λ (f : FoundCases). f.cases) (all_found found))
+count_cases found = in_word (sum_by (λ (f : CaseFindings). f.cases) (all_found found))
 
 abbrev pub count_failing : List CutFound → ℕ
-count_failing found = in_word (sum_by (λ (f : FoundCases). length f.failing.items) (all_found found))
+count_failing found = in_word (sum_by (λ (f : CaseFindings). length f.failing.items) (all_found found))
 
 abbrev pub count_torn_beyond : List CutFound → ℕ
-count_torn_beyond found = in_word (sum_by (λ (f : FoundCases). f.torn_beyond) (all_found found))
+count_torn_beyond found = in_word (sum_by (λ (f : CaseFindings). f.torn_beyond) (all_found found))
 
 abbrev pub count_lost_beyond : List CutFound → ℕ
-count_lost_beyond found = in_word (sum_by (λ (f : FoundCases). f.lost_beyond) (all_found found))
+count_lost_beyond found = in_word (sum_by (λ (f : CaseFindings). f.lost_beyond) (all_found found))
 
 -- no case was left out
 abbrev pub complete_word : ℕ → ℕ → List ℕ
@@ -180,11 +180,11 @@ cases_bytes inputs h asked log found =
     cases_head (inputs_told h.cuts inputs) h asked ++ flat_map (cut_cases log h.by asked.tears) found ++ totals_text found
 
 -- a program fails on some case
-abbrev pub fails_in : FoundCases → Bool
+abbrev pub fails_in : CaseFindings → Bool
 fails_in found = not (length found.failing.items == 0)
 
 -- some program does at a cut
-abbrev pub fails_at : List FoundCases → Bool
+abbrev pub fails_at : List CaseFindings → Bool
 fails_at programs = list_any fails_in programs
 
 -- and at some cut

@@ -17,7 +17,7 @@ use Rattle.losses.specs.FailureWindows.{windows_in}
 use Rattle.cases.specs.AtCut.{CutValue, parts_of, case_of}
 use Rattle.case_runs.specs.declared.leaves.FailingCase.{FailingCase}
 use Rattle.case_runs.specs.declared.found.Losses.{Losses}
-use Rattle.case_runs.specs.declared.found.FoundCases.{FoundCases}
+use Rattle.case_runs.specs.declared.found.CaseFindings.{CaseFindings}
 use Rattle.case_runs.specs.declared.found.CutFound.{CutFound}
 use Rattle.case_runs.specs.Leaves.{FailingValue, failing_value}
 use Rattle.case_text.specs.Known.{KnownValue, known_of}
@@ -85,11 +85,11 @@ abbrev pub program_causes : CutValue → Bool → ℕ → List FailingCase → L
 program_causes at tears program failing = told_text at.cut program (all_told at tears failing)
 
 -- what there is of each of some programs, of which the first has that number
-abbrev pub by_program : {A : Type 0} → (ℕ → FoundCases → List A) → ℕ → List FoundCases → List A
+abbrev pub by_program : {A : Type 0} → (ℕ → CaseFindings → List A) → ℕ → List CaseFindings → List A
 by_program own program [] = []
 by_program own program (found ∷ rest) = own program found ++ by_program own (program + 1) rest
 
-abbrev pub found_causes : CutValue → Bool → ℕ → FoundCases → List ℕ
+abbrev pub found_causes : CutValue → Bool → ℕ → CaseFindings → List ℕ
 found_causes at tears program found = program_causes at tears program found.failing.items
 
 abbrev pub cut_causes : LogValue → By → Bool → CutFound → List ℕ
@@ -102,7 +102,7 @@ failure_of program t = record { program = program; window = t.window }
 abbrev pub program_failures : CutValue → Bool → ℕ → List FailingCase → List Failure
 program_failures at tears program failing = map (failure_of program) (all_told at tears failing)
 
-abbrev pub found_failures : CutValue → Bool → ℕ → FoundCases → List Failure
+abbrev pub found_failures : CutValue → Bool → ℕ → CaseFindings → List Failure
 found_failures at tears program found = program_failures at tears program found.failing.items
 
 abbrev pub cut_failures : LogValue → By → Bool → CutFound → List Failure

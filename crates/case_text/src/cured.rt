@@ -17,7 +17,7 @@ use crate::known::KnownParts;
 use crate::lines::put_case;
 use crate::site::Site;
 use crate::totals::put_totals;
-use case_runs::{CutFound, FailingCase, FoundCases, Losses};
+use case_runs::{CaseFindings, CutFound, FailingCase, Losses};
 use epochs::{By, Plan};
 use logfmt::Log;
 use losses::cure::{Failure, put_programs};
@@ -143,7 +143,7 @@ fn take_each(
     uncured: &mut Option<String>,
     known: &mut KnownParts,
     site: &Site<'_>,
-    programs: &[FoundCases],
+    programs: &[CaseFindings],
 ) -> Result<(), AllocError>
     requires { length programs.now ≤ 256 }
     ensures failures { OnOk result (failures.new.items ≡ failures.old.items ++ by_program (found_failures site.now.at site.now.tears) 0 programs.now) }

@@ -7,7 +7,7 @@ ghost use Rattle.case_text.specs.Text.{place_text, number_text, case_line, progr
 use crate::known::KnownParts;
 use crate::said::{put_known, put_window};
 use crate::site::Site;
-use case_runs::{CutFound, FailingCase, FoundCases};
+use case_runs::{CaseFindings, CutFound, FailingCase};
 use epochs::{By, Plan};
 use logfmt::Log;
 use report::lines::put_outcome;
@@ -75,7 +75,7 @@ fn put_programs(
     out: &mut String,
     known: &mut KnownParts,
     site: &Site<'_>,
-    programs: &[FoundCases],
+    programs: &[CaseFindings],
 ) -> Result<(), AllocError>
     ensures { OnOk result (string_bytes out.new ≡ string_bytes out.old ++ programs_cases site.now.at site.now.tears 0 programs.now) }
 {

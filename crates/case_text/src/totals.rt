@@ -4,7 +4,7 @@ ghost use Rattle.std.specs.Prelude.{◌≡◌, ◌++◌, OnOk, string_bytes};
 ghost use Rattle.case_text.specs.Text.{count_cases, count_failing, count_torn_beyond, count_lost_beyond, fails_at, is_any_failing, complete_word, counts_text, beyond_text, totals_text};
 ghost use Rattle.case_text.specs.Counts.{with_found, with_all};
 
-use case_runs::{CutFound, FoundCases};
+use case_runs::{CaseFindings, CutFound};
 use std::alloc::AllocError;
 
 /// How many cases there are, how many of them fail, and how many were left out; each at most 2^64 - 1.
@@ -17,7 +17,7 @@ struct Totals {
 }
 
 /// Those with what was found with one more program.
-fn with_found(totals: Totals, found: &FoundCases) -> Totals
+fn with_found(totals: Totals, found: &CaseFindings) -> Totals
     ensures { result ≡ with_found totals found.now }
 {
     Totals {
@@ -29,7 +29,7 @@ fn with_found(totals: Totals, found: &FoundCases) -> Totals
 }
 
 /// Those with what was found at one more cut.
-fn with_all(totals: Totals, found: &[FoundCases]) -> Totals
+fn with_all(totals: Totals, found: &[CaseFindings]) -> Totals
     ensures { result ≡ with_all totals found.now }
 {
     let mut all = totals;
@@ -106,7 +106,7 @@ pub fn left_out(found: &[CutFound]) -> (u64, u64)
 }
 
 /// Whether some case of a cut fails.
-fn fails_at(found: &[FoundCases]) -> bool
+fn fails_at(found: &[CaseFindings]) -> bool
     ensures { result ≡ fails_at found.now }
 {
     found.iter().any(|one| one.failing.len() != 0)

@@ -15,7 +15,7 @@ use crate::known::KnownParts;
 use crate::site::Site;
 use crate::told::{ToldFailing, all_told, push_failures};
 use crate::totals::put_totals;
-use case_runs::{CutFound, FailingCase, FoundCases, Losses};
+use case_runs::{CaseFindings, CutFound, FailingCase, Losses};
 use epochs::{By, Plan};
 use logfmt::Log;
 use losses::cure::{Failure, put_missing, put_programs, windows_of};
@@ -79,7 +79,7 @@ fn put_each(
     failures: &mut Vec<Failure>,
     known: &mut KnownParts,
     site: &Site<'_>,
-    programs: &[FoundCases],
+    programs: &[CaseFindings],
 ) -> Result<(), AllocError>
     requires { length programs.now ≤ 256 }
     ensures text { OnOk result (string_bytes out.new ≡ string_bytes out.old ++ by_program (found_causes site.now.at site.now.tears) 0 programs.now) }

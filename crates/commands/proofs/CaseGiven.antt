@@ -26,7 +26,7 @@ use Rattle.cases.specs.Trees.{ending_of}
 use Rattle.cases.specs.AtCut.{CutValue}
 use Rattle.cases.specs.Search.{LeafValue, leaf_case, EndsSo}
 use Rattle.case_runs.specs.declared.found.Losses.{Losses}
-use Rattle.case_runs.specs.declared.found.FoundCases.{FoundCases}
+use Rattle.case_runs.specs.declared.found.CaseFindings.{CaseFindings}
 use Rattle.case_runs.specs.declared.found.CutFound.{CutFound}
 use Rattle.case_runs.specs.Cuts.{is_explored, are_last_enough, first_wanted, last_wanted, case_cuts}
 use Rattle.case_runs.specs.Found.{IsFoundAt, AreFoundAt, AreFoundIn, most_cases, cases_at, cases_in}
@@ -117,7 +117,7 @@ printed_each h at tears m (f ∷ fs) few each =
       printed_each h at tears m fs few each.1,
     )
 
-found_printed : (h : HeadValue) (asked : Losses) (at : CutValue) (c : CheckerValue) (f : FoundCases) → IsLog at.log → IsProgram c.program → f.cases ≤ most_cases → IsFoundAt asked at c f → IsPrintedFound h asked at f
+found_printed : (h : HeadValue) (asked : Losses) (at : CutValue) (c : CheckerValue) (f : CaseFindings) → IsLog at.log → IsProgram c.program → f.cases ≤ most_cases → IsFoundAt asked at c f → IsPrintedFound h asked at f
 found_printed h asked at c f bounds program few is =
     let leaves : List LeafValue = is.leaves in
     let own = is.those in
@@ -140,12 +140,12 @@ found_printed h asked at c f bounds program few is =
 abbrev pub HavePrograms : List CheckerValue → Type 0
 HavePrograms checkers = (n : ℕ) (c : CheckerValue) → slice_get checkers n ≡ Some c → IsProgram c.program
 
-found_each : (h : HeadValue) (asked : Losses) (at : CutValue) (checkers : List CheckerValue) (found : List FoundCases) → IsLog at.log → HavePrograms checkers → length found ≡ length checkers
-    → ((i : ℕ) (c : CheckerValue) (f : FoundCases) → slice_get checkers i ≡ Some c → slice_get found i ≡ Some f → IsFoundAt asked at c f) → cases_at found ≤ most_cases → Each (IsPrintedFound h asked at) found
+found_each : (h : HeadValue) (asked : Losses) (at : CutValue) (checkers : List CheckerValue) (found : List CaseFindings) → IsLog at.log → HavePrograms checkers → length found ≡ length checkers
+    → ((i : ℕ) (c : CheckerValue) (f : CaseFindings) → slice_get checkers i ≡ Some c → slice_get found i ≡ Some f → IsFoundAt asked at c f) → cases_at found ≤ most_cases → Each (IsPrintedFound h asked at) found
 found_each h asked at checkers [] bounds programs count each few = tt
 found_each h asked at [] (f ∷ found) bounds programs count each few = absurd (omega (arith, count))
 found_each h asked at (c ∷ checkers) (f ∷ found) bounds programs count each few =
-    let sum = sum_by-cons (λ (g : FoundCases). g.cases) f found in (
+    let sum = sum_by-cons (λ (g : CaseFindings). g.cases) f found in (
       found_printed h asked at c f bounds (programs 0 c refl) (omega (arith, few, sum)) (each 0 c f refl refl),
       found_each h asked at checkers found bounds (λ n d there. programs (suc n) d there) (omega (arith, count)) (λ i d g one two. each (suc i) d g one two) (omega (arith, few, sum)),
     )

@@ -8,7 +8,7 @@ use Rattle.epochs.specs.declared.part.By.{By}
 use Rattle.epochs.specs.Units.{epoch_at, marks_at}
 use Rattle.cases.specs.AtCut.{CutValue}
 use Rattle.case_runs.specs.declared.leaves.FailingCase.{FailingCase}
-use Rattle.case_runs.specs.declared.found.FoundCases.{FoundCases}
+use Rattle.case_runs.specs.declared.found.CaseFindings.{CaseFindings}
 use Rattle.case_runs.specs.declared.found.CutFound.{CutFound}
 use Rattle.case_runs.specs.Leaves.{FailingValue, failing_value}
 use Rattle.join.specs.declared.case_parts.front.CaseFront.{CaseFront}
@@ -22,7 +22,7 @@ use Rattle.commands.proofs.CaseLines.{front_at, told_case}
 abbrev pub program_told : CutValue → Bool → ℕ → List FailingCase → List ToldCase
 program_told at tears program fs = map (λ (f : FailingCase). told_case at tears program (failing_value f)) fs
 
-abbrev pub programs_told : CutValue → Bool → ℕ → List FoundCases → List ToldCase
+abbrev pub programs_told : CutValue → Bool → ℕ → List CaseFindings → List ToldCase
 programs_told at tears program [] = []
 programs_told at tears program (found ∷ rest) = program_told at tears program found.failing.items ++ programs_told at tears (program + 1) rest
 
@@ -39,10 +39,10 @@ told_of_all log way tears found = flat_map (cut_told log way tears) found
 abbrev program_fronts : CutValue → ℕ → List FailingValue → List CaseFront
 program_fronts at program fs = map (λ (f : FailingValue). front_at at program f.number) fs
 
-abbrev failing_of : FoundCases → List FailingValue
+abbrev failing_of : CaseFindings → List FailingValue
 failing_of f = map failing_value f.failing.items
 
-abbrev programs_fronts : CutValue → ℕ → List FoundCases → List CaseFront
+abbrev programs_fronts : CutValue → ℕ → List CaseFindings → List CaseFront
 programs_fronts at program [] = []
 programs_fronts at program (found ∷ rest) = program_fronts at program (failing_of found) ++ programs_fronts at (program + 1) rest
 
@@ -54,7 +54,7 @@ program_begins : (at : CutValue) (tears : Bool) (program : ℕ) (fs : List Faili
 program_begins at tears program [] = refl
 program_begins at tears program (f ∷ fs) = ap (λ (ls : List CaseFront). front_at at program f.number ∷ ls) (program_begins at tears program fs)
 
-programs_begin : (at : CutValue) (tears : Bool) (program : ℕ) (found : List FoundCases) → fronts_of (programs_told at tears program found) ≡ programs_fronts at program found
+programs_begin : (at : CutValue) (tears : Bool) (program : ℕ) (found : List CaseFindings) → fronts_of (programs_told at tears program found) ≡ programs_fronts at program found
 programs_begin at tears program [] = refl
 programs_begin at tears program (f ∷ found) =
     let one = program_begins at tears program f.failing.items in
@@ -157,7 +157,7 @@ program_rises at program n (f ∷ fs) last more prior under rise next =
     (goes last at program n f.number prior rise.0)
     (program_rises at program (f.number + 1) fs (Some (front_at at program f.number)) more (inr (own_cut at program f.number, inr (refl, omega arith))) (inr (own_cut at program f.number, omega arith)) rise.1 next)
 
-programs_rise : (at : CutValue) (program : ℕ) (found : List FoundCases) (last : Option CaseFront) (more : List CaseFront) → IsUnder last at program → Each (λ (f : FoundCases). NumbersRise 0 (failing_of f)) found
+programs_rise : (at : CutValue) (program : ℕ) (found : List CaseFindings) (last : Option CaseFront) (more : List CaseFront) → IsUnder last at program → Each (λ (f : CaseFindings). NumbersRise 0 (failing_of f)) found
     → ((o : Option CaseFront) → IsUpTo o at.cut → fronts_rise o more ≡ true) → fronts_rise last (programs_fronts at program found ++ more) ≡ true
 programs_rise at program [] last more under each next = next last (under_up last at program under)
 programs_rise at program (f ∷ found) last more under each next =
@@ -179,7 +179,7 @@ up_low None cut up = tt
 up_low (Some l) cut up = omega (arith, up)
 
 abbrev pub NumbersOf : CutFound → Type 0
-NumbersOf c = Each (λ (f : FoundCases). NumbersRise 0 (map failing_value f.failing.items)) c.programs.items
+NumbersOf c = Each (λ (f : CaseFindings). NumbersRise 0 (map failing_value f.failing.items)) c.programs.items
 
 cuts_rise : (log : LogValue) (way : By) (n : ℕ) (found : List CutFound) (last : Option CaseFront) → IsLow last n → CutsRise n found → Each NumbersOf found → fronts_rise last (cuts_fronts log way found) ≡ true
 cuts_rise log way n [] last low rise each = refl
@@ -224,7 +224,7 @@ program_at : (at : CutValue) (program : ℕ) (fs : List FailingValue) → AreAt 
 program_at at program [] = tt
 program_at at program (f ∷ fs) = (refl, program_at at program fs)
 
-programs_at : (at : CutValue) (program : ℕ) (found : List FoundCases) → AreAt at.cut (programs_fronts at program found)
+programs_at : (at : CutValue) (program : ℕ) (found : List CaseFindings) → AreAt at.cut (programs_fronts at program found)
 programs_at at program [] = tt
 programs_at at program (f ∷ found) =
     each_appended (λ (l : CaseFront). l.cut ≡ at.cut) (program_fronts at program (failing_of f)) (programs_fronts at (program + 1) found) (program_at at program (failing_of f)) (programs_at at (program + 1) found)

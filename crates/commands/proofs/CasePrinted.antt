@@ -13,7 +13,7 @@ use Rattle.report.specs.Report.{HeadValue}
 use Rattle.cases.specs.AtCut.{CutValue}
 use Rattle.case_runs.specs.declared.leaves.FailingCase.{FailingCase}
 use Rattle.case_runs.specs.declared.found.Losses.{Losses}
-use Rattle.case_runs.specs.declared.found.FoundCases.{FoundCases}
+use Rattle.case_runs.specs.declared.found.CaseFindings.{CaseFindings}
 use Rattle.case_runs.specs.declared.found.CutFound.{CutFound}
 use Rattle.case_runs.specs.Found.{most_cases, cases_at, cases_in}
 use Rattle.case_runs.specs.Leaves.{failing_value}
@@ -31,7 +31,7 @@ use Rattle.commands.proofs.CasePlain.{HavePlain, plain_ending, cases_are_text}
 -- WHAT IS FOUND, AS IT CAN BE PRINTED
 
 -- with a program at a cut
-pub record IsPrintedFound (h : HeadValue) (asked : Losses) (at : CutValue) (f : FoundCases) : Type 0 where
+pub record IsPrintedFound (h : HeadValue) (asked : Losses) (at : CutValue) (f : CaseFindings) : Type 0 where
   pub each : Each (IsPrintedCase h at asked.tears) (map failing_value f.failing.items)
   pub rise : NumbersRise 0 (map failing_value f.failing.items)
   pub few : length f.failing.items ≤ f.cases
@@ -77,7 +77,7 @@ program_lines_are at tears program (f ∷ fs) =
     ap (λ (bs : List ℕ). bs ++ flat_map (told_line at.way) (program_told at tears program fs)) one
     ∙ ap (λ (bs : List ℕ). case_line at tears program (failing_value f) ++ bs) rest
 
-programs_lines_are : (at : CutValue) (tears : Bool) (program : ℕ) (found : List FoundCases) → flat_map (told_line at.way) (programs_told at tears program found) ≡ programs_cases at tears program found
+programs_lines_are : (at : CutValue) (tears : Bool) (program : ℕ) (found : List CaseFindings) → flat_map (told_line at.way) (programs_told at tears program found) ≡ programs_cases at tears program found
 programs_lines_are at tears program [] = refl
 programs_lines_are at tears program (f ∷ found) =
     let one = program_lines_are at tears program f.failing.items in
@@ -120,7 +120,7 @@ program_is_told h at tears program [] bounds within way torn there each = tt
 program_is_told h at tears program (f ∷ fs) bounds within way torn there each =
     (case_is_told h at tears program (failing_value f) bounds within way torn there each.0, program_is_told h at tears program fs bounds within way torn there each.1)
 
-programs_are_told : (h : HeadValue) (asked : Losses) (at : CutValue) (program : ℕ) (found : List FoundCases) → IsLog at.log → at.cut ≤ length at.log.entries → at.way ≡ h.by → asked.tears ≡ h.tears
+programs_are_told : (h : HeadValue) (asked : Losses) (at : CutValue) (program : ℕ) (found : List CaseFindings) → IsLog at.log → at.cut ≤ length at.log.entries → at.way ≡ h.by → asked.tears ≡ h.tears
     → h.entries ≡ length at.log.entries → is_after_first h.cuts.from at.cut ≡ true → is_before_last h.cuts.to at.cut ≡ true → program + length found ≤ length h.programs
     → Each (IsPrintedFound h asked at) found → AreToldCases h (programs_told at asked.tears program found)
 programs_are_told h asked at program [] bounds within way torn entries after before few each = tt
@@ -146,7 +146,7 @@ all_are_told h asked log (c ∷ found) bounds entries torn each =
 
 -- THEY RISE
 
-numbers_of_cut : (h : HeadValue) (asked : Losses) (at : CutValue) (found : List FoundCases) → Each (IsPrintedFound h asked at) found → Each (λ (f : FoundCases). NumbersRise 0 (map failing_value f.failing.items)) found
+numbers_of_cut : (h : HeadValue) (asked : Losses) (at : CutValue) (found : List CaseFindings) → Each (IsPrintedFound h asked at) found → Each (λ (f : CaseFindings). NumbersRise 0 (map failing_value f.failing.items)) found
 numbers_of_cut h asked at [] each = tt
 numbers_of_cut h asked at (f ∷ found) each = (each.0.rise, numbers_of_cut h asked at found each.1)
 
@@ -156,14 +156,14 @@ numbers_of_all h asked log (c ∷ found) each = (numbers_of_cut h asked (at_cut 
 
 -- THE TOTALS
 
-abbrev pub failing_in : FoundCases → ℕ
+abbrev pub failing_in : CaseFindings → ℕ
 failing_in f = length f.failing.items
 
 program_long : (at : CutValue) (tears : Bool) (program : ℕ) (fs : List FailingCase) → length (program_told at tears program fs) ≡ length fs
 program_long at tears program [] = refl
 program_long at tears program (f ∷ fs) = let rest = program_long at tears program fs in omega (arith, rest)
 
-pub programs_long : (at : CutValue) (tears : Bool) (program : ℕ) (found : List FoundCases) → length (programs_told at tears program found) ≡ sum_by failing_in found
+pub programs_long : (at : CutValue) (tears : Bool) (program : ℕ) (found : List CaseFindings) → length (programs_told at tears program found) ≡ sum_by failing_in found
 programs_long at tears program [] = refl
 programs_long at tears program (f ∷ found) =
     let one = program_long at tears program f.failing.items in
@@ -181,13 +181,13 @@ all_long log way tears (c ∷ found) =
     let sum = sum_by-append failing_in c.programs.items (all_found found) in
     omega (arith, one, rest, both, sum)
 
-few_failing : (h : HeadValue) (asked : Losses) (at : CutValue) (found : List FoundCases) → Each (IsPrintedFound h asked at) found → sum_by failing_in found ≤ cases_at found
+few_failing : (h : HeadValue) (asked : Losses) (at : CutValue) (found : List CaseFindings) → Each (IsPrintedFound h asked at) found → sum_by failing_in found ≤ cases_at found
 few_failing h asked at [] each = omega arith
 few_failing h asked at (f ∷ found) each =
     let own = each.0.few in
     let rest = few_failing h asked at found each.1 in
     let one = sum_by-cons failing_in f found in
-    let two = sum_by-cons (λ (g : FoundCases). g.cases) f found in
+    let two = sum_by-cons (λ (g : CaseFindings). g.cases) f found in
     omega (arith, own, rest, one, two)
 
 pub all_few_failing : (h : HeadValue) (asked : Losses) (log : LogValue) (found : List CutFound) → Each (IsPrintedCut h asked log) found → sum_by failing_in (all_found found) ≤ cases_in found
@@ -199,11 +199,11 @@ all_few_failing h asked log (c ∷ found) each =
     let two = sum_by-cons (λ (d : CutFound). cases_at d.programs.items) c found in
     omega (arith, own, rest, one, two)
 
-pub cases_counted : (found : List CutFound) → sum_by (λ (f : FoundCases). f.cases) (all_found found) ≡ cases_in found
+pub cases_counted : (found : List CutFound) → sum_by (λ (f : CaseFindings). f.cases) (all_found found) ≡ cases_in found
 cases_counted [] = refl
 cases_counted (c ∷ found) =
     let rest = cases_counted found in
-    let one = sum_by-append (λ (f : FoundCases). f.cases) c.programs.items (all_found found) in
+    let one = sum_by-append (λ (f : CaseFindings). f.cases) c.programs.items (all_found found) in
     let two = sum_by-cons (λ (d : CutFound). cases_at d.programs.items) c found in
     omega (arith, rest, one, two)
 
@@ -252,8 +252,8 @@ are_totals inputs h asked log found are =
     let five : nat_le (length found) (last_of h + 1 - first_of h) ≡ true = grind (arith, nat_tests, range) in
     record {
       of_run = rw (one, two, three, four, five) refl;
-      torn = small (sum_by (λ (f : FoundCases). f.torn_beyond) (all_found found));
-      lost = small (sum_by (λ (f : FoundCases). f.lost_beyond) (all_found found));
+      torn = small (sum_by (λ (f : CaseFindings). f.torn_beyond) (all_found found));
+      lost = small (sum_by (λ (f : CaseFindings). f.lost_beyond) (all_found found));
     }
 
 -- IT IS A TEXT
@@ -266,7 +266,7 @@ plain_program : (at : CutValue) (tears : Bool) (program : ℕ) (fs : List Failin
 plain_program at tears program [] = tt
 plain_program at tears program (f ∷ fs) = (plain_ending (failing_value f).ending, plain_program at tears program fs)
 
-plain_programs : (at : CutValue) (tears : Bool) (program : ℕ) (found : List FoundCases) → HavePlain (programs_told at tears program found)
+plain_programs : (at : CutValue) (tears : Bool) (program : ℕ) (found : List CaseFindings) → HavePlain (programs_told at tears program found)
 plain_programs at tears program [] = tt
 plain_programs at tears program (f ∷ found) =
     plain_both (program_told at tears program f.failing.items) (programs_told at tears (program + 1) found) (plain_program at tears program f.failing.items) (plain_programs at tears (program + 1) found)

@@ -9,7 +9,7 @@ use Rattle.logfmt.specs.Bounds.{LogValue}
 use Rattle.report.specs.Report.{HeadValue}
 use Rattle.cases.specs.Laws.{IsAmong}
 use Rattle.case_runs.specs.declared.found.Losses.{Losses}
-use Rattle.case_runs.specs.declared.found.FoundCases.{FoundCases}
+use Rattle.case_runs.specs.declared.found.CaseFindings.{CaseFindings}
 use Rattle.case_runs.specs.declared.found.CutFound.{CutFound}
 use Rattle.case_runs.specs.Found.{most_cases, cases_at, cases_in}
 use Rattle.case_text.specs.Text.{in_word, inputs_told, all_found, count_cases, count_failing, fails_in, fails_at, is_any_failing}
@@ -68,7 +68,7 @@ sums_at f all (c ∷ seg) rise each =
     omega (arith, one, rest, left, right)
 
 -- what is counted at the cuts, program by program
-pub sum_of_cuts : (g : FoundCases → ℕ) (found : List CutFound) → sum_by (λ (c : CutFound). sum_by g c.programs.items) found ≡ sum_by g (all_found found)
+pub sum_of_cuts : (g : CaseFindings → ℕ) (found : List CutFound) → sum_by (λ (c : CutFound). sum_by g c.programs.items) found ≡ sum_by g (all_found found)
 sum_of_cuts g [] = refl
 sum_of_cuts g (c ∷ found) =
     let rest = sum_of_cuts g found in
@@ -86,8 +86,8 @@ run_over inputs h asked cuts log all = record {
   cuts = cuts;
   told = λ k. value_at (cut_told log h.by asked.tears) [] all k;
   cases = λ k. value_at (λ (c : CutFound). cases_at c.programs.items) 0 all k;
-  torn = λ k. value_at (λ (c : CutFound). sum_by (λ (f : FoundCases). f.torn_beyond) c.programs.items) 0 all k;
-  lost = λ k. value_at (λ (c : CutFound). sum_by (λ (f : FoundCases). f.lost_beyond) c.programs.items) 0 all k;
+  torn = λ k. value_at (λ (c : CutFound). sum_by (λ (f : CaseFindings). f.torn_beyond) c.programs.items) 0 all k;
+  lost = λ k. value_at (λ (c : CutFound). sum_by (λ (f : CaseFindings). f.lost_beyond) c.programs.items) 0 all k;
 }
 
 length_at : (h : HeadValue) (asked : Losses) (log : LogValue) (all seg : List CutFound) → CutsRise 0 all → Each (λ (c : CutFound). IsAmong all c) seg
@@ -113,14 +113,14 @@ between_is inputs h asked cuts log all x seg rise each are =
     let r : CaseRun = run_over inputs h asked cuts log all in
     let told : flat_map r.told (cuts_of_range r x) ≡ told_of_all log h.by asked.tears seg = ap (λ (ks : List ℕ). flat_map r.told ks) are ∙ lists_at (cut_told log h.by asked.tears) all seg rise each in
     let count : length (cuts_of_range r x) ≡ length seg = ap (λ (ks : List ℕ). length ks) are ∙ cuts_long seg in
-    let cases : sum_by r.cases (cuts_of_range r x) ≡ sum_by (λ (f : FoundCases). f.cases) (all_found seg) =
-    ap (λ (ks : List ℕ). sum_by r.cases ks) are ∙ sums_at (λ (c : CutFound). cases_at c.programs.items) all seg rise each ∙ sum_of_cuts (λ (f : FoundCases). f.cases) seg in
+    let cases : sum_by r.cases (cuts_of_range r x) ≡ sum_by (λ (f : CaseFindings). f.cases) (all_found seg) =
+    ap (λ (ks : List ℕ). sum_by r.cases ks) are ∙ sums_at (λ (c : CutFound). cases_at c.programs.items) all seg rise each ∙ sum_of_cuts (λ (f : CaseFindings). f.cases) seg in
     let failing : sum_by (λ (k : ℕ). length (r.told k)) (cuts_of_range r x) ≡ sum_by failing_in (all_found seg) =
     ap (λ (ks : List ℕ). sum_by (λ (k : ℕ). length (r.told k)) ks) are ∙ length_at h asked log all seg rise each ∙ sum_of_cuts failing_in seg in
-    let torn : sum_by r.torn (cuts_of_range r x) ≡ sum_by (λ (f : FoundCases). f.torn_beyond) (all_found seg) =
-    ap (λ (ks : List ℕ). sum_by r.torn ks) are ∙ sums_at (λ (c : CutFound). sum_by (λ (f : FoundCases). f.torn_beyond) c.programs.items) all seg rise each ∙ sum_of_cuts (λ (f : FoundCases). f.torn_beyond) seg in
-    let lost : sum_by r.lost (cuts_of_range r x) ≡ sum_by (λ (f : FoundCases). f.lost_beyond) (all_found seg) =
-    ap (λ (ks : List ℕ). sum_by r.lost ks) are ∙ sums_at (λ (c : CutFound). sum_by (λ (f : FoundCases). f.lost_beyond) c.programs.items) all seg rise each ∙ sum_of_cuts (λ (f : FoundCases). f.lost_beyond) seg in
+    let torn : sum_by r.torn (cuts_of_range r x) ≡ sum_by (λ (f : CaseFindings). f.torn_beyond) (all_found seg) =
+    ap (λ (ks : List ℕ). sum_by r.torn ks) are ∙ sums_at (λ (c : CutFound). sum_by (λ (f : CaseFindings). f.torn_beyond) c.programs.items) all seg rise each ∙ sum_of_cuts (λ (f : CaseFindings). f.torn_beyond) seg in
+    let lost : sum_by r.lost (cuts_of_range r x) ≡ sum_by (λ (f : CaseFindings). f.lost_beyond) (all_found seg) =
+    ap (λ (ks : List ℕ). sum_by r.lost ks) are ∙ sums_at (λ (c : CutFound). sum_by (λ (f : CaseFindings). f.lost_beyond) c.programs.items) all seg rise each ∙ sum_of_cuts (λ (f : CaseFindings). f.lost_beyond) seg in
     λ i. record {
       inputs = inputs_told (head_between h x.from x.to).cuts inputs;
       head = head_between h x.from x.to;
@@ -188,7 +188,7 @@ cuts_joined (x ∷ xs) ys = ap (λ (ks : List ℕ). x.cut ∷ ks) (cuts_joined x
 pub found_joined : (xs ys : List CutFound) → all_found (xs ++ ys) ≡ all_found xs ++ all_found ys
 found_joined [] ys = refl
 found_joined (x ∷ xs) ys =
-    ap (λ (fs : List FoundCases). x.programs.items ++ fs) (found_joined xs ys) ∙ sym (append_assoc x.programs.items (all_found xs) (all_found ys))
+    ap (λ (fs : List CaseFindings). x.programs.items ++ fs) (found_joined xs ys) ∙ sym (append_assoc x.programs.items (all_found xs) (all_found ys))
 
 -- each range has the cuts of its segment, and has no more cases than a run may have
 abbrev pub HaveSegments : CaseRun → List AskedRange → List (List CutFound) → Type 0
@@ -272,7 +272,7 @@ sum_failing inputs h asked cuts log all (x ∷ xs) (seg ∷ segs) rise among hav
     let own = (counted inputs h asked cuts log all x seg rise among.0 have.0 have.1 less.0).failing in
     let rest = sum_failing inputs h asked cuts log all xs segs rise among.1 have.2 less.1 in
     let left = sum_by-cons (λ (y : AskedRange). (cases_between (run_over inputs h asked cuts log all) y).totals.failing) x xs in
-    let right = ap (λ (fs : List FoundCases). sum_by failing_in fs) (found_joined seg (joined_of segs)) ∙ sum_by-append failing_in (all_found seg) (all_found (joined_of segs)) in
+    let right = ap (λ (fs : List CaseFindings). sum_by failing_in fs) (found_joined seg (joined_of segs)) ∙ sum_by-append failing_in (all_found seg) (all_found (joined_of segs)) in
     omega (arith, own, rest, left, right)
 
 -- all that is read of the texts of ranges with these segments
@@ -306,7 +306,7 @@ or_so a b = by_test (nat_lt 0 a) refl (nat_lt 0 b) refl
         let test : nat_lt 0 (a + b) ≡ false = grind (arith, nat_tests, all) in
         sym test
 
-one_fails : (f : FoundCases) → fails_in f ≡ nat_lt 0 (length f.failing.items)
+one_fails : (f : CaseFindings) → fails_in f ≡ nat_lt 0 (length f.failing.items)
 one_fails f = by_length (length f.failing.items)
   where
     by_length : (n : ℕ) → not (n == 0) ≡ nat_lt 0 n
@@ -316,7 +316,7 @@ one_fails f = by_length (length f.failing.items)
         by_test true e = let none : n ≡ 0 = grind (arith, nat_tests, e) in let test : nat_lt 0 n ≡ false = grind (arith, nat_tests, none) in sym test
         by_test false e = let some : 0 < n = grind (arith, nat_tests, e) in let test : nat_lt 0 n ≡ true = grind (arith, nat_tests, some) in sym test
 
-some_fail : (fs : List FoundCases) → fails_at fs ≡ nat_lt 0 (sum_by failing_in fs)
+some_fail : (fs : List CaseFindings) → fails_at fs ≡ nat_lt 0 (sum_by failing_in fs)
 some_fail [] = refl
 some_fail (f ∷ fs) =
     let one = one_fails f in

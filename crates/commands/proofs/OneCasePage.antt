@@ -11,7 +11,7 @@ use Rattle.losses.specs.Counted.{AreMissing}
 use Rattle.losses.specs.CureText.{is_uncured}
 use Rattle.cases.specs.AtCut.{CutValue, parts_of}
 use Rattle.case_runs.specs.declared.found.Losses.{Losses}
-use Rattle.case_runs.specs.declared.found.FoundCases.{FoundCases}
+use Rattle.case_runs.specs.declared.found.CaseFindings.{CaseFindings}
 use Rattle.case_runs.specs.declared.found.CutFound.{CutFound}
 use Rattle.case_runs.specs.declared.leaves.FailingCase.{FailingCase}
 use Rattle.case_runs.specs.Leaves.{failing_value}
@@ -57,7 +57,7 @@ long_known at tears [] = refl
 long_known at tears (f ∷ items) = ap suc (long_known at tears items)
 
 -- what was found of a program at a cut is the same
-each_at : {A : Type 0} (own : FoundCases → A) (none : A) (at : CutValue) (tears : Bool) → ((f g : FoundCases) → SameFound at tears f g → own f ≡ own g) → (program : ℕ) (fs gs : List FoundCases)
+each_at : {A : Type 0} (own : CaseFindings → A) (none : A) (at : CutValue) (tears : Bool) → ((f g : CaseFindings) → SameFound at tears f g → own f ≡ own g) → (program : ℕ) (fs gs : List CaseFindings)
     → EachSame at tears fs gs → option_map_or own (slice_get fs program) none ≡ option_map_or own (slice_get gs program) none
 each_at own none at tears tells program [] [] same = refl
 each_at own none at tears tells program [] (g ∷ gs) same = absurd same
@@ -66,8 +66,8 @@ each_at own none at tears tells zero (f ∷ fs) (g ∷ gs) same = tells f g same
 each_at own none at tears tells (suc program) (f ∷ fs) (g ∷ gs) same = each_at own none at tears tells program fs gs same.1
 
 -- what is known where nothing was found is nothing
-of_none : (at : CutValue) (tears : Bool) (it : Option FoundCases)
-    → map (known_case at tears) (option_map_or (λ (f : FoundCases). f.failing.items) it []) ≡ option_map_or (λ (f : FoundCases). map (known_case at tears) f.failing.items) it []
+of_none : (at : CutValue) (tears : Bool) (it : Option CaseFindings)
+    → map (known_case at tears) (option_map_or (λ (f : CaseFindings). f.failing.items) it []) ≡ option_map_or (λ (f : CaseFindings). map (known_case at tears) f.failing.items) it []
 of_none at tears None = refl
 of_none at tears (Some f) = refl
 
@@ -76,12 +76,12 @@ known_same : (run : RunValue) (program : ℕ) (c d : CutFound) → EachSame (cut
 known_same run program c d same =
     let at = cut_value run.log run.way c.cut in
     of_none at run.tears (slice_get c.programs.items program)
-    ∙ each_at (λ (f : FoundCases). map (known_case at run.tears) f.failing.items) [] at run.tears (λ f g own. own.failing) program c.programs.items d.programs.items same
+    ∙ each_at (λ (f : CaseFindings). map (known_case at run.tears) f.failing.items) [] at run.tears (λ f g own. own.failing) program c.programs.items d.programs.items same
     ∙ sym (of_none at run.tears (slice_get d.programs.items program))
 
 cases_same : (run : RunValue) (program : ℕ) (c d : CutFound) → EachSame (cut_value run.log run.way c.cut) run.tears c.programs.items d.programs.items → cases_of program c ≡ cases_of program d
 cases_same run program c d same =
-    each_at (λ (f : FoundCases). f.cases) 0 (cut_value run.log run.way c.cut) run.tears (λ f g own. own.cases) program c.programs.items d.programs.items same
+    each_at (λ (f : CaseFindings). f.cases) 0 (cut_value run.log run.way c.cut) run.tears (λ f g own. own.cases) program c.programs.items d.programs.items same
 
 many_same : (run : RunValue) (program : ℕ) (c d : CutFound) → EachSame (cut_value run.log run.way c.cut) run.tears c.programs.items d.programs.items
     → length (failing_of program c) ≡ length (failing_of program d)
@@ -210,8 +210,8 @@ unfolding parts_text
 found_same run about ps qs ls ms same own = let programs : programs_text run ls 0 ps ≡ programs_text run ms 0 qs = programs_same run ls ms same 0 ps qs own in rw programs refl
 
 -- the failing cases of a program have the same windows
-of_failures : (at : CutValue) (tears : Bool) (it : Option FoundCases)
-    → program_failures at tears 0 (option_map_or (λ (f : FoundCases). f.failing.items) it []) ≡ option_map_or (found_failures at tears 0) it []
+of_failures : (at : CutValue) (tears : Bool) (it : Option CaseFindings)
+    → program_failures at tears 0 (option_map_or (λ (f : CaseFindings). f.failing.items) it []) ≡ option_map_or (found_failures at tears 0) it []
 of_failures at tears None = refl
 of_failures at tears (Some f) = refl
 

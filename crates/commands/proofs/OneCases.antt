@@ -12,7 +12,7 @@ use Rattle.checker.specs.Checker.{CheckerValue}
 use Rattle.report.specs.LineText.{ending_text}
 use Rattle.cases.specs.AtCut.{CutValue, parts_of}
 use Rattle.case_runs.specs.declared.found.Losses.{Losses}
-use Rattle.case_runs.specs.declared.found.FoundCases.{FoundCases}
+use Rattle.case_runs.specs.declared.found.CaseFindings.{CaseFindings}
 use Rattle.case_runs.specs.declared.found.CutFound.{CutFound}
 use Rattle.case_runs.specs.declared.leaves.FailingCase.{FailingCase}
 use Rattle.case_runs.specs.Leaves.{failing_value}
@@ -39,7 +39,7 @@ use Rattle.runs.specs.Explore.{head_of}
 use Rattle.runs.specs.Why.{with_first}
 
 -- the same was found with each checker, and at each cut
-abbrev pub EachSame : CutValue → Bool → List FoundCases → List FoundCases → Type 0
+abbrev pub EachSame : CutValue → Bool → List CaseFindings → List CaseFindings → Type 0
 EachSame at tears [] [] = Unit {0}
 EachSame at tears [] (g ∷ gs) = ⊥
 EachSame at tears (f ∷ fs) [] = ⊥
@@ -54,7 +54,7 @@ CutsSame log way tears [] (d ∷ ds) = ⊥
 CutsSame log way tears (c ∷ cs) [] = ⊥
 CutsSame log way tears (c ∷ cs) (d ∷ ds) = (c.cut ≡ d.cut) × EachSame (cut_value log way c.cut) tears c.programs.items d.programs.items × CutsSame log way tears cs ds
 
-pub each_same : FindingIsOne → (asked : Losses) (at : CutValue) (checkers : List CheckerValue) (fs gs : List FoundCases) → AreFoundAt asked at checkers fs → AreFoundAt asked at checkers gs
+pub each_same : FindingIsOne → (asked : Losses) (at : CutValue) (checkers : List CheckerValue) (fs gs : List CaseFindings) → AreFoundAt asked at checkers fs → AreFoundAt asked at checkers gs
     → EachSame at asked.tears fs gs
 each_same one asked at checkers [] [] a b = tt
 each_same one asked at checkers [] (g ∷ gs) a b = let here = a.count in let there = b.count in absurd (omega (arith, here, there))
@@ -98,7 +98,7 @@ lines_known at tears program [] = refl
 lines_known at tears program (f ∷ items) =
     ap (λ (xs : List ℕ). case_line at tears program (failing_value f) ++ xs) (lines_known at tears program items)
 
-each_lines : (at : CutValue) (tears : Bool) (program : ℕ) (fs gs : List FoundCases) → EachSame at tears fs gs → programs_cases at tears program fs ≡ programs_cases at tears program gs
+each_lines : (at : CutValue) (tears : Bool) (program : ℕ) (fs gs : List CaseFindings) → EachSame at tears fs gs → programs_cases at tears program fs ≡ programs_cases at tears program gs
 each_lines at tears program [] [] same = refl
 each_lines at tears program [] (g ∷ gs) same = absurd same
 each_lines at tears program (f ∷ fs) [] same = absurd same
@@ -120,17 +120,17 @@ cut_lines log way tears (c ∷ cs) (d ∷ ds) same =
     λ i. own i ++ rest i
 
 -- and so are their numbers
-length_failing : (at : CutValue) (tears : Bool) (f g : FoundCases) → SameFound at tears f g → length f.failing.items ≡ length g.failing.items
+length_failing : (at : CutValue) (tears : Bool) (f g : CaseFindings) → SameFound at tears f g → length f.failing.items ≡ length g.failing.items
 length_failing at tears f g same = sym (long f.failing.items) ∙ ap (λ (ks : List KnownCase). length ks) same.failing ∙ long g.failing.items
   where
     long : (items : List FailingCase) → length (map (known_case at tears) items) ≡ length items
     long [] = refl
     long (x ∷ items) = ap suc (long items)
 
-abbrev pub Tells : (FoundCases → ℕ) → Type 0
-Tells number = (at : CutValue) (tears : Bool) (f g : FoundCases) → SameFound at tears f g → number f ≡ number g
+abbrev pub Tells : (CaseFindings → ℕ) → Type 0
+Tells number = (at : CutValue) (tears : Bool) (f g : CaseFindings) → SameFound at tears f g → number f ≡ number g
 
-pub sum_each : (number : FoundCases → ℕ) → Tells number → (at : CutValue) (tears : Bool) (fs gs : List FoundCases) → EachSame at tears fs gs → sum_by number fs ≡ sum_by number gs
+pub sum_each : (number : CaseFindings → ℕ) → Tells number → (at : CutValue) (tears : Bool) (fs gs : List CaseFindings) → EachSame at tears fs gs → sum_by number fs ≡ sum_by number gs
 sum_each number tells at tears [] [] same = refl
 sum_each number tells at tears [] (g ∷ gs) same = absurd same
 sum_each number tells at tears (f ∷ fs) [] same = absurd same
@@ -139,7 +139,7 @@ sum_each number tells at tears (f ∷ fs) (g ∷ gs) same =
     let rest = sum_each number tells at tears fs gs same.1 in
     sum_by-cons number f fs ∙ (λ i. own i + rest i) ∙ sym (sum_by-cons number g gs)
 
-sum_all : (number : FoundCases → ℕ) → Tells number → (log : LogValue) (way : By) (tears : Bool) (ls ms : List CutFound) → CutsSame log way tears ls ms
+sum_all : (number : CaseFindings → ℕ) → Tells number → (log : LogValue) (way : By) (tears : Bool) (ls ms : List CutFound) → CutsSame log way tears ls ms
     → sum_by number (all_found ls) ≡ sum_by number (all_found ms)
 sum_all number tells log way tears [] [] same = refl
 sum_all number tells log way tears [] (d ∷ ds) same = absurd same
@@ -171,7 +171,7 @@ totals_same log way tears ls ms same =
     let lost = lost_same log way tears ls ms same in
     λ i. counts_text (long i) (cases i) (failing i) ++ beyond_text (torn i) (lost i) ++ complete_word (torn i) (lost i) ++ codes "\n"
 
-any_each : (at : CutValue) (tears : Bool) (fs gs : List FoundCases) → EachSame at tears fs gs → fails_at fs ≡ fails_at gs
+any_each : (at : CutValue) (tears : Bool) (fs gs : List CaseFindings) → EachSame at tears fs gs → fails_at fs ≡ fails_at gs
 any_each at tears [] [] same = refl
 any_each at tears [] (g ∷ gs) same = absurd same
 any_each at tears (f ∷ fs) [] same = absurd same
@@ -211,12 +211,12 @@ unfolding told_known
 told_all at tears [] = refl
 told_all at tears (f ∷ items) = ap (λ (xs : List ToldValue). told_of at tears (failing_value f) ∷ xs) (told_all at tears items)
 
-pub told_same : (at : CutValue) (tears : Bool) (f g : FoundCases) → SameFound at tears f g → all_told at tears f.failing.items ≡ all_told at tears g.failing.items
+pub told_same : (at : CutValue) (tears : Bool) (f g : CaseFindings) → SameFound at tears f g → all_told at tears f.failing.items ≡ all_told at tears g.failing.items
 told_same at tears f g same =
     told_all at tears f.failing.items ∙ ap (λ (ks : List KnownCase). map (told_known at tears) ks) same.failing ∙ sym (told_all at tears g.failing.items)
 
-each_cause : {A : Type 0} (own : ℕ → FoundCases → List A) (at : CutValue) (tears : Bool) → ((n : ℕ) (f g : FoundCases) → SameFound at tears f g → own n f ≡ own n g)
-    → (program : ℕ) (fs gs : List FoundCases) → EachSame at tears fs gs → by_program own program fs ≡ by_program own program gs
+each_cause : {A : Type 0} (own : ℕ → CaseFindings → List A) (at : CutValue) (tears : Bool) → ((n : ℕ) (f g : CaseFindings) → SameFound at tears f g → own n f ≡ own n g)
+    → (program : ℕ) (fs gs : List CaseFindings) → EachSame at tears fs gs → by_program own program fs ≡ by_program own program gs
 each_cause own at tears tells program [] [] same = refl
 each_cause own at tears tells program [] (g ∷ gs) same = absurd same
 each_cause own at tears tells program (f ∷ fs) [] same = absurd same
@@ -225,8 +225,8 @@ each_cause own at tears tells program (f ∷ fs) (g ∷ gs) same =
     let rest = each_cause own at tears tells (program + 1) fs gs same.1 in
     λ i. here i ++ rest i
 
-cut_each : {A : Type 0} (own : CutValue → ℕ → FoundCases → List A) (log : LogValue) (way : By) (tears : Bool)
-    → ((at : CutValue) (n : ℕ) (f g : FoundCases) → SameFound at tears f g → own at n f ≡ own at n g) → (ls ms : List CutFound) → CutsSame log way tears ls ms
+cut_each : {A : Type 0} (own : CutValue → ℕ → CaseFindings → List A) (log : LogValue) (way : By) (tears : Bool)
+    → ((at : CutValue) (n : ℕ) (f g : CaseFindings) → SameFound at tears f g → own at n f ≡ own at n g) → (ls ms : List CutFound) → CutsSame log way tears ls ms
     → flat_map (λ (c : CutFound). by_program (own (cut_value log way c.cut)) 0 c.programs.items) ls ≡ flat_map (λ (c : CutFound). by_program (own (cut_value log way c.cut)) 0 c.programs.items) ms
 cut_each own log way tears tells [] [] same = refl
 cut_each own log way tears tells [] (d ∷ ds) same = absurd same
@@ -280,12 +280,12 @@ why_same h asked log ls ms bytes others same a b =
     a.text ∙ text ∙ sym b.text
 
 -- the cases of the first checkers, and those of the next one, are among all
-pub first_at : FindingIsOne → (asked : Losses) (at : CutValue) (checkers : List CheckerValue) (n : ℕ) (before found : List FoundCases) (f : FoundCases) → AreFirstAt asked at checkers n before
+pub first_at : FindingIsOne → (asked : Losses) (at : CutValue) (checkers : List CheckerValue) (n : ℕ) (before found : List CaseFindings) (f : CaseFindings) → AreFirstAt asked at checkers n before
     → AreFoundAt asked at checkers found → slice_get found n ≡ Some f → cases_at before + f.cases ≤ cases_at found
 first_at one asked at checkers n before [] f a b there = absurd (let bad : None ≡ Some f = there in cc)
 first_at one asked at checkers zero [] (g ∷ gs) f a b there =
-    let same : f.cases ≡ g.cases = ap (λ (x : FoundCases). x.cases) (sym (same_Some g f there)) in
-    let all = sum_by-cons (λ (x : FoundCases). x.cases) g gs in
+    let same : f.cases ≡ g.cases = ap (λ (x : CaseFindings). x.cases) (sym (same_Some g f there)) in
+    let all = sum_by-cons (λ (x : CaseFindings). x.cases) g gs in
     omega (arith, same, all)
 first_at one asked at checkers (suc n) [] (g ∷ gs) f a b there = let count = a.count in absurd (omega (arith, count))
 first_at one asked at checkers zero (e ∷ es) (g ∷ gs) f a b there = let count = a.count in absurd (omega (arith, count))
@@ -296,8 +296,8 @@ first_at one asked at (c ∷ cs) (suc n) (e ∷ es) (g ∷ gs) f a b there =
     let own = (one.same asked at c e g (a.each 0 c e refl refl) (b.each 0 c g refl refl)).cases in
     let rest = first_at one asked at cs n es gs f (record { count = omega (arith, here); each = λ i d h x y. a.each (suc i) d h x y })
     (record { count = omega (arith, count); each = λ i d h x y. b.each (suc i) d h x y }) there in
-    let first = sum_by-cons (λ (x : FoundCases). x.cases) e es in
-    let all = sum_by-cons (λ (x : FoundCases). x.cases) g gs in
+    let first = sum_by-cons (λ (x : CaseFindings). x.cases) e es in
+    let all = sum_by-cons (λ (x : CaseFindings). x.cases) g gs in
     omega (arith, own, rest, first, all)
 
 -- the same of cuts
@@ -315,7 +315,7 @@ first_in one asked log way [] checkers (suc n) (e ∷ es) (g ∷ gs) f a b there
 first_in one asked log way (k ∷ ks) checkers (suc n) (e ∷ es) (g ∷ gs) f a b there =
     let here = a.count in
     let count = b.count in
-    let own = sum_each (λ (x : FoundCases). x.cases) (λ at t x y s. s.cases) (cut_value log way k) asked.tears e.programs.items g.programs.items
+    let own = sum_each (λ (x : CaseFindings). x.cases) (λ at t x y s. s.cases) (cut_value log way k) asked.tears e.programs.items g.programs.items
     (each_same one asked (cut_value log way k) checkers e.programs.items g.programs.items (a.each 0 k e refl refl) (b.each 0 k g refl refl)) in
     let rest = first_in one asked log way ks checkers n es gs f
     (record { count = omega (arith, here); cut = λ i j h x y. a.cut (suc i) j h x y; each = λ i j h x y. a.each (suc i) j h x y })
@@ -331,7 +331,7 @@ there_too (a ∷ xs) [] i x long at = absurd (omega (arith, long))
 there_too (a ∷ xs) (b ∷ ys) zero x long at = (b, refl)
 there_too (a ∷ xs) (b ∷ ys) (suc i) x long at = there_too xs ys i x (omega (arith, long)) at
 
-pub past_at : FindingIsOne → (asked : Losses) (at : CutValue) (checkers : List CheckerValue) (left : ℕ) (found : List FoundCases) → AreFoundAt asked at checkers found → IsPastAt asked at checkers left
+pub past_at : FindingIsOne → (asked : Losses) (at : CutValue) (checkers : List CheckerValue) (left : ℕ) (found : List CaseFindings) → AreFoundAt asked at checkers found → IsPastAt asked at checkers left
     → left < cases_at found
 past_at one asked at checkers left found are past =
     let there = there_too checkers found past.number past.checker are.count past.own in

@@ -16,7 +16,7 @@ use Rattle.checker.specs.Checker.{CheckerValue}
 use Rattle.report.specs.Report.{HeadValue}
 use Rattle.cases.specs.AtCut.{CutValue}
 use Rattle.case_runs.specs.declared.found.Losses.{Losses}
-use Rattle.case_runs.specs.declared.found.FoundCases.{FoundCases}
+use Rattle.case_runs.specs.declared.found.CaseFindings.{CaseFindings}
 use Rattle.case_runs.specs.declared.found.CutFound.{CutFound}
 use Rattle.case_runs.specs.declared.first.FirstCase.{FirstCase}
 use Rattle.case_runs.specs.declared.leaves.FailingCase.{FailingCase}
@@ -78,14 +78,14 @@ of_taken (suc n) (y ∷ ys) zero x there = there
 of_taken (suc n) (y ∷ ys) (suc i) x there = of_taken n ys i x there
 
 -- what was found with the first checkers is all that is found with these
-all_at : (asked : Losses) (at : CutValue) (checkers : List CheckerValue) (n : ℕ) (found : List FoundCases) → AreFirstAt asked at checkers n found → n ≤ length checkers
+all_at : (asked : Losses) (at : CutValue) (checkers : List CheckerValue) (n : ℕ) (found : List CaseFindings) → AreFirstAt asked at checkers n found → n ≤ length checkers
     → AreFoundAt asked at (take n checkers) found
 all_at asked at checkers n found so few = record {
   count = so.count ∙ sym (length-take-le n checkers few);
   each = λ i c f one two. so.each i c f (of_taken n checkers i c one) two;
 }
 
-some_at : (asked : Losses) (at : CutValue) (checkers : List CheckerValue) (m n : ℕ) (found : List FoundCases) → AreFirstAt asked at checkers n found → AreFirstAt asked at (take m checkers) n found
+some_at : (asked : Losses) (at : CutValue) (checkers : List CheckerValue) (m n : ℕ) (found : List CaseFindings) → AreFirstAt asked at checkers n found → AreFirstAt asked at (take m checkers) n found
 some_at asked at checkers m n found so = record { count = so.count; each = λ i c f one two. so.each i c f (of_taken m checkers i c one) two }
 
 all_in : (asked : Losses) (log : LogValue) (way : By) (cuts : List ℕ) (checkers : List CheckerValue) (n : ℕ) (found : List CutFound) → AreFirstIn asked log way cuts checkers n found
@@ -106,10 +106,10 @@ some_in asked log way cuts checkers m n found so = record {
 
 -- how many cases were found is one
 
-at_once : FindingIsOne → (asked : Losses) (at : CutValue) (checkers : List CheckerValue) (n : ℕ) (fs gs : List FoundCases) → AreFirstAt asked at checkers n fs → AreFirstAt asked at checkers n gs
+at_once : FindingIsOne → (asked : Losses) (at : CutValue) (checkers : List CheckerValue) (n : ℕ) (fs gs : List CaseFindings) → AreFirstAt asked at checkers n fs → AreFirstAt asked at checkers n gs
     → n ≤ length checkers → cases_at fs ≡ cases_at gs
 at_once one asked at checkers n fs gs a b few =
-    sum_each (λ (f : FoundCases). f.cases) (λ at t f g s. s.cases) at asked.tears fs gs
+    sum_each (λ (f : CaseFindings). f.cases) (λ at t f g s. s.cases) at asked.tears fs gs
     (each_same one asked at (take n checkers) fs gs (all_at asked at checkers n fs a few) (all_at asked at checkers n gs b few))
 
 cuts_once : (log : LogValue) (way : By) (tears : Bool) (ls ms : List CutFound) → CutsSame log way tears ls ms → cases_in ls ≡ cases_in ms
@@ -117,7 +117,7 @@ cuts_once log way tears [] [] same = refl
 cuts_once log way tears [] (d ∷ ds) same = absurd same
 cuts_once log way tears (c ∷ cs) [] same = absurd same
 cuts_once log way tears (c ∷ cs) (d ∷ ds) same =
-    let own = sum_each (λ (f : FoundCases). f.cases) (λ at t f g s. s.cases) (cut_value log way c.cut) tears c.programs.items d.programs.items same.1 in
+    let own = sum_each (λ (f : CaseFindings). f.cases) (λ at t f g s. s.cases) (cut_value log way c.cut) tears c.programs.items d.programs.items same.1 in
     let rest = cuts_once log way tears cs ds same.2 in
     sum_by-cons (λ (x : CutFound). cases_at x.programs.items) c cs ∙ (λ i. own i + rest i) ∙ sym (sum_by-cons (λ (x : CutFound). cases_at x.programs.items) d ds)
 
@@ -132,26 +132,26 @@ in_once one asked log way cuts checkers n ls ms a b few =
 none_told : (at : CutValue) (tears : Bool) (items : List FailingCase) (k : KnownCase) (ks : List KnownCase) → items ≡ [] → map (known_case at tears) items ≡ k ∷ ks → ⊥
 none_told at tears items k ks none told = let bad : [] ≡ k ∷ ks = sym (ap (map (known_case at tears)) none) ∙ told in cc
 
-not_found : FirstIsOne → (asked : Losses) (at : CutValue) (checker : CheckerValue) (f : FailingCase) (found : FoundCases) → FailsFirst asked at checker f → IsFoundAt asked at checker found
+not_found : FirstIsOne → (asked : Losses) (at : CutValue) (checker : CheckerValue) (f : FailingCase) (found : CaseFindings) → FailsFirst asked at checker f → IsFoundAt asked at checker found
     → found.failing.items ≡ [] → ⊥
 not_found one asked at checker f found fails are none =
     let told = one.found asked at checker f found fails are in
     none_told at asked.tears found.failing.items (known_case at asked.tears f) told.0 none told.1
 
-not_at : FirstIsOne → (asked : Losses) (at : CutValue) (checkers : List CheckerValue) (left : ℕ) (first : FirstCase) (n : ℕ) (found : List FoundCases)
+not_at : FirstIsOne → (asked : Losses) (at : CutValue) (checkers : List CheckerValue) (left : ℕ) (first : FirstCase) (n : ℕ) (found : List CaseFindings)
     → FailsFirstAt asked at checkers left first → AreFirstAt asked at checkers n found → NoneFailsAt found → first.program < n → ⊥
 not_at one asked at checkers left first n found fails are none low =
     let count = are.count in
     let there = there_at found first.program (omega (arith, count, low)) in
     not_found one asked at fails.checker first.case there.0 fails.fails (are.each first.program fails.checker there.0 fails.own there.1)
-    (all_there (λ (g : FoundCases). g.failing.items ≡ []) found first.program there.0 none there.1)
+    (all_there (λ (g : CaseFindings). g.failing.items ≡ []) found first.program there.0 none there.1)
 
-not_among : FirstIsOne → (asked : Losses) (at : CutValue) (checkers : List CheckerValue) (left : ℕ) (first : FirstCase) (found : List FoundCases)
+not_among : FirstIsOne → (asked : Losses) (at : CutValue) (checkers : List CheckerValue) (left : ℕ) (first : FirstCase) (found : List CaseFindings)
     → FailsFirstAt asked at checkers left first → AreFoundAt asked at checkers found → NoneFailsAt found → ⊥
 not_among one asked at checkers left first found fails are none =
     let there = there_too checkers found first.program fails.checker are.count fails.own in
     not_found one asked at fails.checker first.case there.0 fails.fails (are.each first.program fails.checker there.0 fails.own there.1)
-    (all_there (λ (g : FoundCases). g.failing.items ≡ []) found first.program there.0 none there.1)
+    (all_there (λ (g : CaseFindings). g.failing.items ≡ []) found first.program there.0 none there.1)
 
 not_in : FirstIsOne → (asked : Losses) (log : LogValue) (way : By) (cuts : List ℕ) (checkers : List CheckerValue) (first : FirstCase) (n : ℕ) (found : List CutFound)
     → (a : IsFirstFailing asked log way cuts checkers first) → AreFirstIn asked log way cuts checkers n found → NoneFails found → a.place < n → ⊥

@@ -3,7 +3,7 @@ use Rattle.std.specs.Prelude.{ℕ, ◌==◌, not, Bool, List, [], codes, length,
 use Rattle.std.specs.Option.{option_map_or}
 use Rattle.losses.specs.declared.why.cut.CutFailures.{CutFailures}
 use Rattle.case_runs.specs.declared.leaves.FailingCase.{FailingCase}
-use Rattle.case_runs.specs.declared.found.FoundCases.{FoundCases}
+use Rattle.case_runs.specs.declared.found.CaseFindings.{CaseFindings}
 use Rattle.case_runs.specs.declared.found.CutFound.{CutFound}
 use Rattle.case_text.specs.Text.{in_word}
 use Rattle.crash_page.specs.declared.counts.JudgedKind.{JudgedKind}
@@ -40,10 +40,10 @@ image_count c = record { cut = c.cut; of = kind.Images; all = c.images; failing 
 
 -- what was found at a cut with the program of that number: the cases that fail, and how many there are
 abbrev pub failing_of : ℕ → CutFound → List FailingCase
-failing_of program c = option_map_or (λ (f : FoundCases). f.failing.items) (slice_get c.programs.items program) []
+failing_of program c = option_map_or (λ (f : CaseFindings). f.failing.items) (slice_get c.programs.items program) []
 
 abbrev pub cases_of : ℕ → CutFound → ℕ
-cases_of program c = option_map_or (λ (f : FoundCases). f.cases) (slice_get c.programs.items program) 0
+cases_of program c = option_map_or (λ (f : CaseFindings). f.cases) (slice_get c.programs.items program) 0
 
 abbrev pub case_count : ℕ → CutFound → CutCount
 case_count program c = record { cut = c.cut; of = kind.Cases; all = cases_of program c; failing = length (failing_of program c) }

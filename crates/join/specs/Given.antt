@@ -13,7 +13,7 @@ use Rattle.report.specs.declared.lines.marks.LineMark.{LineMark}
 use Rattle.report.specs.ChoiceText.{departures_text}
 use Rattle.report.specs.Images.{distinct_count}
 use Rattle.report.specs.Report.{program_lines}
-use Rattle.join.specs.declared.given.told.ToldLine.{ToldLine}
+use Rattle.join.specs.declared.given.told.GivenLine.{GivenLine}
 use Rattle.join.specs.Endings.{IsEnding}
 use Rattle.join.specs.Heads.{IsProgramHead, are_programs_of_run}
 use Rattle.join.specs.Order.{in_order}
@@ -25,7 +25,7 @@ pub record ToldLine : Type 0 where
   pub outcome : List ℕ
 
 -- what a line of the code says
-abbrev pub line_told : ToldLine → ToldLine
+abbrev pub line_told : GivenLine → ToldLine
 line_told t = record { mark = t.mark; outcome = t.outcome.now }
 
 abbrev pub marks_told : List ToldLine → List LineMark

@@ -11,5 +11,5 @@ mod told;
 mod whole;
 
 pub use run::ReportRun;
-pub use told::ToldLine;
+pub use told::GivenLine;
 pub use whole::{Given, read_report};

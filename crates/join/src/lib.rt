@@ -21,7 +21,7 @@
 //! | `join_cases(alloc, part, files)` | the text of the run of all cuts with any number of losses, of the texts of runs of ranges of cuts that follow one another, or with `part` the text of the cuts that they have; or why they aren't joined, as a `CasesFault` |
 //! | `read_report(alloc, run, bytes, line)` | what a report of that run says, as a `Given`; none where the bytes are the report of no such run |
 //! | `ReportRun` | the run of which a report is to be: the line of its options, and its images by number |
-//! | `Given`, `ToldLine` | what is read of a report, and of each of its failing lines: its mark, and what the program ended in |
+//! | `Given`, `GivenLine` | what is read of a report, and of each of its failing lines: its mark, and what the program ended in |
 //! | `join_is_run`, `parts_are_joined`, `join_is_cases`, `cases_are_joined` | laws, as functions that do nothing |
 //!
 //! # Place
@@ -137,6 +137,6 @@ mod words;
 
 pub use case_parts::{CasesFault, join_cases};
 pub use fault::JoinFault;
-pub use given::{Given, ReportRun, ToldLine, read_report};
+pub use given::{Given, GivenLine, ReportRun, read_report};
 pub use joining::{JoinedText, join};
 pub use laws::{cases_are_joined, join_is_cases, join_is_run, parts_are_joined};

@@ -14,7 +14,7 @@ use Rattle.losses.specs.declared.why.cut.CutFailures.{CutFailures}
 use Rattle.losses.specs.Failures.{AreCuts}
 use Rattle.losses.specs.WhyText.{cuts_text}
 use Rattle.losses.specs.CureText.{programs_text, flush_line, uncured_at}
-use Rattle.join.specs.declared.given.told.ToldLine.{ToldLine}
+use Rattle.join.specs.declared.given.told.GivenLine.{GivenLine}
 use Rattle.join.specs.Given.{GivenValue, ToldLine, line_told, told_line}
 use Rattle.join.specs.Reading.{words_text}
 use Rattle.join.proofs.ToldLines.{body_is}
@@ -149,31 +149,31 @@ line_printed s t c cut way ds old a b d new there kind at departs one two three 
 
 -- the line of the first failure without a window
 
-told_there : (lines : List ToldLine) (n : ℕ) (l : ToldLine) → slice_get lines n ≡ Some l → slice_get (map line_told lines) n ≡ Some (line_told l)
+told_there : (lines : List GivenLine) (n : ℕ) (l : GivenLine) → slice_get lines n ≡ Some l → slice_get (map line_told lines) n ≡ Some (line_told l)
 told_there lines n l there = slice_get-map line_told lines n ∙ ap (option_map line_told) there
 
-none_told : (lines : List ToldLine) (n : ℕ) → slice_get lines n ≡ None → slice_get (map line_told lines) n ≡ None
+none_told : (lines : List GivenLine) (n : ℕ) → slice_get lines n ≡ None → slice_get (map line_told lines) n ≡ None
 none_told lines n there = slice_get-map line_told lines n ∙ ap (option_map line_told) there
 
 abbrev line_of : StartsValue → Option ToldLine → List ℕ
 line_of s o = option_map_or (λ (t : ToldLine). codes "no flush cures " ++ told_line s t) o []
 
-pub none_uncured : (s : StartsValue) (lines : List ToldLine) (fs : List Failure) (found : Option ℕ) (old : List ℕ) → found ≡ uncured_at fs → found ≡ None → old ≡ old ++ uncured_told s (map line_told lines) fs
+pub none_uncured : (s : StartsValue) (lines : List GivenLine) (fs : List Failure) (found : Option ℕ) (old : List ℕ) → found ≡ uncured_at fs → found ≡ None → old ≡ old ++ uncured_told s (map line_told lines) fs
 none_uncured s lines fs found old is none =
     sym (append-nil old) ∙ ap (λ (o : Option ℕ). old ++ line_of s (option_and_then (λ (n : ℕ). slice_get (map line_told lines) n) o)) (sym none ∙ is)
 
-pub uncured_past : (s : StartsValue) (lines : List ToldLine) (fs : List Failure) (found : Option ℕ) (n : ℕ) (old : List ℕ) → found ≡ uncured_at fs → found ≡ Some n → slice_get lines n ≡ None
+pub uncured_past : (s : StartsValue) (lines : List GivenLine) (fs : List Failure) (found : Option ℕ) (n : ℕ) (old : List ℕ) → found ≡ uncured_at fs → found ≡ Some n → slice_get lines n ≡ None
     → old ≡ old ++ uncured_told s (map line_told lines) fs
 uncured_past s lines fs found n old is some past =
     sym (append-nil old) ∙ ap (λ (o : Option ToldLine). old ++ line_of s o) (sym (none_told lines n past))
     ∙ ap (λ (o : Option ℕ). old ++ line_of s (option_and_then (λ (k : ℕ). slice_get (map line_told lines) k) o)) (sym some ∙ is)
 
-pub uncured_is : (s : StartsValue) (lines : List ToldLine) (fs : List Failure) (found : Option ℕ) (n : ℕ) (l : ToldLine) (old a new : List ℕ) → found ≡ uncured_at fs → found ≡ Some n → slice_get lines n ≡ Some l
+pub uncured_is : (s : StartsValue) (lines : List GivenLine) (fs : List Failure) (found : Option ℕ) (n : ℕ) (l : GivenLine) (old a new : List ℕ) → found ≡ uncured_at fs → found ≡ Some n → slice_get lines n ≡ Some l
     → a ≡ old ++ codes "no flush cures " → new ≡ a ++ told_line s (line_told l) → new ≡ old ++ uncured_told s (map line_told lines) fs
 uncured_is s lines fs found n l old a new is some there one two =
     two ∙ ap (λ (bs : List ℕ). bs ++ told_line s (line_told l)) one ∙ append_assoc old (codes "no flush cures ") (told_line s (line_told l))
     ∙ ap (λ (o : Option ToldLine). old ++ line_of s o) (sym (told_there lines n l there))
     ∙ ap (λ (o : Option ℕ). old ++ line_of s (option_and_then (λ (k : ℕ). slice_get (map line_told lines) k) o)) (sym some ∙ is)
 
-pub line_within : (s : StartsValue) (lines : List ToldLine) (n : ℕ) (l : ToldLine) → AreOfRun s (map line_told lines) → slice_get lines n ≡ Some l → l.mark.image < length (ranked_choices s.plan s.bound s.tears)
+pub line_within : (s : StartsValue) (lines : List GivenLine) (n : ℕ) (l : GivenLine) → AreOfRun s (map line_told lines) → slice_get lines n ≡ Some l → l.mark.image < length (ranked_choices s.plan s.bound s.tears)
 line_within s lines n l of_run there = of_run.within n (line_told l) (told_there lines n l there)

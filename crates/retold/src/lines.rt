@@ -4,12 +4,12 @@ ghost use Rattle.std.specs.Prelude.{◌≡◌, ◌++◌, ◌∷◌, [], IfOk, On
 ghost use Rattle.join.specs.Given.{line_told, marks_told};
 ghost use Rattle.retold.specs.Told.{images_told_of, outcomes_told_of};
 
-use join::ToldLine;
+use join::GivenLine;
 use report::lines::LineMark;
 use std::alloc::{AllocError, Global};
 
 /// Of which image and which program each line is.
-pub(crate) fn marks_of(alloc: Global, lines: &[ToldLine<'_>]) -> Result<Vec<LineMark>, AllocError>
+pub(crate) fn marks_of(alloc: Global, lines: &[GivenLine<'_>]) -> Result<Vec<LineMark>, AllocError>
     ensures { IfOk result (λ marks. marks.items ≡ marks_told (map line_told lines.now)) }
 {
     let mut marks = Vec::with_capacity(alloc, lines.len())?;
@@ -20,7 +20,7 @@ pub(crate) fn marks_of(alloc: Global, lines: &[ToldLine<'_>]) -> Result<Vec<Line
 }
 
 /// Appends the image of a line, if it is of that program.
-fn push_image(images: &mut Vec<u64>, program: usize, line: &ToldLine<'_>) -> Result<(), AllocError>
+fn push_image(images: &mut Vec<u64>, program: usize, line: &GivenLine<'_>) -> Result<(), AllocError>
     ensures { OnOk result (images.new.items ≡ images.old.items ++ images_told_of program (line_told line.now ∷ [])) }
 {
     if usize::from(line.mark.program) == program {
@@ -32,7 +32,7 @@ fn push_image(images: &mut Vec<u64>, program: usize, line: &ToldLine<'_>) -> Res
 /// The images on which the program of that number fails.
 pub(crate) fn images_of(
     alloc: Global,
-    lines: &[ToldLine<'_>],
+    lines: &[GivenLine<'_>],
     program: usize,
 ) -> Result<Vec<u64>, AllocError>
     ensures { IfOk result (λ images. images.items ≡ images_told_of program (map line_told lines.now)) }
@@ -48,7 +48,7 @@ pub(crate) fn images_of(
 fn push_outcome<'t>(
     outcomes: &mut Vec<&'t str>,
     program: usize,
-    line: &ToldLine<'t>,
+    line: &GivenLine<'t>,
 ) -> Result<(), AllocError>
     ensures { OnOk result (map (λ o. o.now) outcomes.new.items ≡ map (λ o. o.now) outcomes.old.items ++ outcomes_told_of program (line_told line.now ∷ [])) }
 {
@@ -61,7 +61,7 @@ fn push_outcome<'t>(
 /// What the program of that number ends in on each image on which it fails.
 pub(crate) fn outcomes_of<'t>(
     alloc: Global,
-    lines: &[ToldLine<'t>],
+    lines: &[GivenLine<'t>],
     program: usize,
 ) -> Result<Vec<&'t str>, AllocError>
     ensures { IfOk result (λ outcomes. map (λ o. o.now) outcomes.items ≡ outcomes_told_of program (map line_told lines.now)) }

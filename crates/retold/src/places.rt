@@ -15,7 +15,7 @@ ghost use Rattle.retold.specs.Told.{AreOfRun, TellsPlaces, beyond_line, count_of
 use crate::missing::missing_of;
 use crate::subject::Subject;
 use epochs::Cuts;
-use join::{Given, ToldLine};
+use join::{Given, GivenLine};
 use losses::cure::{Failure, put_programs, put_round};
 use losses::flushes::MissingFlush;
 use report::choice_text::put_departures;
@@ -52,7 +52,7 @@ fn put_outcome(out: &mut String, outcome: &str) -> Result<(), AllocError>
 }
 
 /// Appends a line as the report has it.
-fn put_line(out: &mut String, subject: &Subject<'_>, line: &ToldLine<'_>) -> Result<(), AllocError>
+fn put_line(out: &mut String, subject: &Subject<'_>, line: &GivenLine<'_>) -> Result<(), AllocError>
     requires { line.now.mark.image < length (ranked_choices subject.now.starts.now.plan subject.now.starts.now.bound subject.now.starts.now.tears) }
     ensures { OnOk result (string_bytes out.new ≡ string_bytes out.old ++ told_line subject.now.starts.now (line_told line.now)) }
 {
@@ -64,7 +64,7 @@ fn put_line(out: &mut String, subject: &Subject<'_>, line: &ToldLine<'_>) -> Res
 }
 
 /// The line at a place, where there is one.
-fn line_at<'x>(lines: &'x [ToldLine<'x>], place: usize) -> Option<&'x ToldLine<'x>>
+fn line_at<'x>(lines: &'x [GivenLine<'x>], place: usize) -> Option<&'x GivenLine<'x>>
     ensures { MatchOption result (slice_get lines.now place ≡ None) (λ line. slice_get lines.now place ≡ Some line.now) }
 {
     lines.get(place)

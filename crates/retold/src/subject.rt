@@ -4,7 +4,7 @@ ghost use Rattle.std.specs.Prelude.{◌≡◌};
 
 use choices::Starts;
 use epochs::By;
-use join::ToldLine;
+use join::GivenLine;
 use logfmt::Log;
 
 /// The lines of a report, the log and the images of which they are.
@@ -13,7 +13,7 @@ pub(crate) struct Subject<'x> {
     pub(crate) log: &'x Log,
     pub(crate) starts: &'x Starts<'x>,
     pub(crate) by: By,
-    pub(crate) lines: &'x [ToldLine<'x>],
+    pub(crate) lines: &'x [GivenLine<'x>],
     /// How many programs the report has.
     pub(crate) programs: usize,
     pub ghost by_is: { by ≡ starts.now.plan.by },

@@ -18,7 +18,7 @@ use Rattle.case_runs.specs.declared.found.CutFound.{CutFound}
 use Rattle.case_runs.specs.declared.found.SearchFault.{SearchFault}
 use Rattle.case_runs.specs.declared.found.SearchFault.TheVariants as fault
 use Rattle.case_runs.specs.Found.{AreFoundIn, cases_in, most_cases, AreTooMany, StopsIn}
-use Rattle.case_runs.specs.declared.found.FoundCases.{FoundCases}
+use Rattle.case_runs.specs.declared.found.CaseFindings.{CaseFindings}
 use Rattle.case_runs.specs.declared.first.FirstCase.{FirstCase}
 use Rattle.case_runs.specs.declared.first.Sought.{Sought}
 use Rattle.case_runs.specs.declared.leaves.FailingCase.{FailingCase}
@@ -116,11 +116,11 @@ any_none (c ∷ found) none =
     let rest = any_none found (All-tail (λ (d : CutFound). NoneFailsAt d.programs.items) c found none) in
     λ i. own i || rest i
   where
-    none_at : (fs : List FoundCases) → NoneFailsAt fs → fails_at fs ≡ false
+    none_at : (fs : List CaseFindings) → NoneFailsAt fs → fails_at fs ≡ false
     none_at [] all = refl
     none_at (f ∷ fs) all =
-        let here = ap (λ (xs : List FailingCase). length xs) (All-head (λ (g : FoundCases). g.failing.items ≡ []) f fs all) in
-        let rest = none_at fs (All-tail (λ (g : FoundCases). g.failing.items ≡ []) f fs all) in
+        let here = ap (λ (xs : List FailingCase). length xs) (All-head (λ (g : CaseFindings). g.failing.items ≡ []) f fs all) in
+        let rest = none_at fs (All-tail (λ (g : CaseFindings). g.failing.items ≡ []) f fs all) in
         λ i. not (here i == 0) || rest i
 
 pub tells_none : (inputs : ℕ) (l : AnyLosses) (s : Settings) (value : LogValue) (checkers : List CheckerValue) (bytes : List ℕ) (failing : Bool) (found : List CutFound) → NoneFails found

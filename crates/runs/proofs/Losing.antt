@@ -23,7 +23,7 @@ use Rattle.cases.specs.Laws.{Includes, IsChoice, AreCases}
 use Rattle.cases.specs.AtCut.{CutValue, parts_of, case_of}
 use Rattle.cases.specs.Search.{LeafValue, leaf_case, EndsSo}
 use Rattle.case_runs.specs.declared.found.Losses.{Losses}
-use Rattle.case_runs.specs.declared.found.FoundCases.{FoundCases}
+use Rattle.case_runs.specs.declared.found.CaseFindings.{CaseFindings}
 use Rattle.case_runs.specs.declared.found.CutFound.{CutFound}
 use Rattle.case_runs.specs.declared.leaves.FailingCase.{FailingCase}
 use Rattle.case_runs.specs.Cuts.{is_explored, explored_cuts}
@@ -117,14 +117,14 @@ failing_there n (x ∷ leaves) (suc place) leaf at is = later (fails x.ending) (
     later false it = it
 
 -- a choice of a leaf that fails is one of a failing case that is told
-record IsToldAs (at : CutValue) (tears : Bool) (own : FoundCases) (other : Choice) (ending : Ending) : Type 0 where
+record IsToldAs (at : CutValue) (tears : Bool) (own : CaseFindings) (other : Choice) (ending : Ending) : Type 0 where
   pub number : ℕ
   pub failing : FailingCase
   pub there : slice_get own.failing.items number ≡ Some failing
   pub includes : Includes other (case_of tears (parts_of at) failing.sets.items)
   pub ends : ending ≡ ending_of failing.outcome
 
-told_as : (asked : Losses) (at : CutValue) (checker : CheckerValue) (own : FoundCases) (other : Choice) (ending : Ending) → asked.lost ≡ None → IsFoundAt asked at checker own
+told_as : (asked : Losses) (at : CutValue) (checker : CheckerValue) (own : CaseFindings) (other : Choice) (ending : Ending) → asked.lost ≡ None → IsFoundAt asked at checker own
     → ((leaves left : List Case) → AreCases (subject_at at.log at.way at.cut checker asked.torn None) asked.tears leaves left
     → IsInLeaf (subject_at at.log at.way at.cut checker asked.torn None) leaves other ending)
     → fails ending ≡ true → IsToldAs at asked.tears own other ending

@@ -10,7 +10,7 @@ use Rattle.cases.specs.Choices.{Choice, image_at}
 use Rattle.cases.specs.Trees.{is_torn}
 use Rattle.cases.specs.Laws.{Includes, IsChoice}
 use Rattle.cases.specs.AtCut.{parts_of, case_of}
-use Rattle.case_runs.specs.declared.found.FoundCases.{FoundCases}
+use Rattle.case_runs.specs.declared.found.CaseFindings.{CaseFindings}
 use Rattle.case_runs.specs.declared.found.CutFound.{CutFound}
 use Rattle.case_runs.specs.declared.leaves.FailingCase.{FailingCase}
 use Rattle.case_runs.specs.Laws.{judged_at}
@@ -33,7 +33,7 @@ pub record IsInFailing (s : Settings) (value : LogValue) (found : List CutFound)
   pub place : ℕ
   pub at : CutFound
   pub told : slice_get found place ≡ Some at
-  pub own : FoundCases
+  pub own : CaseFindings
   pub of_program : slice_get at.programs.items program ≡ Some own
   pub number : ℕ
   pub failing : FailingCase
@@ -56,7 +56,7 @@ pub record AnyLossIsTold : Type 0 where
 abbrev pub ToldCasesFail : Type 0
 ToldCasesFail =
     (l : AnyLosses) (text : Recording) (files : List (List ℕ)) (s : Settings) (bytes : List ℕ) (failing : Bool) (h : IsCases l text files s bytes failing)
-    → (place : ℕ) (at : CutFound) (program : ℕ) (own : FoundCases) (checker : CheckerValue) (number : ℕ) (f : FailingCase) (choice : Choice) → at.cut ≤ length h.value.entries
+    → (place : ℕ) (at : CutFound) (program : ℕ) (own : CaseFindings) (checker : CheckerValue) (number : ℕ) (f : FailingCase) (choice : Choice) → at.cut ≤ length h.value.entries
     → slice_get h.tells.found place ≡ Some at → slice_get at.programs.items program ≡ Some own → slice_get h.checkers program ≡ Some checker
     → slice_get own.failing.items number ≡ Some f → Includes choice (case_of s.tears (parts_of (record { log = h.value; way = s.by; cut = at.cut })) f.sets.items)
     → (judged_at h.value s.by at.cut checker choice ≡ ending_of f.outcome) × (fails (ending_of f.outcome) ≡ true)

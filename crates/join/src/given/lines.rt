@@ -9,7 +9,7 @@ ghost use Rattle.join.specs.GivenReading.{IsChoiceOf, IsToldBody, NoToldBody, Is
 use crate::ending::at_choice;
 use crate::given::outcome::is_outcome;
 use crate::given::run::ReportRun;
-use crate::given::told::ToldLine;
+use crate::given::told::GivenLine;
 use crate::line::{words_said, words_text};
 use crate::tally::Tally;
 use crate::words::{beyond, parts};
@@ -58,7 +58,7 @@ fn body_said<'t>(
     outside: bool,
     programs: u64,
     line: &'t str,
-) -> Result<Option<ToldLine<'t>>, AllocError>
+) -> Result<Option<GivenLine<'t>>, AllocError>
     requires { programs ≤ 8 }
     ensures { IfOk result (λ found. MatchOption found (NoToldBody outside programs run.now.starts.now line.now) (λ t. IsToldBody outside programs run.now.starts.now line.now (line_told t))) }
 {
@@ -82,7 +82,7 @@ fn body_said<'t>(
     if !is_choice_of(alloc, run.by, run.starts, words.image, words.cut, choice)? {
         return Ok(None);
     }
-    Ok(Some(ToldLine {
+    Ok(Some(GivenLine {
         mark: LineMark {
             image: words.image,
             program: words.program as u8,
@@ -99,7 +99,7 @@ fn line_said<'t>(
     outside: bool,
     programs: u64,
     text: &'t str,
-) -> Result<Option<(ToldLine<'t>, &'t str)>, AllocError>
+) -> Result<Option<(GivenLine<'t>, &'t str)>, AllocError>
     requires { programs ≤ 8 }
     ensures line { IfOk result (λ found. MatchOption found (NoToldLine outside programs run.now.starts.now text.now) (λ x. IsToldLine outside programs run.now.starts.now text.now (line_told x.0) x.1.now)) }
     ensures shorter { IfOk result (λ found. IfSome found (λ x. length x.1.now < length text.now)) }
@@ -114,7 +114,7 @@ fn line_said<'t>(
 }
 
 /// Appends what a line says.
-fn push_told<'t>(lines: &mut Vec<ToldLine<'t>>, told: ToldLine<'t>) -> Result<(), AllocError>
+fn push_told<'t>(lines: &mut Vec<GivenLine<'t>>, told: GivenLine<'t>) -> Result<(), AllocError>
     ensures { OnOk result (map line_told lines.new.items ≡ map line_told lines.old.items ++ line_told told.entry ∷ []) }
 {
     lines.push(told)?;
@@ -129,7 +129,7 @@ fn ordered_of(before: u64, tally: Tally) -> u64 {
 /// What is read of the lines of a report.
 #[derive(Drop)]
 pub(crate) struct LinesSaid<'t> {
-    pub(crate) lines: Vec<ToldLine<'t>>,
+    pub(crate) lines: Vec<GivenLine<'t>>,
     /// What is counted of these.
     pub(crate) tally: Tally,
     /// What stands after them.

@@ -9,7 +9,7 @@ use crate::ending::without;
 use crate::given::judges::judges_said;
 use crate::given::lines::lines_said;
 use crate::given::run::ReportRun;
-use crate::given::told::ToldLine;
+use crate::given::told::GivenLine;
 use crate::part::is_last;
 use crate::words::beyond;
 use report::{ProgramHead, Span};
@@ -26,7 +26,7 @@ pub struct Given<'t> {
     /// What is said of each program that is a checker.
     pub programs: Vec<ProgramHead>,
     /// What its lines say.
-    pub lines: Vec<ToldLine<'t>>,
+    pub lines: Vec<GivenLine<'t>>,
     /// Its last line.
     pub last: &'t str,
 }

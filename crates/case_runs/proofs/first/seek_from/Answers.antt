@@ -2,7 +2,7 @@ use Rattle.std.proofs.Common.{◌≡◌, ◌∙◌, refl, subst, ap, Option, ari
 use Rattle.cases.specs.AtCut.{CutValue}
 use Rattle.cases.specs.Search.{Asked}
 use Rattle.case_runs.specs.declared.first.Next.{Next}
-use Rattle.case_runs.specs.declared.found.FoundCases.{FoundCases}
+use Rattle.case_runs.specs.declared.found.CaseFindings.{CaseFindings}
 use Rattle.case_runs.specs.Judges.{program_of}
 use Rattle.case_runs.specs.First.{GoesTo, EndsWith}
 use Rattle.case_runs.proofs.Seeking.{PassedSo, passed_none, passes_on, meets_failing, passes_most, all_pass}
@@ -40,7 +40,7 @@ returns-in-Some-clause-met g c =
     let low = c.loop-number-test.false in
     let high = at.auto.number-end in
     let at_end : at.number ≡ c.args.left = omega (arith, low, high) in
-    let ends = subst (λ (it : Option FoundCases). EndsWith (program_of at.judge.checker at.judge.context) at.search c.all_passing.new.search c.args.left it) c.in-Some.is c.in_ok-found.ensures in
+    let ends = subst (λ (it : Option CaseFindings). EndsWith (program_of at.judge.checker at.judge.context) at.search c.all_passing.new.search c.args.left it) c.in-Some.is c.in_ok-found.ensures in
     all_pass c.args.judge.now.checker c.args.judge.now.context (program_of at.judge.checker at.judge.context) c.args.search.now at.search c.all_passing.new.search c.args.left c.args.left c.in-Some.found
     c.requires.context c.requires.begins at.invariant.0 (subst (λ n. PassedSo (program_of c.args.judge.now.checker c.args.judge.now.context) c.args.search.now at.search n) at_end at.invariant.1)
     (omega arith) ends.0 ends.1
@@ -51,7 +51,7 @@ returns-in-None-clause-many g c =
     let low = c.loop-number-test.false in
     let high = at.auto.number-end in
     let at_end : at.number ≡ c.args.left = omega (arith, low, high) in
-    let ends = subst (λ (it : Option FoundCases). EndsWith (program_of at.judge.checker at.judge.context) at.search c.all_passing.new.search c.args.left it) c.in-None.is c.in_ok-found.ensures in (
+    let ends = subst (λ (it : Option CaseFindings). EndsWith (program_of at.judge.checker at.judge.context) at.search c.all_passing.new.search c.args.left it) c.in-None.is c.in_ok-found.ensures in (
       c.number.ensures.value ∙ ap (λ (k : CutValue). k.cut) c.cut.ensures ∙ ap (λ (a : Asked). a.at.cut) (ends.1.same.asked ∙ at.invariant.1.same.asked),
       passes_most c.args.judge.now.checker c.args.judge.now.context (program_of at.judge.checker at.judge.context) c.args.search.now at.search c.all_passing.new.search c.args.left c.requires.context
           c.requires.begins at.invariant.0 (subst (λ n. PassedSo (program_of c.args.judge.now.checker c.args.judge.now.context) c.args.search.now at.search n) at_end at.invariant.1) ends,
