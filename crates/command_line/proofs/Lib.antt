@@ -1,4 +1,4 @@
 mod Numbers
 mod FlushLists
 mod ImageRanges
-mod Sized
+mod BaseSizes
