@@ -201,8 +201,8 @@ pub record IsRead (whole text found tail : List ℕ) (inputs : Option ℕ) (h : 
   pub end : NoCaseLine h tail
   pub totals : ReadsTotals tail said
 
-pub record SaysSame (c : CasesValue) (inputs : Option ℕ) (h : HeadValue) (w : Losses) (ts : List ToldCase) (tail : List ℕ) (said : CaseTotals) : Type 0 where
-  pub inputs : inputs ≡ c.inputs
+pub record SaysSame (c : CasesValue) (number : Option ℕ) (h : HeadValue) (w : Losses) (ts : List ToldCase) (tail : List ℕ) (said : CaseTotals) : Type 0 where
+  pub inputs : number ≡ c.inputs
   pub head : AreAlike h c.head
   pub asked : w ≡ c.asked
   pub told : c.told ≡ ts

@@ -36,7 +36,7 @@ fn opening_text(alloc: Global, inputs: Option<u64>) -> Result<String, AllocError
 }
 
 /// The number of the inputs that a text tells, and what stands after its first lines, if it begins with these to the byte.
-#[tactic(auto, using(crate::proofs::CaseOpenings::found_opening, crate::proofs::CaseOpenings::no_opening))]
+#[tactic(auto, using(crate::proofs::CaseOpenings::found_opening))]
 pub(crate) fn read_opening<'t>(
     alloc: Global,
     text: &'t str,

@@ -42,7 +42,6 @@ impl<'t> Model for CasePart<'t> {
 }
 
 /// What is read of a text of cases after its first lines; none where it is the text of none.
-#[tactic(auto, using(crate::proofs::CaseWholes::no_head_no_cases))]
 fn read_rest<'t>(
     alloc: Global,
     file: u32,

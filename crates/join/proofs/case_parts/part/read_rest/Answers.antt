@@ -1,8 +1,13 @@
 use Rattle.std.proofs.Common.{◌∙◌, sym, refl, rules}
-use Rattle.join.specs.CaseReading.{IsCaseHead}
+use Rattle.join.specs.CaseReading.{IsCaseHead, NoCaseHead}
 use Rattle.join.proofs.Endings.{fails}
-use Rattle.join.proofs.CaseWholes.{other_inputs, not_rising, no_totals, other_last, is_part}
+use Rattle.join.proofs.CaseWholes.{no_head_no_cases, other_inputs, not_rising, no_totals, other_last, is_part}
 use Rattle.join.proofs.case_parts.part.read_rest.Goals as goal
+
+pub returns-in_default : goal.returns-in_default
+returns-in_default c =
+    let lack : NoCaseHead c.args.text.now = rw c.in_default.is at c.in_ok-head.ensures in
+    no_head_no_cases c.args.whole.now c.args.text.now c.args.inputs c.requires.opened lack
 
 pub returns-then-not-are_inputs_of_run : goal.returns-then-not-are_inputs_of_run
 returns-then-not-are_inputs_of_run c =
