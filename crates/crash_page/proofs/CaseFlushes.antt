@@ -1,5 +1,6 @@
 -- The flushes that are missing for the failing cases of a program.
 use Rattle.std.proofs.Common.{ℕ, zero, suc, ◌≡◌, ◌+◌, ◌-◌, ◌<◌, ◌≤◌, ◌==◌, Bool, true, false, All, List, [], ◌∷◌, ◌++◌, length, length-append, slice_get, Option, Some, None, MatchOption, refl, sym, ap, subst, ◌∙◌, arith, append-nil, inl, inr}
+use Rattle.std.proofs.lemmas.Bool.Decides.{eqb_tells}
 use Rattle.std.proofs.lemmas.List.Concat.{flat_map-append}
 use Rattle.std.proofs.lemmas.List.Elements.{All-head, All-tail}
 use Rattle.base.proofs.Lists.{slice_get_of_append, slice_get_of_push}
@@ -28,7 +29,10 @@ use Rattle.crash_page.specs.CaseFlushes.{failures_at, failures_of, IsLacking, Ar
 -- where no case fails nothing is taken
 none_of : (at : CutValue) (tears : Bool) (own : List FailingCase) (old : List Failure) → true ≡ (length own == 0) → old ≡ old ++ program_failures at tears 0 own
 none_of at tears [] old none = sym (append-nil old)
-none_of at tears (f ∷ own) old none = absurd (let bad : true ≡ false = none in cc)
+none_of at tears (f ∷ own) old none = elim (eqb_tells (length (f ∷ own)) 0) [
+  | inl same ↦ absurd (let bad : length (f ∷ own) ≡ 0 = same.1 in omega (arith, bad))
+  | inr other ↦ absurd (let bad : true ≡ false = none ∙ other.0 in cc)
+]
 
 pub none_taken : (run : RunValue) (program : ℕ) (c : CutFound) (own : List FailingCase) (old : List Failure) → own ≡ failing_of program c → true ≡ (length own == 0)
     → old ≡ old ++ failures_at run program c

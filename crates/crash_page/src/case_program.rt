@@ -134,7 +134,7 @@ fn case_program(
 
 /// Appends a program.
 fn push_program(programs: &mut Vec<CaseProgram>, program: CaseProgram) -> Result<(), AllocError>
-    ensures { OnOk result (programs.new.items ≡ programs.old.items ++ program.entry ∷ []) }
+    ensures { OnOk result (programs.new.items ≡ programs.old.items ++ program ∷ []) }
 {
     programs.push(program)?;
     Ok(())
