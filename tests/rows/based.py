@@ -4,7 +4,7 @@ import re
 from dataclasses import replace
 
 from model import Run, explored, shown
-from notation import SECTOR, D, Folder, Hole, Long, Row, S, W, explore, files, lines, log, refused
+from notation import SECTOR, D, Folder, Hole, Long, Row, S, W, explore, files, log, refused
 
 from rows.browser import modelled as paged
 from rows.flushes import modelled as cured
@@ -129,7 +129,7 @@ SIZED = [
     sized(with_base(replace(paged("torn", TORN), name="page"), TORN)),
     sized(with_base(explore("explore", FULL.options(), FULL.recorded, PROGRAMS, explored(FULL, CHECKERS), 1), FULL)),
     Row("sized: log", "log log --sectors base --base base", held(bytes(4 * SECTOR)), "entry 0 epoch 0 write sector 0 count 1\n"),
-    Row("sized: the largest device", "images log --sectors base --base base --cuts flush", held(Hole(16384 * SECTOR)), lines("cut 1 epoch 0 marks 0 volatile 1 images 2\ntotal 2")),
+    Row("sized: the largest device", "images log --sectors base --base base --cuts flush", held(Hole(16384 * SECTOR)), "cut 1 epoch 0 marks 0 volatile 1 images 2\ntotal 2\n"),
     *(unsized(f"{bytes_} bytes", "explore log p0 --sectors base --base base", held(bytes(bytes_)), *SIZED_BASE) for bytes_ in (SECTOR + 1, 2 * SECTOR - 1, 4 * SECTOR + 511)),
     *(unsized(f"{bytes_} bytes", "explore log p0 --sectors base --base base", held(bytes(bytes_)), "refused 13 at 1", SIZED_BASE[1]) for bytes_ in (0, 1, SECTOR - 1)),
     *(unsized(f"{more} bytes more than the largest device", "images log --sectors base --base base", held(Hole(16384 * SECTOR + more)), *SIZED_BASE) for more in (1, SECTOR)),

@@ -12,7 +12,7 @@ from designs import DESIGNS, EXAMPLES, JOURNAL_AT_ONCE, JOURNAL_RIGHT, JOURNAL_W
 from designs import LOGS as STORED
 from machine_model import Ended, judged
 from model import Checker, Run
-from notation import FLUSH, FUA, M, Row, S, Something, W, code, explore, files, lines, named, program, refused
+from notation import FLUSH, FUA, M, OfInputs, Row, S, Something, W, code, explore, files, lines, named, program, refused
 
 from rows.footprints import BY_NUMBER, RUNS as NARROW
 from rows.footprints import CHECKERS as NARROW_CHECKERS
@@ -102,8 +102,10 @@ def torn(cut, mark, name="0.0"):
 
 
 def written(name, options, entries, programs, text):
-    """A row whose text is written down, without its first line."""
-    text = "crash cases 1\n" + (lines(text) if text.startswith("\n") else text)
+    """A row whose text is written down, without its first line, and without the number of the inputs that a run of a range of the cuts has."""
+    text = lines(text) if text.startswith("\n") else text
+    is_range = {"--from", "--to"} & set(options.split())
+    text = OfInputs(f"crash cases 1\ninputs ?\n{text}") if is_range else f"crash cases 1\n{text}"
     return explore(f"cases: {name}, {options}", f"--sectors 4 {options}", entries, programs, text, status(text))
 
 
