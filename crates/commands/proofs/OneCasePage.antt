@@ -24,10 +24,10 @@ use Rattle.crash_page.specs.Lacking.{advice_text}
 use Rattle.crash_page.specs.declared.judge.PageJudge.TheVariants as judging
 use Rattle.crash_page.specs.declared.case_program.CaseProgram.{CaseProgram}
 use Rattle.crash_page.specs.CaseRows.{row_at, case_said, row_text, case_row}
-use Rattle.crash_page.specs.CasePage.{RunValue, cut_at, case_rows, rest_text, case_head, cut_shown, listed_text, cuts_text, verdict_text, counts_of, said_text, summary_text, shown_cuts, program_text, programs_text, is_complete, left_text, run_text, run_with, parts_text, case_page_text}
+use Rattle.crash_page.specs.CasePage.{RunValue, cut_at, case_rows, rest_text, case_head, cut_shown, listed_text, cuts_text, verdict_text, counts_of, said_text, summary_text, shown_cuts, program_text, programs_text, is_complete, left_text, run_text, run_with, parts_text}
 use Rattle.crash_page.specs.CaseFlushes.{failures_at, failures_of, IsLacking, IsCasePage}
 use Rattle.case_text.specs.Why.{ToldValue, program_failures, found_failures, failure_of}
-use Rattle.case_text.specs.Text.{options_text, count_torn_beyond, count_lost_beyond}
+use Rattle.case_text.specs.Text.{options_text}
 use Rattle.commands.proofs.Alike.{AreAlike, alike}
 use Rattle.commands.proofs.OneMissing.{same_missing}
 use Rattle.commands.proofs.OnePage.{same_advice, same_row, join_three}
