@@ -78,10 +78,10 @@ ROWS = {
     "torn_sector": (350, "72 . 72 11 72 26.0 72 11 72 26.0 72 60.0 72 . 72 ."),
     "torn_sector, first": (354, "72 . 72 11 72 26.0 72 11 72 26.0 72 60.0 72 . 72 ."),
     "torn_sector, within 9 steps": (356, "72 . 72 11 72 26.0 72 11 72 26.0 72 . 72 ."),
-    "pairs_of_drops": (273, "72 . 72 11 72 11 72 ."),
-    "pairs_of_drops, each choice": (433, "72 . 72 11 72 26.0 72 11 72 26.0 72 60.0 72 . 72 . 72 . 72 . 72 . 72 ."),
-    "sixteen_codes": (437, "72 . 72 11 72 26.0 72 11 72 26.0 72 60.0 72 . 72 . 72 . 72 . 72 . 72 ."),
-    "sixteen_codes, first": (383, "72 . 72 11 72 26.0 72 11 72 26.0 72 60.0 72 . 72 . 72 ."),
+    "pairs_of_drops": (276, "72 . 72 11 72 11 72 ."),
+    "pairs_of_drops, each choice": (436, "72 . 72 11 72 26.0 72 11 72 26.0 72 60.0 72 . 72 . 72 . 72 . 72 . 72 ."),
+    "sixteen_codes": (440, "72 . 72 11 72 26.0 72 11 72 26.0 72 60.0 72 . 72 . 72 . 72 . 72 . 72 ."),
+    "sixteen_codes, first": (386, "72 . 72 11 72 26.0 72 11 72 26.0 72 60.0 72 . 72 . 72 ."),
     "eight programs": (529, "72 . 72 11 72 26.0 26.1 26.2 26.3 72 26.4 26.5 26.6 26.7 72 26.0 72 26.1 26.2 26.3 26.4 72 26.5 26.6 26.7 60.0 72 60.1 60.2 60.3 60.4 72 60.5 60.6 60.7 72 . 72 ."),
     "torn_sector, 2 workers, cache 16": (None, MANY),
     "marks, 2 workers, cache 16": (None, MANY),
@@ -142,7 +142,7 @@ ROWS = {
     "a part: two_slots: --sectors 4 --cuts all --bound 2 --tears --images 236..354": (413, "72 . 72 11 72 26.0 72 11 . 72 26.0 72 60.0 72 . 72 . 72 . 72 ."),
     "joined in the midst: torn_over_torn --sectors 4 --cuts all --bound 1 --tears": (792, "72 . 72 66 72 66 ."),
     "joined in steps: torn_over_torn --sectors 4 --cuts all --bound 1 --tears": (1196, "72 . 72 66 72 66 ."),
-    "cases joined, run 6 in 3 parts: pages/wrong, --bound any": (328, "72 . 72 66 72 66 ."),
+    "cases joined, run 6 in 3 parts: pages/wrong, --bound any": (334, "72 . 72 66 72 66 ."),
     "cases not joined: too many cases": (324, "72 . 72 66 72 66 ."),
 }
 
