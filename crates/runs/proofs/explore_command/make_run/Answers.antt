@@ -280,8 +280,8 @@ returns-in-Cases-clause-told g c =
     (checkers_decoded _ _ _ c.as_slice.result.now _ _ c.as_slice.ensures.value c.in_ok-decoded.ensures.decoded c.in_default.not-Some
     c.in_ok-checkers.ensures.made c.in_ok-checkers.ensures.all)
     c.as_slice-made.ensures.value
-    (losses_by_number c.args.question.now.options.now.first c.in-Cases.losses c.span_of-2.result.inputs _ c.args.question.now.options.now c.in_ok-log.log c.as_slice-made.result.now _ _
-    (c.span_of-2.ensures.number ∙ ap (λ (w : WantedAnswer). number_told w c.args.question.now.options.now.extent c.args.question.now.options.now.cuts (inputs_number c.args.question.now.recording.now.text (map (λ f. f.items) c.args.question.now.programs.now))) c.in-Cases.is)
+    (losses_by_number c.args.question.now.options.now.first c.in-Cases.losses c.span_of-in-Cases.result.inputs _ c.args.question.now.options.now c.in_ok-log.log c.as_slice-made.result.now _ _
+    (c.span_of-in-Cases.ensures.number ∙ ap (λ (w : WantedAnswer). number_told w c.args.question.now.options.now.extent c.args.question.now.options.now.cuts (inputs_number c.args.question.now.recording.now.text (map (λ f. f.items) c.args.question.now.programs.now))) c.in-Cases.is)
     tells)))
 
 pub returns-in-Cases-clause-blind : goal.returns-in-Cases-clause-blind
