@@ -113,14 +113,14 @@ class CasesSoak(Soak):
         words = ["log", *files, *run.options().replace("--bound 1", losses.options()).split()]
         words += (["--checked", str(limit)] if limit is not None else []) + ["--guards"] * guards + chance.choice([[], [], ["--workers", "4"]])
         is_first = chance.random() < 0.3
+        is_why = not is_first and chance.random() < 0.4
         try:
             inputs = number_of([it.read_bytes() for it in (Path(self.folder, name) for name in ("log", *files))])
             text = (first_case if is_first else cases)(run, checkers, losses, inputs)
+            text = case_causes(run, checkers, losses) if is_why else text
         except TooLong:
             return None
         words += ["--first"] * is_first
-        is_why = not is_first and chance.random() < 0.4
-        text = case_causes(run, checkers, losses) if is_why else text
         words.insert(0, "why" if is_why else "explore")
         self.failing, self.cases = self.failing + status(text), self.cases + MOST_RUNS - left[0]
         ended, out, error = self.called(words)
