@@ -48,7 +48,8 @@ def stored():
     yield TOP / "examples/tree/root.c", "check", TOP / "examples/tree/root.bpf"
     for path in sorted((TOP / "examples/checkers").glob("*.c")):
         yield path, "check", path.with_suffix(".bpf")
-    yield TOP / "examples/recording/ext4.c", "check", TOP / "examples/recording/ext4.bpf"
+    for path in sorted((TOP / "examples/recording").glob("*.c")):
+        yield path, "check", path.with_suffix(".bpf")
     yield TOP / "examples/refused/not_inlined.c", "not_inlined", TOP / "examples/refused/not_inlined.bpf"
     refused = TOP / "examples/refused/refused.c"
     for name in re.findall(r"^u64 (\w+)\(const struct context", refused.read_text(), re.M):
