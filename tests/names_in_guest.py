@@ -344,7 +344,7 @@ def compared(folder, kind, log, base, programs, machine):
 
 def numbers_of(folder, table, name, lines):
     """The row of a program: images, how many aren't allowed, states, how many of these each table allows, and how many the kind's allows in all."""
-    states = {json.dumps([it["marks"], it["files"]]): it["allowed"] for it in lines if it["fault"] is None}
+    states = {json.dumps([it["marks"], it["files"]], sort_keys=True): it["allowed"] for it in lines if it["fault"] is None}
     failing = sum(table not in it["allowed"] for it in lines)
     return name, [len(lines), failing, len(states), *(sum(it in found for found in states.values()) for it in TABLES), states_of(folder, name, table)]
 
