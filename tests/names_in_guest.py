@@ -13,9 +13,9 @@ sums. The status is 1 where a state isn't allowed, or an image can't be recovere
 image, and FOLDER/KIND.cutC.imageN those that aren't allowed.
 
 FOLDER keeps the recordings, so that a run may be gone on with. KERNEL is a folder with boot/vmlinuz-* and lib/modules, as
-`dpkg -x linux-image-*.deb KERNEL` makes it. It wants crashbpf on the path, or as $CRASHBPF, what `guest` and `mounted` want, strace,
-and a C compiler that links statically (Debian: qemu-system-x86, busybox-static, cpio, dmsetup, e2fsprogs, xfsprogs, btrfs-progs,
-strace, gcc). CUTS=flush takes the images of the cuts before a flush alone, and BOUND=2 those that lack two writes, too.
+`dpkg -x linux-image-*.deb KERNEL` makes it. It wants crashbpf on the path, or as $CRASHBPF, what `guest` and `mounted` want,
+strace, and a C compiler that links statically (Debian: qemu-system-x86, busybox-static, cpio, dmsetup, e2fsprogs, xfsprogs,
+btrfs-progs, strace, gcc). CUTS=flush takes the images of the cuts before a flush alone, and BOUND=2 those that lack two writes, too.
 
 By hand: without hardware virtualization a guest took half a minute for each kind. With CUTS=flush the images of an ext4 took a
 minute, those of xfs two, and those of btrfs eighteen beside other work, as each is mounted. All cuts have six times as many images.
@@ -54,7 +54,7 @@ EXT4 = "mkfs.ext4 -q -F -E nodiscard"
 
 @dataclass(frozen=True)
 class Kind:
-    """A kind of file system: the table that is to allow what it leaves, its sectors, how it is made and mounted, and its modules."""
+    """A kind of file system: its table, which is to allow what it leaves, its sectors, how it is made and mounted, its modules."""
 
     table: str
     sectors: int
@@ -141,7 +141,8 @@ def allowed_by(folder, name, table):
 
 
 def less(box, other):
-    """What a box has that another hasn't, as boxes that have nothing in common. A box is a list of sets, and has what takes one of each."""
+    """What a box has that another hasn't, as boxes that have nothing in common. A box is a list of sets; it has each choice of one
+    from each set."""
     if any(it.isdisjoint(its) for it, its in zip(box, other)):
         return [box]
     found, rest = [], list(box)
@@ -343,7 +344,8 @@ def compared(folder, kind, log, base, programs, machine):
 
 
 def numbers_of(folder, table, name, lines):
-    """The row of a program: images, how many aren't allowed, states, how many of these each table allows, and how many the kind's allows in all."""
+    """The row of a program: images, how many aren't allowed, states, how many of these each table allows, and all that the kind's
+    allows."""
     states = {json.dumps([it["marks"], it["files"]], sort_keys=True): it["allowed"] for it in lines if it["fault"] is None}
     failing = sum(table not in it["allowed"] for it in lines)
     return name, [len(lines), failing, len(states), *(sum(it in found for found in states.values()) for it in TABLES), states_of(folder, name, table)]
