@@ -102,10 +102,10 @@ ROWS = [
     ("unlinkat", OPEN + "unlinkat(9</r/files>, 'a', 0) = 0", ["names a=0", "names"]),
     ("a write after an unlink", SYNCED + "unlink('/r/files/a') = 0\npwrite64(3<a>(deleted), 'B*512', 512, 0) = 512\nfsync(9</r/files>) = 0\npwrite64(3<a>(deleted), 'C*512', 512, 0) = 512\nfsync(3<a>(deleted)) = 0", [*MADE, "fua bytes 0", "size 0 512", *REST], [*MADE, "bytes 0", "size 0 512", *REST]),
     ("rename", OPEN + "rename('/r/files/a', '/r/files/b') = 0", ["names a=0", "names b=0"]),
-    ("rename over a file", OPEN + B + "rename('/r/files/a', '/r/files/b') = 0\npwrite64(3<b>, 'A*512', 512, 4096) = 512", [*MADE, "names a=0 b=1", "names b=0", "fua bytes 8", "size 0 4608"], [*MADE, "names a=0 b=1", "names b=0", "bytes 8", "size 0 4608"]),
+    ("rename over a file", OPEN + B + "rename('/r/files/a', '/r/files/b') = 0\npwrite64(3<b>, 'A*512', 512, 4096) = 512", [*MADE, "names a=0 b=1", "names b=0", "fua bytes 8", "size 0 4608"], [*MADE, "names a=0 b=1", "names b=0", "bytes 8", "size 0 4608"], [*MADE, "names b=1", "names a=0 b=1", "names b=0", "bytes 8", "size 0 4608"]),
     ("rename of a name to itself", OPEN + "rename('/r/files/a', '/r/files/a') = 0", MADE),
     ("rename to another folder", OPEN + IN + "renameat(AT_FDCWD</r/files>, 'a', 9<in>, 'b') = 0", *[[*MADE, "names a=0 in=/1", "names 1/b=0 in=/1"]] * 2, ["names a=0", "names in=/1", "names 1/b=0"]),
-    ("renameat2", OPEN + B + "renameat2(AT_FDCWD</r/files>, 'a', AT_FDCWD</r/files>, 'b', RENAME_EXCHANGE) = 0", [*MADE, "names a=0 b=1", "names a=1 b=0"]),
+    ("renameat2", OPEN + B + "renameat2(AT_FDCWD</r/files>, 'a', AT_FDCWD</r/files>, 'b', RENAME_EXCHANGE) = 0", *[[*MADE, "names a=0 b=1", "names a=1 b=0"]] * 2, [*MADE, "names b=1", "names a=0 b=1", "names a=1 b=0"]),
     ("a folder gets another name", IN + OPEN.replace("files/a", "files/in/a").replace("<a>", "<in/a>") + "rename('/r/files/in', '/r/files/out') = 0\nwrite(3<out/a>, 'A*512', 512) = 512", ["names in=/1", "names 1/a=0 in=/1", "names 1/a=0 out=/1", "fua bytes 0", "size 0 512"], ["names in=/1", "names 1/a=0 in=/1", "names 1/a=0 out=/1", "bytes 0", "size 0 512"], ["names in=/1", "names 1/a=0", "names out=/1", "bytes 0", "size 0 512"]),
     ("link", OPEN + "link('/r/files/a', '/r/files/b') = 0\nunlink('/r/files/a') = 0\n" + "fsync(3<a>(deleted)) = 0", *[[*MADE, "names a=0 b=0", "names b=0", "fua names a=0", "names a=0 b=0", "names b=0"]] * 2, [*MADE, "names b=0", "names"]),
     ("mkdir and rmdir", IN + "rmdir('/r/files/in') = 0", ["names in=/1", "names"]),
@@ -285,9 +285,9 @@ def tree_of(steps, table, joined=None):
     return tree
 
 
-def model_of(steps, table, ties):
+def model_of(steps, table):
     """What the model makes of it."""
-    model, begun = named_model.Model(table, ties), []
+    model, begun = named_model.Model(table), []
     if steps and steps[0][0] == "base":
         model.base[steps[0][1]] = ("file", 0)
         model.files.append(named_model.File(content_of(steps[0][2])))
@@ -325,16 +325,6 @@ def model_of(steps, table, ties):
     return model
 
 
-def ties_of(steps):
-    """The slots that a rename ties together, in sets."""
-    sets = []
-    for what, *words in steps:
-        if what in ("rename", "exchange"):
-            mine = [it for it in sets if it & set(words)]
-            sets = [it for it in sets if it not in mine] + [set(words).union(*mine)]
-    return sets
-
-
 def laid_of(steps, table):
     joined = tree_of(steps, table).ties() if table == "strict" else None
     return named_layout.Laid(tree_of(steps, table, joined))
@@ -355,6 +345,7 @@ PLANS = {
     "a folder is synced before it is filled": [("folder", D), ("sync folder", 1), ("make", (1, b"a")), ("mark",), ("sync folder", 0)],
     "a new name of a file that is synced": [("make", A), ("rename", A, D), ("sync", 0), ("mark",)],
     "a size after names": [("make", A), ("make", D), ("write", 0, 0, b"x" * 100), ("sync", 0), ("mark",)],
+    "names that a rename ties together later": [("make", A), ("make", D), ("sync", 1), ("mark",), ("rename", A, D), ("sync folder", 0)],
     "names after a size": [("make", A), ("write", 0, 0, b"x" * 100), ("make", D), ("sync", 0), ("mark",)],
     "replaced": [("base", A, 100), ("make", D), ("write", 0, 0, b"x" * 50), ("write", 1, 0, b"x" * 600), ("sync", 1), ("rename", D, A), ("mark",), ("sync folder", 0)],
 }
@@ -369,7 +360,7 @@ def plan_faults(name, steps):
     """What is wrong with a run, by each table. States are told apart by the marks before them, so one stands at the end."""
     found, allowed, steps = [], [], [*steps, ("mark",)]
     for table in TABLES:
-        wanted, laid = model_of(steps, table, ties_of(steps)).left, laid_of(steps, table)
+        wanted, laid = model_of(steps, table).left, laid_of(steps, table)
         made = log_states(laid)
         allowed.append(wanted)
         if made != wanted:

@@ -47,38 +47,36 @@ class Sector:
 
 
 class Model:
-    """What became of names, sizes and sectors, step by step. `ties` are lists of slots that change together, for `strict`."""
+    """What became of names, sizes and sectors, step by step."""
 
-    def __init__(self, table, ties=()):
-        self.table, self.ties, self.marks, self.left = table, [set(it) for it in ties], 0, set()
-        # each change of names: the slots that it changes, and what they hold then
-        self.changes, self.sure, self.base, self.files, self.folders = [], {}, {}, [], 1
+    def __init__(self, table):
+        self.table, self.marks, self.left = table, 0, set()
+        # each change of names: the slots that it changes, and what they hold then; the numbers of those that are durable
+        self.changes, self.sure, self.base, self.files, self.folders = [], set(), {}, [], 1
 
     # What a crash may leave
 
-    def sets(self):
-        """The slots that are one: all of them, or by `strict` those that a rename ties together."""
-        slots = set(self.base) | {it for change in self.changes for it in change}
-        if self.table != "strict":
-            return [slots] if slots else []
-        tied = [it for it in self.ties]
-        return tied + [{it} for it in slots if not any(it in these for these in tied)]
-
     def name_states(self):
-        """Every map of slots to what they hold that a crash may leave."""
-        found = []
-        for these in self.sets():
-            mine = [it for it in self.changes if set(it) & these]
-            first = max((self.sure.get(it, 0) for it in these), default=0)
-            states = []
-            for count in range(first, len(mine) + 1):
-                state = {it: held for it, held in self.base.items() if it in these}
-                for change in mine[:count]:
-                    state.update(change)
-                states.append(state)
-            found.append(states)
-        for chosen in itertools.product(*found):
-            yield {slot: held for state in chosen for slot, held in state.items() if held is not None}
+        """Every map of slots to what they hold that a crash may leave: after some of the changes, in their order."""
+        for chosen in self.chosen():
+            state = dict(self.base)
+            for number in sorted(chosen):
+                state.update(self.changes[number])
+            yield {slot: held for slot, held in state.items() if held is not None}
+
+    def chosen(self):
+        """Which changes a crash may leave. By `strict` each slot has its first changes, some number of them, and a change is there
+        for all of its slots or for none."""
+        if self.table != "strict":
+            yield from (range(count) for count in range(max(self.sure, default=-1) + 1, len(self.changes) + 1))
+            return
+        slots = {slot for change in self.changes for slot in change}
+        mine = [[number for number, change in enumerate(self.changes) if slot in change] for slot in slots]
+        for counts in itertools.product(*(range(len(it) + 1) for it in mine)):
+            found = {number for it, count in zip(mine, counts) for number in it[:count]}
+            gone = {number for it, count in zip(mine, counts) for number in it[count:]}
+            if not found & gone and self.sure <= found:
+                yield found
 
     def contents(self, file):
         """Every content that a crash may leave of a file."""
@@ -177,12 +175,14 @@ class Model:
     # Syncs: what begins says what is to be durable, when it ends it is
 
     def names_up_to(self, count, wanted):
-        """For each slot how many changes of its set are among the first `count`, up to the last one that is wanted."""
-        found = {}
-        for these in self.sets():
-            mine = [(turn, it) for turn, it in enumerate(self.changes[:count]) if set(it) & these]
-            last = max((at for at, (_, it) in enumerate(mine, 1) if wanted(it)), default=0)
-            found |= dict.fromkeys(these, last)
+        """The numbers of the changes among the first `count` that are wanted, and of those that stand before them: of all, or by
+        `strict` of those of the same slots."""
+        found = {number for number in range(count) if wanted(self.changes[number])}
+        if self.table != "strict":
+            return set(range(max(found, default=-1) + 1))
+        for number in reversed(range(count)):
+            if any(later > number and set(self.changes[later]) & set(self.changes[number]) for later in found):
+                found.add(number)
         return found
 
     def seen(self, number, sectors=None):
@@ -190,7 +190,7 @@ class Model:
         file = self.files[number]
         time = len(file.sectors) - 1
         these = {(number, time, at): len(it.versions) - 1 for at, it in file.sectors[time].items() if sectors is None or at in sectors}
-        names = self.names_up_to(file.stamp, lambda _: True) if self.table != "strict" else {}
+        names = self.names_up_to(file.stamp, lambda _: True) if self.table != "strict" else set()
         return these, {number: len(file.sizes) - 1}, names
 
     def seen_folder(self, folder):
@@ -215,8 +215,7 @@ class Model:
             it.sure = max(it.sure, version)
         for number, size in sizes.items():
             self.files[number].sure = max(self.files[number].sure, size)
-        for slot, count in names.items():
-            self.sure[slot] = max(self.sure.get(slot, 0), count)
+        self.sure |= names
         self.crash()
 
     def mark(self):

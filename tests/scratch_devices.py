@@ -15,11 +15,11 @@ wall and of the processor, and the most memory in MiB. The status is 1 where the
 something is missing, refused, or ends too late.
 
 FOLDER keeps the recordings, so that a run may be gone on with. KERNEL is a folder with boot/vmlinuz-* and lib/modules, as
-`dpkg -x linux-image-*.deb KERNEL` makes it. It wants crashbpf on the path, or as $CRASHBPF, what examples/recording/guest wants, and
-mkfs.xfs, mkfs.btrfs or mkfs.f2fs (Debian: qemu-system-x86, busybox-static, cpio, dmsetup, e2fsprogs, xfsprogs, btrfs-progs,
-f2fs-tools). FOLDER takes some 300 MiB for each kind. TIMEOUT is as `guest` has it, 3600 without it.
+`dpkg -x linux-image-*.deb KERNEL` makes it. It wants crashbpf on the path, or as $CRASHBPF, what examples/recording/guest wants,
+and mkfs.xfs, mkfs.btrfs or mkfs.f2fs (Debian: qemu-system-x86, busybox-static, cpio, dmsetup, e2fsprogs, xfsprogs, btrfs-progs,
+f2fs-tools). FOLDER takes some 200 MiB for each kind. TIMEOUT is as `guest` has it, 3600 without it.
 
-By hand, as it wants QEMU: a guest is up to a few minutes without hardware virtualization, and a run takes seconds.
+By hand: without hardware virtualization, and beside other work, a guest took up to ten minutes, and a run three seconds.
 """
 import json
 import os

@@ -4,7 +4,9 @@ On the device of the log are three kinds of places, each a sector that holds one
 
 - **Names.** A sector says which copy of a set of names is in force; the copies stand on the device from the start. So one write
   of one sector changes all names of the set, and a crash leaves them as they were after one of the changes, in the order of
-  these. By `ordered` and `writeback` there is one set, by `strict` one for each name and those that a rename ties to it.
+  these. By `ordered` and `writeback` there is one set, by `strict` one for each name and those that a rename ties to it. Of the
+  changes of such a set those alone are in order that have a name in common: a crash leaves some of them, and with each one all
+  that it follows. So a change writes all versions that it is the last of, and the one with all changes last.
 - **Sizes.** Each file has a sector with its size and with the first sector of its bytes. Where a file gets shorter it has new
   sectors for its bytes, so what stood there before is as it was where the change is lost. But the blocks that it keeps are the
   same: what is written to them is written to both.
@@ -16,7 +18,8 @@ before the size that shows them: whoever sees the size sees them.
 Which entries a call makes, a write below being a write entry that is in flight until what makes it durable, and sectors of names
 and sizes being written as a whole:
 
-- open with O_CREAT and creat that make a file, mkdir, link, rename, unlink, rmdir: a write of the sector of the names.
+- open with O_CREAT and creat that make a file, mkdir, link, rename, unlink, rmdir: a write of the sector of the names; by `strict`
+  as many writes as there are versions that the change is the last of.
 - write: of the bytes; where they are in a block that the append begins, by `ordered` a FUA write, since no image shows them before
   the size. Then, where the size grew, a write of the sector of the size: at each multiple of 4,096 bytes that it passed, and at
   its end.
@@ -35,9 +38,11 @@ can bring their size back.
 
 docs/RECORDING.md has the tables with their sources. `tests/named_model.py` has the same as plain sets.
 """
+import functools
 import struct
 from dataclasses import dataclass, field
 
+from calls import Refused
 from disk import SECTOR
 from files import File
 
@@ -47,8 +52,17 @@ BLOCK = 4096
 FILE, FOLDER = 1, 2
 
 
+# In how many ways a crash may leave a set of names, by `strict`.
+MOST_LEFT = 1024
+
+
 def up(number, to):
     return -(-number // to) * to
+
+
+def copy_text(number):
+    """What the sector of a set of names holds where this copy is in force."""
+    return struct.pack("<Q", number).ljust(SECTOR, b"\0")
 
 
 @dataclass(eq=False)
@@ -82,6 +96,59 @@ class Names:
     states: list = field(default_factory=lambda: [{}])
     slots: set = field(default_factory=set)
     touched: dict = field(default_factory=dict)
+    # by `strict`: its changes that aren't durable, by a bit for each; the names before these; how many there were; and what a crash
+    # may leave, as the changes that are there, with the number of its state
+    changes: dict = field(default_factory=dict)
+    durable: dict = None
+    count: int = 0
+    left: dict = field(default_factory=lambda: {0: 0})
+
+    def __post_init__(self):
+        self.durable = self.states[0]
+
+    def follows(self, slots):
+        """The changes that a change of these slots follows: those with a slot in common, and all that these follow."""
+        found, slots = 0, set(slots)
+        for bit, change in reversed(self.changes.items()):
+            if not slots.isdisjoint(change):
+                found |= bit
+                slots |= set(change)
+        return found
+
+    def up_to(self, slots):
+        """The changes of these slots, and all that they follow."""
+        return functools.reduce(lambda found, slot: found | self.follows([slot]), slots, 0)
+
+    def after(self, bits):
+        """The names after these changes."""
+        state = dict(self.durable)
+        for bit, change in self.changes.items():
+            state |= change if bits & bit else {}
+        return {slot: held for slot, held in state.items() if held is not None}
+
+    def add(self, slots):
+        """A change of these slots. Yields the number of each state that it is the last change of; last the one with all changes."""
+        before, bit = self.follows(slots), 1 << self.count
+        more = [it for it in self.left if it & before == before]
+        if len(more) > 1 and len(self.left) + len(more) > MOST_LEFT:
+            raise Refused(f"a crash may leave names that renames tie together in more than {MOST_LEFT} ways; that is for the guest")
+        self.changes[bit], self.count = slots, self.count + 1
+        for bits in more:
+            self.left[bits | bit] = len(self.states)
+            self.states.append(self.after(bits | bit))
+            yield self.left[bits | bit]
+
+    def settle(self, bits):
+        """These changes are durable. Returns the numbers of the states that are left: first the durable one, last the one with all
+        changes; or nothing where none of them is new."""
+        bits &= sum(self.changes)
+        if not bits:
+            return None
+        self.durable = self.after(bits)
+        self.left = {it & ~bits: number for it, number in self.left.items() if it & bits == bits}
+        self.changes = {bit: change for bit, change in self.changes.items() if not bit & bits}
+        every = sum(self.changes)
+        return [self.left[it] for it in sorted(self.left, key=lambda it: (it != 0, it == every))]
 
 
 class Named(File):
@@ -173,11 +240,25 @@ class Tree:
             self.count(it, 1)
             self.now |= {} if it is None else {slot: it}
         names = sets.pop()
+        if self.one is None:
+            for number in names.add(slots):
+                self.disk.write(names, 0, copy_text(number))
+            return
         state = {it: held for it, held in {**names.states[-1], **slots}.items() if held is not None}
         names.states.append(state)
-        self.disk.write(names, 0, struct.pack("<Q", len(names.states) - 1).ljust(SECTOR, b"\0"))
+        self.disk.write(names, 0, copy_text(len(names.states) - 1))
         touched = {folder for folder, _ in slots} | ({made} if made is not None and self.table != "strict" else set())
         names.touched.update(dict.fromkeys(touched, self.version(names)))
+
+    def settle(self, names, bits):
+        """Changes of a set are durable, by `strict`. Returns the version of its sector that is, or nothing where none is new."""
+        left = names.settle(bits)
+        if left is None:
+            return None
+        # (all that is left has been written, and so it is again what was written since)
+        it = self.disk.sectors[names][0]
+        it.since = [copy_text(number) for number in left]
+        return it.durable + 1
 
     def count(self, held, by):
         if held is not None and held[0] == FILE:
@@ -356,18 +437,25 @@ class Tree:
             found[room] = {number: it for number, it in found[room].items() if number in sectors}
         if self.table != "strict" and file.stamp:
             found[self.one] = {0: file.stamp}
-        return found, laid
+        return found, laid, {}
 
     def begin_folder(self, folder):
         """A sync of a folder begins."""
-        return {it: {0: it.touched[folder]} for it in self.all_sets() if folder in it.touched}, []
+        if self.one is None:
+            return {}, [], {it: it.up_to([slot for slot in it.slots if slot[0] == folder]) for it in self.all_sets()}
+        return {it: {0: it.touched[folder]} for it in self.all_sets() if folder in it.touched}, [], {}
 
     def begin_all(self):
-        return self.disk.begin_sync(list(self.disk.sectors)), [(room, it) for file in self.files.values() for room in file.rooms for it in room.laid]
+        sets = self.all_sets() if self.one is None else []
+        found = self.disk.begin_sync([it for it in self.disk.sectors if it not in sets])
+        laid = [(room, it) for file in self.files.values() for room in file.rooms for it in room.laid]
+        return found, laid, {it: sum(it.changes) for it in sets}
 
     def end_sync(self, begun):
         """The sync has ended. What nobody will see is left as it is, and keeps no flush away."""
-        places, laid = begun
+        places, laid, some = begun
+        versions = {names: self.settle(names, bits) for names, bits in some.items()}
+        places = {**places, **{names: {0: version} for names, version in versions.items() if version is not None}}
         for room, number in laid:
             room.laid.discard(number)
         gone = self.gone_with(places)

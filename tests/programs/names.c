@@ -1,11 +1,16 @@
 /* Makes the calls on files that its lines say, in a folder: a program of tests/names_in_guest.py.
  *
  *     names FOLDER <LINES
+ *     names list FOLDER
+ *
+ * The second prints what is in a folder and below it: `D PATH` for a folder, and for a file `F PATH` and its bytes, in rows of one
+ * byte, as `65x600`, which is 600 times A.
  *
  * open NAME, append NAME LENGTH BYTE, write NAME PLACE LENGTH BYTE, truncate NAME SIZE, fsync NAME, fdatasync NAME,
  * folder NAME (fsync of a folder), rename NAME NAME, link NAME NAME, unlink NAME, mkdir NAME, rmdir NAME, sync,
  * sleep MILLISECONDS, mark TEXT. */
 #define _GNU_SOURCE
+#include <dirent.h>
 #include <fcntl.h>
 #include <stdio.h>
 #include <stdlib.h>
@@ -101,10 +106,62 @@ static int done(const char *call, const char *a, const char *b, const char *c, c
 	return -1;
 }
 
+static void put_content(const char *path)
+{
+	FILE *file = fopen(path, "rb");
+	int byte, last = -1;
+	long count = 0;
+
+	or_fail(file ? 0 : -1, path);
+	do {
+		byte = fgetc(file);
+		if (byte != last && count)
+			printf(" %dx%ld", last, count);
+		count = byte == last ? count + 1 : 1;
+		last = byte;
+	} while (byte != EOF);
+	or_fail(ferror(file) ? -1 : 0, path);
+	fclose(file);
+}
+
+/* Prints what is in the folder in which this process is, `before` standing in front of each name. */
+static void list(const char *before)
+{
+	DIR *folder = opendir(".");
+	struct dirent *it;
+
+	or_fail(folder ? 0 : -1, before);
+	while ((it = readdir(folder))) {
+		char path[512];
+		struct stat found;
+
+		if (!strcmp(it->d_name, ".") || !strcmp(it->d_name, ".."))
+			continue;
+		snprintf(path, sizeof path, "%s%s", before, it->d_name);
+		or_fail(lstat(it->d_name, &found), path);
+		printf("%c %s", S_ISDIR(found.st_mode) ? 'D' : 'F', path);
+		if (!S_ISDIR(found.st_mode))
+			put_content(it->d_name);
+		putchar('\n');
+		if (S_ISDIR(found.st_mode)) {
+			strcat(path, "/");
+			or_fail(chdir(it->d_name), path);
+			list(path);
+			or_fail(chdir(".."), path);
+		}
+	}
+	closedir(folder);
+}
+
 int main(int words, char **word)
 {
 	char line[256], call[32], a[64], b[64], c[64], d[64];
 
+	if (words == 3 && !strcmp(word[1], "list")) {
+		or_fail(chdir(word[2]), word[2]);
+		list("");
+		return 0;
+	}
 	or_fail(words == 2 ? chdir(word[1]) : -1, "names FOLDER");
 	while (fgets(line, sizeof line, stdin)) {
 		*a = *b = *c = *d = 0;
