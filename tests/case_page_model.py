@@ -1,4 +1,4 @@
-"""The page of `page --bound any`, in the plainest form, written from docs/OUTPUT.md, 'The page of `page --bound any`'.
+"""The page of `page --bound any`, in the plainest form, written from docs/OUTPUT.md, 'The page of `page`'.
 
 As in page_model.py, the parts that are the same on each page are taken from where they stand (crates/crash_page/src/dress.rt).
 """

@@ -129,6 +129,14 @@ def gives_large(folder):
     return ended("it", each(folder, [*put(folder, run), "--large"], program), 0, report(run, program, lambda of: None))
 
 
+def gives_sized(folder):
+    """What is wrong with the images of a device as large as its base."""
+    run, program = Run([W(0, 1, 1), W(3, 1, 2)], sectors=4, base=bytes(range(256)) * 8), ["false"]
+    words = put(folder, run)
+    at = words.index("--sectors") + 1
+    return ended("it", each(folder, [*words[:at], "base", *words[at + 1 :]], program), 1, report(run, program, lambda of: "answer 1 codes -"))
+
+
 def tells_verdicts(folder):
     """What is wrong with the words of verdicts, for each number of runners, and with each image judged once."""
     words, found = put(folder, SMALL), []
@@ -434,6 +442,10 @@ REFUSED = {
     "disk.log --sectors 4 --bound 4 -- true": "crashbpf refuses the log disk.log, or its options: refused 13 at 2",
     "disk.log --sectors 4 --base disk.log -- true": "crashbpf refuses the log disk.log, or its options: refused 13 at 14",
     "disk.log --sectors 4 --base absent -- true": ".*No such file.*absent",
+    "disk.log --sectors base -- true": "--sectors base takes the size from the file of --base, and there is none",
+    "disk.log --sectors base --base absent -- true": "'absent': .*No such file.*",
+    "disk.log --sectors base --base . -- true": "--sectors base wants a file of whole sectors of 512 bytes after --base",
+    "disk.log --sectors=base --base /dev/null -- true": "--sectors base wants a file of whole sectors of 512 bytes after --base",
     "absent --sectors 4 -- true": ".*No such file.*absent",
     ". --sectors 4 -- true": "",
     "/dev/null --sectors 4 -- true": "/dev/null is no regular file",
@@ -505,6 +517,7 @@ def rows():
     yield "images by write, with a flush, a range and a base", lambda folder: gives_images(folder, by_write, "1")
     yield "a run without images", lambda folder: gives_images_of_none(folder)
     yield "images of a large device", gives_large
+    yield "images of a device as large as its base", gives_sized
     yield "verdicts", tells_verdicts
     yield "a log of two slots", gives_design
     yield "reports that go back to why, page and cure", goes_back

@@ -84,7 +84,8 @@ def set_out(text):
             out.append(f".SS {block.partition(':')[0]}")
             out += [f".TP\n.B {escaped(item)}\n{escaped(says)}" for item, says in items_of(block)]
         elif block.startswith("Example"):
-            out.append(f".PP\n.nf\n{escaped(block)}\n.fi")
+            # (two columns in, so that a line of 78 fits a terminal)
+            out.append(f".PP\n.in 2n\n.nf\n{escaped(block)}\n.fi\n.in")
         else:
             out.append(f".PP\n{escaped(block)}")
     return "\n".join(out)
@@ -104,7 +105,7 @@ def helps_in(page):
             for part in re.split(r"(?m)^(?=\.(?:SS |PP$))", text.rstrip("\n"))[1:]:
                 head, *lines = part.rstrip("\n").split("\n")
                 if head == ".PP":
-                    blocks.append(unescaped([it for it in lines if it not in (".nf", ".fi")]))
+                    blocks.append(unescaped([it for it in lines if it not in (".in 2n", ".nf", ".fi", ".in")]))
                 else:
                     items = [it.rstrip("\n").split("\n") for it in "\n".join(lines).split(".TP\n.B ")[1:]]
                     blocks.append(block_of(head.removeprefix(".SS "), [[unescaped([item]), unescaped(says)] for item, *says in items]))

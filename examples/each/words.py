@@ -1,6 +1,7 @@
 """The words of the command line: options of this program, LOG with the options of its images, and the program that judges."""
 import os
 import re
+import stat
 
 from faults import Refusal
 
@@ -14,6 +15,7 @@ OF_LOG = ("--sectors", "--flush", "--large")
 OWN_VALUED = {"-j": "runners", "--keep": "keep", "--timeout": "seconds"}
 OWN_FLAGS = {"--first": "first", "--resume": "resume", "--read-only": "read_only"}
 MOST_RUNNERS, MOST_SECONDS, MOST_SECTORS = 64, 86400, 33554432
+SECTOR = 512
 NUMBER, DECIMAL = re.compile(r"0|[1-9]\d{0,18}", re.A), re.compile(r"\d{1,9}(\.\d{1,9})?", re.A)
 
 
@@ -48,6 +50,22 @@ def number(name, value, most):
     if not NUMBER.fullmatch(value) or not 1 <= int(value) <= most:
         raise Refusal(f"{name} is 1 to {most}")
     return int(value)
+
+
+def sized(options):
+    """Returns the options with a number of sectors in place of `base`: as many as the file of --base has."""
+    named = dict(options)
+    if named["--sectors"] != "base":
+        return options
+    if "--base" not in named:
+        raise Refusal("--sectors base takes the size from the file of --base, and there is none")
+    try:
+        found = os.stat(named["--base"])
+    except (OSError, ValueError) as fault:
+        raise Refusal(f"{named['--base']!r}: {fault}") from None
+    if not stat.S_ISREG(found.st_mode) or not found.st_size or found.st_size % SECTOR:
+        raise Refusal(f"--sectors base wants a file of whole sectors of {SECTOR} bytes after --base")
+    return [(name, str(found.st_size // SECTOR) if name == "--sectors" else value) for name, value in options]
 
 
 def seconds(value):
@@ -98,7 +116,7 @@ def parse(words):
     twice = next((it for it in names if names.count(it) > 1), None)
     if twice:
         raise Refusal(f"{twice} stands there twice")
-    given = Words(logs[0], [it for it in pairs if it[0] in VALUED + FLAGS], program)
+    given = Words(logs[0], sized([it for it in pairs if it[0] in VALUED + FLAGS]), program)
     number("--sectors", given.value("--sectors"), MOST_SECTORS)
     if given.value("--bound") == "any":
         raise Refusal("--bound is 0 to 3 here: a program of yours is given images, and with any number of losses there are cases in their place")
