@@ -19,8 +19,8 @@ sets variables for those after it. What stands below a block in a fence without 
 it prints; `...` there stands for any lines.
 
 For each block a line says the document, its line, with which status it ended and after how many seconds, or why it wasn't run: NOT_RUN
-has the reasons. It failed where the status is above 1, which is none that crashbpf has for a failing image, or where a line that is
-shown wasn't printed. The last line is `N passed, M failed`.
+has the reasons. It failed where a command of it did, or where a line that is shown wasn't printed. A status of 1 of crashbpf,
+crashbpf-each or a native checker is no failure, as that is their verdict on images. The last line is `N passed, M failed`.
 """
 import argparse
 import base64
@@ -115,6 +115,12 @@ INIT
 sed -i "s/ORDER/$order/" guest/init && chmod +x guest/init
 (cd guest && find . | cpio --quiet -o -H newc | gzip -1) >guest.initrd
 GUEST="-m 256 -nodefaults -display none -no-reboot -kernel $(echo kernel/boot/vmlinuz-*) -initrd guest.initrd -append panic=-1"
+"""
+# Where a command fails: 1 is what a judge says of failing images.
+JUDGES = r"(^|[ (;])crashbpf(-each)? |^\./check "
+ON_FAILURE = """\
+last=$?
+[[ $last = 1 && $BASH_COMMAND =~ $judges ]] || {{ worst=$last; echo "status $last of $BASH_COMMAND" >> "{said}/$at.wrong"; }}
 """
 given = argparse.Namespace(kernel=None, kit=False)
 
@@ -225,19 +231,23 @@ def script_of_devices(found):
         for it in lines:
             # A line ends with 0, and one of crashbpf perhaps with 1.
             most = 1 if it.startswith("crashbpf ") else 0
-            script += [it, f"last=$?; [ $last -le {most} ] || worst=$((last + 1))"]
+            script += [it, f"last=$?; [ $last -le {most} ] || {{ worst=$last; echo status $last of {shlex.quote(it)}; }}"]
         script += ["} > /tmp/said 2>&1; read ended rest </proc/uptime", f'cat /tmp/said; echo "block {at} status $worst $began $ended"']
     return "\n".join([*script, ""])
 
 
 def outcomes_of_devices(folder, found):
-    """Returns the outcome of each block that a machine ran, by what it said. One that isn't told failed."""
+    """Returns the outcome of each block that a machine ran, by what it said, and writes what failed as the shell does."""
     console = folder / "devices/console"
     said, ran = console.read_text(errors="replace") if console.exists() else "", {}
     for at, _block in found:
         before, told, said = said.partition(f"block {at} status ")
-        words = said.split("\n", 1)[0].split() if told else []
-        status, began, ended = words if len(words) == 3 else (2, 0, 0)
+        line, _, said = said.partition("\n")
+        words = line.split()
+        told = told and len(words) == 3
+        status, began, ended = words if told else (2, 0, 0)
+        failures = [it for it in before.splitlines() if it.startswith("status ")] if told else ["the machine ended before it"]
+        (folder / f"said/{at}.wrong").write_text("".join(f"{it}\n" for it in failures))
         ran[at] = int(status), float(ended) - float(began), before.splitlines(), before
     return ran
 
@@ -246,8 +256,8 @@ def run_blocks(document, folder, program, found):
     """Runs the blocks of a document. Returns the place of each in the list, with its status, its seconds, its lines, and its errors."""
     variables, said = make_place(folder, program, found), folder / "said"
     said.mkdir()
-    # Of a block the status is that of its last command, or of one before it where that is above 1.
-    script = [HELD.get(document, ""), "set -E; trap 'last=$?; [ $last -le 1 ] || worst=$last' ERR"]
+    # Of a block the status is that of its last command, or of one before it that failed.
+    script = [HELD.get(document, ""), f"at=none judges={shlex.quote(JUDGES)}; set -E; trap '{ON_FAILURE.format(said=said)}' ERR"]
     runnable = [(at, it) for at, it in enumerate(found) if it.kind in RUN and not it.reason()]
     devices = [(at, it) for at, it in runnable if it.in_machine()]
     (folder / "devices.sh").write_text(script_of_devices(devices))
@@ -259,7 +269,7 @@ def run_blocks(document, folder, program, found):
         if block.has(r"\$GUEST"):
             script.append(GUEST)
         if lines:
-            script += ["worst= began=$EPOCHREALTIME", begin, *lines, f"{end} > {said}/{at} 2> {said}/{at}.errors < /dev/null"]
+            script += [f"at={at} worst= began=$EPOCHREALTIME", begin, *lines, f"{end} > {said}/{at} 2> {said}/{at}.errors < /dev/null"]
             script.append(f"last=$?; echo ${{worst:-$last}} $began $EPOCHREALTIME > {said}/{at}.status")
     subprocess.run(["bash", "-c", "\n".join(script)], cwd=folder, env=variables, stdin=subprocess.DEVNULL)
     ran = {}
@@ -276,6 +286,7 @@ def judge(document, program):
     with tempfile.TemporaryDirectory() as folder:
         ran = run_blocks(document, Path(folder), program, found)
         passed = {int(it.stem): it.read_text().strip() for it in Path(folder, "said").glob("*.passed")}
+        failures = {int(it.stem): it.read_text().splitlines() for it in Path(folder, "said").glob("[0-9]*.wrong")}
     failed = 0
     for at, block in enumerate(found):
         if at in ran:
@@ -284,7 +295,8 @@ def judge(document, program):
             shown = found[at + 1 : after]
             missing = [first_missing(printed, it.text) for it in shown]
             wrong = [f"doesn't print {it!r}" for it in missing if it is not None]
-            wrong += [f"says {errors[:500]!r}"] if status > 1 else []
+            wrong += failures.get(at, [])[:3]
+            wrong += [f"says {errors[:500]!r}"] if status > 1 or wrong else []
             failed += bool(wrong)
             told = [f"{document}:{block.line} status {status}, {seconds:.1f} s", *["and what is shown"] * bool(shown and not wrong), *wrong]
             print(("FAILED " if wrong else "") + "; ".join(told), flush=True)
