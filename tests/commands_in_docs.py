@@ -1,20 +1,32 @@
 #!/usr/bin/env python3
 """Runs the commands of the documents as they stand, and compares what they print with what is shown there. By hand.
 
-    python3 tests/commands_in_docs.py [PROGRAM [DOCUMENT ..]]
+    python3 tests/commands_in_docs.py [--kernel KERNEL] [--kit] [PROGRAM [DOCUMENT ..]]
 
 PROGRAM is as in run.py. The documents are those at the top, in docs/ and in examples/, or the ones that are named.
 
-A block of commands is indented by four spaces, or fenced as `sh` or `python`. Each document has a copy of the repository, in
-which its blocks are run one after the other by one shell, with the program and the scripts of a package on the path. One that is indented sets variables for those after it. What stands
-below a block in a fence without a language, before the next heading, is a part of what it prints; `...` there stands for any lines.
+With --kernel the blocks that want QEMU are run too. KERNEL is a folder as `guest` takes it, and each copy of the repository has it
+as `kernel`. A line that downloads a package of a kernel is run; where it fails, a line says that it was passed over, and KERNEL stays.
+Blocks with $DATA, $LOG or dmsetup are run in a virtual machine, those of a document in one. There the two are disks, crashbpf is on the
+path, and examples/recording/ext4.bpf is there. The block with $GUEST has a guest that writes to its disk and ends.
 
-For each block a line says the document, its line, and with which status it ended, or why it wasn't run: NOT_RUN has the reasons. It failed where the
-status is above 1, which is none that crashbpf has for a failing image, or where a line that is shown wasn't printed. The last
-line is `N passed, M failed`.
+With --kit the blocks that want the kit are run too, where `rt` is there, in a copy of all that git tracks. That proves everything:
+README.md's take two hours on four slow cores. .ci/run runs the last of these, `rt ci`, and so the main job, which `rt run` runs.
+
+A block of commands is indented by four spaces, or fenced as `sh` or `python`. Each document has a copy of the repository, in which
+its blocks are run one after the other by one shell, with the program and the scripts of a package on the path. One that is indented
+sets variables for those after it. What stands below a block in a fence without a language, before the next heading, is a part of what
+it prints; `...` there stands for any lines.
+
+For each block a line says the document, its line, with which status it ended and after how many seconds, or why it wasn't run: NOT_RUN
+has the reasons. It failed where a command of it did, or where a line that is shown wasn't printed. A status of 1 of crashbpf,
+crashbpf-each or a native checker is no failure, as that is their verdict on images. The last line is `N passed, M failed`.
 """
+import argparse
+import base64
 import os
 import re
+import shlex
 import shutil
 import subprocess
 import sys
@@ -31,18 +43,22 @@ RUN = {None: ("{", "}"), "sh": ("(", ")"), "python": ("{ python3 - <<'PYTHON'", 
 # Where programs of the system are looked for, and the Python of Debian's packages.
 PATH = f"{os.environ['PATH']}:/usr/sbin:/sbin"
 PYTHON = "/usr/bin/python3"
+# What machines want, those in which there is a device to log, and QEMU's disk that is a file.
+KERNEL = ["--kernel", "qemu-system-x86_64", "busybox", "cpio", "mkfs.ext4", "dmsetup"]
+FUSE = ["qemu-storage-daemon", "/dev/fuse", *(["fusermount3"] if os.getuid() else [])]
 # What a copy of the repository has, and which of its folders are on the path, as a package has what is in them.
 COPIED = ("examples", "tools", "crates/aside/data")
 ON_PATH = ("crates/crashbpf/out", "examples/cc", "examples/each", "examples/record")
 # Why blocks with these words aren't run, and the programs with which they are all the same: none, where nothing here suffices. Of several
 # rows that fit a block the first one counts.
 NOT_RUN = {
-    r"\brt (ci|run|try)\b|\.ci/run": ("it needs the kit", []),
-    r"\$DATA|dmsetup": ("it needs root and a device", []),
-    r"qemu|examples/recording/(guest|in_flight)\b|formatting/|crashbpf-record --fuse": ("it needs QEMU; tests/record.py runs what it can", []),
-    r"log writes\.log 55 120": ("it needs a log that QEMU recorded", []),
+    r"\brt (ci|run|try)\b|\.ci/run": ("it needs the kit, and --kit", ["--kit", "rt"]),
+    r"\$DATA|dmsetup|\$GUEST": ("it needs QEMU, and --kernel", KERNEL),
+    r"crashbpf-record --fuse|formatting/": ("it needs qemu-storage-daemon, and /dev/fuse", FUSE),
+    r"mkfs\.(xfs|btrfs|f2fs)": ("it needs QEMU, --kernel, and the tools of another file system", [*KERNEL, "mkfs.xfs", "mkfs.btrfs", "mkfs.f2fs"]),
+    r"recovery/sqlite|COMMANDS=sqlite3": ("it needs QEMU, --kernel, sqlite3 and e2fsck", [*KERNEL, "sqlite3", "e2fsck"]),
+    r"examples/recording/guest\b|\bused/|\bkernel\b|mounted": ("it needs QEMU, and --kernel", KERNEL),
     r"sbatch|parallel|try_slurm|join_all run >": ("it needs Slurm or several machines; tests/many_machines.py runs parts as processes", []),
-    r"\bused/|\bkernel\b|recovery/sqlite|mounted": ("it needs a log that QEMU recorded", []),
     r"tests/real_programs\.py": ("it is a test itself, which records databases", []),
     r"recovery/ext4": ("it needs e2fsck", ["e2fsck"]),
     r"recovery/lmdb": ("it needs strace and Debian's python3-lmdb", ["strace", "import lmdb"]),
@@ -71,8 +87,50 @@ HELD = {
 }
 
 
+# What stands before and after the blocks that are run in a machine, by busybox's shell: its disks are the devices, and udev isn't there.
+DISKS = """\
+dmsetup remove --noudevsync watched
+export DM_DISABLE_UDEV=1 DATA=/dev/vda LOG=/dev/vdb
+head() { /bin/head "$@"; }
+mkdir -p /tmp/examples/recording && cd /tmp && base64 -d >examples/recording/ext4.bpf <<'END'
+"""
+CHECKER = "examples/recording/ext4.bpf"
+DEVICES = "COMMANDS='crashbpf head' CPU=max examples/recording/guest kernel 16384 devices devices.sh"
+# What a machine without a log of its own does: it writes to its disk, flushes, and ends. The shell then has $GUEST.
+GUEST = """\
+mkdir -p guest/bin guest/dev guest/modules && cp "$(command -v busybox)" guest/bin/
+order='virtio_ring virtio virtio_pci_modern_dev virtio_pci_legacy_dev virtio_pci virtio_blk'
+for it in $order; do
+    found=$(find kernel/lib/modules/ -name "$it.ko*" | head -n 1)
+    case $found in *.xz) xz -dc "$found" ;; *) cat "$found" ;; esac >guest/modules/$it.ko
+done
+cat >guest/init <<'INIT'
+#!/bin/busybox sh
+/bin/busybox --install -s /bin
+mount -t devtmpfs dev /dev
+for it in ORDER; do insmod /modules/$it.ko; done
+yes | dd of=/dev/vda bs=4096 count=2 iflag=fullblock conv=fsync
+poweroff -f
+INIT
+sed -i "s/ORDER/$order/" guest/init && chmod +x guest/init
+(cd guest && find . | cpio --quiet -o -H newc | gzip -1) >guest.initrd
+GUEST="-m 256 -nodefaults -display none -no-reboot -kernel $(echo kernel/boot/vmlinuz-*) -initrd guest.initrd -append panic=-1"
+"""
+# Where a command fails: 1 is what a judge says of failing images.
+JUDGES = r"(^|[ (;])crashbpf(-each)? |^\./check "
+ON_FAILURE = """\
+last=$?
+[[ $last = 1 && $BASH_COMMAND =~ $judges ]] || {{ worst=$last; echo "status $last of $BASH_COMMAND" >> "{said}/$at.wrong"; }}
+"""
+given = argparse.Namespace(kernel=None, kit=False)
+
+
 def is_there(wanted):
-    """Whether there is a program of this name, or a module for Debian's Python."""
+    """Whether there is a program of this name, a file, or a module for Debian's Python, or an option was given."""
+    if wanted and wanted.startswith("--"):
+        return bool(getattr(given, wanted[2:]))
+    if wanted and wanted.startswith("/"):
+        return os.access(wanted, os.R_OK | os.W_OK)
     if wanted and wanted.startswith("import "):
         return os.access(PYTHON, os.X_OK) and subprocess.run([PYTHON, "-c", wanted], capture_output=True).returncode == 0
     return not wanted or bool(shutil.which(wanted, path=PATH))
@@ -90,6 +148,23 @@ class Block:
         """Returns why it isn't run, or none."""
         why, wanted = next((it for words, it in NOT_RUN.items() if re.search(words, "\n".join(self.text))), (None, [()]))
         return None if wanted and all(is_there(it) for it in wanted) else why
+
+    def has(self, words):
+        return any(re.search(words, it) for it in self.text)
+
+    def in_machine(self):
+        """Whether it is run in a machine whose disks are the devices."""
+        return self.has(r"\$DATA|dmsetup")
+
+    def in_shell(self, at):
+        """Returns its lines as a shell runs them: one that downloads a kernel replaces the link, or leaves a word."""
+        lines = []
+        for line in self.text:
+            if given.kernel and line.startswith("apt-get download linux-image"):
+                link = f"rm -rf kernel; ln -s {shlex.quote(str(given.kernel))} kernel"
+                line = f"rm -rf kernel; {{ {line}; }} || {{ {link}; echo {shlex.quote(line)} >> said/{at}.passed; }}"
+            lines.append(line)
+        return lines
 
 
 def blocks(lines):
@@ -129,6 +204,13 @@ def make_place(folder, program, found):
     """Makes the folder in which the blocks of a document are run, and returns the variables of its shell."""
     for name in COPIED:
         shutil.copytree(TOP / name, folder / name)
+    if given.kit:
+        listed = subprocess.run(["git", "ls-files", "-z"], cwd=TOP, capture_output=True, text=True, check=True).stdout
+        for name in filter(None, listed.split("\0")):
+            (folder / name).parent.mkdir(parents=True, exist_ok=True)
+            shutil.copy(TOP / name, folder / name)
+    if given.kernel:
+        (folder / "kernel").symlink_to(given.kernel)
     out = folder / "crates/crashbpf/out"
     out.mkdir(parents=True)
     shutil.copy(program, out / "crashbpf")
@@ -140,23 +222,62 @@ def make_place(folder, program, found):
     return variables
 
 
+def script_of_devices(found):
+    """Returns what a machine runs: the blocks with devices, each line by itself, and the lines from which their outcomes are read."""
+    script = [DISKS + base64.encodebytes((TOP / CHECKER).read_bytes()).decode() + "END"]
+    for at, block in found:
+        lines = "\n".join(block.text).replace("\\\n", " ").split("\n")
+        script += ["worst=0; read began rest </proc/uptime", "{"]
+        for it in lines:
+            # A line ends with 0, and one of crashbpf perhaps with 1.
+            most = 1 if it.startswith("crashbpf ") else 0
+            script += [it, f"last=$?; [ $last -le {most} ] || {{ worst=$last; echo status $last of {shlex.quote(it)}; }}"]
+        script += ["} > /tmp/said 2>&1; read ended rest </proc/uptime", f'cat /tmp/said; echo "block {at} status $worst $began $ended"']
+    return "\n".join([*script, ""])
+
+
+def outcomes_of_devices(folder, found):
+    """Returns the outcome of each block that a machine ran, by what it said, and writes what failed as the shell does."""
+    console = folder / "devices/console"
+    said, ran = console.read_text(errors="replace") if console.exists() else "", {}
+    for at, _block in found:
+        before, told, said = said.partition(f"block {at} status ")
+        line, _, said = said.partition("\n")
+        words = line.split()
+        told = told and len(words) == 3
+        status, began, ended = words if told else (2, 0, 0)
+        failures = [it for it in before.splitlines() if it.startswith("status ")] if told else ["the machine ended before it"]
+        (folder / f"said/{at}.wrong").write_text("".join(f"{it}\n" for it in failures))
+        ran[at] = int(status), float(ended) - float(began), before.splitlines(), before
+    return ran
+
+
 def run_blocks(document, folder, program, found):
-    """Runs the blocks of a document. Returns the place of each in the list, with its status, its lines, and its errors."""
+    """Runs the blocks of a document. Returns the place of each in the list, with its status, its seconds, its lines, and its errors."""
     variables, said = make_place(folder, program, found), folder / "said"
     said.mkdir()
-    # Of a block the status is that of its last command, or of one before it where that is above 1.
-    script = [HELD.get(document, ""), "set -E; trap 'last=$?; [ $last -le 1 ] || worst=$last' ERR"]
-    for at, block in enumerate(found):
-        if block.kind in RUN and not block.reason():
-            begin, end = RUN[block.kind]
-            script += ["worst=", begin, *block.text, f"{end} > {said}/{at} 2> {said}/{at}.errors < /dev/null"]
-            script.append(f"last=$?; echo ${{worst:-$last}} > {said}/{at}.status")
+    # Of a block the status is that of its last command, or of one before it that failed.
+    script = [HELD.get(document, ""), f"at=none judges={shlex.quote(JUDGES)}; set -E; trap '{ON_FAILURE.format(said=said)}' ERR"]
+    runnable = [(at, it) for at, it in enumerate(found) if it.kind in RUN and not it.reason()]
+    devices = [(at, it) for at, it in runnable if it.in_machine()]
+    (folder / "devices.sh").write_text(script_of_devices(devices))
+    for at, block in runnable:
+        begin, end = RUN[block.kind]
+        lines = block.in_shell(at)
+        if block.in_machine():
+            lines = [DEVICES] if at == devices[0][0] else []
+        if block.has(r"\$GUEST"):
+            script.append(GUEST)
+        if lines:
+            script += [f"at={at} worst= began=$EPOCHREALTIME", begin, *lines, f"{end} > {said}/{at} 2> {said}/{at}.errors < /dev/null"]
+            script.append(f"last=$?; echo ${{worst:-$last}} $began $EPOCHREALTIME > {said}/{at}.status")
     subprocess.run(["bash", "-c", "\n".join(script)], cwd=folder, env=variables, stdin=subprocess.DEVNULL)
     ran = {}
     for path in said.glob("*.status"):
         printed, errors = (path.with_suffix(it).read_text(errors="replace") for it in ("", ".errors"))
-        ran[int(path.stem)] = int(path.read_text()), printed.splitlines(), errors
-    return ran
+        status, began, ended = path.read_text().replace(",", ".").split()
+        ran[int(path.stem)] = int(status), float(ended) - float(began), printed.splitlines(), errors
+    return {**ran, **outcomes_of_devices(folder, devices)}
 
 
 def judge(document, program):
@@ -164,24 +285,37 @@ def judge(document, program):
     found = blocks((TOP / document).read_text().splitlines())
     with tempfile.TemporaryDirectory() as folder:
         ran = run_blocks(document, Path(folder), program, found)
+        passed = {int(it.stem): it.read_text().strip() for it in Path(folder, "said").glob("*.passed")}
+        failures = {int(it.stem): it.read_text().splitlines() for it in Path(folder, "said").glob("[0-9]*.wrong")}
     failed = 0
     for at, block in enumerate(found):
         if at in ran:
-            status, printed, errors = ran[at]
+            status, seconds, printed, errors = ran[at]
             after = next((it for it in range(at + 1, len(found)) if found[it].kind != ""), len(found))
             shown = found[at + 1 : after]
             missing = [first_missing(printed, it.text) for it in shown]
             wrong = [f"doesn't print {it!r}" for it in missing if it is not None]
-            wrong += [f"says {errors[:500]!r}"] if status > 1 else []
+            wrong += failures.get(at, [])[:3]
+            wrong += [f"says {errors[:500]!r}"] if status > 1 or wrong else []
             failed += bool(wrong)
-            told = [f"{document}:{block.line} status {status}", *["and what is shown"] * bool(shown and not wrong), *wrong]
-            print(("FAILED " if wrong else "") + "; ".join(told))
+            told = [f"{document}:{block.line} status {status}, {seconds:.1f} s", *["and what is shown"] * bool(shown and not wrong), *wrong]
+            print(("FAILED " if wrong else "") + "; ".join(told), flush=True)
+            if at in passed:
+                print(f"{document}:{block.line} passed over, as it failed: {passed[at]}")
         elif block.kind in RUN:
             print(f"{document}:{block.line} not run: {block.reason() or 'the shell ended before it'}")
     return len(ran), failed
 
 
 def main(words):
+    options = argparse.ArgumentParser(prog="commands_in_docs.py")
+    options.add_argument("--kernel", type=Path)
+    options.add_argument("--kit", action="store_true")
+    options.add_argument("words", nargs="*", metavar="PROGRAM DOCUMENT")
+    options.parse_args(words, given)
+    words, given.kernel = given.words, given.kernel and given.kernel.resolve()
+    if given.kernel and not list(given.kernel.glob("boot/vmlinuz-*")):
+        sys.exit(f"{given.kernel} has no boot/vmlinuz-*")
     program = Path(words[0] if words else TOP / "crates/crashbpf/out/crashbpf").resolve()
     if not os.access(program, os.X_OK):
         sys.exit(f"there is no program {program}: `rt run` in crates/crashbpf builds it")
