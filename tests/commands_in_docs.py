@@ -16,8 +16,9 @@ README.md's take two hours on four slow cores. .ci/run runs the last of these, `
 A block of commands is indented by four spaces, or fenced as `sh` or `python`. Each document has a copy of the repository, in which
 its blocks are run one after the other by one shell, with the program and the scripts of a package on the path. One that is indented
 sets variables for those after it. What stands below a block in a fence without a language, before the next heading, is a part of what
-it prints; `...` there stands for any lines. So is the first column of a table whose head begins with `It prints`: each line of it is
-printed, in any order, and `..` at its end stands for the rest. README.md's script and its checker in C are those that its blocks run.
+it prints; `...` there stands for any lines. So is the first column of a table whose head begins with `It prints` or `They print`: each
+line of it is printed, in any order, and `..` at its end stands for the rest. README.md's script and its checker in C are those that
+its blocks run.
 
 For each block a line says the document, its line, with which status it ended and after how many seconds, or why it wasn't run: NOT_RUN
 has the reasons. It failed where a command of it did, or where a line that is shown wasn't printed. A status of 1 of crashbpf,
@@ -182,7 +183,7 @@ def blocks(lines):
             found.append(Block(number, fence[1]))
         elif line.startswith("#"):
             found.append(Block(number, "#"))
-        elif line.startswith("| It prints |"):
+        elif line.startswith(("| It prints |", "| They print |")):
             found.append(Block(number, "|"))
         elif last.kind == "|" and line.startswith("| `"):
             last.text.append(line.split("`")[1])
