@@ -16,7 +16,9 @@ README.md's take two hours on four slow cores. .ci/run runs the last of these, `
 A block of commands is indented by four spaces, or fenced as `sh` or `python`. Each document has a copy of the repository, in which
 its blocks are run one after the other by one shell, with the program and the scripts of a package on the path. One that is indented
 sets variables for those after it. What stands below a block in a fence without a language, before the next heading, is a part of what
-it prints; `...` there stands for any lines.
+it prints; `...` there stands for any lines. So is the first column of a table whose head begins with `It prints` or `They print`: each
+line of it is printed, in any order, and `..` at its end stands for the rest. README.md's script and its checker in C are those that
+its blocks run.
 
 For each block a line says the document, its line, with which status it ended and after how many seconds, or why it wasn't run: NOT_RUN
 has the reasons. It failed where a command of it did, or where a line that is shown wasn't printed. A status of 1 of crashbpf,
@@ -67,14 +69,15 @@ NOT_RUN = {
     r"e2fsck": ("it needs e2fsck", ["e2fsck"]),
     r"crashbpf-cc|\bcc -g": ("it needs clang and its llvm-objdump", ["clang", "llvm-objdump"]),
 }
-# What the reader of a document has, as commands that make it. The first C of the document is $FIRST_C, its first fence without a
-# language $FIRST_TEXT.
+# What the reader of a document has, as commands that make it. The first C of the document is $FIRST_C, its first script $FIRST_BASH,
+# its first fence without a language $FIRST_TEXT.
 EXT2 = (
     "mke2fs -q -t ext2 base.img 128 2> made; for it in 0 32 64 96 128 160 192 224; do "
     'echo "write $it 32 data base.img"; [ $it != 128 ] || echo flush; done | tools/trace_log.py - disk.log --sectors 256'
 )
 HELD = {
-    "README.md": "cp examples/saving/* examples/tree/* crates/aside/data/tree/* .",
+    "README.md": "cp examples/saving/* examples/tree/* crates/aside/data/tree/* .; "
+    'cp "$FIRST_BASH" save.sh; { echo \'#include "checker.h"\'; cat "$FIRST_C"; } > root.c; rm root.bpf',
     "docs/RECOVERY.md": EXT2,
     "docs/ASSEMBLY.md": "cp examples/two_slots/checker.s check.s",
     "docs/CHECKERS.md": 'cp "$FIRST_C" check.c; cp crates/aside/data/pages/wrong.log writes.log',
@@ -138,7 +141,7 @@ def is_there(wanted):
 
 @dataclass
 class Block:
-    """A block of a document: the number of its line, its kind ('' is a fence without a language, '#' a heading), its text."""
+    """A block of a document: the number of its line, its kind ('' is a fence without a language, '#' a heading, '|' a table), its text."""
 
     line: int
     kind: str | None
@@ -180,6 +183,10 @@ def blocks(lines):
             found.append(Block(number, fence[1]))
         elif line.startswith("#"):
             found.append(Block(number, "#"))
+        elif line.startswith(("| It prints |", "| They print |")):
+            found.append(Block(number, "|"))
+        elif last.kind == "|" and line.startswith("| `"):
+            last.text.append(line.split("`")[1])
         elif line.startswith("    "):
             if last.kind is not None or last.line + len(last.text) != number:
                 found.append(Block(number, None))
@@ -187,8 +194,14 @@ def blocks(lines):
     return found
 
 
-def first_missing(printed, shown):
-    """Returns the first line that is shown and wasn't printed after the one before it, or none."""
+def fits(line, shown):
+    return line.startswith(shown[:-2]) if shown.endswith("..") else line == shown
+
+
+def first_missing(printed, shown, in_order=True):
+    """Returns the first line that is shown and wasn't printed, after the one before it or anywhere, or none."""
+    if not in_order:
+        return next((it for it in shown if not any(fits(line, it) for line in printed)), None)
     at, anywhere = 0, True
     for line in shown:
         if line != "...":
@@ -215,7 +228,7 @@ def make_place(folder, program, found):
     out.mkdir(parents=True)
     shutil.copy(program, out / "crashbpf")
     variables = {**os.environ, "PATH": os.pathsep.join([*(str(folder / it) for it in ON_PATH), PATH])}
-    for name, kind in {"FIRST_C": "c", "FIRST_TEXT": ""}.items():
+    for name, kind in {"FIRST_C": "c", "FIRST_BASH": "bash", "FIRST_TEXT": ""}.items():
         text = next((it.text for it in found if it.kind == kind), [])
         (folder / name).write_text("\n".join([*text, ""]))
         variables[name] = str(folder / name)
@@ -291,9 +304,9 @@ def judge(document, program):
     for at, block in enumerate(found):
         if at in ran:
             status, seconds, printed, errors = ran[at]
-            after = next((it for it in range(at + 1, len(found)) if found[it].kind != ""), len(found))
+            after = next((it for it in range(at + 1, len(found)) if found[it].kind not in ("", "|")), len(found))
             shown = found[at + 1 : after]
-            missing = [first_missing(printed, it.text) for it in shown]
+            missing = [first_missing(printed, it.text, it.kind == "") for it in shown]
             wrong = [f"doesn't print {it!r}" for it in missing if it is not None]
             wrong += failures.get(at, [])[:3]
             wrong += [f"says {errors[:500]!r}"] if status > 1 or wrong else []

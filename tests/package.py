@@ -233,7 +233,7 @@ def runs(path, install, prefix, folder):
             done = run(in_root(root, [f"/{prefix}/bin/crashbpf", *(places.get(it, it) for it in words)]), env={})
             wrong += differs(f"the status of {words[0]}", done.returncode, int(words[0] != "show"))
             told += done.stdout
-        return told, wrong + unprinted(column("Line"), told)
+        return told, wrong + unprinted(column("They print"), told)
 
     told, wrong = tell(f"{examples}/tree/root.bpf")
     found += wrong
