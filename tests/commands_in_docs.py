@@ -57,7 +57,7 @@ NOT_RUN = {
     r"\brt (ci|run|try)\b|\.ci/run": ("it needs the kit, and --kit", ["--kit", "rt"]),
     r"\$DATA|dmsetup|\$GUEST": ("it needs QEMU, and --kernel", KERNEL),
     r"crashbpf-record --fuse|formatting/": ("it needs qemu-storage-daemon, and /dev/fuse", FUSE),
-    r"mkfs\.(xfs|btrfs|f2fs)": ("it needs QEMU, --kernel, and the tools of another file system", [*KERNEL, "mkfs.xfs", "mkfs.btrfs", "mkfs.f2fs"]),
+    r"mkfs\.xfs": ("it needs QEMU, --kernel, and mkfs.xfs", [*KERNEL, "mkfs.xfs"]),
     r"recovery/sqlite|COMMANDS=sqlite3": ("it needs QEMU, --kernel, sqlite3 and e2fsck", [*KERNEL, "sqlite3", "e2fsck"]),
     r"examples/recording/guest\b|\bused/|\bkernel\b|mounted": ("it needs QEMU, and --kernel", KERNEL),
     r"sbatch|parallel|try_slurm|join_all run >": ("it needs Slurm or several machines; tests/many_machines.py runs parts as processes", []),
