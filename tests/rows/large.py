@@ -135,7 +135,7 @@ def ways(sectors):
 
 
 def past(counts, most):
-    """The cut with which there are more images than that, where cut i has so many sectors on their way."""
+    """The first cut at which there are more images than that, where at cut i that many sectors are in flight."""
     total = 0
     for cut, sectors in enumerate(counts):
         total += ways(sectors)
