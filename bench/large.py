@@ -7,7 +7,7 @@ The log has 8,000 times a write of 249 sectors and one of sector 0, which says w
 flush after each eight writes: 18,000 entries with 2,000,000 units. The checker looks whether what sector 0 says is there. A log of
 248 such pairs is explored without a base and over one of 512 MiB. For each run, by one worker, it prints the processor time, the
 most memory that it had at once (VmHWM), its status and the last line. The logs and the base take 1.6 GiB of the folder for temporary
-files, and a run takes 2 GiB of memory. It is no part of the gate.
+files, and a run takes 1.1 GiB of memory. It is no part of the gate.
 """
 import os
 import subprocess

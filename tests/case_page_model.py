@@ -92,7 +92,8 @@ def verdict(cuts, complete):
     return f"<p class='good'>No case fails, of {all_cases} at {len(cuts)} cuts.</p>\n"
 
 
-def program_text(run, program, about, cuts, complete):
+def program_text(run, program, about, cuts):
+    complete = all(cut.beyond == (0, 0) for cut in cuts)
     windows = [window_of(case) for cut in cuts for _number, case, _ending in cut.failing]
     flushes = missing_flushes([it for it in windows if it])
     text = f"<section aria-labelledby='p{program}'>\n<h2 id='p{program}'>Program {program}: {about}</h2>\n" + verdict(cuts, complete)
@@ -111,11 +112,10 @@ def page_of(run, about, programs):
     """The page with that text about the run, of programs: what is said of each, and what was found with it at each cut."""
     name = f"entries {len(run.entries)}, sectors {run.sectors}"
     torn, lost = (sum(cut.beyond[it] for _said, cuts in programs for cut in cuts) for it in (0, 1))
-    complete = torn == lost == 0
-    about += "" if complete else f"torn beyond {torn} lost beyond {lost}\n"
+    about += "" if torn == lost == 0 else f"torn beyond {torn} lost beyond {lost}\n"
     style = dress("STYLE") + dress("CASE_STYLE") + dress("STYLE_END")
     text = f"{dress('OPENING')}{name}{style}{name}</h1>\n<pre class='about'>{html(about)}</pre>\n</header>\n<main>\n"
-    text += "".join(program_text(run, program, said, cuts, complete) for program, (said, cuts) in enumerate(programs))
+    text += "".join(program_text(run, program, said, cuts) for program, (said, cuts) in enumerate(programs))
     rows = "".join(f"<li id='e{it}'>{html(entry_line(run, it))}\n</li>\n" for it in range(len(run.entries)))
     listed = f"<section aria-labelledby='entries'>\n<h2 id='entries'>Entries</h2>\n<ol>\n{rows}</ol>\n</section>\n"
     return text + (folded_list(run) if folded(run) else listed) + dress("CLOSING")

@@ -22,9 +22,9 @@ the refusals come in any order; and of a run with more than MOST allocations eac
 `CALLS calls` makes public calls by themselves, those too that the program doesn't make, and makes each again that is refused for
 want of memory. Its allocations are refused one by one in the same way: it has to print what it always prints.
 
-Then each run of LARGE, in which every image fails, is given no more room than twice its report, twice its log, and 64 MiB,
+Then each run of LARGE, in which every image fails, is given no more room than twice its report, its log, and 64 MiB,
 as the system counts a process's addresses (`ulimit -v`): it has to print the same report as without that limit, whose last
-line is known. Runs by many workers have to print the same bytes where no thread can be started, as a user who may have no
+line is known. So is a run on a log of 62 MiB over a base of 8 MiB, with room for each of them once. Runs by many workers have to print the same bytes where no thread can be started, as a user who may have no
 more processes, and in a room in which no thread's stack finds a place; and where there is room for some of them alone, the
 same bytes or a refusal for want of memory. And a run by one worker has to end within STACK KiB of stack, and `check` within STACK_OF_CHECK, where the words and
 the surroundings take little of it.
@@ -51,7 +51,7 @@ from pathlib import Path
 sys.dont_write_bytecode = True
 
 from model import Checker, Run, explored, one
-from notation import SECONDS, TESTS, TOP, F, Long, W, explore, log, named, program
+from notation import SECONDS, SECTOR, TESTS, TOP, F, Long, W, explore, log, named, program
 from run import Assembler, all_rows, made, put, shortened, split_notes, split_progress
 
 WANT_OF_MEMORY = re.compile(rb"refused (11|26|35|60|66|72) at 0(?: of program ([0-7]))?\n")
@@ -73,38 +73,38 @@ MANY = ". 11 26.0 60.0 72"
 
 ROWS = {
     "no word at all: the stored run": (48, "72 . 72 26.0 72 ."),
-    "empty_log_bad": (332, "72 . 72 11 72 26.0 72 26.0 72 60.0 72 ."),
-    "empty_log_bad, first": (336, "72 . 72 11 72 26.0 72 26.0 72 60.0 72 ."),
-    "torn_sector": (350, "72 . 72 11 72 26.0 72 11 72 26.0 72 60.0 72 . 72 ."),
-    "torn_sector, first": (354, "72 . 72 11 72 26.0 72 11 72 26.0 72 60.0 72 . 72 ."),
-    "torn_sector, within 9 steps": (356, "72 . 72 11 72 26.0 72 11 72 26.0 72 . 72 ."),
-    "pairs_of_drops": (276, "72 . 72 11 72 11 72 ."),
-    "pairs_of_drops, each choice": (436, "72 . 72 11 72 26.0 72 11 72 26.0 72 60.0 72 . 72 . 72 . 72 . 72 . 72 ."),
-    "sixteen_codes": (440, "72 . 72 11 72 26.0 72 11 72 26.0 72 60.0 72 . 72 . 72 . 72 . 72 . 72 ."),
-    "sixteen_codes, first": (386, "72 . 72 11 72 26.0 72 11 72 26.0 72 60.0 72 . 72 . 72 ."),
-    "eight programs": (529, "72 . 72 11 72 26.0 26.1 26.2 26.3 72 26.4 26.5 26.6 26.7 72 26.0 72 26.1 26.2 26.3 26.4 72 26.5 26.6 26.7 60.0 72 60.1 60.2 60.3 60.4 72 60.5 60.6 60.7 72 . 72 ."),
+    "empty_log_bad": (334, "72 . 72 11 72 26.0 72 26.0 72 60.0 72 ."),
+    "empty_log_bad, first": (338, "72 . 72 11 72 26.0 72 26.0 72 60.0 72 ."),
+    "torn_sector": (352, "72 . 72 11 72 26.0 72 11 72 26.0 72 60.0 72 . 72 ."),
+    "torn_sector, first": (356, "72 . 72 11 72 26.0 72 11 72 26.0 72 60.0 72 . 72 ."),
+    "torn_sector, within 9 steps": (358, "72 . 72 11 72 26.0 72 11 72 26.0 72 . 72 ."),
+    "pairs_of_drops": (278, "72 . 72 11 72 11 72 ."),
+    "pairs_of_drops, each choice": (438, "72 . 72 11 72 26.0 72 11 72 26.0 72 60.0 72 . 72 . 72 . 72 . 72 . 72 ."),
+    "sixteen_codes": (442, "72 . 72 11 72 26.0 72 11 72 26.0 72 60.0 72 . 72 . 72 . 72 . 72 . 72 ."),
+    "sixteen_codes, first": (388, "72 . 72 11 72 26.0 72 11 72 26.0 72 60.0 72 . 72 . 72 ."),
+    "eight programs": (531, "72 . 72 11 72 26.0 26.1 26.2 26.3 72 26.4 26.5 26.6 26.7 72 26.0 72 26.1 26.2 26.3 26.4 72 26.5 26.6 26.7 60.0 72 60.1 60.2 60.3 60.4 72 60.5 60.6 60.7 72 . 72 ."),
     "torn_sector, 2 workers, cache 16": (None, MANY),
     "marks, 2 workers, cache 16": (None, MANY),
     "sixteen_codes, 2 workers, cache 16": (None, MANY),
     "sixteen_codes, 4 workers, with progress": (None, MANY),
-    "two_epochs": (264, "72 . 72 11 72 11 72 ."),
-    "a mark after a write": (258, "72 . 72 11 72 11 . 72 ."),
-    "two_epochs, image 20": (261, "72 . 72 11 72 11 72 ."),
-    "overwritten_sector, bound 1, image 34": (272, "72 . 72 11 72 11 72 ."),
-    "two_slots, wrong, survey": (278, "72 . 72 11 72 11 . 72 ."),
+    "two_epochs": (265, "72 . 72 11 72 11 72 ."),
+    "a mark after a write": (260, "72 . 72 11 72 11 72 ."),
+    "two_epochs, image 20": (259, "72 . 72 11 72 11 72 ."),
+    "overwritten_sector, bound 1, image 34": (270, "72 . 72 11 72 11 72 ."),
+    "two_slots, wrong, survey": (276, "72 . 72 11 72 11 72 ."),
     "export: run 2": (315, "72 . 72 11 72 11 72 ."),
-    "journal, image 17": (279, "72 . 72 11 72 11 . 72 ."),
-    "journal/wrong, image 17 in words": (296, "72 . 72 11 72 11 . 72 ."),
-    "pages/wrong, --cut 10 --choice 8:drop in words": (328, "72 . 72 11 72 11 . 72 ."),
-    "image: a tear without --tears": (278, "72 . 72 11 72 11 72 ."),
-    "why: two_slots/wrong": (476, "72 . 72 11 72 26.0 72 11 . 72 26.0 72 60.0 72 . 72 . 72 . 72 . 72 . 72 ."),
-    "why: journal/wrong": (428, "72 . 72 11 72 26.0 72 11 . 72 26.0 72 60.0 72 . 72 ."),
+    "journal, image 17": (270, "72 . 72 11 72 11 72 ."),
+    "journal/wrong, image 17 in words": (287, "72 . 72 11 72 11 72 ."),
+    "pages/wrong, --cut 10 --choice 8:drop in words": (318, "72 . 72 11 72 11 72 ."),
+    "image: a tear without --tears": (275, "72 . 72 11 72 11 72 ."),
+    "why: two_slots/wrong": (474, "72 . 72 11 72 26.0 72 11 72 26.0 72 60.0 72 . 72 . 72 . 72 . 72 . 72 ."),
+    "why: journal/wrong": (427, "72 . 72 11 72 26.0 72 11 72 26.0 72 60.0 72 . 72 ."),
     "why: journal, wrong, two lost or torn, by 4 workers": (None, MANY),
-    "cure: two_slots, wrong": (433, "72 . 72 11 72 26.0 72 11 . 72 26.0 72 60.0 72 . 72 ."),
-    "cure: journal, wrong": (454, "72 . 72 11 72 26.0 72 11 . 72 26.0 72 60.0 72 . 72 . 72 ."),
+    "cure: two_slots, wrong": (431, "72 . 72 11 72 26.0 72 11 72 26.0 72 60.0 72 . 72 ."),
+    "cure: journal, wrong": (453, "72 . 72 11 72 26.0 72 11 72 26.0 72 60.0 72 . 72 . 72 ."),
     "cure: two_slots, wrong, 4 workers, with progress": (None, MANY),
-    "page: journal/wrong": (521, "72 . 72 11 72 26.0 72 11 . 72 26.0 72 60.0 72 . 72 ."),
-    "page: markup in a mark": (632, "72 . 72 11 72 26.0 26.1 72 11 . 72 26.0 72 26.1 60.0 72 60.1 72 . 72 . 72 . 72 ."),
+    "page: journal/wrong": (520, "72 . 72 11 72 26.0 72 11 72 26.0 72 60.0 72 . 72 ."),
+    "page: markup in a mark": (632, "72 . 72 11 72 26.0 26.1 72 11 72 26.0 72 26.1 60.0 72 60.1 72 . 72 . 72 . 72 ."),
     "asm report_codes, with labels": (238, "72 . 72 35 72 35 72 ."),
     "asm masked_index": (240, "72 . 72 35 72 35 72 ."),
     "two_slots/checker, assembled": (250, "72 . 72 35 72 35 72 ."),
@@ -124,22 +124,22 @@ ROWS = {
     "verify journal/checker": (270, "72 . 72 26 72 26 60 72 ."),
     "verify checkers/type_counts": (270, "72 . 72 26 72 26 60 72 ."),
     "verify checkers/journal_scan": (270, "72 . 72 26 72 26 60 72 ."),
-    "check: first_byte, step by step": (276, "72 . 72 26 72 26 60 72 ."),
-    "check: turns": (256, "72 . 72 26 72 26 72 ."),
-    "check: accepted without guards": (268, "72 . 72 26 72 26 60 72 ."),
-    "own memory: check, a store and a load": (268, "72 . 72 26 72 26 60 72 ."),
-    "own memory: begins with zeros, two programs": (446, "72 . 72 11 72 26.0 26.1 26.2 72 11 . 72 26.0 72 26.1 26.2 60.0 72 60.1 60.2 72 ."),
+    "check: first_byte, step by step": (275, "72 . 72 26 72 26 60 72 ."),
+    "check: turns": (255, "72 . 72 26 72 26 72 ."),
+    "check: accepted without guards": (267, "72 . 72 26 72 26 60 72 ."),
+    "own memory: check, a store and a load": (267, "72 . 72 26 72 26 60 72 ."),
+    "own memory: begins with zeros, two programs": (446, "72 . 72 11 72 26.0 26.1 26.2 72 11 72 26.0 72 26.1 26.2 60.0 72 60.1 60.2 72 ."),
     "own memory: begins with zeros, six places --workers 4 --cache 64": (None, MANY),
-    "own memory: cases": (610, "72 . 72 11 72 26.0 26.1 26.2 26.3 72 11 . 72 26.0 72 26.1 26.2 26.3 60.0 72 60.1 60.2 60.3 72 ."),
-    "own memory: cure": (587, "72 . 72 11 72 26.0 26.1 26.2 26.3 72 11 . 72 26.0 72 26.1 26.2 26.3 60.0 72 60.1 60.2 60.3 72 . 72 . 72 ."),
+    "own memory: cases": (610, "72 . 72 11 72 26.0 26.1 26.2 26.3 72 11 72 26.0 72 26.1 26.2 26.3 60.0 72 60.1 60.2 60.3 72 ."),
+    "own memory: cure": (587, "72 . 72 11 72 26.0 26.1 26.2 26.3 72 11 72 26.0 72 26.1 26.2 26.3 60.0 72 60.1 60.2 60.3 72 . 72 . 72 ."),
     "every image of sixteen writes fails, 16 workers": (None, MANY),
-    "cases: tree, wrong, root, --sectors 8 --cuts all --bound any": (413, "72 . 72 11 72 26.0 72 11 . 72 26.0 72 60.0 72 ."),
-    "cases: tree, wrong, root, first, --sectors 8 --cuts all --bound any --first": (362, "72 . 72 11 72 26.0 72 11 . 72 26.0 72 60.0 72 ."),
-    "cases: tree, right, root, first, --sectors 8 --cuts all --bound any --first": (417, "72 . 72 11 72 26.0 72 11 . 72 26.0 72 60.0 72 ."),
-    "image any: tree/wrong, case 0, cut 4 and choice 1.0:drop, --sectors 8 --cuts all --bound any": (318, "72 . 72 11 72 11 . 72 ."),
-    "show any: tree/wrong, case 0, cut 4 and choice 1.0:drop, --sectors 8 --cuts all --bound any": (324, "72 . 72 11 72 11 . 72 ."),
-    "cases: flushed, --sectors 2 --cuts all --bound any --at-most 1 --by write": (620, "72 . 72 11 72 26.0 26.1 26.2 72 11 72 26.0 72 26.1 26.2 60.0 72 60.1 60.2 72 ."),
-    "a part: two_slots: --sectors 4 --cuts all --bound 2 --tears --images 236..354": (413, "72 . 72 11 72 26.0 72 11 . 72 26.0 72 60.0 72 . 72 . 72 . 72 ."),
+    "cases: tree, wrong, root, --sectors 8 --cuts all --bound any": (408, "72 . 72 11 72 26.0 72 11 72 26.0 72 60.0 72 ."),
+    "cases: tree, wrong, root, first, --sectors 8 --cuts all --bound any --first": (357, "72 . 72 11 72 26.0 72 11 72 26.0 72 60.0 72 ."),
+    "cases: tree, right, root, first, --sectors 8 --cuts all --bound any --first": (412, "72 . 72 11 72 26.0 72 11 72 26.0 72 60.0 72 ."),
+    "image any: tree/wrong, case 0, cut 4 and choice 1.0:drop, --sectors 8 --cuts all --bound any": (304, "72 . 72 11 72 11 72 ."),
+    "show any: tree/wrong, case 0, cut 4 and choice 1.0:drop, --sectors 8 --cuts all --bound any": (310, "72 . 72 11 72 11 72 ."),
+    "cases: flushed, --sectors 2 --cuts all --bound any --at-most 1 --by write": (621, "72 . 72 11 72 26.0 26.1 26.2 72 11 72 26.0 72 26.1 26.2 60.0 72 60.1 60.2 72 ."),
+    "a part: two_slots: --sectors 4 --cuts all --bound 2 --tears --images 236..354": (411, "72 . 72 11 72 26.0 72 11 72 26.0 72 60.0 72 . 72 . 72 . 72 ."),
     "joined in the midst: torn_over_torn --sectors 4 --cuts all --bound 1 --tears": (792, "72 . 72 66 72 66 ."),
     "joined in steps: torn_over_torn --sectors 4 --cuts all --bound 1 --tears": (1196, "72 . 72 66 72 66 ."),
     "cases joined, run 6 in 3 parts: pages/wrong, --bound any": (334, "72 . 72 66 72 66 ."),
@@ -160,7 +160,7 @@ EXTRA = [
 ]
 
 # How many allocations the calls by themselves make.
-CALLS = 586
+CALLS = 579
 
 # Runs with some 600,000 lines and more. Of n writes in one epoch, of which up to three are lost, there are as many images as
 # ways to pick them, over all cuts.
@@ -223,9 +223,25 @@ def overfull(program, name, assembler):
         wanted = f"images {count} failing {count} lines {count * len(programs)}"
         if status != 1 or last_line(wide) != wanted:
             return [f"status {status}, and the report isn't the one of {count} images"]
-        room = 2 * wide.stat().st_size + 2 * Path(folder, "log").stat().st_size + ROOM
+        room = 2 * wide.stat().st_size + Path(folder, "log").stat().st_size + ROOM
         status = run_within(program, words, folder, "narrow", room)
         if status != 1 or not filecmp.cmp(wide, narrow, shallow=False):
+            return [f"status {status} within {room >> 20} MiB"]
+    return []
+
+
+def overheld(program, assembler):
+    """What went wrong with a run that has room for its log, its base and 64 MiB."""
+    sectors = 16384
+    with tempfile.TemporaryDirectory() as folder:
+        put(folder, "log", log([W(0, sectors - 512, byte) for byte in range(8)]), assembler)
+        put(folder, "base", bytes(SECTOR * sectors), assembler)
+        put(folder, "p", ONE, assembler)
+        words = ["explore", "log", "p", "--sectors", str(sectors), "--base", "base", "--by", "write"]
+        room = Path(folder, "log").stat().st_size + SECTOR * sectors + ROOM
+        status = run_within(program, words, folder, "text", room)
+        # At cut n there are an image that lacks nothing, and n that lack one write each.
+        if status != 1 or last_line(Path(folder, "text")) != "images 45 failing 45 lines 45":
             return [f"status {status} within {room >> 20} MiB"]
     return []
 
@@ -519,6 +535,7 @@ def main(words):
             checks[f"{name} with memory refused"] = pool.submit(swept, program, library, rows[name], ROWS[name], assembler)
         for name in LARGE:
             checks[f"many lines, {name}"] = pool.submit(overfull, program, name, assembler)
+        checks["a log and a base held once"] = pool.submit(overheld, program, assembler)
         for sectors in EXPORTED:
             checks[f"an export of the losses of {sectors} sectors"] = pool.submit(overkept, program, sectors, assembler)
         for name, row, begin, answers in starved(rows):

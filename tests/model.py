@@ -314,8 +314,12 @@ def forced_notes(run):
     return [f"entries with FUA: {forced}; {words}"]
 
 
-def flush_notes(run):
-    """What is noted of a log without a flush where the cuts before flushes are asked for."""
+def cut_notes(run):
+    """What is noted where no cut is wanted, and of a log without a flush where the cuts before flushes are asked for."""
+    if not run.wanted_cuts():
+        ranged = run.first is not None or run.last is not None
+        how = "take a wider --from and --to, or ask without --cuts" if ranged else "the log has no mark, so --cuts mark has no cut; ask without --cuts"
+        return [f"no cut is asked for: no image was judged; {how}"]
     flushed = any(it.flags & FLUSH for it in run.entries)
     return ["no entry is a flush, so --cuts flush has the one cut at the end; ask without --cuts"] if run.cuts == "flush" and not flushed else []
 

@@ -67,7 +67,7 @@ MODULES = "virtio_ring virtio virtio_pci_modern_dev virtio_pci_legacy_dev virtio
 
 
 def surroundings(folder, **more):
-    return {**os.environ, "PATH": f"{folder}/bin:{os.environ['PATH']}", "ROOM": str(folder), "TIMEOUT": "1", **more}
+    return {**os.environ, "PATH": f"{folder}/bin:{os.environ['PATH']}", "ROOM": str(folder), "TIMEOUT": "3", **more}
 
 
 def make(folder):
@@ -138,7 +138,7 @@ def judges_images(folder):
             found += [f"image {of.number} is kept"] if said.exists() else []
             continue
         marks, mark = environment(of).split(" ", 1)[0], "one two" if of.marks() else ""
-        begins = {"hang": b"mounted: no answer within 1 seconds\n", "stop": b"mounted: the kernel stopped\n"}
+        begins = {"hang": b"mounted: no answer within 3 seconds\n", "stop": b"mounted: the kernel stopped\n"}
         wanted = begins.get(what) or f"marks {marks} {mark}".encode() + b"\n\xff\n"
         wanted += f"kernel: {what}\n".encode()
         found += differs(f"what is said of image {of.number}", said.read_bytes() if said.exists() else None, wanted)

@@ -43,7 +43,7 @@ GIVEN = {
     "device": "helpers::Filled",
     "options": "request::Options",
     "recording": "request::facts::Recording<'a>",
-    "facts": "request::facts::Facts",
+    "facts": "request::facts::RunFacts",
     "words": "command_line::Words",
     "head": "report::Head",
     "lines": "report::lines::Lines",

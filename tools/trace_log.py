@@ -449,9 +449,6 @@ def main():
             os.fstat(file)
         except OSError:
             os.open(os.devnull, mode)
-    for number in (signal.SIGHUP, signal.SIGINT, signal.SIGTERM):
-        if signal.getsignal(number) != signal.SIG_IGN:
-            signal.signal(number, lambda *_: sys.exit(2))
     parser = argparse.ArgumentParser(description="Makes a log of a trace.", epilog="The head of this file says what a trace is.", allow_abbrev=False)
     parser.add_argument("trace")
     parser.add_argument("log")
@@ -459,6 +456,10 @@ def main():
     parser.add_argument("--large", action="store_true")
     parser.add_argument("--outside", action="store_true")
     words = parser.parse_args()
+    # Not before the words are read: argparse imports a module on its way, and an end that is asked for in an import can be passed over.
+    for number in (signal.SIGHUP, signal.SIGINT, signal.SIGTERM):
+        if signal.getsignal(number) != signal.SIG_IGN:
+            signal.signal(number, lambda *_: sys.exit(2))
     limits = LARGE if words.large else USUAL
     sectors = limits.sectors if words.sectors is None else words.sectors
     if not 1 <= sectors <= limits.sectors:

@@ -116,6 +116,7 @@ def sized(row):
 SIZED_BASE = "refused 13 at 14", "with --sectors base the file of --base has 1 to 16384 whole sectors of 512 bytes, with --large to 33554432"
 SIZED_LARGE = "with --sectors base and --large the file of --base has 1 to 33554432 whole sectors of 512 bytes"
 UNSIZED = "--sectors base takes the size from the file of --base, and there is none"
+UNSIZED_VERIFY = "verify takes a number for --sectors: it has no --base, by which 'base' would be one"
 
 
 def unsized(name, words, content, error, *notes):
@@ -135,7 +136,7 @@ SIZED = [
     *(unsized(f"{more} bytes more than the largest device", "images log --sectors base --base base", held(Hole(16384 * SECTOR + more)), *SIZED_BASE) for more in (1, SECTOR)),
     unsized("a base of large devices", "images log --sectors base --base base --large", held(Hole(16385 * SECTOR + 1)), "refused 13 at 14", SIZED_LARGE),
     unsized("no base", "explore log p0 --sectors base", ONE, "refused 13 at 1", UNSIZED),
-    unsized("no base of verify", "verify p0 --sectors base", ONE, "refused 13 at 1", UNSIZED),
+    unsized("no base of verify", "verify p0 --sectors base", ONE, "refused 13 at 1", UNSIZED_VERIFY),
     unsized("no base, after a word", "images log --sectors=base --cuts x", ONE, "refused 13 at 7", "--cuts is all, flush or mark"),
     unsized("a base that can't be read", "explore log p0 --sectors base --base other", ONE, "refused 14 at 2"),
     unsized("a base that is shorter than the log", "images log --sectors base --base base", {"log": log([W(1, 1, 1)]), "base": bytes(SECTOR)}, "refused 9 at 0"),

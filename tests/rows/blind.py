@@ -1,7 +1,7 @@
 """Checkers that look at nothing of what the log writes: the note of them, against the model (docs/CRASH-MODEL.md, 'A checker that
 looks at nothing')."""
 from cases_model import ANY, cases, status as status_of
-from model import Checker, Run, blind_notes, cured, explored, flush_notes, forced_notes, one_loss_notes, promise_notes
+from model import Checker, Run, blind_notes, cured, cut_notes, explored, forced_notes, one_loss_notes, promise_notes
 from notation import FUA, D, F, Long, M, Row, Something, W, files, program
 from parts_model import count, found
 
@@ -51,6 +51,8 @@ RUNS = {
     "cuts before flushes": Run(ENTRIES, 64, "flush", 2),
     "cuts after marks": Run(ENTRIES, 64, "mark", 1, True),
     "no cut": Run(MARKLESS, 64, "mark"),
+    "no cut of a range": Run(ENTRIES, 64, "mark", last=4),
+    "no cut before a flush in a range": Run(MARKLESS[:1], 64, "flush", first=0, last=0),
     "cuts before flushes, of none": Run(MARKLESS[:1], 64, "flush"),
     "cuts before flushes, of one that is added": Run([*MARKLESS[:1], *MARKLESS[2:]], 64, "flush", flush=(1,)),
     "cuts before the mark": Run(ENTRIES, 64, "all", 1, last=4),
@@ -104,7 +106,7 @@ def noted(name, run, names, more="", checked=None, command="explore", out=None, 
     words = f"{command} log {' '.join(f'p{number}' for number in range(len(programs)))} {options}"
     text = Long(lambda: explored(run, checkers, " --first" in more)) if out is None else out(run, programs, checkers)
     told = f"{more} --checked {checked}" if checked else more
-    return Row(f"blind: {command}, {name}: {', '.join(names)}{told}", words, content, text, status, notes=[*said, *promise_notes(run), *flush_notes(run), *large_notes(run), *forced_notes(run), *([] if "--images" in more else one_loss_notes(run, command))])
+    return Row(f"blind: {command}, {name}: {', '.join(names)}{told}", words, content, text, status, notes=[*said, *promise_notes(run), *cut_notes(run), *large_notes(run), *forced_notes(run), *([] if "--images" in more else one_loss_notes(run, command))])
 
 
 def anything(run, programs, checkers):
@@ -129,7 +131,7 @@ def of_cases(name, run, names, more="", command="explore"):
     words = f"{command} log {' '.join(f'p{number}' for number in range(len(programs)))} {options}{more}"
     content = {**files(run.recorded, *programs), **({"base": run.base} if run.base else {})}
     out = Something() if more or command != "explore" else text
-    return Row(f"blind: cases, {command}, {name}: {', '.join(names)}{more}", words, content, out, status_of(text), notes=[*blind_notes(run, checkers), *promise_notes(run), *flush_notes(run)])
+    return Row(f"blind: cases, {command}, {name}: {', '.join(names)}{more}", words, content, out, status_of(text), notes=[*blind_notes(run, checkers), *promise_notes(run), *cut_notes(run)])
 
 
 NOTHING, WRITTEN, FAILS, AT_MARK = "nothing", "a sector that is written", "nothing, and fails", "nothing, and fails after a mark"

@@ -3,7 +3,7 @@
 # of their number, and a number that isn't set back.
 from math import comb
 
-from notation import FUA, MARK, D, Entry, F, Folder, M, Row, Something, W, code, files, lines, log, program, report, super_block
+from notation import FUA, MARK, D, Entry, F, Folder, Long, M, Row, Something, W, code, files, lines, log, program, report, super_block
 
 GOOD = program("mov64 r0, 0; exit")
 GOOD_BYTES = code("b700000000000000 9500000000000000")
@@ -23,6 +23,8 @@ SHORT = f"a log has at least 512 bytes {SUPER}"
 MAGIC = f"the file doesn't begin as a log does, with 'rhswfsj' {SUPER}"
 LOG_FIRST = "LOG stands before the programs, and is what the target dm-log-writes made"
 LIMIT = "a log has at most 67108864 bytes, 65536 entries, and 262144 sectors written or discarded (docs/LOG-FORMAT.md, Limits)"
+LARGE_LIMIT = "with --large a log has at most 1073741824 bytes, 65536 entries, and 2097152 sectors written or discarded (docs/LOG-FORMAT.md, Limits)"
+LARGE_TAKES = "with --large the log is within the limits (docs/LOG-FORMAT.md, Limits)"
 SECTORS = "record over a device with sectors of 512 bytes; in a log of your own the size of a sector stands at byte 24"
 COPY_MORE = "copy more of the log device; in a log of your own the number of entries stands at byte 16"
 FEWER = "copy the first 64 MiB of the log device alone; make file systems without discards"
@@ -111,9 +113,17 @@ LOGS = [
         "--sectors 16384 is the least that holds this log",
     ),
     bad_log("no device holds it", [W(16383, 2, 1)], "refused 9 at 0", PAST, "no device of at most 16384 sectors holds this log; with --large one may have 33554432"),
+    bad_log("no device holds it, with --large neither", [D(33554431, 2)], "refused 9 at 0", PAST, "no device of at most 33554432 sectors holds this log"),
+    bad_log("no device holds it, and with --large another fault", [D(16384, 1), W(16384, 1, 1), Entry(flags=32)], "refused 9 at 0", PAST, "no device of at most 16384 sectors holds this log"),
+    bad_log("the largest device of --large is needed", [D(33554431, 1)], "refused 9 at 0", PAST, "no device of at most 16384 sectors holds this log; with --large one may have 33554432"),
     bad_log("a device that is too small, and another fault", [W(4, 1, 1), Entry(flags=32)], "refused 9 at 0", PAST),
     bad_log("too many entries", super_block(65537), "refused 10 at 0", LIMIT, FEWER),
-    bad_log("too many sectors", [D(0, 16384)] * 17, "refused 10 at 16", LIMIT, FEWER, sectors=16384),
+    bad_log("too many sectors", [D(0, 16384)] * 17, "refused 10 at 16", LIMIT, FEWER, LARGE_TAKES, sectors=16384),
+    bad_log("as many sectors as --large takes", [D(0, 16384)] * 128, "refused 10 at 16", LIMIT, FEWER, LARGE_TAKES, sectors=16384),
+    bad_log("too many sectors, with --large as well", [D(0, 16384)] * 129, "refused 10 at 16", LIMIT, FEWER, sectors=16384),
+    bad_log("too many sectors, and a log that is cut short", log([D(0, 16384)] * 17 + [F])[:-1], "refused 10 at 16", LIMIT, FEWER, sectors=16384),
+    bad_log("too many bytes", Long(lambda: log([F]).ljust((64 << 20) + 1, b"\0")), "refused 10 at 0", LIMIT, FEWER, LARGE_LIMIT),
+    bad_log("too many bytes, in an entry", Long(lambda: log([W(0, 16384, 1)] * 9)), "refused 10 at 0", LIMIT, FEWER, LARGE_LIMIT, sectors=16384),
     noted(
         "the log and the program are swapped",
         "explore p0 log --sectors 4",
@@ -543,6 +553,9 @@ NOT_AMONG = "none is ever dropped as a whole"
 BY_WRITE = "with --by write each may be dropped as a whole"
 LEFT_OUT = "is lost or torn; --bound any explores every loss (docs/CRASH-MODEL.md, What a clean report doesn't say)"
 NO_FLUSH = "no entry is a flush, so --cuts flush has the one cut at the end; ask without --cuts"
+NO_CUT = "no cut is asked for: no image was judged"
+NO_MARK = f"{NO_CUT}; the log has no mark, so --cuts mark has no cut; ask without --cuts"
+NONE_IN_RANGE = f"{NO_CUT}; take a wider --from and --to, or ask without --cuts"
 ONE_SECTOR, ONE_WRITE = (f"in each image at most 1 {part} {LEFT_OUT}" for part in ("sector", "write"))
 LOOKS = program("mov64 r1, 0; call 5; mov64 r0, 0; exit")
 FAILS = program("mov64 r1, 0; call 5; mov64 r0, 1; exit")
@@ -688,7 +701,7 @@ ANSWERS = [
             ("explore log p0", " --cuts flush --flush 0", ONE_SECTOR),
             ("explore log p0", " --cuts flush --bound any", NO_FLUSH),
             ("explore log p0", " --cuts flush --images 0..1", NO_FLUSH),
-            ("explore log p0", " --cuts mark", ONE_SECTOR),
+            ("explore log p0", " --cuts mark", NO_MARK, ONE_SECTOR),
             *((f"{command} log p0", f" --cuts flush{more}", NO_FLUSH) for command in ("why", "cure", "page") for more in ("", " --bound any")),
             ("images log", " --cuts flush", NO_FLUSH),
             ("images log", " --cuts flush --bound any", NO_FLUSH),
@@ -698,6 +711,19 @@ ANSWERS = [
             ("log log", ""),
         )
     ),
+    *(
+        answered(f"no cut: {words}{options}", f"{words} --sectors 4{options}", files([W(0, 1, 1, FUA), M("m"), W(0, 1, 2)], LOOKS), Something(), said)
+        for words in ("explore log p0", "why log p0", "cure log p0", "page log p0", "images log", "export log")
+        for options in (" --bound 0", " --bound any")
+        if words != "export log" or options != " --bound any"
+        for options, said in ((f"{options} --cuts mark --to 1", NONE_IN_RANGE), (f"{options} --cuts mark --from 3", NONE_IN_RANGE), (f"{options} --cuts flush --to 2", NONE_IN_RANGE))
+    ),
+    *(
+        answered(f"no mark: {words}{options}", f"{words} --sectors 4{options} --cuts mark", files([W(0, 1, 1)], LOOKS), Something(), NO_MARK)
+        for words in ("explore log p0", "why log p0", "cure log p0", "page log p0", "images log")
+        for options in (" --bound 0", " --bound any")
+    ),
+    answered("a cut of a range", "explore log p0 --sectors 4 --bound 0 --cuts mark --to 2", files([W(0, 1, 1, FUA), M("m"), W(0, 1, 2)], LOOKS), Something()), 
     answered("how much explore leaves out of large writes", "explore log p0 --sectors 4", files([W(0, 2, 1), F], LOOKS), Something(), f"entries with more than 1 sectors: 1; {NOT_AMONG}", BY_WRITE, ONE_SECTOR),
     Row("notes: how much is left out of a run in which images fail", "explore log p0 --sectors 4", files(LOG, FAILS), Something(), 1, notes=[ONE_SECTOR]),
     answered("nothing beside a listing", "list p", {"p": program("mov64 r0, 0; exit; exit")}, "mov64 r0, 0\nexit\nexit\n"),

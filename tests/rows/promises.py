@@ -2,7 +2,7 @@
 (docs/REFUSALS.md, Notes)."""
 import random
 
-from model import Run, flush_notes, forced_notes, one_loss_notes, promise_notes
+from model import Run, cut_notes, forced_notes, one_loss_notes, promise_notes
 from notation import FLUSH, FUA, D, Entry, F, Long, M, Row, Something, W, files, log, program
 
 # A checker that looks at sector 0, and passes.
@@ -54,7 +54,7 @@ def of_marks(name, run, command="log log"):
 
 def of_tears(name, run, command):
     """A row that has what is noted of marks and of FUA."""
-    return Row(f"FUA: {name}: {command}", f"{command} {run.options()}", files(run.recorded, LOOKS), Something(), notes=[*promise_notes(run), *flush_notes(run), *forced_notes(run), *one_loss_notes(run, command.split()[0])])
+    return Row(f"FUA: {name}: {command}", f"{command} {run.options()}", files(run.recorded, LOOKS), Something(), notes=[*promise_notes(run), *cut_notes(run), *forced_notes(run), *one_loss_notes(run, command.split()[0])])
 
 
 def chance(number):

@@ -136,6 +136,7 @@ def damages():
     yield damaged("refused by page as well", other, text, "page")
 
 
+NOT_WITH_ANY = "--report doesn't stand beside --bound any: a report has images, and with --bound any there are cases"
 # Words beside which `--report` doesn't stand, and what the fault names.
 MIXED = [
     ("why log p --report r --sectors 4", "--report"),
@@ -167,6 +168,11 @@ ROWS = [
     *(of_run("cure", name, run) for name, run in list(runs())[1::12] if sum(1 for _image in run.images()) <= FEW),
     *damages(),
     *(Row(f"report: {words}", words, {"log": log(RUN.recorded), "r": own().encode()}, status=2, error=Printable("error: ", text)) for words, text in MIXED),
+    *(
+        Row(f"report: {command} of any number of losses", f"{command} log --report r --sectors 4 --bound any", {"log": log(RUN.recorded), "r": b""}, status=2, error="refused 13 at 2", notes=[NOT_WITH_ANY])
+        for command in ("why", "cure", "page")
+    ),
+    Row("report: a bound that is too large", "why log --report r --sectors 4 --bound 4", {"log": log(RUN.recorded), "r": b""}, status=2, error="refused 13 at 2", notes=["--bound is 0 to 3"]),
     refused("report: no such file", f"why log --report gone {RUN.options()}", {"log": log(RUN.recorded)}, "refused 14 at 1"),
     refused("report: join takes none", "join r", {"r": own().encode()}, "refused 61 at 0"),
 ]

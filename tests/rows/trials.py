@@ -388,7 +388,7 @@ FAULTS = {
 
 REACHED = "crash check 1\n" + HEAD + "3 budget 2\nsteps 2\nanswer 0 codes -\n"
 NOT_REACHED = f"instructions that no run reaches: 1, the first at slot 2; {UNREACHED}"
-WHOLE = "an image has 1 to 16384 whole sectors of 512 bytes (docs/COMMANDS.md, Commands)"
+WHOLE = "an image has 1 to 16384 whole sectors of 512 bytes, with --large to 33554432 (docs/COMMANDS.md, Commands)"
 
 # What is noted: the files, and the refusal with its notes
 NOTED = [

@@ -1,43 +1,35 @@
-//! Bytes that a value owns, seen by contracts as a list of numbers.
+//! Bytes that a value borrows, seen by contracts as a list of numbers.
 
 ghost use Rattle.std.specs.Prelude.{◌≡◌, length};
 
 use std::marker::Model;
 
-/// A list of bytes, made from a `Vec` and given back as one without taking memory.
+/// A list of bytes that stand elsewhere.
 #[derive(Drop)]
-pub struct Bytes {
-    items: Vec<u8>,
+pub struct Bytes<'x> {
+    items: &'x [u8],
 }
 
-impl Model for Bytes {
+impl<'x> Model for Bytes<'x> {
     ghost use Rattle.std.specs.Prelude.{List, ℕ};
 
     ghost Value = { List ℕ };
 
-    ghost view = { λ b. b.items.items };
+    ghost view = { λ b. b.items.now };
 }
 
-impl Bytes {
+impl<'x> Bytes<'x> {
     /// These bytes, in this order.
-    pub fn of(items: Vec<u8>) -> Bytes
-        ensures { result ≡ items.items }
+    pub fn of(items: &'x [u8]) -> Bytes<'x>
+        ensures { result ≡ items.now }
     {
         Bytes { items }
     }
 
-    /// The bytes, borrowed.
-    pub fn as_slice(&self) -> &[u8]
+    /// The bytes.
+    pub fn as_slice(&self) -> &'x [u8]
         ensures { result.now ≡ self.now }
     {
-        self.items.as_slice()
-    }
-
-    /// The bytes as a `Vec`, in the same memory.
-    pub fn into_vec(self) -> Vec<u8>
-        ensures { result.items ≡ self }
-    {
-        let Bytes { items } = self;
-        items
+        self.items
     }
 }

@@ -13,7 +13,7 @@ use logfmt::Log;
 #[derive(Clone, Copy)]
 pub(crate) struct CaseWork<'x> {
     pub(crate) plan: &'x Plan<'x>,
-    pub(crate) log: &'x Log,
+    pub(crate) log: &'x Log<'x>,
     pub(crate) way: By,
     pub(crate) checkers: &'x [Checker<'x>],
     pub(crate) asked: Losses,

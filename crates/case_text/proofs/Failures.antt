@@ -41,7 +41,7 @@ program_next own fs n x y first before after more long same was is =
 both_inside : (n : ℕ) (ws vs : List Window) → AreWindows n ws → AreWindows n vs → AreWindows n (ws ++ vs)
 both_inside n ws vs one two i w at = elim (slice_get_of_append ws vs i w at) [ inl early ↦ one i w early.1 | inr late ↦ two (i - length ws) w late.1 ]
 
-none_inside : (n : ℕ) → AreWindows n []
+pub none_inside : (n : ℕ) → AreWindows n []
 none_inside n i w at = absurd (let bad : None ≡ Some w = at in cc)
 
 case_inside : (at : CutValue) (c : Case) → at.cut ≤ length at.log.entries → AreWindows (length at.log.entries) (if_window (case_window at c))
@@ -62,14 +62,14 @@ case_inside at c within = by_window (case_window at c) (window_is_told at c with
                 subst (λ (z : Window). (1 ≤ z.start) × (z.start ≤ z.end) × (z.end < length at.log.entries)) same (omega (arith, start), own.order, omega (arith, before, within))
             by_place (suc j) there = absurd (let bad : None ≡ Some u = there in cc)
 
-program_inside : (at : CutValue) (tears : Bool) (program : ℕ) (failing : List FailingCase) → at.cut ≤ length at.log.entries
+pub program_inside : (at : CutValue) (tears : Bool) (program : ℕ) (failing : List FailingCase) → at.cut ≤ length at.log.entries
     → AreWindows (length at.log.entries) (windows_in (program_failures at tears program failing))
 program_inside at tears program [] within = none_inside (length at.log.entries)
 program_inside at tears program (f ∷ failing) within =
     both_inside (length at.log.entries) (own_window (failure_of program (told_of at tears (failing_value f)))) (windows_in (program_failures at tears program failing))
     (case_inside at (case_of tears (parts_of at) (failing_value f).sets) within) (program_inside at tears program failing within)
 
-failures_both : (n : ℕ) (fs gs : List Failure) → AreWindows n (windows_in fs) → AreWindows n (windows_in gs) → AreWindows n (windows_in (fs ++ gs))
+pub failures_both : (n : ℕ) (fs gs : List Failure) → AreWindows n (windows_in fs) → AreWindows n (windows_in gs) → AreWindows n (windows_in (fs ++ gs))
 failures_both n fs gs one two = subst (AreWindows n) (sym (flat_map-append own_window fs gs)) (both_inside n (windows_in fs) (windows_in gs) one two)
 
 each_inside : (at : CutValue) (tears : Bool) (program : ℕ) (fs : List CaseFindings) → at.cut ≤ length at.log.entries

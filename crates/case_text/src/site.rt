@@ -132,7 +132,7 @@ impl<'a> Site<'a> {
     pub fn new(
         alloc: Global,
         plan: &Plan<'_>,
-        log: &'a Log,
+        log: &'a Log<'a>,
         by: By,
         tears: bool,
         number: u32,

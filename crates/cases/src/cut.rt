@@ -20,7 +20,7 @@ use std::marker::Model;
 /// Contracts see it as the log, what departs as one, and the number of the cut.
 #[derive(Drop)]
 pub struct Cut<'a> {
-    log: &'a Log,
+    log: &'a Log<'a>,
     way: By,
     number: u32,
     /// The last flush entry before the cut, or 0.
@@ -146,7 +146,7 @@ fn parts_at_risk(
 
 impl<'a> Cut<'a> {
     /// A cut of a log. It takes memory for each part at risk.
-    pub fn new(alloc: Global, log: &'a Log, way: By, number: u32) -> Result<Cut<'a>, AllocError>
+    pub fn new(alloc: Global, log: &'a Log<'a>, way: By, number: u32) -> Result<Cut<'a>, AllocError>
         requires { number ≤ length log.now.entries }
         ensures { IfOk result (λ cut. cut ≡ record { log = log.now; way = way; cut = number }) }
     {
@@ -170,7 +170,7 @@ impl<'a> Cut<'a> {
     }
 
     /// The log.
-    pub(crate) fn log(&self) -> &'a Log
+    pub(crate) fn log(&self) -> &'a Log<'a>
         ensures value { result.now ≡ self.now.log }
         ensures bounds { IsLog self.now.log }
         ensures within { self.now.cut ≤ length self.now.log.entries }

@@ -71,7 +71,7 @@ fn sector_at(content: &[u8], place: usize) -> &Sector
 }
 
 /// The content of a unit: its sector of the data of its entry, zeros for a discard.
-pub(crate) fn content_of(log: &Log, unit: Unit) -> &Sector
+pub(crate) fn content_of<'x>(log: &'x Log<'_>, unit: Unit) -> &'x Sector
     requires { IsUnit log.now unit }
     ensures { result.now ≡ unit_content log.now.entries unit }
 {

@@ -1,5 +1,5 @@
 -- The page of the same cases is the same.
-use Rattle.std.proofs.Common.{ℕ, zero, suc, ◌≡◌, ◌==◌, Bool, if◌then◌else◌, List, [], ◌∷◌, ◌++◌, ◌-◌, ◌+◌, length, filter, map, take, slice_get, Option, None, Some, refl, sym, ◌∙◌, ap, subst}
+use Rattle.std.proofs.Common.{ℕ, zero, suc, ◌≡◌, ◌==◌, ◌&&◌, Bool, true, if◌then◌else◌, List, [], ◌∷◌, ◌++◌, ◌-◌, ◌+◌, length, filter, map, take, slice_get, Option, None, Some, refl, sym, ◌∙◌, ap, subst}
 use Rattle.std.specs.Option.{option_map_or}
 use Rattle.std.proofs.lemmas.Option.{same_Some}
 use Rattle.logfmt.specs.Bounds.{LogValue}
@@ -16,7 +16,7 @@ use Rattle.case_runs.specs.declared.found.CutFound.{CutFound}
 use Rattle.case_runs.specs.declared.leaves.FailingCase.{FailingCase}
 use Rattle.case_runs.specs.Leaves.{failing_value}
 use Rattle.case_runs.specs.Found.{KnownCase, known_case, SameFound}
-use Rattle.crash_page.specs.Counts.{failing_of, cases_of, case_count, count_fails}
+use Rattle.crash_page.specs.Counts.{failing_of, cases_of, case_count, count_fails, has_all_at, has_all}
 use Rattle.crash_page.specs.Blocks.{most_cells}
 use Rattle.crash_page.specs.Groups.{cut_begin, cut_body, shown_of, one_failing, unlisted_text}
 use Rattle.crash_page.specs.Page.{title_text, strip_text, most_of_program}
@@ -24,7 +24,7 @@ use Rattle.crash_page.specs.Lacking.{advice_text}
 use Rattle.crash_page.specs.declared.judge.PageJudge.TheVariants as judging
 use Rattle.crash_page.specs.declared.case_program.CaseProgram.{CaseProgram}
 use Rattle.crash_page.specs.CaseRows.{row_at, case_said, row_text, case_row}
-use Rattle.crash_page.specs.CasePage.{RunValue, cut_at, case_rows, rest_text, case_head, cut_shown, listed_text, cuts_text, verdict_text, counts_of, said_text, summary_text, shown_cuts, program_text, programs_text, is_complete, left_text, run_text, run_with, parts_text}
+use Rattle.crash_page.specs.CasePage.{RunValue, cut_at, case_rows, rest_text, case_head, cut_shown, listed_text, cuts_text, verdict_text, counts_of, said_text, summary_text, shown_cuts, program_text, programs_text, left_text, run_text, run_with, parts_text}
 use Rattle.crash_page.specs.CaseFlushes.{failures_at, failures_of, IsLacking, IsCasePage}
 use Rattle.case_text.specs.Why.{ToldValue, program_failures, found_failures, failure_of}
 use Rattle.case_text.specs.Text.{options_text}
@@ -169,29 +169,44 @@ record SameProgram (p q : CaseProgram) : Type 0 where
   pub missing : p.missing.items ≡ q.missing.items
   pub uncured : p.uncured ≡ q.uncured
 
+-- as many cases were left out for a program
+all_at_same : (run : RunValue) (program : ℕ) (c d : CutFound) → EachSame (cut_value run.log run.way c.cut) run.tears c.programs.items d.programs.items → has_all_at program c ≡ has_all_at program d
+all_at_same run program c d same =
+    each_at (λ (f : CaseFindings). (f.torn_beyond == 0) && (f.lost_beyond == 0)) true (cut_value run.log run.way c.cut) run.tears
+    (λ f g own. λ i. (own.torn i == 0) && (own.lost i == 0)) program c.programs.items d.programs.items same
+
+all_same : (run : RunValue) (program : ℕ) (ls ms : List CutFound) → CutsSame run.log run.way run.tears ls ms → has_all program ls ≡ has_all program ms
+all_same run program [] [] same = refl
+all_same run program [] (d ∷ ds) same = absurd same
+all_same run program (c ∷ cs) [] same = absurd same
+all_same run program (c ∷ cs) (d ∷ ds) same =
+    let here = all_at_same run program c d same.1 in
+    let rest = all_same run program cs ds same.2 in
+    λ i. here i && rest i
+
 said_same : (run : RunValue) (ls ms : List CutFound) → CutsSame run.log run.way run.tears ls ms → (program : ℕ) (p q : CaseProgram) → SameProgram p q
-    → said_text run program p (counts_of program ls) ≡ said_text run program q (counts_of program ms)
+    → said_text (has_all program ls) program p (counts_of program ls) ≡ said_text (has_all program ms) program q (counts_of program ms)
 unfolding said_text
 said_same run ls ms same program p q own =
-    join_three (title_text program (judging.Checker p.head)) (title_text program (judging.Checker q.head)) (verdict_text run.complete (counts_of program ls)) (verdict_text run.complete (counts_of program ms)) _ _
-    (ap (λ (h : ProgramHead). title_text program (judging.Checker h)) own.head) (λ i. verdict_text run.complete (counts_same run program ls ms same i))
+    join_three (title_text program (judging.Checker p.head)) (title_text program (judging.Checker q.head)) (verdict_text (has_all program ls) (counts_of program ls)) (verdict_text (has_all program ms) (counts_of program ms)) _ _
+    (ap (λ (h : ProgramHead). title_text program (judging.Checker h)) own.head) (λ i. verdict_text (all_same run program ls ms same i) (counts_same run program ls ms same i))
     (same_advice advice_text _ program p.missing.items q.missing.items p.uncured q.uncured own.missing own.uncured)
 
 join_summary : (a b c d e f : List ℕ) → a ≡ b → c ≡ d → a ++ c ++ e ++ f ≡ b ++ d ++ e ++ f
 join_summary a b c d e f first second = λ i. first i ++ second i ++ e ++ f
 
 summary_same : (run : RunValue) (ls ms : List CutFound) → CutsSame run.log run.way run.tears ls ms → (program : ℕ) (p q : CaseProgram) → SameProgram p q
-    → summary_text run program p (counts_of program ls) ≡ summary_text run program q (counts_of program ms)
+    → summary_text run (has_all program ls) program p (counts_of program ls) ≡ summary_text run (has_all program ms) program q (counts_of program ms)
 unfolding summary_text
 summary_same run ls ms same program p q own =
-    join_summary (said_text run program p (counts_of program ls)) (said_text run program q (counts_of program ms)) _ _ _ _ (said_same run ls ms same program p q own)
+    join_summary (said_text (has_all program ls) program p (counts_of program ls)) (said_text (has_all program ms) program q (counts_of program ms)) _ _ _ _ (said_same run ls ms same program p q own)
     (same_row strip_text _ run.log.entries program p.missing.items q.missing.items (counts_of program ls) (counts_of program ms) own.missing (counts_same run program ls ms same))
 
 program_same : (run : RunValue) (ls ms : List CutFound) → CutsSame run.log run.way run.tears ls ms → (program : ℕ) (p q : CaseProgram) → SameProgram p q
     → program_text run ls program p ≡ program_text run ms program q
 unfolding program_text
 program_same run ls ms same program p q own =
-    join_program (summary_text run program p (counts_of program ls)) (summary_text run program q (counts_of program ms)) (shown_cuts run program ls) (shown_cuts run program ms) _
+    join_program (summary_text run (has_all program ls) program p (counts_of program ls)) (summary_text run (has_all program ms) program q (counts_of program ms)) (shown_cuts run program ls) (shown_cuts run program ms) _
     (summary_same run ls ms same program p q own) (shown_cuts_same run ls ms same program)
 
 programs_same : (run : RunValue) (ls ms : List CutFound) → CutsSame run.log run.way run.tears ls ms → (program : ℕ) (ps qs : List CaseProgram) → AreAlike SameProgram ps qs
@@ -249,12 +264,10 @@ pub page_same : (h : HeadValue) (asked : Losses) (log : LogValue) (ls ms : List 
 page_same h asked log ls ms bytes others same a b =
     let torn = torn_same log h.by asked.tears ls ms same in
     let lost = lost_same log h.by asked.tears ls ms same in
-    let run : RunValue = run_with h asked log ls in
+    let run : RunValue = run_with h asked log in
     let own : AreAlike SameProgram a.programs b.programs =
-    alike SameProgram a.programs b.programs (a.are.all ∙ sym b.are.all)
-    (λ i p q x y. let it : IsLacking run ms h.programs i q = (let e = b.are.each i q y in record { head = e.head; missing = e.missing; uncured = e.uncured }) in
-    lacking_same run h.programs ls ms same i p q (a.are.each i p x) it) in
+    alike SameProgram a.programs b.programs (a.are.all ∙ sym b.are.all) (λ i p q x y. lacking_same run h.programs ls ms same i p q (a.are.each i p x) (b.are.each i q y)) in
     let of_run : parts_text run (run_text h asked ls) a.programs ls ≡ parts_text run (run_text h asked ls) b.programs ms = found_same run (run_text h asked ls) a.programs b.programs ls ms same own in
     a.page ∙ of_run
-    ∙ (λ i. parts_text (record { log = log; way = h.by; tears = asked.tears; complete = is_complete (torn i) (lost i) }) (options_text h asked ++ left_text (torn i) (lost i)) b.programs ms)
+    ∙ (λ i. parts_text run (options_text h asked ++ left_text (torn i) (lost i)) b.programs ms)
     ∙ sym b.page

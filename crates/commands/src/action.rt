@@ -22,13 +22,13 @@ use inspect::looks::{
 };
 use inspect::trial::try_image;
 use join::{CasesFault, JoinFault, join, join_cases};
-use request::facts::{Facts, Recording};
+use request::facts::{Recording, RunFacts};
 use request::{
     AnyLosses, CaseTelling, LossWords, OptionWords, Options, Request, Retelling, Telling,
     TrialWords, Which, losses_of, options_of, trial_of, unreadable,
 };
 use retold::{RetellFault, retell};
-use runs::{Question, WantedAnswer, run_with};
+use runs::{Question, RunAnswer, WantedAnswer, run_with};
 use std::alloc::{AllocError, Global};
 use std::sync::Wait;
 use std::thread::Threads;
@@ -53,6 +53,17 @@ pub(crate) enum LogLook {
     Image(Which),
     /// One crash image in words.
     Show(Which),
+}
+
+/// What a command answers on what its files hold, and what is known for its notes.
+#[derive(Drop)]
+pub(crate) struct Acted {
+    /// The bytes for standard output.
+    pub(crate) bytes: Vec<u8>,
+    /// The status.
+    pub(crate) status: u8,
+    /// What is known of the programs and the run.
+    pub(crate) facts: RunFacts,
 }
 
 /// What each file of a command holds, none where it could not be read: those that it names by themselves, and the one after
@@ -160,20 +171,53 @@ fn programs_of(alloc: Global, files: &[Option<Vec<u8>>]) -> Result<Vec<Vec<u8>>,
     Ok(programs)
 }
 
+/// The status of a command, by whether an image fails.
+fn status_of(failing: bool) -> u8
+    ensures { result ≡ status_of failing }
+{
+    if failing { 1 } else { 0 }
+}
+
+/// An answer with the status 0, of a command that makes no run and verifies no program.
+fn answered(bytes: Vec<u8>) -> Acted
+    ensures bytes { result.bytes ≡ bytes }
+    ensures status { result.status ≡ 0 }
+{
+    Acted {
+        bytes,
+        status: 0,
+        facts: RunFacts::none(),
+    }
+}
+
+/// An answer of such a command with the status 1 where an image fails.
+fn with_status(bytes: Vec<u8>, failing: bool) -> Acted
+    ensures bytes { result.bytes ≡ bytes }
+    ensures status { result.status ≡ status_of failing }
+{
+    Acted {
+        bytes,
+        status: status_of(failing),
+        facts: RunFacts::none(),
+    }
+}
+
 /// Explores a log, and answers what is wanted with its status: 1 where there is a failing image.
 fn explore_files<G: Gate + Sync, R: Threads + Wait + Sync>(
     rt: &R,
     alloc: Global,
     gate: &G,
     question: &Question<'_>,
-    facts: &mut Facts,
-) -> Result<(Vec<u8>, u8), Refusal>
-    ensures answers { IfOk result (λ answer. AnswersRun question.now.wanted question.now.options.now question.now.recording.now (map (λ f. f.items) question.now.programs.now) answer.0.items answer.1) }
+) -> Result<Acted, Refusal>
+    ensures answers { IfOk result (λ answer. AnswersRun question.now.wanted question.now.options.now question.now.recording.now (map (λ f. f.items) question.now.programs.now) answer.bytes.items answer.status) }
     ensures refused { IfErr result (RefusesWanted question.now.wanted question.now.recording.now (map (λ f. f.items) question.now.programs.now) question.now.options.now) }
 {
-    let explored = run_with(rt, alloc, gate, question, facts)?;
-    let status = if explored.failing { 1 } else { 0 };
-    Ok((explored.bytes, status))
+    let RunAnswer { explored, facts } = run_with(rt, alloc, gate, question)?;
+    Ok(Acted {
+        bytes: explored.bytes,
+        status: status_of(explored.failing),
+        facts,
+    })
 }
 
 /// Explores the files of a command, of which the first is the log.
@@ -182,13 +226,12 @@ fn act_explore<G: Gate + Sync, R: Threads + Wait + Sync>(
     alloc: Global,
     gate: &G,
     asked: &AskedOfRun<'_>,
-    facts: &mut Facts,
-) -> Result<(Vec<u8>, u8), Refusal>
-    ensures answers { IfOk result (λ answer. AnswersExplore asked.now.wanted asked.now.words (held_by asked.now.files.now) answer.0.items answer.1) }
+) -> Result<Acted, Refusal>
+    ensures answers { IfOk result (λ answer. AnswersExplore asked.now.wanted asked.now.words (held_by asked.now.files.now) answer.bytes.items answer.status) }
     ensures refused { IfErr result (RefusesWith asked.now.words (RefusesFiles asked.now.wanted (held_by asked.now.files.now))) }
 {
     let options = options_of(asked.words)?;
-    explore_readable(rt, alloc, gate, asked, &options, facts)
+    explore_readable(rt, alloc, gate, asked, &options)
 }
 
 /// What is wanted of any number of losses.
@@ -213,9 +256,8 @@ fn act_cases<G: Gate + Sync, R: Threads + Wait + Sync>(
     words: OptionWords,
     losses: LossWords,
     files: &HeldFiles<'_>,
-    facts: &mut Facts,
-) -> Result<(Vec<u8>, u8), Refusal>
-    ensures answers { IfOk result (λ answer. AnswersCases cured words losses (held_by files.now) answer.0.items answer.1) }
+) -> Result<Acted, Refusal>
+    ensures answers { IfOk result (λ answer. AnswersCases cured words losses (held_by files.now) answer.bytes.items answer.status) }
     ensures refused { IfErr result (RefusesWith words (RefusesCases cured losses (held_by files.now))) }
 {
     let options = options_of(words)?;
@@ -225,7 +267,7 @@ fn act_cases<G: Gate + Sync, R: Threads + Wait + Sync>(
         words,
         files,
     };
-    explore_readable(rt, alloc, gate, &asked, &options, facts)
+    explore_readable(rt, alloc, gate, &asked, &options)
 }
 
 /// Explores files, each of which has to be readable.
@@ -235,9 +277,8 @@ fn explore_readable<G: Gate + Sync, R: Threads + Wait + Sync>(
     gate: &G,
     asked: &AskedOfRun<'_>,
     options: &Options,
-    facts: &mut Facts,
-) -> Result<(Vec<u8>, u8), Refusal>
-    ensures answers { IfOk result (λ answer. AnswersFiles asked.now.wanted options.now (held_by asked.now.files.now) answer.0.items answer.1) }
+) -> Result<Acted, Refusal>
+    ensures answers { IfOk result (λ answer. AnswersFiles asked.now.wanted options.now (held_by asked.now.files.now) answer.bytes.items answer.status) }
     ensures refused { IfErr result (RefusesFiles asked.now.wanted (held_by asked.now.files.now) options.now) }
 {
     let Some((first, others)) = asked.files.named.split_first() else {
@@ -259,7 +300,7 @@ fn explore_readable<G: Gate + Sync, R: Threads + Wait + Sync>(
                 programs: programs.as_slice(),
                 options,
             };
-            explore_files(rt, alloc, gate, &question, facts)
+            explore_files(rt, alloc, gate, &question)
         }
         Err(_error) => Err(Refusal::of_memory()),
     }
@@ -270,9 +311,8 @@ fn act_stored<G: Gate + Sync, R: Threads + Wait + Sync>(
     rt: &R,
     alloc: Global,
     gate: &G,
-    facts: &mut Facts,
-) -> Result<(Vec<u8>, u8), Refusal>
-    ensures answers { IfOk result (λ answer. AnswersRun (wants.Told tells.Report) stored_settings (recording stored_log []) stored_programs answer.0.items answer.1) }
+) -> Result<Acted, Refusal>
+    ensures answers { IfOk result (λ answer. AnswersRun (wants.Told tells.Report) stored_settings (recording stored_log []) stored_programs answer.bytes.items answer.status) }
     ensures refused { IfErr result (λ r. (r ≡ memory_refusal) ⊎ RefusesWanted (wants.Told tells.Report) (recording stored_log []) stored_programs stored_settings r) }
 {
     let options = stored_options();
@@ -285,7 +325,7 @@ fn act_stored<G: Gate + Sync, R: Threads + Wait + Sync>(
                 programs: programs.as_slice(),
                 options: &options,
             };
-            explore_files(rt, alloc, gate, &question, facts)
+            explore_files(rt, alloc, gate, &question)
         }
         Err(_error) => Err(Refusal::of_memory()),
     }
@@ -297,17 +337,16 @@ fn shown(
     look: LogLook,
     recording: &Recording<'_>,
     options: &Options,
-    facts: &mut Facts,
 ) -> Result<Vec<u8>, Refusal>
     ensures shown { IfOk result (λ bytes. Shows look options.now recording.now bytes.items) }
     ensures refused { IfErr result (RefusesLook look options.now recording.now) }
 {
     match look {
-        LogLook::Images(parts) => survey(alloc, recording, parts, options, facts),
-        LogLook::Export => export_images(alloc, recording, options, facts),
-        LogLook::Log => shown_log(alloc, recording, options, facts),
-        LogLook::Image(which) => image(alloc, recording, which, options, facts),
-        LogLook::Show(which) => show(alloc, recording, which, options, facts),
+        LogLook::Images(parts) => survey(alloc, recording, parts, options),
+        LogLook::Export => export_images(alloc, recording, options),
+        LogLook::Log => shown_log(alloc, recording, options),
+        LogLook::Image(which) => image(alloc, recording, which, options),
+        LogLook::Show(which) => show(alloc, recording, which, options),
     }
 }
 
@@ -318,15 +357,14 @@ fn act_look(
     look: LogLook,
     words: OptionWords,
     files: &HeldFiles<'_>,
-    facts: &mut Facts,
-) -> Result<(Vec<u8>, u8), Refusal>
-    ensures answers { IfOk result (λ answer. AnswersOf words (λ s text. Shows look s text) (held_by files.now) answer.0.items answer.1) }
+) -> Result<Acted, Refusal>
+    ensures answers { IfOk result (λ answer. AnswersOf words (λ s text. Shows look s text) (held_by files.now) answer.bytes.items answer.status) }
     ensures refused { IfErr result (RefusesWith words (λ s. RefusesRecording (held_by files.now) (λ text. RefusesLook look s text))) }
 {
     let options = options_of(words)?;
     let recording = files.recording()?;
-    let bytes = shown(alloc, look, &recording, &options, facts)?;
-    Ok((bytes, 0))
+    let bytes = shown(alloc, look, &recording, &options)?;
+    Ok(answered(bytes))
 }
 
 /// What is asked of any number of losses, where no number of them is given.
@@ -360,17 +398,16 @@ fn act_any_image(
     cut: u64,
     in_words: bool,
     files: &HeldFiles<'_>,
-    facts: &mut Facts,
-) -> Result<(Vec<u8>, u8), Refusal>
-    ensures answers { IfOk result (λ answer. AnswersAny words cut in_words (held_by files.now) answer.0.items answer.1) }
+) -> Result<Acted, Refusal>
+    ensures answers { IfOk result (λ answer. AnswersAny words cut in_words (held_by files.now) answer.bytes.items answer.status) }
     ensures refused { IfErr result (RefusesWith words (RefusesAny cut (held_by files.now))) }
 {
     let options = options_of(words)?;
     let _losses = losses_of(any_words(), &options)?;
     let recording = files.recording()?;
     let form = form_of(in_words);
-    let bytes = any_image(alloc, form, &recording, cut, files.choice, &options, facts)?;
-    Ok((bytes, 0))
+    let bytes = any_image(alloc, form, &recording, cut, files.choice, &options)?;
+    Ok(answered(bytes))
 }
 
 /// The cuts at which cases are looked for, of the log that the first file holds.
@@ -381,16 +418,15 @@ fn act_cuts(
     losses: LossWords,
     parts: Option<u64>,
     files: &HeldFiles<'_>,
-    facts: &mut Facts,
-) -> Result<(Vec<u8>, u8), Refusal>
-    ensures answers { IfOk result (λ answer. AnswersCuts words losses parts (held_by files.now) answer.0.items answer.1) }
+) -> Result<Acted, Refusal>
+    ensures answers { IfOk result (λ answer. AnswersCuts words losses parts (held_by files.now) answer.bytes.items answer.status) }
     ensures refused { IfErr result (RefusesWith words (RefusesCuts losses parts (held_by files.now))) }
 {
     let options = options_of(words)?;
     let meant = losses_of(losses, &options)?;
     let recording = files.recording()?;
-    let bytes = survey_cuts(alloc, &recording, parts, meant, &options, facts)?;
-    Ok((bytes, 0))
+    let bytes = survey_cuts(alloc, &recording, parts, meant, &options)?;
+    Ok(answered(bytes))
 }
 
 /// The refusal of a report, or of what it is to be of.
@@ -413,9 +449,8 @@ fn act_retold(
     telling: Retelling,
     words: OptionWords,
     files: &HeldFiles<'_>,
-    facts: &mut Facts,
-) -> Result<(Vec<u8>, u8), Refusal>
-    ensures answers { IfOk result (λ answer. AnswersRetold telling words (held_by files.now) answer.0.items answer.1) }
+) -> Result<Acted, Refusal>
+    ensures answers { IfOk result (λ answer. AnswersRetold telling words (held_by files.now) answer.bytes.items answer.status) }
     ensures refused { IfErr result (RefusesWith words (RefusesReportOf telling (held_by files.now))) }
 {
     let options = options_of(words)?;
@@ -423,25 +458,21 @@ fn act_retold(
     let report = files.second()?;
     let initial = files.initial()?;
     let recording = Recording::of(log, initial);
-    match retell(alloc, telling, &recording, report, &options, facts) {
-        Ok(retold) => Ok((retold.bytes, status_of(retold.failing))),
+    match retell(alloc, telling, &recording, report, &options) {
+        Ok(retold) => Ok(with_status(retold.bytes, retold.failing)),
         Err(fault) => Err(retold_refusal_of(fault)),
     }
 }
 
 /// The log that is imported of a raw log.
 #[inline(never)]
-fn act_import(
-    alloc: Global,
-    limits: Limits,
-    files: &HeldFiles<'_>,
-) -> Result<(Vec<u8>, u8), Refusal>
-    ensures answers { IfOk result (λ answer. Answers (asks.Import limits) (held_by files.now) answer.0.items answer.1) }
+fn act_import(alloc: Global, limits: Limits, files: &HeldFiles<'_>) -> Result<Acted, Refusal>
+    ensures answers { IfOk result (λ answer. Answers (asks.Import limits) (held_by files.now) answer.bytes.items answer.status) }
     ensures refused { IfErr result (RefusesToAct (asks.Import limits) (held_by files.now)) }
 {
     let raw = files.first()?;
     let text = import(alloc, raw, limits)?;
-    Ok((text, 0))
+    Ok(answered(text))
 }
 
 /// What the verifier says of a program, with each guarded slot or without.
@@ -451,64 +482,58 @@ fn act_verify(
     words: OptionWords,
     listed: bool,
     files: &HeldFiles<'_>,
-    facts: &mut Facts,
-) -> Result<(Vec<u8>, u8), Refusal>
-    ensures answers { IfOk result (λ answer. Answers (asks.Verify words listed) (held_by files.now) answer.0.items answer.1) }
+) -> Result<Acted, Refusal>
+    ensures answers { IfOk result (λ answer. Answers (asks.Verify words listed) (held_by files.now) answer.bytes.items answer.status) }
     ensures refused { IfErr result (RefusesToAct (asks.Verify words listed) (held_by files.now)) }
 {
     let options = options_of(words)?;
     let code = files.first()?;
-    let text = verify_program(alloc, code, &options, listed, facts)?;
-    Ok((text, 0))
-}
-
-/// The status of a command, by whether an image fails.
-fn status_of(failing: bool) -> u8
-    ensures { result ≡ status_of failing }
-{
-    if failing { 1 } else { 0 }
+    let report = verify_program(alloc, code, &options, listed)?;
+    Ok(Acted {
+        bytes: report.text,
+        status: 0,
+        facts: RunFacts::of_program(report.unreached),
+    })
 }
 
 /// What a program comes to on one image, with the status 1 where it rejects that.
 #[inline(never)]
-fn act_check(
-    alloc: Global,
-    words: TrialWords,
-    files: &HeldFiles<'_>,
-    facts: &mut Facts,
-) -> Result<(Vec<u8>, u8), Refusal>
-    ensures answers { IfOk result (λ answer. Answers (asks.Check words) (held_by files.now) answer.0.items answer.1) }
+fn act_check(alloc: Global, words: TrialWords, files: &HeldFiles<'_>) -> Result<Acted, Refusal>
+    ensures answers { IfOk result (λ answer. Answers (asks.Check words) (held_by files.now) answer.bytes.items answer.status) }
     ensures refused { IfErr result (RefusesToAct (asks.Check words) (held_by files.now)) }
 {
     let trial = trial_of(words)?;
     let code = files.first()?;
     let image = files.second()?;
     let lines = files.lines()?;
-    let report = try_image(alloc, code, image, lines, &trial, facts)?;
-    let status = status_of(report.failing);
-    Ok((report.bytes, status))
+    let report = try_image(alloc, code, image, lines, &trial)?;
+    Ok(Acted {
+        bytes: report.bytes,
+        status: status_of(report.failing),
+        facts: RunFacts::of_program(report.unreached),
+    })
 }
 
 /// The program of a source text, as bytes.
 #[inline(never)]
-fn act_asm(alloc: Global, files: &HeldFiles<'_>) -> Result<(Vec<u8>, u8), Refusal>
-    ensures answers { IfOk result (λ answer. Answers asks.Asm (held_by files.now) answer.0.items answer.1) }
+fn act_asm(alloc: Global, files: &HeldFiles<'_>) -> Result<Acted, Refusal>
+    ensures answers { IfOk result (λ answer. Answers asks.Asm (held_by files.now) answer.bytes.items answer.status) }
     ensures refused { IfErr result (RefusesToAct asks.Asm (held_by files.now)) }
 {
     let source = files.first()?;
     let bytes = assemble(alloc, source)?;
-    Ok((bytes, 0))
+    Ok(answered(bytes))
 }
 
 /// The listing of a program.
 #[inline(never)]
-fn act_list(alloc: Global, numbered: bool, files: &HeldFiles<'_>) -> Result<(Vec<u8>, u8), Refusal>
-    ensures answers { IfOk result (λ answer. Answers (asks.List numbered) (held_by files.now) answer.0.items answer.1) }
+fn act_list(alloc: Global, numbered: bool, files: &HeldFiles<'_>) -> Result<Acted, Refusal>
+    ensures answers { IfOk result (λ answer. Answers (asks.List numbered) (held_by files.now) answer.bytes.items answer.status) }
     ensures refused { IfErr result (RefusesToAct (asks.List numbered) (held_by files.now)) }
 {
     let code = files.first()?;
     let text = list(alloc, code, numbered)?;
-    Ok((text, 0))
+    Ok(answered(text))
 }
 
 /// The refusal of texts that aren't joined.
@@ -554,38 +579,38 @@ fn are_cases(texts: &[Vec<u8>]) -> bool
 }
 
 /// What the texts of parts come to, with the status 1 where there is a failing line.
-fn join_parts(alloc: Global, part: bool, texts: &[Vec<u8>]) -> Result<(Vec<u8>, u8), Refusal>
+fn join_parts(alloc: Global, part: bool, texts: &[Vec<u8>]) -> Result<Acted, Refusal>
     requires some { 0 < length texts.now }
     requires few { length texts.now ≤ most_texts }
     requires parts { are_cases (map (λ f. f.items) texts.now) ≡ false }
-    ensures answers { IfOk result (λ answer. JoinsEither part (map (λ f. f.items) texts.now) answer.0.items answer.1) }
+    ensures answers { IfOk result (λ answer. JoinsEither part (map (λ f. f.items) texts.now) answer.bytes.items answer.status) }
     ensures refused { IfErr result (RefusesTexts part (map (λ f. f.items) texts.now)) }
 {
     match join(alloc, part, texts) {
-        Ok(joined) => Ok((joined.bytes, status_of(joined.failing))),
+        Ok(joined) => Ok(with_status(joined.bytes, joined.failing)),
         Err(fault) => Err(join_refusal_of(fault)),
     }
 }
 
 /// What the texts of cases come to, with the status 1 where there is a failing line.
-fn join_runs(alloc: Global, part: bool, texts: &[Vec<u8>]) -> Result<(Vec<u8>, u8), Refusal>
+fn join_runs(alloc: Global, part: bool, texts: &[Vec<u8>]) -> Result<Acted, Refusal>
     requires some { 0 < length texts.now }
     requires few { length texts.now ≤ most_texts }
     requires cases { are_cases (map (λ f. f.items) texts.now) ≡ true }
-    ensures answers { IfOk result (λ answer. JoinsEither part (map (λ f. f.items) texts.now) answer.0.items answer.1) }
+    ensures answers { IfOk result (λ answer. JoinsEither part (map (λ f. f.items) texts.now) answer.bytes.items answer.status) }
     ensures refused { IfErr result (RefusesTexts part (map (λ f. f.items) texts.now)) }
 {
     match join_cases(alloc, part, texts) {
-        Ok(joined) => Ok((joined.bytes, status_of(joined.failing))),
+        Ok(joined) => Ok(with_status(joined.bytes, joined.failing)),
         Err(fault) => Err(cases_refusal_of(fault)),
     }
 }
 
 /// What the texts come to: of cases where the first one begins so, and else of parts.
-fn join_texts(alloc: Global, part: bool, texts: &[Vec<u8>]) -> Result<(Vec<u8>, u8), Refusal>
+fn join_texts(alloc: Global, part: bool, texts: &[Vec<u8>]) -> Result<Acted, Refusal>
     requires some { 0 < length texts.now }
     requires few { length texts.now ≤ most_texts }
-    ensures answers { IfOk result (λ answer. JoinsEither part (map (λ f. f.items) texts.now) answer.0.items answer.1) }
+    ensures answers { IfOk result (λ answer. JoinsEither part (map (λ f. f.items) texts.now) answer.bytes.items answer.status) }
     ensures refused { IfErr result (RefusesTexts part (map (λ f. f.items) texts.now)) }
 {
     if are_cases(texts) {
@@ -597,8 +622,8 @@ fn join_texts(alloc: Global, part: bool, texts: &[Vec<u8>]) -> Result<(Vec<u8>, 
 
 /// What the parts that the files hold come to.
 #[inline(never)]
-fn act_join(alloc: Global, part: bool, files: &HeldFiles<'_>) -> Result<(Vec<u8>, u8), Refusal>
-    ensures answers { IfOk result (λ answer. Answers (asks.Join part) (held_by files.now) answer.0.items answer.1) }
+fn act_join(alloc: Global, part: bool, files: &HeldFiles<'_>) -> Result<Acted, Refusal>
+    ensures answers { IfOk result (λ answer. Answers (asks.Join part) (held_by files.now) answer.bytes.items answer.status) }
     ensures refused { IfErr result (RefusesToAct (asks.Join part) (held_by files.now)) }
 {
     if files.named.is_empty() {
@@ -616,65 +641,54 @@ fn act_join(alloc: Global, part: bool, files: &HeldFiles<'_>) -> Result<(Vec<u8>
     }
 }
 
-/// What `act` answers; what is found on the way is put into `facts`.
+/// What `act` answers, with what is known for the notes.
 pub(crate) fn act_known<G: Gate + Sync, R: Threads + Wait + Sync>(
     rt: &R,
     alloc: Global,
     gate: &G,
     words: &Words,
     files: &HeldFiles<'_>,
-    facts: &mut Facts,
-) -> Result<(Vec<u8>, u8), Refusal>
-    ensures answers { IfOk result (λ answer. Answers words.now.request (held_by files.now) answer.0.items answer.1) }
+) -> Result<Acted, Refusal>
+    ensures answers { IfOk result (λ answer. Answers words.now.request (held_by files.now) answer.bytes.items answer.status) }
     ensures refused { IfErr result (RefusesToAct words.now.request (held_by files.now)) }
 {
     match words.request() {
-        Request::StoredRun => act_stored(rt, alloc, gate, facts),
+        Request::StoredRun => act_stored(rt, alloc, gate),
         Request::Explore(words) => {
             let asked = files.run_asked_for(WantedAnswer::Told(Telling::Report), words);
-            act_explore(rt, alloc, gate, &asked, facts)
+            act_explore(rt, alloc, gate, &asked)
         }
-        Request::Cases(words, losses) => {
-            act_cases(rt, alloc, gate, false, words, losses, files, facts)
-        }
+        Request::Cases(words, losses) => { act_cases(rt, alloc, gate, false, words, losses, files) }
         Request::CureCases(words, losses) => {
-            act_cases(rt, alloc, gate, true, words, losses, files, facts)
+            act_cases(rt, alloc, gate, true, words, losses, files)
         }
         Request::Why(words) => {
             let asked = files.run_asked_for(WantedAnswer::Told(Telling::Causes), words);
-            act_explore(rt, alloc, gate, &asked, facts)
+            act_explore(rt, alloc, gate, &asked)
         }
         Request::Cure(words) => {
             let asked = files.run_asked_for(WantedAnswer::Cured, words);
-            act_explore(rt, alloc, gate, &asked, facts)
+            act_explore(rt, alloc, gate, &asked)
         }
         Request::Page(words) => {
             let asked = files.run_asked_for(WantedAnswer::Told(Telling::Page), words);
-            act_explore(rt, alloc, gate, &asked, facts)
+            act_explore(rt, alloc, gate, &asked)
         }
-        Request::Retold(words, telling) => act_retold(alloc, telling, words, files, facts),
-        Request::Images(words, parts) => act_look(
-            alloc,
-            LogLook::Images(parts),
-            words,
-            files,
-            facts,
-        ),
-        Request::Cuts(words, losses, parts) => {
-            act_cuts(alloc, words, losses, parts, files, facts)
-        }
-        Request::Export(words) => act_look(alloc, LogLook::Export, words, files, facts),
-        Request::Log(words) => act_look(alloc, LogLook::Log, words, files, facts),
+        Request::Retold(words, telling) => act_retold(alloc, telling, words, files),
+        Request::Images(words, parts) => act_look(alloc, LogLook::Images(parts), words, files),
+        Request::Cuts(words, losses, parts) => { act_cuts(alloc, words, losses, parts, files) }
+        Request::Export(words) => act_look(alloc, LogLook::Export, words, files),
+        Request::Log(words) => act_look(alloc, LogLook::Log, words, files),
         Request::Import(limits) => act_import(alloc, limits, files),
-        Request::Image(words, which) => act_look(alloc, LogLook::Image(which), words, files, facts),
-        Request::Show(words, which) => act_look(alloc, LogLook::Show(which), words, files, facts),
+        Request::Image(words, which) => act_look(alloc, LogLook::Image(which), words, files),
+        Request::Show(words, which) => act_look(alloc, LogLook::Show(which), words, files),
         Request::AnyImage {
             words,
             cut,
             in_words,
-        } => act_any_image(alloc, words, cut, in_words, files, facts),
-        Request::Verify { words, listed } => act_verify(alloc, words, listed, files, facts),
-        Request::Check(words) => act_check(alloc, words, files, facts),
+        } => act_any_image(alloc, words, cut, in_words, files),
+        Request::Verify { words, listed } => act_verify(alloc, words, listed, files),
+        Request::Check(words) => act_check(alloc, words, files),
         Request::Asm => act_asm(alloc, files),
         Request::List { numbered } => act_list(alloc, numbered, files),
         Request::Join { part } => act_join(alloc, part, files),
@@ -707,5 +721,8 @@ pub fn act<G: Gate + Sync, R: Threads + Wait + Sync>(
         base,
         choice: words.choice(),
     };
-    act_known(rt, alloc, gate, words, &held, &mut Facts::new())
+    match act_known(rt, alloc, gate, words, &held) {
+        Ok(acted) => Ok((acted.bytes, acted.status)),
+        Err(refusal) => Err(refusal),
+    }
 }

@@ -7,7 +7,7 @@ ghost use Rattle.commands.specs.Exits.{Exits};
 use crate::action::{HeldFiles, act_known};
 use base::refusal::Refusal;
 use command_line::Words;
-use request::facts::Facts;
+use request::facts::RunFacts;
 use std::alloc::Global;
 use std::sync::Wait;
 use std::thread::Threads;
@@ -25,8 +25,8 @@ pub struct Exit {
     pub refusal: Option<Refusal>,
     /// The status of the process.
     pub status: u8,
-    /// What was found on the way, for the notes.
-    pub facts: Facts,
+    /// What is known of the programs and the run, for the notes.
+    pub facts: RunFacts,
 }
 
 /// Performs a command on what its files hold, as `act` does, and tells how the process ends: with an answer on standard output
@@ -46,19 +46,18 @@ pub fn perform<G: Gate + Sync, R: Threads + Wait + Sync>(
         base,
         choice: words.choice(),
     };
-    let mut facts = Facts::new();
-    match act_known(rt, alloc, gate, words, &held, &mut facts) {
-        Ok((output, status)) => Exit {
-            output,
+    match act_known(rt, alloc, gate, words, &held) {
+        Ok(acted) => Exit {
+            output: acted.bytes,
             refusal: None,
-            status,
-            facts,
+            status: acted.status,
+            facts: acted.facts,
         },
         Err(refusal) => Exit {
             output: Vec::new(alloc),
             refusal: Some(refusal),
             status: REFUSED,
-            facts,
+            facts: RunFacts::none(),
         },
     }
 }

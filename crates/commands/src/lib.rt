@@ -22,7 +22,7 @@
 //!
 //! - `action`: `act`, what a command answers on what its files hold, and with which status.
 //! - `exit`: `perform`, which does the same and says how the process ends: its standard output, its refusal and its status,
-//!   with what was found for the notes.
+//!   with what is known for the notes.
 //! - `escaping`: the words of the command line, as a fault of it shows them.
 //! - `stored`: the run that the program holds itself.
 //! - `laws`: that there is one answer at most to what is asked, and no refusal beside it but for memory; that workers, cache
@@ -133,7 +133,7 @@ pub use laws::{
 };
 pub use notes::command_notes::{notes_after, notes_beside};
 pub use progress::Progress;
-pub use request::facts::{Facts, Recording};
+pub use request::facts::{Recording, RunFacts};
 pub use request::{
     Extent, OptionPlace, OptionWords, Options, Request, Settings, Telling, Which, fault_line,
 };

@@ -8,7 +8,6 @@ ghost use Rattle.commands.specs.Exits.{IsWritten, IsStopped};
 use crate::action::HeldFiles;
 use export::Output;
 use inspect::looks::{Stopped, write_images};
-use request::facts::Facts;
 use request::{OptionWords, options_of};
 use std::alloc::Global;
 use std::io::Write;
@@ -20,8 +19,6 @@ pub struct Streamed<W> {
     pub written: Result<(), Stopped>,
     /// Where it was written to.
     pub writer: W,
-    /// What was found on the way, for the notes.
-    pub facts: Facts,
 }
 
 /// Writes what `export` answers of such words on these files.
@@ -29,7 +26,6 @@ fn write_export<W: Write>(
     alloc: Global,
     words: OptionWords,
     files: &HeldFiles<'_>,
-    facts: &mut Facts,
     output: Output<W>,
 ) -> (Result<(), Stopped>, Output<W>)
     requires going { output.has_failed ≡ false }
@@ -44,7 +40,7 @@ fn write_export<W: Write>(
         Ok(recording) => recording,
         Err(refusal) => return (Err(Stopped::Refused(refusal)), output),
     };
-    write_images(alloc, &recording, &options, facts, output)
+    write_images(alloc, &recording, &options, output)
 }
 
 /// Performs `export` with such words on what its files hold, beside the text after `--choice`, as `perform` does, and writes the answer as it is made: whatever its length,
@@ -65,12 +61,10 @@ pub fn perform_export<W: Write>(
         base,
         choice,
     };
-    let mut facts = Facts::new();
     let output = Output::new(writer);
-    let (written, output) = write_export(alloc, words, &held, &mut facts, output);
+    let (written, output) = write_export(alloc, words, &held, output);
     Streamed {
         written,
         writer: output.into_writer(),
-        facts,
     }
 }

@@ -20,7 +20,7 @@ use Rattle.case_runs.specs.Leaves.{failing_value}
 use Rattle.case_text.specs.Window.{case_window}
 use Rattle.case_text.specs.Laws.{IsWindow, HasNoWindow}
 use Rattle.case_text.specs.Why.{program_failures, failure_of, told_of}
-use Rattle.case_text.proofs.Windowed.{window_is_told}
+use Rattle.case_text.proofs.Failures.{none_inside, program_inside, failures_both}
 use Rattle.crash_page.specs.declared.case_program.CaseProgram.{CaseProgram}
 use Rattle.crash_page.specs.Counts.{failing_of}
 use Rattle.crash_page.specs.CasePage.{RunValue, cut_at, run_text, run_with, parts_text}
@@ -40,47 +40,15 @@ none_taken run program c own old is none =
     none_of (cut_at run c.cut) run.tears own old none ∙ ap (λ (fs : List FailingCase). old ++ program_failures (cut_at run c.cut) run.tears 0 fs) is
 
 -- the windows lie in the log
-both_inside : (n : ℕ) (ws vs : List Window) → AreWindows n ws → AreWindows n vs → AreWindows n (ws ++ vs)
-both_inside n ws vs one two i w at = elim (slice_get_of_append ws vs i w at) [ inl early ↦ one i w early.1 | inr late ↦ two (i - length ws) w late.1 ]
-
-none_inside : (n : ℕ) → AreWindows n []
-none_inside n i w at = absurd (let bad : None ≡ Some w = at in cc)
-
-case_inside : (at : CutValue) (c : Case) → at.cut ≤ length at.log.entries → AreWindows (length at.log.entries) (if_window (case_window at c))
-case_inside at c within = by_window (case_window at c) (window_is_told at c within)
-  where
-    by_window : (o : Option Window) → MatchOption o (HasNoWindow at c) (IsWindow at c) → AreWindows (length at.log.entries) (if_window o)
-    by_window None none = none_inside (length at.log.entries)
-    by_window (Some w) is = one w is
-      where
-        one : (v : Window) → IsWindow at c v → AreWindows (length at.log.entries) (v ∷ [])
-        one v own i u here = by_place i here
-          where
-            by_place : (j : ℕ) → slice_get (v ∷ []) j ≡ Some u → (1 ≤ u.start) × (u.start ≤ u.end) × (u.end < length at.log.entries)
-            by_place zero there =
-                let same : v ≡ u = (let e : Some v ≡ Some u = there in cc) in
-                let start = own.start in
-                let before = own.before in
-                subst (λ (z : Window). (1 ≤ z.start) × (z.start ≤ z.end) × (z.end < length at.log.entries)) same (omega (arith, start), own.order, omega (arith, before, within))
-            by_place (suc j) there = absurd (let bad : None ≡ Some u = there in cc)
-
-program_inside : (at : CutValue) (tears : Bool) (failing : List FailingCase) → at.cut ≤ length at.log.entries
-    → AreWindows (length at.log.entries) (windows_in (program_failures at tears 0 failing))
-program_inside at tears [] within = none_inside (length at.log.entries)
-program_inside at tears (f ∷ failing) within =
-    both_inside (length at.log.entries) (own_window (failure_of 0 (told_of at tears (failing_value f)))) (windows_in (program_failures at tears 0 failing))
-    (case_inside at (case_of tears (parts_of at) (failing_value f).sets) within) (program_inside at tears failing within)
-
 pub all_inside : (run : RunValue) (program : ℕ) (found : List CutFound) → All (λ (c : CutFound). c.cut ≤ length run.log.entries) found
     → AreWindows (length run.log.entries) (windows_in (failures_of run program found))
 all_inside run program [] within = none_inside (length run.log.entries)
 all_inside run program (c ∷ found) within =
     let here = failures_at run program c in
     let rest = failures_of run program found in
-    subst (AreWindows (length run.log.entries)) (sym (flat_map-append own_window here rest))
-    (both_inside (length run.log.entries) (windows_in here) (windows_in rest)
-    (program_inside (cut_at run c.cut) run.tears (failing_of program c) (All-head (λ (d : CutFound). d.cut ≤ length run.log.entries) c found within))
-    (all_inside run program found (All-tail (λ (d : CutFound). d.cut ≤ length run.log.entries) c found within)))
+    failures_both (length run.log.entries) here rest
+    (program_inside (cut_at run c.cut) run.tears 0 (failing_of program c) (All-head (λ (d : CutFound). d.cut ≤ length run.log.entries) c found within))
+    (all_inside run program found (All-tail (λ (d : CutFound). d.cut ≤ length run.log.entries) c found within))
 
 -- what a page has of programs, with one more
 pub lacking_none : (run : RunValue) (found : List CutFound) (heads : List ProgramHead) (ps : List CaseProgram) → ps ≡ [] → AreLacking run found heads 0 ps
@@ -103,7 +71,7 @@ lacking_more run found heads count ps p was is =
 
 -- the whole page
 pub page_told : (h : HeadValue) (asked : Losses) (log : LogValue) (found : List CutFound) (run : RunValue) (none about all : List ℕ) (heads : List ProgramHead) (programs now : List CaseProgram) (bytes : List ℕ)
-    → none ≡ [] → run ≡ run_with h asked log found → about ≡ run_text h asked found → heads ≡ h.programs → AreLacking run found heads (length heads) programs → now ≡ programs
+    → none ≡ [] → run ≡ run_with h asked log → about ≡ run_text h asked found → heads ≡ h.programs → AreLacking run found heads (length heads) programs → now ≡ programs
     → all ≡ none ++ parts_text run about now found → bytes ≡ all → IsCasePage h asked log found bytes
 page_told h asked log found run none about all heads programs now bytes empty run_is text heads_are are same page is =
     record {

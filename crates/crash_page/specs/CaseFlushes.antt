@@ -38,5 +38,5 @@ pub record AreLacking (run : RunValue) (found : List CutFound) (heads : List Pro
 -- the bytes are the page of what was found
 pub record IsCasePage (h : HeadValue) (asked : Losses) (log : LogValue) (found : List CutFound) (bytes : List ℕ) : Type 0 where
   pub programs : List CaseProgram
-  pub are : AreLacking (run_with h asked log found) found h.programs (length h.programs) programs
+  pub are : AreLacking (run_with h asked log) found h.programs (length h.programs) programs
   pub page : bytes ≡ case_page_text h asked log programs found

@@ -17,7 +17,7 @@ use Rattle.crash_page.specs.declared.pieces.PagePart.TheVariants as piece
 use Rattle.crash_page.specs.Pieces.{piece_text}
 use Rattle.crash_page.specs.declared.counts.JudgedKind.TheVariants as kind
 use Rattle.crash_page.specs.declared.counts.CutCount.{CutCount}
-use Rattle.crash_page.specs.Counts.{count_fails, all_in, failing_in, failing_of, case_count}
+use Rattle.crash_page.specs.Counts.{count_fails, all_in, failing_in, failing_of, case_count, has_all}
 use Rattle.crash_page.specs.declared.cut.Showing.{Showing}
 use Rattle.crash_page.specs.declared.judge.PageJudge.TheVariants as judging
 use Rattle.crash_page.specs.declared.run.CaseRun.{CaseRun}
@@ -29,15 +29,14 @@ use Rattle.crash_page.specs.Groups.{cut_begin, cut_body, shown_of, showing, one_
 use Rattle.crash_page.specs.Page.{title_text, strip_text, most_of_program, about_text, list_text, head_text}
 use Rattle.crash_page.specs.CaseRows.{case_row}
 
--- of which log the cases are, what departs as one, whether parts may be torn, and whether no case was left out
+-- of which log the cases are, what departs as one, and whether parts may be torn
 pub record RunValue : Type 0 where
   pub log : LogValue
   pub way : By
   pub tears : Bool
-  pub complete : Bool
 
 abbrev pub run_of : CaseRun → RunValue
-run_of run = record { log = run.log.now; way = run.by; tears = run.tears; complete = run.complete }
+run_of run = record { log = run.log.now; way = run.by; tears = run.tears }
 
 abbrev pub cut_at : RunValue → ℕ → CutValue
 cut_at run cut = record { log = run.log; way = run.way; cut = cut }
@@ -100,14 +99,14 @@ verdict_text complete cs = if length cs == 0 then piece_text piece.NoCaseCuts el
 abbrev pub counts_of : ℕ → List CutFound → List CutCount
 counts_of program found = map (case_count program) found
 
--- what it comes to, and what flushes would do
-unfoldable pub said_text : RunValue → ℕ → CaseProgram → List CutCount → List ℕ
-said_text run program p cs = title_text program (judging.Checker p.head) ++ verdict_text run.complete cs ++ advice_text kind.Cases program p.missing.items p.uncured
+-- what it comes to, where no case was left out for it or some were, and what flushes would do
+unfoldable pub said_text : Bool → ℕ → CaseProgram → List CutCount → List ℕ
+said_text complete program p cs = title_text program (judging.Checker p.head) ++ verdict_text complete cs ++ advice_text kind.Cases program p.missing.items p.uncured
 
 -- and the log with its cuts and the flushes that are missing
-unfoldable pub summary_text : RunValue → ℕ → CaseProgram → List CutCount → List ℕ
-summary_text run program p cs =
-    said_text run program p cs ++ strip_text kind.Cases run.log.entries program p.missing.items cs ++ legend_text kind.Cases ++ piece_text piece.CaseKeys
+unfoldable pub summary_text : RunValue → Bool → ℕ → CaseProgram → List CutCount → List ℕ
+summary_text run complete program p cs =
+    said_text complete program p cs ++ strip_text kind.Cases run.log.entries program p.missing.items cs ++ legend_text kind.Cases ++ piece_text piece.CaseKeys
 
 -- the first cuts at which cases fail, and how many more there are
 unfoldable pub shown_cuts : RunValue → ℕ → List CutFound → List ℕ
@@ -118,7 +117,7 @@ shown_cuts run program found =
 -- a program
 unfoldable pub program_text : RunValue → List CutFound → ℕ → CaseProgram → List ℕ
 program_text run found program p =
-    summary_text run program p (counts_of program found) ++ shown_cuts run program found ++ piece_text piece.SectionClose
+    summary_text run (has_all program found) program p (counts_of program found) ++ shown_cuts run program found ++ piece_text piece.SectionClose
 
 -- programs, of which the first has that number
 abbrev pub programs_text : RunValue → List CutFound → ℕ → List CaseProgram → List ℕ
@@ -144,10 +143,9 @@ unfoldable pub parts_text : RunValue → List ℕ → List CaseProgram → List 
 parts_text run about ps found =
     head_text kind.Cases run.log ++ about_text about ++ programs_text run found 0 ps ++ list_text run.log.entries ++ piece_text piece.Closing
 
--- the run of a head, of what was asked of a log, and of what was found
-abbrev pub run_with : HeadValue → Losses → LogValue → List CutFound → RunValue
-run_with h asked log found =
-    record { log = log; way = h.by; tears = asked.tears; complete = is_complete (count_torn_beyond found) (count_lost_beyond found) }
+-- the run of a head, and of what was asked of a log
+abbrev pub run_with : HeadValue → Losses → LogValue → RunValue
+run_with h asked log = record { log = log; way = h.by; tears = asked.tears }
 
 abbrev pub case_page_text : HeadValue → Losses → LogValue → List CaseProgram → List CutFound → List ℕ
-case_page_text h asked log ps found = parts_text (run_with h asked log found) (run_text h asked found) ps found
+case_page_text h asked log ps found = parts_text (run_with h asked log) (run_text h asked found) ps found

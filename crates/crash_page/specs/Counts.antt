@@ -1,5 +1,6 @@
 -- How much of a cut fails: of its images, or of its cases.
-use Rattle.std.specs.Prelude.{ℕ, ◌==◌, not, Bool, List, [], codes, length, filter, sum_by, slice_get}
+use Rattle.std.specs.Prelude.{ℕ, ◌==◌, ◌&&◌, not, Bool, true, List, [], codes, length, filter, sum_by, slice_get}
+use Rattle.std.specs.List.{list_all}
 use Rattle.std.specs.Option.{option_map_or}
 use Rattle.losses.specs.declared.why.cut.CutFailures.{CutFailures}
 use Rattle.case_runs.specs.declared.leaves.FailingCase.{FailingCase}
@@ -44,6 +45,13 @@ failing_of program c = option_map_or (λ (f : CaseFindings). f.failing.items) (s
 
 abbrev pub cases_of : ℕ → CutFound → ℕ
 cases_of program c = option_map_or (λ (f : CaseFindings). f.cases) (slice_get c.programs.items program) 0
+
+-- no case at a cut was left out for the program of that number, and none at some cuts
+abbrev pub has_all_at : ℕ → CutFound → Bool
+has_all_at program c = option_map_or (λ (f : CaseFindings). (f.torn_beyond == 0) && (f.lost_beyond == 0)) (slice_get c.programs.items program) true
+
+abbrev pub has_all : ℕ → List CutFound → Bool
+has_all program found = list_all (has_all_at program) found
 
 abbrev pub case_count : ℕ → CutFound → CutCount
 case_count program c = record { cut = c.cut; of = kind.Cases; all = cases_of program c; failing = length (failing_of program c) }

@@ -6,13 +6,15 @@ ghost use Rattle.case_text.specs.Text.{options_text, count_torn_beyond, count_lo
 ghost use Rattle.crash_page.specs.declared.counts.CutCount.{CutCount as CountValue};
 ghost use Rattle.crash_page.specs.declared.counts.JudgedKind.TheVariants as kind;
 ghost use Rattle.crash_page.specs.CaseFlushes.{IsCasePage};
-ghost use Rattle.crash_page.specs.Counts.{count_fails, all_in, failing_in, case_count};
+ghost use Rattle.crash_page.specs.Counts.{count_fails, all_in, failing_in, case_count, has_all};
 ghost use Rattle.crash_page.specs.CasePage.{run_of, bad_text, good_text, open_text, passing_text, judged_text, verdict_text, counts_of, said_text, summary_text, shown_cuts, program_text, programs_text, is_complete, left_counts, left_text, run_text, parts_text};
 
 use crate::block::MOST_CELLS;
 use crate::case_cut::put_cuts;
 use crate::case_program::{CaseProgram, case_programs};
-use crate::counts::{CutCount, JudgedKind, all_in, case_counts, count_failing, failing_in};
+use crate::counts::{
+    CutCount, JudgedKind, all_in, case_counts, count_failing, failing_in, has_all,
+};
 use crate::judge::PageJudge;
 use crate::lacking::{Lacking, put_advice};
 use crate::page::{put_about, put_head, put_list};
@@ -117,20 +119,20 @@ fn lacking_of(number: usize, program: &CaseProgram) -> Lacking<'_>
     }
 }
 
-/// Appends what a program comes to, and what flushes would do.
+/// Appends what a program comes to, where no case was left out for it or some were, and what flushes would do.
 #[tactic(auto, unfolding(crate::specs::CasePage::said_text))]
 fn put_said(
     out: &mut String,
-    run: &CaseRun<'_>,
+    complete: bool,
     number: usize,
     program: &CaseProgram,
     cuts: &[CutCount],
 ) -> Result<(), AllocError>
-    ensures { OnOk result (string_bytes out.new ≡ string_bytes out.old ++ said_text (run_of run.now) number program.now cuts.now) }
+    ensures { OnOk result (string_bytes out.new ≡ string_bytes out.old ++ said_text complete number program.now cuts.now) }
 {
     let lacking = lacking_of(number, program);
     put_title(out, number, &PageJudge::Checker(program.head))?;
-    put_verdict(out, run.complete, cuts)?;
+    put_verdict(out, complete, cuts)?;
     put_advice(out, &lacking, program.uncured)
 }
 
@@ -140,19 +142,20 @@ fn put_summary(
     alloc: Global,
     out: &mut String,
     run: &CaseRun<'_>,
+    complete: bool,
     number: usize,
     program: &CaseProgram,
     cuts: &[CutCount],
 ) -> Result<(), AllocError>
     requires cuts { All (λ (c : CountValue). c.cut ≤ length run.now.log.now.entries) cuts.now }
-    ensures { OnOk result (string_bytes out.new ≡ string_bytes out.old ++ summary_text (run_of run.now) number program.now cuts.now) }
+    ensures { OnOk result (string_bytes out.new ≡ string_bytes out.old ++ summary_text (run_of run.now) complete number program.now cuts.now) }
 {
     let logged = Logged {
         plan: run.plan,
         log: run.log,
     };
     let lacking = lacking_of(number, program);
-    put_said(out, run, number, program, cuts)?;
+    put_said(out, complete, number, program, cuts)?;
     put_row(alloc, out, &logged, &lacking, cuts)?;
     put_legend(out, JudgedKind::Cases)?;
     put(out, PagePart::CaseKeys)
@@ -192,7 +195,16 @@ fn put_program(
     ensures { OnOk result (string_bytes out.new ≡ string_bytes out.old ++ program_text (run_of run.now) found.now number program.now) }
 {
     let counts = case_counts(alloc, number, found)?;
-    put_summary(alloc, out, run, number, program, counts.as_slice())?;
+    let complete = has_all(number, found);
+    put_summary(
+        alloc,
+        out,
+        run,
+        complete,
+        number,
+        program,
+        counts.as_slice(),
+    )?;
     put_shown_cuts(alloc, out, run, number, found, counts.as_slice())?;
     put(out, PagePart::SectionClose)
 }
@@ -306,13 +318,11 @@ pub fn case_page(
     requires cuts { All (λ (c : FoundValue). c.cut ≤ length log.now.entries) found.now }
     ensures { IfOk result (λ bytes. IsCasePage head.now asked log.now found.now bytes.items) }
 {
-    let (torn, lost) = left_out(found);
     let run = CaseRun {
         plan,
         log,
         by: head.by,
         tears: asked.tears,
-        complete: is_complete(torn, lost),
     };
     let about = about_run(alloc, head, asked, found)?;
     let programs = case_programs(alloc, &run, found, head.programs.as_slice())?;

@@ -1,7 +1,7 @@
 //! How much of a cut fails: of its images, or of its cases.
 
 ghost use Rattle.std.specs.Prelude.{◌≡◌, ◌≤◌, ◌++◌, ◌∷◌, [], length, map, filter, IfOk, OnOk, string_bytes};
-ghost use Rattle.crash_page.specs.Counts.{kind_word, single_word, fails, count_fails, all_in, failing_in, image_count, failing_of, cases_of, case_count};
+ghost use Rattle.crash_page.specs.Counts.{kind_word, single_word, fails, count_fails, all_in, failing_in, image_count, failing_of, cases_of, case_count, has_all_at, has_all};
 
 use case_runs::{CutFound, FailingCase};
 use losses::why::CutFailures;
@@ -137,6 +137,23 @@ fn cases_of(program: usize, cut: &CutFound) -> usize
         Some(found) => found.cases,
         None => 0,
     }
+}
+
+/// Whether no case at a cut was left out for the program of that number.
+fn has_all_at(program: usize, cut: &CutFound) -> bool
+    ensures { result ≡ has_all_at program cut.now }
+{
+    match cut.programs.get(program) {
+        Some(found) => found.torn_beyond == 0 && found.lost_beyond == 0,
+        None => true,
+    }
+}
+
+/// Whether no case at some cuts was left out for it.
+pub(crate) fn has_all(program: usize, found: &[CutFound]) -> bool
+    ensures { result ≡ has_all program found.now }
+{
+    found.iter().all(|cut| has_all_at(program, cut))
 }
 
 /// How many cases of a cut fail.

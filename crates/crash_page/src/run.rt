@@ -29,18 +29,17 @@ pub struct PageRun<'a> {
 #[derive(Clone, Copy)]
 pub(crate) struct Logged<'a> {
     pub(crate) plan: &'a Plan<'a>,
-    pub(crate) log: &'a Log,
+    pub(crate) log: &'a Log<'a>,
     pub(crate) ghost log_is: { plan.now.log ≡ log.now },
 }
 
-/// Of which log cases are, what departs as one, whether parts may be torn, and whether no case was left out.
+/// Of which log cases are, what departs as one, and whether parts may be torn.
 #[derive(Clone, Copy)]
 pub(crate) struct CaseRun<'a> {
     pub(crate) plan: &'a Plan<'a>,
-    pub(crate) log: &'a Log,
+    pub(crate) log: &'a Log<'a>,
     pub(crate) by: By,
     pub(crate) tears: bool,
-    pub(crate) complete: bool,
     pub(crate) ghost log_is: { plan.now.log ≡ log.now },
 }
 

@@ -12,7 +12,7 @@ pub struct Numbering<'a> {
     /// The plan of the log.
     pub plan: &'a Plan<'a>,
     /// The log.
-    pub log: &'a Log,
+    pub log: &'a Log<'a>,
     /// The wanted cuts.
     pub cuts: Cuts,
     /// What departs as one.

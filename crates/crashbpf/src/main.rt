@@ -40,7 +40,7 @@ ghost use Rattle.crashbpf.specs.Ending.{held_in, files_name, meant, Ends, EndsOn
 use base::refusal::Refusal;
 use clap::error::ErrorKind as WordsFault;
 use commands::{
-    Exit, Facts, OptionWords, Output, Progress, Request, Stopped, StreamFault, Streamed, Words,
+    Exit, OptionWords, Output, Progress, Request, RunFacts, Stopped, StreamFault, Streamed, Words,
     emit, escaped_words, fault_line, lines_of_image, notes_after, notes_beside, perform,
     perform_export,
 };
@@ -205,7 +205,7 @@ fn run_whole<R: AllocGlobal + Eprint + Clock + Threads + Wait + Sync, W: Write>(
                 let status = print_line(rt, unwritten_line(is_unread));
                 return CommandEnd { status, writer };
             }
-            print_notes(rt, notes_beside(rt.alloc(), words, &exit.facts));
+            print_notes(rt, notes_beside(rt.alloc(), words, files, &exit.facts));
             CommandEnd {
                 status: exit.status,
                 writer,
@@ -214,10 +214,7 @@ fn run_whole<R: AllocGlobal + Eprint + Clock + Threads + Wait + Sync, W: Write>(
         Some(refusal) => {
             let refusal = inputs.refusal(refusal);
             let status = print_refusal(rt, &refusal);
-            print_notes(
-                rt,
-                notes_after(rt.alloc(), words, files, &refusal, &exit.facts),
-            );
+            print_notes(rt, notes_after(rt.alloc(), words, files, &refusal));
             rt.eprint(inputs.note(&refusal)).ok();
             CommandEnd { status, writer }
         }
@@ -238,18 +235,15 @@ fn run_streamed<R: AllocGlobal + Eprint, W: Write>(
     let files = inputs.contents();
     let choice = words.choice();
     let ended = perform_export(rt.alloc(), asked, files, inputs.base(), choice, writer);
-    let Streamed {
-        written,
-        writer,
-        facts,
-    } = ended;
+    let Streamed { written, writer } = ended;
     match written {
         Ok(()) => {
-            print_notes(rt, notes_beside(rt.alloc(), words, &facts));
+            let facts = RunFacts::none();
+            print_notes(rt, notes_beside(rt.alloc(), words, files, &facts));
             CommandEnd { status: 0, writer }
         }
         Err(why) => {
-            let status = print_stopped(rt, words, inputs, why, &facts);
+            let status = print_stopped(rt, words, inputs, why);
             CommandEnd { status, writer }
         }
     }
@@ -261,7 +255,6 @@ fn print_stopped<R: AllocGlobal + Eprint>(
     words: &Words,
     inputs: &Inputs,
     why: Stopped,
-    facts: &Facts,
 ) -> u8
     ensures { result ≡ 2 }
 {
@@ -270,7 +263,7 @@ fn print_stopped<R: AllocGlobal + Eprint>(
             let refusal = inputs.refusal(refusal);
             let status = print_refusal(rt, &refusal);
             let files = inputs.contents();
-            print_notes(rt, notes_after(rt.alloc(), words, files, &refusal, facts));
+            print_notes(rt, notes_after(rt.alloc(), words, files, &refusal));
             rt.eprint(inputs.note(&refusal)).ok();
             status
         }
@@ -353,10 +346,7 @@ fn read_and_run<S: FileSource + AllocGlobal + Eprint + Clock + Threads + Wait + 
         Ok(inputs) => run_on_device(rt, words, &inputs, writer),
         Err(refusal) => {
             let status = print_refusal(rt, &refusal);
-            print_notes(
-                rt,
-                notes_after(rt.alloc(), words, &[], &refusal, &Facts::new()),
-            );
+            print_notes(rt, notes_after(rt.alloc(), words, &[], &refusal));
             CommandEnd { status, writer }
         }
     }

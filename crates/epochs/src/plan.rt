@@ -22,7 +22,7 @@ use std::marker::Model;
 /// cuts 0 to n, and a plan answers for each of them, wanted or not.
 #[derive(Drop)]
 pub struct Plan<'a> {
-    log: &'a Log,
+    log: &'a Log<'a>,
     kind: Cuts,
     by: By,
     rows: Vec<CutRow>,
@@ -43,7 +43,7 @@ impl<'a> Plan<'a> {
     ghost use Rattle.epochs.specs.Plan.{IsPart};
 
     /// The plan of a log. The calls below take no memory.
-    pub fn new(alloc: Global, log: &'a Log, cuts: Cuts, by: By) -> Result<Plan<'a>, AllocError>
+    pub fn new(alloc: Global, log: &'a Log<'a>, cuts: Cuts, by: By) -> Result<Plan<'a>, AllocError>
         ensures log { IfOk result (λ plan. plan.log ≡ log.now) }
         ensures kind { IfOk result (λ plan. plan.kind ≡ cuts) }
         ensures by { IfOk result (λ plan. plan.by ≡ by) }

@@ -27,7 +27,7 @@ pub struct WantedImages {
 /// Contracts see the plan, and how its images are numbered.
 #[derive(Drop)]
 pub struct PlannedImages<'a> {
-    log: &'a Log,
+    log: &'a Log<'a>,
     plan: &'a Plan<'a>,
     wanted: WantedImages,
 }
@@ -49,7 +49,7 @@ impl<'a> PlannedImages<'a> {
     ghost use Rattle.export.specs.Kept.{IsAsked};
 
     /// The images of a plan of a log that are wanted.
-    pub fn of(log: &'a Log, plan: &'a Plan<'a>, wanted: WantedImages) -> PlannedImages<'a>
+    pub fn of(log: &'a Log<'a>, plan: &'a Plan<'a>, wanted: WantedImages) -> PlannedImages<'a>
         requires log { plan.now.log ≡ log.now }
         requires by { wanted.by ≡ plan.now.by }
         requires bound { wanted.bound ≤ 3 }
@@ -63,7 +63,7 @@ impl<'a> PlannedImages<'a> {
     }
 
     /// The log.
-    pub(crate) fn log(&self) -> &'a Log
+    pub(crate) fn log(&self) -> &'a Log<'a>
         ensures { result.now ≡ self.now.plan.log }
     {
         self.log

@@ -15,7 +15,7 @@ use std::marker::Model;
 /// Contracts see a log, a cut and departures.
 #[derive(Drop)]
 pub(crate) struct ExportedImage<'a> {
-    log: &'a Log,
+    log: &'a Log<'a>,
     /// The crash image; none of what the device held before entry 0.
     view: Option<View<'a>>,
     cut: u32,
@@ -39,7 +39,7 @@ impl<'a> ExportedImage<'a> {
     ghost use Rattle.images.specs.Views.{IsMember, sectors_of, view_of};
 
     /// What the device held before entry 0.
-    pub(crate) fn initial(log: &'a Log) -> ExportedImage<'a>
+    pub(crate) fn initial(log: &'a Log<'a>) -> ExportedImage<'a>
         ensures { result ≡ record { log = log.now; cut = 0; departures = [] } }
     {
         let _sectors = log.sectors();
@@ -54,7 +54,7 @@ impl<'a> ExportedImage<'a> {
     /// The crash image of a choice.
     pub(crate) fn of(
         alloc: Global,
-        log: &'a Log,
+        log: &'a Log<'a>,
         history: &'a History<'a>,
         choice: &Choice,
     ) -> Result<ExportedImage<'a>, AllocError>
@@ -73,7 +73,7 @@ impl<'a> ExportedImage<'a> {
     }
 
     /// The log.
-    pub(crate) fn log(&self) -> &'a Log
+    pub(crate) fn log(&self) -> &'a Log<'a>
         ensures value { result.now ≡ self.now.log }
         ensures bounds { IsLog self.now.log }
     {

@@ -35,7 +35,7 @@ struct ImageSource<'a> {
 
 /// An image, and what it is found by.
 #[derive(Drop)]
-struct Next<'a> {
+struct FoundImage<'a> {
     image: ExportedImage<'a>,
     /// How many marks stand before its cut.
     marks: u32,
@@ -161,7 +161,7 @@ impl<'a> ImageSource<'a> {
         alloc: Global,
         compared: &mut Vec<u32>,
         later: u32,
-        next: &Next<'a>,
+        next: &FoundImage<'a>,
         place: u32,
     ) -> Result<bool, AllocError>
         requires place { self.now.from + place < self.now.to }
@@ -190,7 +190,7 @@ impl<'a> ImageSource<'a> {
         places: &HashMap<u64, KeptImage>,
         compared: &mut Vec<u32>,
         place: u32,
-        next: &Next<'a>,
+        next: &FoundImage<'a>,
     ) -> Result<KeyPlace, AllocError>
         requires place { self.now.from + place < self.now.to }
         requires next { IsNext self.now place next.now.image next.now.marks next.now.sum }
@@ -218,7 +218,7 @@ impl<'a> ImageSource<'a> {
         differing: &mut Vec<u32>,
         place: u32,
         choice: &Choice,
-    ) -> Result<Next<'a>, AllocError>
+    ) -> Result<FoundImage<'a>, AllocError>
         requires choice { slice_get (ranked_choices self.now.plan self.now.bound self.now.tears) (self.now.from + place) ≡ Some choice.now }
         requires kept { IsKept self.now place kept.now.shown kept.now.near kept.now.sum kept.now.fresh (get nat_eq kept.now.places) }
         ensures { IfOk result (λ next. IsNext self.now place next.image next.marks next.sum) }
@@ -227,7 +227,7 @@ impl<'a> ImageSource<'a> {
         put_differing(differing, &kept.near, &image)?;
         let sum = kept.sum_with(&image, differing.as_slice());
         let marks = self.marks(place, choice);
-        Ok(Next { image, marks, sum })
+        Ok(FoundImage { image, marks, sum })
     }
 
     /// Keeps an image that isn't new, as the last one that is the same as the new one at a key.
@@ -235,7 +235,7 @@ impl<'a> ImageSource<'a> {
         &self,
         kept: &mut KeptImages<'a>,
         place: u32,
-        next: Next<'a>,
+        next: FoundImage<'a>,
         key: u64,
         first: u32,
     ) -> Result<(), AllocError>
@@ -258,7 +258,7 @@ impl<'a> ImageSource<'a> {
         kept: &mut KeptImages<'a>,
         place: u32,
         choice: &Choice,
-        next: Next<'a>,
+        next: FoundImage<'a>,
         key: u64,
     ) -> Result<(), AllocError>
         requires choice { slice_get (ranked_choices self.now.plan self.now.bound self.now.tears) (self.now.from + place) ≡ Some choice.now }

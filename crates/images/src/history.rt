@@ -2,7 +2,7 @@
 
 ghost use Rattle.std.specs.Prelude.{◌≡◌, IfOk, IsOk};
 
-use crate::table::{Table, table_of};
+use crate::table::{UnitTable, table_of};
 use crate::torn::{put_torn, tear_any};
 use crate::versions::Versions;
 use crate::view::View;
@@ -21,8 +21,8 @@ use std::marker::Model;
 #[derive(Drop)]
 pub struct History<'a> {
     plan: &'a Plan<'a>,
-    log: &'a Log,
-    table: Table,
+    log: &'a Log<'a>,
+    table: UnitTable,
 }
 
 impl<'a> Model for History<'a> {
@@ -41,7 +41,11 @@ impl<'a> History<'a> {
     ghost use Rattle.images.specs.Views.{IsMember, view_of};
 
     /// The crash images of a plan's log. It takes memory for each unit, and the time of a sort.
-    pub fn new(alloc: Global, plan: &'a Plan<'a>, log: &'a Log) -> Result<History<'a>, AllocError>
+    pub fn new(
+        alloc: Global,
+        plan: &'a Plan<'a>,
+        log: &'a Log<'a>,
+    ) -> Result<History<'a>, AllocError>
         requires { plan.now.log ≡ log.now }
         ensures { IfOk result (λ history. history ≡ plan.now) }
     {

@@ -137,7 +137,7 @@ fn sector_at(content: &[u8], place: usize) -> &Sector
 }
 
 /// The content of a unit: its sector of the data of its entry, zeros for a discard.
-pub(crate) fn content_of(log: &Log, unit: Unit) -> &Sector
+pub(crate) fn content_of<'x>(log: &'x Log<'_>, unit: Unit) -> &'x Sector
     requires { IsUnit log.now unit }
     ensures value { result.now ≡ unit_content log.now.entries unit }
     ensures size { length result.now ≡ 512 }
@@ -153,7 +153,7 @@ pub(crate) fn content_of(log: &Log, unit: Unit) -> &Sector
 /// What a sector held before entry 0. After the end of the initial content, and so for each sector of a
 /// log without any, it is one comparison more than to lend a sector of zeros.
 #[inline(always)]
-pub(crate) fn initial_of(log: &Log, number: u32) -> &Sector
+pub(crate) fn initial_of<'x>(log: &'x Log<'_>, number: u32) -> &'x Sector
     ensures { result.now ≡ initial_sector log.now.initial number }
 {
     log.initial().sector(number)

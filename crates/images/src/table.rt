@@ -21,7 +21,7 @@ const MOST_STARTS: u32 = 524_289;
 
 /// The units of a log by the sectors that they cover.
 #[derive(Drop)]
-pub(crate) struct Table {
+pub(crate) struct UnitTable {
     units: Vec<Unit>,
     /// How many units cover a sector before that of each place, which is 64 times the place.
     starts: Vec<usize>,
@@ -61,7 +61,7 @@ fn place_in(units: &[Unit], low: usize, high: usize, number: u32) -> usize
     first
 }
 
-impl Table {
+impl UnitTable {
     /// A place before which all units cover sectors before those of a page.
     fn low_of(&self, page: usize) -> usize
         requires { AreStarts self.now.units.items self.now.starts.items }
@@ -167,10 +167,10 @@ fn starts_of(alloc: Global, units: &[Unit]) -> Result<Vec<usize>, AllocError>
 }
 
 /// The table of a log.
-pub(crate) fn table_of(alloc: Global, log: &Log) -> Result<Table, AllocError>
+pub(crate) fn table_of(alloc: Global, log: &Log) -> Result<UnitTable, AllocError>
     ensures { IfOk result (λ table. IsTable log.now table.units.items table.starts.items) }
 {
     let units = sorted_units(alloc, log)?;
     let starts = starts_of(alloc, units.as_slice())?;
-    Ok(Table { units, starts })
+    Ok(UnitTable { units, starts })
 }

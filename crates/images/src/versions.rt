@@ -7,7 +7,7 @@ ghost use Rattle.epochs.specs.Units.{units_before};
 ghost use Rattle.images.specs.Table.{IsTable};
 
 use crate::image::{Sector, content_of, fate_at, form_sector, initial_of, showing};
-use crate::table::Table;
+use crate::table::UnitTable;
 use choices::Departure;
 use epochs::Unit;
 use logfmt::Log;
@@ -18,8 +18,8 @@ use std::marker::Model;
 /// Contracts see them as the log.
 #[derive(Drop)]
 pub(crate) struct Versions<'a> {
-    log: &'a Log,
-    table: &'a Table,
+    log: &'a Log<'a>,
+    table: &'a UnitTable,
 }
 
 impl<'a> Model for Versions<'a> {
@@ -41,7 +41,7 @@ impl<'a> Versions<'a> {
     ghost use Rattle.images.specs.Table.{versions, is_torn, DepartOnce};
 
     /// The units of a log by this table.
-    pub(crate) fn of(log: &'a Log, table: &'a Table) -> Versions<'a>
+    pub(crate) fn of(log: &'a Log<'a>, table: &'a UnitTable) -> Versions<'a>
         requires { IsTable log.now table.now.units.items table.now.starts.items }
         ensures { result ≡ log.now }
     {
@@ -59,7 +59,7 @@ impl<'a> Versions<'a> {
     }
 
     /// The log.
-    pub(crate) fn log(&self) -> &'a Log
+    pub(crate) fn log(&self) -> &'a Log<'a>
         ensures value { result.now ≡ self.now }
         ensures bounds { IsLog self.now }
     {

@@ -15,11 +15,13 @@ use Rattle.machine.specs.Memory.{context_bytes}
 use Rattle.machine.specs.Outcome.{Ending, Verdict, Stopped, OutOfSteps, Stray}
 use Rattle.notes.specs.SourceLines.{LineOfC, AreLines, NoLines, source_text}
 use Rattle.interp.specs.Walks.{memory_as, outcome_as, start_as}
+use Rattle.verifier.specs.declared.unreached.Unreached.{Unreached}
 use Rattle.verifier.specs.Guards.{guarded_slots}
 use Rattle.verifier.specs.Verdicts.{VerifiedValue, IsVerified, RefusedWith}
 use Rattle.report.specs.Line.{fails}
 use Rattle.report.specs.LineText.{ending_text}
 use Rattle.request.specs.declared.trials.Trial.{Trial}
+use Rattle.request.specs.Found.{IsUnreached}
 use Rattle.request.specs.Refusals.{bytes_refusal, file_refusal}
 use Rattle.inspect.specs.TrialImage.{sectors_of, is_image, device_of}
 use Rattle.inspect.specs.Trace.{steps_made, trace_text}
@@ -52,6 +54,16 @@ pub record IsBoundBy (with_guards : Bool) (slots : List (Option Instr)) (sector_
 -- the limit where one is given, else the budget with which the verifier accepts the program
 abbrev pub Allows : List (Option Instr) → List ℕ → Trial → Bound → Type 0
 Allows slots image t b = MatchOption t.checked (IsBoundBy t.guards slots (sectors_of image) b) (λ most. b ≡ record { limit = most; guarded = None })
+
+-- where no limit is given, what no run reaches of the program; else nothing is said of that
+abbrev pub LeavesUnreached : List (Option Instr) → List ℕ → Trial → Option Unreached → Type 0
+LeavesUnreached slots image t found = MatchOption t.checked (IsUnreached slots (sectors_of image) found) (λ most. found ≡ None)
+
+-- that is found of the program that the bytes spell
+pub record TellsUnreached (program image : List ℕ) (t : Trial) (found : Option Unreached) : Type 0 where
+  pub slots : List (Option Instr)
+  pub spelled : IsSpelledBy program slots
+  pub unreached : LeavesUnreached slots image t found
 
 -- what the run comes to within that many steps, with guards or without, and how many it makes
 abbrev pub ending_of_trial : List (Option Instr) → List ℕ → Trial → ℕ → Ending

@@ -12,15 +12,13 @@ use Rattle.base.specs.declared.refusal.Cause.TheVariants.{Verifier}
 use Rattle.bpf_isa.specs.declared.instr.Instr.{Instr}
 use Rattle.bpf_isa.specs.Program.{IsSpelledBy, FirstFault}
 use Rattle.bpf_isa.specs.Slots.{at}
-use Rattle.bpf_shape.specs.declared.fault.Fault.{Fault}
 use Rattle.verifier.specs.declared.unreached.Unreached.{Unreached}
 use Rattle.verifier.specs.Guards.{guarded_slots}
 use Rattle.verifier.specs.Verdicts.{RefusedWith, VerifiedValue, IsVerified}
 use Rattle.notes.specs.Listing.{numbered_slot}
 use Rattle.request.specs.Refusals.{bytes_refusal}
 use Rattle.request.specs.declared.settings.Settings.{Settings}
-use Rattle.request.specs.declared.facts.found.Breach.{Breach}
-use Rattle.request.specs.Found.{AddsUnreached, IsBreach}
+use Rattle.request.specs.Found.{IsUnreached}
 
 unfoldable pub accepted_text : ℕ → List ℕ
 accepted_text budget = codes "accepted budget " ++ decimal budget ++ codes "\n"
@@ -63,16 +61,8 @@ pub data RefusesVerified (bytes : List ℕ) (s : Settings) : Refusal → Type 0 
   no_verifier_memory : RefusesVerified bytes s (unaccepted_refusal verifier.Memory 0)
   no_text_memory : RefusesVerified bytes s memory_refusal
 
--- what no run reaches of the program that the bytes spell is found, and nothing else
-pub record FindsUnreached (bytes : List ℕ) (sectors : ℕ) (found : List (Option Unreached)) : Type 0 where
+-- what no run reaches of the program that the bytes spell is found
+pub record FindsUnreached (bytes : List ℕ) (sectors : ℕ) (found : Option Unreached) : Type 0 where
   pub slots : List (Option Instr)
   pub spelled : IsSpelledBy bytes slots
-  pub unreached : AddsUnreached slots sectors [] found
-
--- what is known where the program that the bytes spell is refused, as the refusal says
-pub record FindsBreach (bytes : List ℕ) (s : Settings) (r : Refusal) (b : Breach) : Type 0 where
-  pub slots : List (Option Instr)
-  pub spelled : IsSpelledBy bytes slots
-  pub fault : Fault
-  pub says : r ≡ unaccepted_refusal fault.code fault.slot
-  pub breach : IsBreach s.guards slots s.sectors fault b
+  pub unreached : IsUnreached slots sectors found

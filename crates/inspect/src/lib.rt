@@ -17,14 +17,14 @@
 //!
 //! | Call | Command | Answers |
 //! |---|---|---|
-//! | `survey(alloc, recording, parts, options, facts)` | `images` | the number of crash images, cut by cut, and how the run is laid out in parts |
-//! | `survey_cuts(alloc, recording, parts, losses, options, facts)` | `images --bound any` | the cuts at which a run looks for cases, with what each leaves open, or how the run is laid out in parts by these cuts |
-//! | `image(alloc, recording, which, options, facts)` | `image` | the bytes of one crash image |
-//! | `show(alloc, recording, which, options, facts)` | `show` | one crash image in words |
-//! | `any_image(alloc, form, recording, cut, said, options, facts)` | both with `--bound any` | one crash image with any number of lost or torn parts, by the text of its choice |
-//! | `shown_log(alloc, recording, options, facts)` | `log` | the log as a table |
+//! | `survey(alloc, recording, parts, options)` | `images` | the number of crash images, cut by cut, and how the run is laid out in parts |
+//! | `survey_cuts(alloc, recording, parts, losses, options)` | `images --bound any` | the cuts at which a run looks for cases, with what each leaves open, or how the run is laid out in parts by these cuts |
+//! | `image(alloc, recording, which, options)` | `image` | the bytes of one crash image |
+//! | `show(alloc, recording, which, options)` | `show` | one crash image in words |
+//! | `any_image(alloc, form, recording, cut, said, options)` | both with `--bound any` | one crash image with any number of lost or torn parts, by the text of its choice |
+//! | `shown_log(alloc, recording, options)` | `log` | the log as a table |
 //! | `import(alloc, raw, limits)` | `import` | the log that is imported of a raw log |
-//! | `verify_program(alloc, code, options, listed, facts)` | `verify` | the budget with which a program is accepted, and with guards the guarded slots; what else is known of it goes into `facts` |
+//! | `verify_program(alloc, code, options, listed)` | `verify` | the budget with which a program is accepted, and with guards the guarded slots; beside the text what no run reaches of it |
 //! | `assemble(alloc, source)` | `asm` | the program of a source text, as bytes |
 //! | `list(alloc, code, numbered)` | `list` | the listing of a program, with its slots or without |
 //!
@@ -32,7 +32,7 @@
 //!
 //! | Call | Command | Answers |
 //! |---|---|---|
-//! | `try_image(alloc, code, image, lines, asked, facts)` | `check` | what the program comes to on the image, in how many steps, and the last steps in words, with their places in C |
+//! | `try_image(alloc, code, image, lines, asked)` | `check` | what the program comes to on the image, in how many steps, and the last steps in words, with their places in C; beside the text whether it rejects the image, and what no run reaches of it |
 //!
 //! # What is proved
 //!
@@ -77,10 +77,10 @@
 //! use inspect::looks::{image, survey};
 //! use request::Which;
 //!
-//! let cuts = survey(alloc, &recording, None, &options, &mut facts)?;
+//! let cuts = survey(alloc, &recording, None, &options)?;
 //! // cut 0 epoch 0 marks 0 volatile 0 images 1
 //! // total 1
-//! let sectors = image(alloc, &recording, Which::Number(0), &options, &mut facts)?;
+//! let sectors = image(alloc, &recording, Which::Number(0), &options)?;
 //! // the sectors of that image, one after the other
 //! ```
 //!
@@ -90,10 +90,9 @@
 //! use base::limits::Limits;
 //! use inspect::trial::try_image;
 //! use request::Trial;
-//! use request::facts::Facts;
 //!
 //! let asked = Trial { limits: Limits::Usual, epoch: 0, marks: 0, checked: None, guards: false, trace: 10 };
-//! let report = try_image(alloc, bytes, &[0; 2048], &[], &asked, &mut Facts::new())?;   // mov64 r0, 0; exit
+//! let report = try_image(alloc, bytes, &[0; 2048], &[], &asked)?;   // mov64 r0, 0; exit
 //! // crash check 1
 //! // sectors 4 epoch 0 marks 0
 //! // program slots 2 budget 2

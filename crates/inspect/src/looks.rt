@@ -38,4 +38,4 @@ pub use list_command::list;
 pub use log_command::shown_log;
 pub use risks::CutRisk;
 pub use show_command::show;
-pub use verify_command::verify_program;
+pub use verify_command::{VerifiedReport, verify_program};

@@ -3,10 +3,10 @@
 ghost use Rattle.std.specs.Prelude.{◌≡◌, ◌<◌, ◌≤◌, length, true};
 ghost use Rattle.choices.specs.Choices.{ranked_choices};
 
-use crate::log_text::{FLUSH, FUA, Item, MARK, text_of};
+use crate::log_text::{FLUSH, FUA, Item, MARK, history_of, plan_of, text_of};
 use base::limits::Limits;
 use choices::{count, nth};
-use epochs::{By, Cuts, Plan};
+use epochs::Plan;
 use images::{
     Changes, History, Key, View, epoch_has_base, equal_keys_are_same, fates_show, keys_tell,
     last_writer_shows,
@@ -100,9 +100,15 @@ fn check_pair(
 
 fn check_pairs(rt: &impl Abort, alloc: Global, items: &[Item], pairs: &[Pair]) -> Result<(), Fail> {
     let text = text_of(alloc, items)?;
-    let log = read(alloc, &text, SECTORS, Limits::Usual)?;
-    let plan = Plan::new(alloc, &log, Cuts::ALL, By::Sector)?;
-    let history = History::new(alloc, &plan, &log)?;
+    let Ok(log) = read(alloc, &text, SECTORS, Limits::Usual) else {
+        return Err("a log".into());
+    };
+    let Ok(plan) = plan_of(alloc, &log) else {
+        return Err("no memory".into());
+    };
+    let Ok(history) = history_of(alloc, &plan, &log) else {
+        return Err("no memory".into());
+    };
     for pair in pairs {
         check_pair(rt, alloc, &plan, &history, *pair)?;
     }
@@ -160,22 +166,18 @@ fn keys_tell_images(rt: HostRuntime) -> Result<(), Fail> {
     Ok(())
 }
 
-/// How many sectors the key has of an image of one write, on a device of that many sectors; none where it has no key.
-fn check_many(
+/// How many sectors the key has of the image of one write of which the first sector is that; none where it has no key.
+fn written_sectors(
     rt: &impl Abort,
     alloc: Global,
+    plan: &Plan<'_>,
+    history: &History<'_>,
     first: u64,
-    written: u64,
-    sectors: u32,
 ) -> Result<Option<usize>, Fail>
-    requires device { (1 ≤ sectors) × (sectors ≤ 16384) }
+    requires history { history.now ≡ plan.now }
     requires first { first < 16384 }
 {
-    let text = text_of(alloc, &[(first, written, 0, 0xaa)])?;
-    let log = read(alloc, &text, sectors, Limits::Usual)?;
-    let plan = Plan::new(alloc, &log, Cuts::ALL, By::Sector)?;
-    let history = History::new(alloc, &plan, &log)?;
-    let key = key_of(alloc, &plan, &history, 1, 0)?;
+    let key = key_of(alloc, plan, history, 1, 0)?;
     let Some(key) = key else {
         return Ok(None);
     };
@@ -195,6 +197,30 @@ fn check_many(
     Ok(Some(key.changed_sectors().len()))
 }
 
+/// How many sectors the key has of an image of one write, on a device of that many sectors; none where it has no key.
+fn check_many(
+    rt: &impl Abort,
+    alloc: Global,
+    first: u64,
+    written: u64,
+    sectors: u32,
+) -> Result<Option<usize>, Fail>
+    requires device { (1 ≤ sectors) × (sectors ≤ 16384) }
+    requires first { first < 16384 }
+{
+    let text = text_of(alloc, &[(first, written, 0, 0xaa)])?;
+    let Ok(log) = read(alloc, &text, sectors, Limits::Usual) else {
+        return Err("a log".into());
+    };
+    let Ok(plan) = plan_of(alloc, &log) else {
+        return Err("no memory".into());
+    };
+    let Ok(history) = history_of(alloc, &plan, &log) else {
+        return Err("no memory".into());
+    };
+    written_sectors(rt, alloc, &plan, &history, first)
+}
+
 #[test]
 fn key_has_64_sectors(rt: HostRuntime) -> Result<(), Fail> {
     assert_eq!(rt; check_many(&rt, rt.alloc(), 0, 64, 65)?, Some(64));
@@ -210,9 +236,15 @@ fn shard_of(alloc: Global, at: u16, program: u8) -> Result<Option<u8>, Fail> {
     if let Some(byte) = text.as_mut_slice().get_mut(1024 + usize::from(at)) {
         *byte = 1;
     }
-    let log = read(alloc, &text, SECTORS, Limits::Usual)?;
-    let plan = Plan::new(alloc, &log, Cuts::ALL, By::Sector)?;
-    let history = History::new(alloc, &plan, &log)?;
+    let Ok(log) = read(alloc, &text, SECTORS, Limits::Usual) else {
+        return Err("a log".into());
+    };
+    let Ok(plan) = plan_of(alloc, &log) else {
+        return Err("no memory".into());
+    };
+    let Ok(history) = history_of(alloc, &plan, &log) else {
+        return Err("no memory".into());
+    };
     Ok(key_of(alloc, &plan, &history, 1, program)?.map(|key| key.shard()))
 }
 
@@ -279,9 +311,15 @@ fn compare_keys(
 /// Compares the keys of all images of a log, with torn writes, in their order and back.
 fn check_kept_keys(rt: &impl Abort, alloc: Global, items: &[Item]) -> Result<u64, Fail> {
     let text = text_of(alloc, items)?;
-    let log = read(alloc, &text, SECTORS, Limits::Usual)?;
-    let plan = Plan::new(alloc, &log, Cuts::ALL, By::Sector)?;
-    let history = History::new(alloc, &plan, &log)?;
+    let Ok(log) = read(alloc, &text, SECTORS, Limits::Usual) else {
+        return Err("a log".into());
+    };
+    let Ok(plan) = plan_of(alloc, &log) else {
+        return Err("no memory".into());
+    };
+    let Ok(history) = history_of(alloc, &plan, &log) else {
+        return Err("no memory".into());
+    };
     let Ok(total) = count(&plan, 2, true) else {
         return Err("too many images".into());
     };

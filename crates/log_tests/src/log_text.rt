@@ -1,6 +1,12 @@
-//! The texts of logs, as tests write them (docs/LOG-FORMAT.md).
+//! The texts of logs, as tests write them (docs/LOG-FORMAT.md), and what is made of the logs.
+
+ghost use Rattle.std.specs.Prelude.{◌≡◌, IfOk};
+ghost use Rattle.epochs.specs.declared.part.By.TheVariants.{Sector};
 
 use base::numbers::{put_u32, put_u64, put_zeros};
+use epochs::{By, Cuts, Plan};
+use images::History;
+use logfmt::Log;
 use std::alloc::{AllocError, Global};
 
 /// A flush entry.
@@ -60,4 +66,24 @@ pub(crate) fn text_of(alloc: Global, items: &[Item]) -> Result<Vec<u8>, AllocErr
         put_item(&mut out, *item)?;
     }
     Ok(out)
+}
+
+/// The plan of a log with all its cuts.
+pub(crate) fn plan_of<'a>(alloc: Global, log: &'a Log<'_>) -> Result<Plan<'a>, AllocError>
+    ensures log { IfOk result (λ plan. plan.log ≡ log.now) }
+    ensures by { IfOk result (λ plan. plan.by ≡ Sector) }
+{
+    Plan::new(alloc, log, Cuts::ALL, By::Sector)
+}
+
+/// The history of a plan.
+pub(crate) fn history_of<'a>(
+    alloc: Global,
+    plan: &'a Plan<'_>,
+    log: &'a Log<'_>,
+) -> Result<History<'a>, AllocError>
+    requires { plan.now.log ≡ log.now }
+    ensures { IfOk result (λ history. history ≡ plan.now) }
+{
+    History::new(alloc, plan, log)
 }

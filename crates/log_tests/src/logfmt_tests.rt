@@ -28,6 +28,7 @@ fn logs_are_written_as_they_were_read(rt: HostRuntime) -> Result<(), Fail> {
     assert!(rt; mark.flags.mark && mark.sector == 7);
     assert_eq!(rt; mark.text.as_slice(), b"\0".as_slice());
     let written = write(rt.alloc(), &log)?;
+    drop(log);
     assert!(rt; written == text);
     // what no field uses is not looked at, and not kept
     assert!(rt; text.len() > 1024);

@@ -7,16 +7,17 @@ ghost use Rattle.checker.specs.Memory.{IsServed};
 ghost use Rattle.interp.specs.Ending.{ending_of};
 ghost use Rattle.verdict_cache.specs.Endings.{IsEndingOf};
 
-use crate::log_text::text_of;
+use crate::log_text::{history_of, plan_of, text_of};
 use base::limits::Limits;
 use bpf_isa::codec::decode;
+use bpf_isa::program::Program;
 use checker::{Checker, RunMemory};
 use choices::{count, nth};
-use epochs::{By, Cuts, Plan};
+use epochs::Plan;
 use images::{History, Key, View};
 use interp::Outcome;
-use logfmt::{Log, read};
-use std::alloc::Global;
+use logfmt::read;
+use std::alloc::{AllocError, Global};
 use std::marker::Brand;
 use std::process::Abort;
 use std::sync::Mutex;
@@ -38,14 +39,9 @@ const ZEROS_AGAIN: Work = (2, 0);
 
 const WRITTEN_OTHER_PROGRAM: Work = (1, 1);
 
-/// A log that writes 0xaa to the one sector of its device.
-fn one_write(alloc: Global) -> Result<Log, Fail> {
-    let text = text_of(alloc, &[(0, 1, 0, 0xaa)])?;
-    Ok(
-        read(alloc, text.as_slice(), 1, Limits::Usual)
-            .ok()
-            .ok_or("a log")?,
-    )
+/// The text of a log that writes 0xaa to the one sector of its device.
+fn one_write(alloc: Global) -> Result<Vec<u8>, AllocError> {
+    text_of(alloc, &[(0, 1, 0, 0xaa)])
 }
 
 /// What a checker with a limit ends in on an image.
@@ -183,19 +179,41 @@ fn check_rooms<'a, J: Run + Send + Sync, R: Abort>(
     Ok(())
 }
 
-/// Makes calls of the empty first shard of a cache of that size, in a run of two programs.
-fn check_run<R: Abort>(rt: &R, alloc: Global, size: u32, calls: &[Call]) -> Result<u64, Fail> {
-    let log = one_write(alloc)?;
-    let plan = Plan::new(alloc, &log, Cuts::ALL, By::Sector)?;
-    let history = History::new(alloc, &plan, &log)?;
-    let program = decode(alloc, &ANSWER_1).ok().ok_or("a program")?;
-    let checkers = [Checker::limited(&program, 2), Checker::limited(&program, 1)];
+/// Makes calls of the empty first shard of a cache of that size, in a run of two programs that are the same, one with too few steps.
+fn check_calls_of<R: Abort>(
+    rt: &R,
+    alloc: Global,
+    plan: &Plan<'_>,
+    history: &History<'_>,
+    program: &Program,
+    size: u32,
+    calls: &[Call],
+) -> Result<u64, Fail>
+    requires { history.now ≡ plan.now }
+{
+    let checkers = [Checker::limited(program, 2), Checker::limited(program, 1)];
     let run = Small {
-        plan: &plan,
-        history: &history,
+        plan,
+        history,
         checkers: &checkers,
     };
     check_calls::<Brand, R>(rt, alloc, &run, size, calls)
+}
+
+/// Makes calls of the empty first shard of a cache of that size, in a run of two programs.
+fn check_run<R: Abort>(rt: &R, alloc: Global, size: u32, calls: &[Call]) -> Result<u64, Fail> {
+    let text = one_write(alloc)?;
+    let Ok(log) = read(alloc, text.as_slice(), 1, Limits::Usual) else {
+        return Err("a log".into());
+    };
+    let Ok(plan) = plan_of(alloc, &log) else {
+        return Err("no memory".into());
+    };
+    let Ok(history) = history_of(alloc, &plan, &log) else {
+        return Err("no memory".into());
+    };
+    let program = decode(alloc, &ANSWER_1).ok().ok_or("a program")?;
+    check_calls_of(rt, alloc, &plan, &history, &program, size, calls)
 }
 
 #[test]
@@ -237,6 +255,28 @@ fn shard_without_room_keeps_nothing(rt: HostRuntime) -> Result<(), Fail> {
     Ok(())
 }
 
+/// Looks at the rooms of the shards of a cache of that size, in a run of one program.
+fn check_rooms_of<R: Abort>(
+    rt: &R,
+    alloc: Global,
+    plan: &Plan<'_>,
+    history: &History<'_>,
+    program: &Program,
+    size: u32,
+    rooms: (usize, u8, u8),
+) -> Result<(), Fail>
+    requires history { history.now ≡ plan.now }
+    requires size { size ≤ 65536 }
+{
+    let checkers = [Checker::limited(program, 2)];
+    let run = Small {
+        plan,
+        history,
+        checkers: &checkers,
+    };
+    check_rooms::<Brand, R>(rt, alloc, &run, size, rooms)
+}
+
 /// Looks at the rooms of the shards of a cache of that size.
 fn check_size<R: Abort>(
     rt: &R,
@@ -246,17 +286,18 @@ fn check_size<R: Abort>(
 ) -> Result<(), Fail>
     requires { size ≤ 65536 }
 {
-    let log = one_write(alloc)?;
-    let plan = Plan::new(alloc, &log, Cuts::ALL, By::Sector)?;
-    let history = History::new(alloc, &plan, &log)?;
-    let program = decode(alloc, &ANSWER_1).ok().ok_or("a program")?;
-    let checkers = [Checker::limited(&program, 2)];
-    let run = Small {
-        plan: &plan,
-        history: &history,
-        checkers: &checkers,
+    let text = one_write(alloc)?;
+    let Ok(log) = read(alloc, text.as_slice(), 1, Limits::Usual) else {
+        return Err("a log".into());
     };
-    check_rooms::<Brand, R>(rt, alloc, &run, size, rooms)
+    let Ok(plan) = plan_of(alloc, &log) else {
+        return Err("no memory".into());
+    };
+    let Ok(history) = history_of(alloc, &plan, &log) else {
+        return Err("no memory".into());
+    };
+    let program = decode(alloc, &ANSWER_1).ok().ok_or("a program")?;
+    check_rooms_of(rt, alloc, &plan, &history, &program, size, rooms)
 }
 
 #[test]

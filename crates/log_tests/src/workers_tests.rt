@@ -1,15 +1,18 @@
 //! Pieces of a run of two blocks, in any order, full ones and passed ones; and whole runs by some workers
 //! with a cache.
 
-ghost use Rattle.std.specs.Prelude.{◌≡◌, ◌<◌, ◌≤◌, All, IfOk, length};
+ghost use Rattle.std.specs.Prelude.{◌≡◌, ◌<◌, ◌≤◌, All, IfOk, false, length};
+ghost use Rattle.choices.specs.Choices.{ranked_choices, limit};
+ghost use Rattle.epochs.specs.declared.part.By.TheVariants.{Sector};
 ghost use Rattle.workers.specs.Input.{IsRunOf};
 ghost use Rattle.workers.specs.Pieces.{block_count};
 
-use crate::log_text::{FLUSH, text_of};
+use crate::log_text::{FLUSH, history_of, plan_of, text_of};
 use crate::whole_runs::{RunWay, work_of};
 use base::limits::Limits;
 use base::refusal::Refusal;
 use bpf_isa::codec::decode;
+use bpf_isa::program::Program;
 use checker::Checker;
 use choices::{Starts, count};
 use epochs::{By, Cuts, Plan};
@@ -31,14 +34,22 @@ const FROM_70: [u8; 24] = [
     0x79, 0x10, 8, 0, 0, 0, 0, 0, 0x37, 0, 0, 0, 70, 0, 0, 0, 0x95, 0, 0, 0, 0, 0, 0, 0,
 ];
 
-/// A log of 70 flush entries without sectors, for a device of one sector: 71 images.
-fn flushes(alloc: Global) -> Result<Log, Fail> {
-    let bytes = text_of(alloc, &[(0, 0, FLUSH, 0); 70])?;
-    Ok(
-        read(alloc, bytes.as_slice(), 1, Limits::Usual)
-            .ok()
-            .ok_or("a log")?,
-    )
+/// The text of a log of 70 flush entries without sectors.
+fn flushes(alloc: Global) -> Result<Vec<u8>, AllocError> {
+    text_of(alloc, &[(0, 0, FLUSH, 0); 70])
+}
+
+/// The log that a text is, for a device of one sector: of 70 flush entries it has 71 images.
+fn log_of(alloc: Global, text: &[u8]) -> Result<Log<'_>, Fail> {
+    Ok(read(alloc, text, 1, Limits::Usual).ok().ok_or("a log")?)
+}
+
+/// The table of the choices of a plan in which nothing departs.
+fn starts_of<'a>(alloc: Global, plan: &'a Plan<'_>) -> Result<Starts<'a>, AllocError>
+    requires { length (ranked_choices plan.now 0 false) ≤ limit }
+    ensures { IfOk result (λ starts. starts ≡ record { plan = plan.now; bound = 0; tears = false }) }
+{
+    Starts::new(alloc, plan, 0, false)
 }
 
 /// The full piece of a block, or one that was passed over after that image.
@@ -106,24 +117,28 @@ fn collected_by<'a, J: Run, R: Wait>(
     }
 }
 
-/// What a run of one program collects.
-fn collected<R: Wait>(
+/// What a run of one program collects, which has a limit, of all images of a plan.
+fn collected_of<R: Wait>(
     rt: &R,
     alloc: Global,
-    program: &[u8],
+    plan: &Plan<'_>,
+    starts: &Starts<'_>,
+    history: &History<'_>,
+    program: &Program,
+    images: u64,
     blocks: &[(u32, Option<u64>)],
-) -> Result<(u8, u64), Fail> {
-    let log = flushes(alloc)?;
-    let plan = Plan::new(alloc, &log, Cuts::ALL, By::Sector)?;
-    let history = History::new(alloc, &plan, &log)?;
-    let program = decode(alloc, program).ok().ok_or("a program")?;
-    let checkers = [Checker::limited(&program, 3)];
-    let images = count(&plan, 0, false).ok().ok_or("few images")?;
-    let starts = Starts::new(alloc, &plan, 0, false)?;
+) -> Result<(u8, u64), Fail>
+    requires by { plan.now.by ≡ Sector }
+    requires starts { starts.now ≡ record { plan = plan.now; bound = 0; tears = false } }
+    requires history { history.now ≡ plan.now }
+    requires count { images ≡ length (ranked_choices plan.now 0 false) }
+    requires few { images ≤ limit }
+{
+    let checkers = [Checker::limited(program, 3)];
     let input = Input::new(
-        &plan,
-        &starts,
-        &history,
+        plan,
+        starts,
+        history,
         &checkers,
         By::Sector,
         AskedRun {
@@ -136,7 +151,36 @@ fn collected<R: Wait>(
             cache: 16,
         },
     );
-    collected_by::<Brand, R>(rt, alloc, &input, &history, &checkers, blocks)
+    collected_by::<Brand, R>(rt, alloc, &input, history, &checkers, blocks)
+}
+
+/// What a run of one program collects.
+fn collected<R: Wait>(
+    rt: &R,
+    alloc: Global,
+    program: &[u8],
+    blocks: &[(u32, Option<u64>)],
+) -> Result<(u8, u64), Fail> {
+    let text = flushes(alloc)?;
+    let Ok(log) = read(alloc, text.as_slice(), 1, Limits::Usual) else {
+        return Err("a log".into());
+    };
+    let Ok(plan) = plan_of(alloc, &log) else {
+        return Err("no memory".into());
+    };
+    let Ok(history) = history_of(alloc, &plan, &log) else {
+        return Err("no memory".into());
+    };
+    let Ok(images) = count(&plan, 0, false) else {
+        return Err("few images".into());
+    };
+    let Ok(starts) = starts_of(alloc, &plan) else {
+        return Err("no memory".into());
+    };
+    let program = decode(alloc, program).ok().ok_or("a program")?;
+    collected_of(
+        rt, alloc, &plan, &starts, &history, &program, images, blocks,
+    )
 }
 
 fn numbered(refusal: &Refusal) -> u8 {
@@ -220,7 +264,8 @@ fn way(workers: u8, cache: u32, first: bool) -> RunWay
 #[test]
 fn explores_for_all_and_for_the_first(rt: HostRuntime) -> Result<(), Fail> {
     let alloc = rt.alloc();
-    let log = flushes(alloc)?;
+    let text = flushes(alloc)?;
+    let log = log_of(alloc, text.as_slice())?;
     for first in [false, true] {
         let (fails, hits) = explored(&rt, alloc, &log, &ANSWER_1, way(1, 0, first))?;
         assert!(rt; fails);
@@ -236,7 +281,8 @@ fn explores_for_all_and_for_the_first(rt: HostRuntime) -> Result<(), Fail> {
 #[test]
 fn explores_a_part_of_the_images(rt: HostRuntime) -> Result<(), Fail> {
     let alloc = rt.alloc();
-    let log = flushes(alloc)?;
+    let text = flushes(alloc)?;
+    let log = log_of(alloc, text.as_slice())?;
     let rows = [
         (ANSWER_1.as_slice(), false, 68, 3),
         (ANSWER_1.as_slice(), true, 64, 3),

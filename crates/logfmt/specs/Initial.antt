@@ -1,5 +1,5 @@
 -- What a device held before entry 0 of a log (docs/CRASH-MODEL.md, Terms): its first bytes, and zeros after them.
-use Rattle.std.specs.Prelude.{ℕ, ◌+◌, ◌*◌, ◌≡◌, ◌≤◌, List, map, length}
+use Rattle.std.specs.Prelude.{ℕ, ◌+◌, ◌*◌, ◌≡◌, ◌<◌, List, map, length}
 use Rattle.std.specs.List.{slice_index, range_with_len}
 use Rattle.logfmt.specs.Bounds.{LogValue, AreBytes}
 
@@ -15,9 +15,7 @@ initial_sector initial s = map (initial_byte initial s) (range_with_len 0 512)
 abbrev pub over : List ℕ → LogValue → LogValue
 over initial log = record { sectors = log.sectors; entries = log.entries; initial = initial }
 
--- that many bytes of initial content, kept in whole sectors
-pub record AreKept (count : ℕ) (kept : List ℕ) : Type 0 where
-  pub within : count ≤ length kept
-  pub whole : (n : ℕ) × (length kept ≡ 512 * n)
-  pub beyond : (j : ℕ) → count ≤ j → slice_index kept j ≡ 0
-  pub bytes : AreBytes kept
+-- some bytes, and the sector that the last of them begin but don't fill, where there is one
+pub record AreKept (initial : List ℕ) (begun : List ℕ) : Type 0 where
+  pub bytes : AreBytes initial
+  pub sector : (s : ℕ) → 512 * s < length initial → length initial < 512 * (s + 1) → begun ≡ initial_sector initial s

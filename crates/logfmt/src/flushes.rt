@@ -5,13 +5,13 @@ ghost use Rattle.logfmt.specs.Flushed.{with_flushes, flushed_at};
 
 use crate::entry::{Entry, Log};
 
-impl Log {
+impl<'x> Log<'x> {
     /// The log with a flush right before each of these entries, as if it had been recorded so
     /// (docs/CRASH-MODEL.md, Added flushes). The entries keep their numbers. A place may be that of a
     /// mark. It takes no memory.
-    pub fn with_flushes(self, places: &[u32]) -> Log
+    pub fn with_flushes(self, places: &[u32]) -> Log<'x>
         requires { All (λ place. place < length self.entries) places.now }
-        ensures { result ≡ with_flushes places.now self }
+        ensures { result ≡ with_flushes places.now self.entry }
     {
         let sectors = self.sectors();
         let (mut entries, initial) = self.into_parts();
@@ -23,7 +23,7 @@ impl Log {
 }
 
 /// Makes an entry a flush entry.
-fn put_flush(entries: &mut Vec<Entry>, place: usize)
+fn put_flush(entries: &mut Vec<Entry<'_>>, place: usize)
     requires { place < length entries.old.items }
     ensures { entries.new.items ≡ flushed_at (λ number. place == number) entries.old.items }
 {

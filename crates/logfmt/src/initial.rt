@@ -1,13 +1,11 @@
 //! What a device held before entry 0 of a log.
 
-ghost use Rattle.std.specs.Prelude.{◌≡◌, ◌+◌, ◌*◌, ◌≤◌, [], length, IfOk};
+ghost use Rattle.std.specs.Prelude.{◌≡◌, ◌+◌, ◌*◌, ◌≤◌, ◌<◌, [], length};
 ghost use Rattle.std.specs.List.{slice_range};
 ghost use Rattle.logfmt.specs.Bounds.{AreBytes};
 ghost use Rattle.logfmt.specs.Initial.{initial_sector};
 
 use crate::entry::SECTOR;
-use base::numbers::put_zeros;
-use std::alloc::{AllocError, Global};
 use std::marker::Model;
 
 /// A sector after the end of the initial content.
@@ -17,45 +15,44 @@ static ZEROS: [u8; SECTOR] = [0; SECTOR];
 ///
 /// Contracts see these bytes.
 #[derive(Drop)]
-pub struct InitialContent {
-    /// The bytes, and zeros up to the end of the last sector.
-    kept: Vec<u8>,
-    /// How many bytes there are.
-    count: usize,
+pub struct InitialContent<'x> {
+    /// The bytes.
+    bytes: &'x [u8],
+    /// The sector that the last of them begin but don't fill, where there is one.
+    begun: [u8; 512],
 }
 
-impl Model for InitialContent {
-    ghost use Rattle.std.specs.Prelude.{ℕ, List, take};
+impl<'x> Model for InitialContent<'x> {
+    ghost use Rattle.std.specs.Prelude.{ℕ, List};
     ghost use Rattle.logfmt.specs.Initial.{AreKept};
 
     ghost Value = { List ℕ };
 
-    ghost view = { λ c. take c.count c.kept.items };
+    ghost view = { λ c. c.bytes.now };
 
-    ghost invariant = { λ c. AreKept c.count c.kept.items };
+    ghost invariant = { λ c. AreKept c.bytes.now c.begun };
 }
 
-impl InitialContent {
-    /// That of a device of which nothing is known to have been written. It takes no memory.
-    pub fn none(alloc: Global) -> InitialContent
+impl<'x> InitialContent<'x> {
+    /// That of a device of which nothing is known to have been written.
+    pub fn none() -> InitialContent<'static>
         ensures { result ≡ [] }
     {
         InitialContent {
-            kept: Vec::new(alloc),
-            count: 0,
+            bytes: &[],
+            begun: [0; SECTOR],
         }
     }
 
-    /// These bytes, copied.
-    pub fn of(alloc: Global, bytes: &[u8]) -> Result<InitialContent, AllocError>
-        ensures value { IfOk result (λ initial. initial ≡ bytes.now) }
+    /// These bytes. It takes no memory.
+    pub fn of(bytes: &'x [u8]) -> InitialContent<'x>
+        ensures { result ≡ bytes.now }
     {
-        let count = bytes.len();
-        let whole = count.div_ceil(SECTOR) * SECTOR;
-        let mut kept = Vec::with_capacity(alloc, whole)?;
-        kept.extend_from_slice(bytes)?;
-        put_zeros(&mut kept, whole - count)?;
-        Ok(InitialContent { kept, count })
+        let whole = bytes.len() / SECTOR * SECTOR;
+        InitialContent {
+            bytes,
+            begun: filled(&bytes[whole..]),
+        }
     }
 
     /// How many bytes there are.
@@ -63,7 +60,7 @@ impl InitialContent {
         ensures value { result ≡ length self.now }
         ensures bytes { AreBytes self.now }
     {
-        self.count
+        self.bytes.len()
     }
 
     /// What a sector of the device held.
@@ -72,12 +69,25 @@ impl InitialContent {
         ensures { result.now ≡ initial_sector self.now number }
     {
         let start = SECTOR * number as usize;
-        if start < self.kept.len() {
-            sector_at(self.kept.as_slice(), start)
+        let length = self.bytes.len();
+        if start + SECTOR <= length {
+            sector_at(self.bytes, start)
+        } else if start < length {
+            &self.begun
         } else {
             &ZEROS
         }
     }
+}
+
+/// A sector of these bytes, fewer than it has, and zeros after them.
+fn filled(bytes: &[u8]) -> [u8; 512]
+    requires { length bytes.now < 512 }
+    ensures { result ≡ initial_sector bytes.now 0 }
+{
+    let mut sector = [0; SECTOR];
+    sector[..bytes.len()].copy_from_slice(bytes);
+    sector
 }
 
 /// The sector that begins at a place of some bytes.

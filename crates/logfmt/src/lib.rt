@@ -14,7 +14,7 @@
 //!
 //! | Call | Answer |
 //! |---|---|
-//! | `InitialContent::of(alloc, bytes)` | these bytes from sector 0 on, and zeros after them |
+//! | `InitialContent::of(bytes)` | these bytes from sector 0 on, and zeros after them |
 //! | `log.over(initial)` | the log over that initial content |
 //! | `log.initial().sector(n)` | what a sector held, borrowed |
 //!
@@ -23,6 +23,9 @@
 //! counts of bytes, entries and units are within the limits, those of `--large` where it was asked for.
 //! `Log::sectors` and `Log::entries` give it to the layers above, each `Entry` with its place on the
 //! device, its `Flags`, the text of a mark and its data. Its initial content is no longer than the device.
+//!
+//! A log borrows texts, data and initial content from the bytes that it was read of. So it takes memory for its entries alone,
+//! however much they write.
 //!
 //! # Place
 //!
@@ -49,8 +52,8 @@
 //! # How it is written
 //!
 //! `reader` goes over the bytes once, header by header. `header` makes the checks of an entry, in
-//! their order, on the numbers of its header; only then the entry's text and data are taken, each by
-//! one copy of a slice. Bytes that no field uses, and bytes after the last entry, are not looked at.
+//! their order, on the numbers of its header; only then the entry's text and data are borrowed. Bytes of data, bytes that no field
+//! uses, and bytes after the last entry, are not looked at.
 //! `writer` appends each field to one list.
 //!
 //! # Example
@@ -76,9 +79,8 @@
 //! # Choices
 //!
 //! - What a device held before entry 0 is called its initial content: 'base' means what the last flush made durable.
-//! - Of the initial content contracts see exactly the bytes that were given. In memory zeros stand after them up to
-//!   the end of their last sector (`InitialContent`): a byte of it is then an element of one list, and 0 after its
-//!   end; and each sector can be lent whole.
+//! - Of the initial content contracts see exactly the bytes that were given. The sector that the last of them begin but don't
+//!   fill is kept beside them, with zeros after them (`InitialContent`), so that each sector can be lent whole.
 //! - Entries, units, images and all else are the same with `--large`: these bound the memory and the time of a run.
 //!   1 GiB has room for nearly all units as writes.
 //!

@@ -20,7 +20,7 @@ use base::bytes::Bytes;
 use base::causes::LogCause;
 use base::limits::Limits;
 use base::numbers::{u32_at, u64_at};
-use std::alloc::{AllocError, Global};
+use std::alloc::Global;
 
 /// How many entries a log may have.
 const MAX_ENTRIES: u64 = 65_536;
@@ -52,49 +52,26 @@ fn super_fault(bytes: &[u8], limits: Limits) -> Option<LogCause>
     None
 }
 
-/// The bytes from `start` up to `end`, copied.
-fn copy_bytes(alloc: Global, bytes: &[u8], start: usize, end: usize) -> Result<Bytes, AllocError>
-    requires order { start ≤ end }
-    requires inside { end ≤ length bytes.now }
-    ensures value { IfOk result (λ copy. copy ≡ slice_range bytes.now start end) }
-    ensures bytes { IfOk result AreBytes }
-{
-    let copy = bytes[start..end].to_vec(alloc)?;
-    Ok(Bytes::of(copy))
-}
-
 /// The entry whose header stands in sector `at`, with its text and its data.
-fn entry_of(
-    alloc: Global,
-    bytes: &[u8],
-    at: usize,
-    sectors: u32,
-    header: Header,
-) -> Result<Entry, AllocError>
+fn entry_of(bytes: &[u8], at: usize, sectors: u32, header: Header) -> Entry<'_>
     requires size { length bytes.now ≤ most_log_bytes }
     requires device { sectors ≤ most_sectors }
     requires stands { HeaderStands bytes.now at header }
     requires fits { HeaderFits sectors header }
-    ensures stands { IfOk result (StandsAt bytes.now at) }
-    ensures fits { IfOk result (IsEntry sectors) }
-    ensures recorded { IfOk result (λ e. e.flags.mark ≡ true → e.flags.flush ≡ false) }
+    ensures stands { StandsAt bytes.now at result }
+    ensures fits { IsEntry sectors result }
+    ensures recorded { result.flags.mark ≡ true → result.flags.flush ≡ false }
 {
     let text = SECTOR * at + 32;
     let data = SECTOR * (at + 1);
-    let text = bytes[text..text + header.text_length as usize].to_vec(alloc)?;
-    let content = copy_bytes(
-        alloc,
-        bytes,
-        data,
-        data + SECTOR * header.data_sectors() as usize,
-    )?;
-    Ok(Entry {
+    let data_end = data + SECTOR * header.data_sectors() as usize;
+    Entry {
         sector: header.sector,
         count: header.count,
         flags: header.flags,
-        text: Bytes::of(text),
-        content,
-    })
+        text: Bytes::of(&bytes[text..text + header.text_length as usize]),
+        content: Bytes::of(&bytes[data..data_end]),
+    }
 }
 
 /// Reads a log for a device of `sectors` sectors of 512 bytes (docs/LOG-FORMAT.md), which held zeros before entry 0. The limits
@@ -104,7 +81,12 @@ fn entry_of(
 ///
 /// The first fault of the bytes, at the entry where it is, 0 for the super block; or want of memory,
 /// at 0.
-pub fn read(alloc: Global, bytes: &[u8], sectors: u32, limits: Limits) -> Result<Log, LogFault>
+pub fn read<'x>(
+    alloc: Global,
+    bytes: &'x [u8],
+    sectors: u32,
+    limits: Limits,
+) -> Result<Log<'x>, LogFault>
     requires some { 1 ≤ sectors }
     requires device { sectors ≤ most_sectors }
     ensures found { IfOk result (LogText bytes.now) }
@@ -127,9 +109,9 @@ pub fn read(alloc: Global, bytes: &[u8], sectors: u32, limits: Limits) -> Result
             Ok(header) => header,
             Err(code) => return Err(LogFault { code, at: number }),
         };
-        entries.push(entry_of(alloc, bytes, at, sectors, header)?)?;
+        entries.push(entry_of(bytes, at, sectors, header))?;
         at += 1 + header.data_sectors() as usize;
         units += header.count;
     }
-    Ok(Log::of(sectors, entries, InitialContent::none(alloc)))
+    Ok(Log::of(sectors, entries, InitialContent::none()))
 }

@@ -14,3 +14,4 @@ pub mod Breach
 pub mod Blind
 pub mod Promises
 pub mod Forced
+pub mod NoCuts

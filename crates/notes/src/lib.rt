@@ -13,9 +13,9 @@
 //!
 //! On `logfmt` and `epochs`, whose logs it shows, on `bpf_isa` and `bpf_asm`, whose instructions it writes as the assembler does, and
 //! on `ranges`, whose states it puts into words. `command_notes` chooses which notes are said of a command: of its `Words`
-//! (`command_line`), what its files hold, and what it found on its way (`Facts` of `request`). No log that a command read is read again,
-//! and no program is decoded or verified again. `commands` hands both calls to the program, whose status and standard output they don't
-//! touch. No rule of a log or a program is known here but in words.
+//! (`command_line`), what its files hold, and what its run knows (`RunFacts` of `request`). For what is said of a log by itself it is read
+//! once more (`log_facts`), and a program that is refused is verified once more (`breach_of`). `commands` hands both calls to the program,
+//! whose status and standard output they don't touch. No rule of a log or a program is known here but in words.
 //!
 //! | Call | Says |
 //! |---|---|
@@ -37,8 +37,8 @@
 //!
 //! | Call | Answers |
 //! |---|---|
-//! | `notes_after(alloc, words, files, refusal, facts)` | what the number of a refusal means there, the instruction, entry, option or file that is meant, and what most likely helps |
-//! | `notes_beside(alloc, words, facts)` | beside an answer: what no run of a program reaches, which programs pass without looking at what the log writes, which marks promise what nothing made durable, how many writes never depart as a whole, how many entries with FUA aren't torn, and that an image loses at most one part |
+//! | `notes_after(alloc, words, files, refusal)` | what the number of a refusal means there, the instruction, entry, option or file that is meant, and what most likely helps |
+//! | `notes_beside(alloc, words, files, facts)` | beside an answer: what no run of a program reaches, which programs pass without looking at what the log writes, which marks promise what nothing made durable, how many writes never depart as a whole, how many entries with FUA aren't torn, that no cut is wanted, and that an image loses at most one part |
 //!
 //! # What is proved
 //!
@@ -52,8 +52,8 @@
 //! run reaches is exactly that of `specs/Unreached.antt`: how many instructions of an accepted program no run reaches, and
 //! the slot of the first, as `unreached_of` of `verifier` answers them. That of programs that look at nothing of what a log writes is
 //! that of `specs/Blind.antt`, with the numbers of those of which `runs` found it. Those of marks and of FUA are those of
-//! `specs/Promises.antt` and `specs/Forced.antt`, with what `request` found of the log. Runs of the built program have a row for each
-//! note.
+//! `specs/Promises.antt` and `specs/Forced.antt`, with what `request` found of the log, and that of no wanted cut is that of
+//! `specs/NoCuts.antt`. Runs of the built program have a row for each note.
 //!
 //! # Example
 //!
@@ -72,9 +72,9 @@
 //! use notes::command_notes::{notes_after, notes_beside};
 //!
 //! // the words asked for a bound of 4, which was refused
-//! let after = notes_after(alloc, &words, files, &refusal, &facts)?;
+//! let after = notes_after(alloc, &words, files, &refusal)?;
 //! // note: --bound is 0 to 3
-//! let beside = notes_beside(alloc, &words, &facts)?;
+//! let beside = notes_beside(alloc, &words, files, &facts)?;
 //! // of another run, beside its answer
 //! ```
 //!

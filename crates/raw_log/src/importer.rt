@@ -17,50 +17,30 @@ use base::bytes::Bytes;
 use base::limits::Limits;
 use base::numbers::u64_at;
 use logfmt::{Entry, LogFault, SECTOR};
-use std::alloc::{AllocError, Global};
-
-/// The bytes from `start` up to `end`, copied.
-fn copy_bytes(alloc: Global, bytes: &[u8], start: usize, end: usize) -> Result<Bytes, AllocError>
-    requires order { start ≤ end }
-    requires inside { end ≤ length bytes.now }
-    ensures value { IfOk result (λ copy. copy ≡ slice_range bytes.now start end) }
-    ensures bytes { IfOk result AreBytes }
-{
-    let copy = bytes[start..end].to_vec(alloc)?;
-    Ok(Bytes::of(copy))
-}
+use std::alloc::Global;
 
 /// The entry, in sectors of 512 bytes, whose header stands at byte `start`, with its text and its data.
-fn entry_of(
-    alloc: Global,
-    raw: &[u8],
-    times: u64,
-    start: usize,
-    sectors: u32,
-    header: RawHeader,
-) -> Result<Entry, AllocError>
+fn entry_of(raw: &[u8], times: u64, start: usize, sectors: u32, header: RawHeader) -> Entry<'_>
     requires times { IsTimes times }
     requires device { sectors ≤ most_sectors }
     requires stands { HeaderStands times raw.now start header }
     requires fits { HeaderFits sectors header }
     requires few { header.count ≤ most_units }
     requires need { start + bytes_in times 1 + data_bytes header ≤ most_log_bytes }
-    ensures stands { IfOk result (StandsDivided times raw.now start) }
-    ensures fits { IfOk result (IsEntry sectors) }
-    ensures recorded { IfOk result (λ e. e.flags.mark ≡ true → e.flags.flush ≡ false) }
-    ensures text { IfOk result (λ e. length e.text ≤ 480) }
+    ensures stands { StandsDivided times raw.now start result }
+    ensures fits { IsEntry sectors result }
+    ensures recorded { result.flags.mark ≡ true → result.flags.flush ≡ false }
+    ensures text { length result.text ≤ 480 }
 {
     let text = start + 32;
     let data = start + SECTOR * times as usize;
-    let text = raw[text..text + header.text_length as usize].to_vec(alloc)?;
-    let content = copy_bytes(alloc, raw, data, data + header.data_bytes())?;
-    Ok(Entry {
+    Entry {
         sector: header.sector,
         count: header.count,
         flags: header.flags,
-        text: Bytes::of(text),
-        content,
-    })
+        text: Bytes::of(&raw[text..text + header.text_length as usize]),
+        content: Bytes::of(&raw[data..data + header.data_bytes()]),
+    }
 }
 
 /// How many bytes more a log may have that has `written` bytes.
@@ -100,7 +80,7 @@ pub fn import(alloc: Global, raw: &[u8], sectors: u32, limits: Limits) -> Result
             Ok(header) => header,
             Err(code) => return Err(LogFault { code, at: number }),
         };
-        let entry = entry_of(alloc, raw, times, start, sectors, header)?;
+        let entry = entry_of(raw, times, start, sectors, header);
         put_entry(&mut out, &entry)?;
         start += SECTOR * times as usize + header.data_bytes();
         units += header.count;

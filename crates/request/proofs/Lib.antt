@@ -6,5 +6,4 @@ pub mod Results
 pub mod Between
 pub mod Bounds
 pub mod Marks
-pub mod Recorded
 pub mod Stamps

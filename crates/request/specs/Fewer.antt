@@ -1,5 +1,5 @@
 -- With what a log that has too many crash images has fewer (docs/REFUSALS.md, Notes).
-use Rattle.std.specs.Prelude.{ℕ, ◌≡◌, ◌+◌, ◌<◌, ◌≤◌, Bool, length, count_by, MatchOption, Option, None, Some}
+use Rattle.std.specs.Prelude.{ℕ, ◌≡◌, ◌+◌, ◌<◌, ◌≤◌, Bool, length, MatchOption, Option, None, Some}
 use Rattle.logfmt.specs.Bounds.{LogValue}
 use Rattle.epochs.specs.declared.cuts.CutKind.{CutKind}
 use Rattle.epochs.specs.declared.cuts.CutKind.TheVariants as cuts
@@ -8,7 +8,6 @@ use Rattle.choices.specs.Choices.{ranked_choices, IsFirstPastOf}
 use Rattle.request.specs.declared.settings.Settings.{Settings}
 use Rattle.request.specs.Extents.{most_images}
 use Rattle.request.specs.Source.{Recording, plan_of, IsLogOf}
-use Rattle.request.specs.Large.{is_large}
 use Rattle.request.specs.declared.facts.fewer.Fewer.{Fewer}
 
 -- how many images a plan has; none where they are more than the most
@@ -48,9 +47,3 @@ pub record FindsFewer (text : Recording) (s : Settings) (f : Fewer) : Type 0 whe
   pub value : LogValue
   pub reads : IsLogOf text s value
   pub fewer : AreFewer s value f
-
--- how many entries of it no image loses as a whole
-pub record FindsLarge (text : Recording) (s : Settings) (large : ℕ) : Type 0 where
-  pub value : LogValue
-  pub reads : IsLogOf text s value
-  pub counts : large ≡ count_by (is_large s.bound) value.entries

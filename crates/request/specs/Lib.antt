@@ -8,11 +8,13 @@ pub mod Trials
 pub mod Source
 pub mod Refusals
 pub mod FaultLine
--- What a command finds for its notes.
+-- What notes say of logs, programs and runs.
 pub mod Large
 pub mod Flushes
 pub mod Forced
 pub mod Promises
 pub mod Search
 pub mod Fewer
+pub mod LogFacts
+pub mod Breach
 pub mod Found

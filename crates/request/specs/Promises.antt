@@ -2,11 +2,8 @@
 use Rattle.std.specs.Prelude.{ℕ, ◌≡◌, ◌+◌, Bool, false, not, nat_le, nat_lt, ◌&&◌, List, length, filter, take, slice_get}
 use Rattle.std.specs.List.{range_with_len, slice_range, list_any}
 use Rattle.std.specs.Option.{option_map_or}
-use Rattle.logfmt.specs.Bounds.{LogValue}
 use Rattle.logfmt.specs.declared.entry.Entry.{Entry}
 use Rattle.epochs.specs.Units.{is_flush_between}
-use Rattle.request.specs.declared.settings.Settings.{Settings}
-use Rattle.request.specs.Source.{Recording, IsLogOf}
 use Rattle.request.specs.declared.facts.promises.Promises.{Promises}
 
 -- an entry writes or discards a sector, and has FUA
@@ -45,9 +42,3 @@ pub record AreFirst (marks : List ℕ) (p : Promises) : Type 0 where
 -- what is found of a log
 abbrev pub ArePromises : List Entry → Promises → Type 0
 ArePromises es p = AreFirst (too_much_before es (length es)) p
-
--- that is found of the log of a recording
-pub record FindsPromises (text : Recording) (s : Settings) (p : Promises) : Type 0 where
-  pub value : LogValue
-  pub reads : IsLogOf text s value
-  pub marks : ArePromises value.entries p

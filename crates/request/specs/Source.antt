@@ -26,6 +26,9 @@ pub record Recording : Type 0 where
   pub text : List ℕ
   pub initial : List ℕ
 
+abbrev pub RecordingValue : Type 0
+RecordingValue = Recording
+
 -- the bytes of the log are those of this log, no more of them and no more units than the limits allow, for the device of the settings,
 -- over that initial content
 pub record IsRecorded (r : Recording) (s : Settings) (value : LogValue) : Type 0 where

@@ -1,20 +1,20 @@
-//! What is asked: the options of a run, what a command line asks for, what every command reads of its log, and what it finds on its way
-//! that notes say.
+//! What is asked: the options of a run, what a command line asks for, what every command reads of its log, and what notes say of logs,
+//! programs and runs.
 //!
 //! | Module | Has |
 //! |---|---|
 //! | `settings`, `options`, `extent`, `any_losses`, `trials` | what is asked, with its ranges |
 //! | `command` | what a command line asks for |
 //! | `source` | a log read, and its plan |
-//! | `facts` | what a command is given of a log, and what it finds on its way that the notes beside its answer or after its refusal say |
+//! | `facts` | what a command is given of a log, and what the notes beside its answer or after its refusal say |
 //! | `refusals` | the line of a refusal |
 //!
 //! # Place
 //!
 //! Above `logfmt`, `epochs` and `choices`, by which a log is read, its cuts are found and its crash images counted, and above `verifier`,
 //! which accepts programs. Below those that answer: `runs` and `inspect` take `Options`, read their log here, ask here for its plan, and
-//! hand over what the verifier says. `command_line` makes a `Request`. `command_notes` of `notes` takes what was found, and asks again
-//! for what a note needs: it reads no file again. `commands` puts all of them together. No program is decoded or judged here.
+//! answer what they know of their programs as `RunFacts`. `command_line` makes a `Request`. `command_notes` of `notes` asks here for what a
+//! note says of a log by itself, or of a program that is refused. `commands` puts all of them together. No program is run here.
 //!
 //! | Call | Does |
 //! |---|---|
@@ -36,12 +36,12 @@
 //! |---|---|
 //! | `Recording::of(log, initial)` | the bytes of a log, with those that the device held before entry 0 |
 //! | `recording.log()` | the bytes of the log |
-//! | `recording.read(alloc, options, facts)` | the log, as `read_log` reads it; finds how many entries are too large to be lost as a whole, how many have FUA, and which marks promise what nothing made durable |
-//! | `facts.plan(alloc, log, options)` | its plan, as `plan_of` makes it; where there are too many images, finds with what there are fewer |
-//! | `facts.accept(verified)` | finds what no run reaches of an accepted program |
-//! | `facts.refuse(program, unaccepted)` | finds the instruction at which the verifier refuses a program, and what is known there |
+//! | `recording.read(alloc, options)` | the log, as `read_log` reads it |
+//! | `log_facts(alloc, recording, options)` | what notes say of the log: how many entries are too large to be lost as a whole, how many have FUA, how many are flush entries, how many cuts are wanted, and which marks promise what nothing made durable |
+//! | `fewer_images(alloc, recording, options)` | where the log has too many images, with what there are fewer |
+//! | `breach_of(alloc, bytes, sectors, guards)` | the instruction at which the verifier refuses a program, and what is known there |
 //!
-//! Which programs pass without looking at what a log writes is found by `runs`, which puts it into `facts.blind`.
+//! `RunFacts` has what notes say of programs and of a run: `runs` and `inspect` answer it.
 //!
 //! # What is proved
 //!
@@ -66,9 +66,9 @@
 //!
 //! ## `facts`
 //!
-//! What `Facts` holds is exactly what the definitions of `specs/Found.antt`, `specs/Fewer.antt`, `specs/Forced.antt` and
-//! `specs/Promises.antt` say of this log, with these options, and of these programs. What else it held stays. `read` and `plan`
-//! answer what `read_log` and `plan_of` do. Where there is no memory to count, `fewer` stays empty, and so does `promises`.
+//! What is found of a log is exactly what the definitions of `specs/LogFacts.antt`, `specs/Fewer.antt` and `specs/Promises.antt` say of it,
+//! with these options, and what is found of a refused program what `specs/Breach.antt` says: the rule that it breaks is one for which
+//! the verifier refuses it, and there is one alone. Where there is no memory to count, nothing is found.
 //!
 //! Which marks promise too much is found in the time of one walk over the log: each entry is looked at for one mark alone
 //! (`promises.rt`).
@@ -104,15 +104,14 @@
 //! }
 //! ```
 //!
-//! What a command finds:
+//! What notes say of a log:
 //!
 //! ```
-//! use request::facts::{Facts, Recording};
+//! use request::facts::{Recording, log_facts};
 //!
-//! let mut facts = Facts::new();
-//! let log = Recording::of(bytes, &[]).read(alloc, &options, &mut facts)?;
-//! let (plan, images) = facts.plan(alloc, &log, &options)?;
-//! let large = facts.large;    // how many entries no image loses as a whole
+//! if let Some(facts) = log_facts(alloc, &Recording::of(bytes, &[]), &options) {
+//!     let large = facts.large;    // how many entries no image loses as a whole
+//! }
 //! ```
 //!
 //! # More that is promised

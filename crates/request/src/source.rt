@@ -11,7 +11,7 @@ ghost use Rattle.request.specs.Source.{log_refusal, images_refusal, lacking_refu
 use crate::options::Options;
 use crate::refusals::option_refusal_of;
 use crate::settings::OptionPlace;
-use base::causes::{LogCause, RequestCause};
+use base::causes::RequestCause;
 use base::refusal::{Cause, Refusal};
 use choices::{TooMany, count_up_to};
 use epochs::{Cuts, Plan};
@@ -98,26 +98,19 @@ fn first_lacking(cuts: &Cuts, count: usize) -> Option<u64>
 }
 
 /// The log of these bytes, for a device of the options' size, over what it held before entry 0.
-fn log_over_base(
+fn log_over_base<'x>(
     alloc: Global,
-    bytes: &[u8],
-    initial: &[u8],
+    bytes: &'x [u8],
+    initial: &'x [u8],
     options: &Options,
-) -> Result<Log, LogFault>
+) -> Result<Log<'x>, LogFault>
     requires { length initial.now ≤ 512 * options.now.sectors }
     ensures log { IfOk result (IsRecorded (record { text = bytes.now; initial = initial.now }) options.now) }
     ensures fault { IfErr result (λ f. (f ≡ record { code = cause.Memory; at = 0 }) ⊎ FirstFault bytes.now options.now.sectors options.now.limits f.code f.at) }
 {
-    let log = match read(alloc, bytes, options.sectors(), options.limits()) {
-        Ok(log) => log,
-        Err(fault) => return Err(fault),
-    };
-    match InitialContent::of(alloc, initial) {
-        Ok(content) => Ok(log.over(content)),
-        Err(_error) => Err(LogFault {
-            code: LogCause::Memory,
-            at: 0,
-        }),
+    match read(alloc, bytes, options.sectors(), options.limits()) {
+        Ok(log) => Ok(log.over(InitialContent::of(initial))),
+        Err(fault) => Err(fault),
     }
 }
 
@@ -128,12 +121,12 @@ fn log_over_base(
 ///
 /// 13 at 14 where `initial` has more bytes than the device; the first fault of the log; or want of memory; or 15 at the first
 /// entry or cut that is named and that the log doesn't have.
-pub fn read_log(
+pub fn read_log<'x>(
     alloc: Global,
-    bytes: &[u8],
-    initial: &[u8],
+    bytes: &'x [u8],
+    initial: &'x [u8],
     options: &Options,
-) -> Result<Log, Refusal>
+) -> Result<Log<'x>, Refusal>
     ensures log { IfOk result (IsLogOf (record { text = bytes.now; initial = initial.now }) options.now) }
     ensures refused { IfErr result (RefusesLog (record { text = bytes.now; initial = initial.now }) options.now) }
 {
@@ -158,7 +151,7 @@ pub fn read_log(
 /// 12 at the first cut with which there are too many images; 13 at 17 where there are fewer than are meant; or want of memory.
 pub fn plan_of<'a>(
     alloc: Global,
-    log: &'a Log,
+    log: &'a Log<'_>,
     options: &Options,
 ) -> Result<(Plan<'a>, u64), Refusal>
     ensures plan { IfOk result (λ p. p.0 ≡ plan_of options.now log.now) }

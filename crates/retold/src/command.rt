@@ -1,6 +1,6 @@
 //! What a command answers on a log and a report.
 
-ghost use Rattle.std.specs.Prelude.{◌≡◌, ◌≢◌, ◌≤◌, ◌^◌, ◌↔◌, [], IfOk, IfErr, IsTrue, length, map, string_bytes};
+ghost use Rattle.std.specs.Prelude.{◌≡◌, ◌≢◌, ◌<◌, ◌≤◌, ◌^◌, ◌↔◌, [], IfOk, IfErr, IsTrue, length, map, string_bytes};
 ghost use Rattle.request.specs.Source.{plan_of, images_of, IsLogOf};
 ghost use Rattle.retold.specs.Retold.{IsGiven, IsRetold, IsRetoldOf, RefusesReport, RefusesRetold, RefusesSourceAs, Retells, head_given, options_given, starts_given};
 ghost use Rattle.join.specs.GivenReading.{given_told};
@@ -13,12 +13,13 @@ use crate::subject::Subject;
 use crate::why::why_text;
 use base::refusal::Refusal;
 use choices::Starts;
+use epochs::Plan;
 use images::initial_number;
 use join::{Given, ReportRun, read_report};
 use logfmt::Log;
 use report::{Head, put_options};
-use request::facts::{Facts, Recording};
-use request::{Extent, OptionPlace, Options, Retelling, option_refusal_of};
+use request::facts::Recording;
+use request::{Extent, OptionPlace, Options, Retelling, option_refusal_of, plan_of};
 use std::alloc::{AllocError, Global};
 
 /// How many bytes a report has at most: 1 GiB.
@@ -36,7 +37,7 @@ pub enum RetellFault {
 /// The run of which a report is to be.
 #[derive(Clone, Copy)]
 struct ReportBasis<'x> {
-    log: &'x Log,
+    log: &'x Log<'x>,
     starts: &'x Starts<'x>,
     options: &'x Options,
     images: u64,
@@ -141,16 +142,15 @@ fn told(
 }
 
 /// The log of a recording, with the flushes that are asked for.
-fn log_of(
+fn log_of<'x>(
     alloc: Global,
-    recording: &Recording<'_>,
+    recording: &Recording<'x>,
     options: &Options,
-    facts: &mut Facts,
-) -> Result<Log, RetellFault>
+) -> Result<Log<'x>, RetellFault>
     ensures log { IfOk result (IsLogOf recording.now options.now) }
     ensures refused { IfErr result (RefusesSourceAs recording.now options.now) }
 {
-    match recording.read(alloc, options, facts) {
+    match recording.read(alloc, options) {
         Ok(log) => Ok(log),
         Err(refusal) => Err(RetellFault::Refused(refusal)),
     }
@@ -231,6 +231,35 @@ fn told_of(
     }
 }
 
+/// What is told of a report of the images of a log, as its plan has them.
+fn told_by(
+    alloc: Global,
+    telling: Retelling,
+    log: &Log<'_>,
+    plan: &Plan<'_>,
+    images: u64,
+    report: &[u8],
+    options: &Options,
+) -> Result<Retold, RetellFault>
+    requires plan { plan.now ≡ plan_of options.now log.now }
+    requires count { images ≡ length (images_of options.now log.now) }
+    requires few { images < 2 ^ 63 }
+    requires short { length report.now ≤ 2 ^ 30 }
+    ensures told { IfOk result (λ r. IsRetoldOf telling options.now log.now report.now r.bytes.items r.failing) }
+    ensures refused { IfErr result (RefusesReport options.now log.now report.now) }
+{
+    let Ok(starts) = Starts::new(alloc, plan, options.bound(), options.tears()) else {
+        return Err(RetellFault::Refused(Refusal::of_memory()));
+    };
+    let basis = ReportBasis {
+        log,
+        starts: &starts,
+        options,
+        images,
+    };
+    told_of(alloc, telling, &basis, report)
+}
+
 /// What is told of a report, of the log that a recording is. Where the bytes are no report of it with these options, it is said at which
 /// line that shows: at the first that doesn't go on as such a report does, at 3 for any line of the programs, after the last where it is cut off,
 /// and at 0 where it has more than 1 GiB.
@@ -245,12 +274,10 @@ pub fn retell(
     recording: &Recording<'_>,
     report: &[u8],
     options: &Options,
-    facts: &mut Facts,
 ) -> Result<Retold, RetellFault>
     ensures told { IfOk result (λ r. IsRetold telling recording.now report.now options.now r.bytes.items r.failing) }
     ensures refused { IfErr result (RefusesRetold recording.now report.now options.now) }
 {
-    *facts = Facts::new();
     match options.extent() {
         Extent::Whole => {}
         _ => return Err(RetellFault::Refused(option_refusal_of(OptionPlace::Images))),
@@ -258,19 +285,10 @@ pub fn retell(
     if report.len() > MOST_OF_REPORT {
         return Err(RetellFault::Report(0));
     }
-    let log = log_of(alloc, recording, options, facts)?;
-    let (plan, images) = match facts.plan(alloc, &log, options) {
+    let log = log_of(alloc, recording, options)?;
+    let (plan, images) = match plan_of(alloc, &log, options) {
         Ok(found) => found,
         Err(refusal) => return Err(RetellFault::Refused(refusal)),
     };
-    let Ok(starts) = Starts::new(alloc, &plan, options.bound(), options.tears()) else {
-        return Err(RetellFault::Refused(Refusal::of_memory()));
-    };
-    let basis = ReportBasis {
-        log: &log,
-        starts: &starts,
-        options,
-        images,
-    };
-    told_of(alloc, telling, &basis, report)
+    told_by(alloc, telling, &log, &plan, images, report, options)
 }

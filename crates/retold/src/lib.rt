@@ -6,7 +6,7 @@
 //!
 //! | Type or call | What it is |
 //! |---|---|
-//! | `retell(alloc, telling, recording, report, options, facts)` | what is told of the report, as a `Retold`; or why nothing is, as a `Fault` |
+//! | `retell(alloc, telling, recording, report, options)` | what is told of the report, as a `Retold`; or why nothing is, as a `Fault` |
 //! | `Retelling` of `request` | what is told: why the programs fail, the page of where they do, or where flushes are missing |
 //!
 //! # Place
@@ -40,12 +40,11 @@
 //! # Example
 //!
 //! ```
-//! use request::facts::Facts;
 //! use request::Retelling;
 //! use retold::retell;
 //!
 //! // `bytes` is what crashbpf-each printed of the log of `recording`, with the same options
-//! if let Ok(told) = retell(alloc, Retelling::Causes, &recording, bytes, &options, &mut Facts::new()) {
+//! if let Ok(told) = retell(alloc, Retelling::Causes, &recording, bytes, &options) {
 //!     let text = told.bytes;
 //!     // crash why 2
 //!     // ..

@@ -10,7 +10,7 @@ use logfmt::Log;
 /// The lines of a report, the log and the images of which they are.
 #[derive(Clone, Copy)]
 pub(crate) struct Subject<'x> {
-    pub(crate) log: &'x Log,
+    pub(crate) log: &'x Log<'x>,
     pub(crate) starts: &'x Starts<'x>,
     pub(crate) by: By,
     pub(crate) lines: &'x [GivenLine<'x>],

@@ -264,40 +264,31 @@ fn is_noticed(alloc: Global, basis: &Basis<'_>, checker: &Checker<'_>) -> Result
     is_blind(alloc, basis, checker)
 }
 
-/// Appends of each checker of a run whether it is so.
-fn put_blind(
-    alloc: Global,
-    basis: &Basis<'_>,
-    out: &mut ArrayVec<bool, 8>,
-) -> Result<(), AllocError>
+/// Of each checker of a run whether it is so.
+fn blind_checkers(alloc: Global, basis: &Basis<'_>) -> Result<ArrayVec<bool, 8>, AllocError>
     requires few { length basis.now.task.now.checkers.now ≤ 8 }
     requires device { AreFor basis.now.task.now.log.now.sectors basis.now.task.now.checkers.now }
-    requires fresh { out.old.items ≡ [] }
-    ensures { OnOk result (out.new.items ≡ map (is_noticed basis.now.task.now.plan.now) basis.now.task.now.checkers.now) }
+    ensures { IfOk result (λ blind. blind.items ≡ map (is_noticed basis.now.task.now.plan.now) basis.now.task.now.checkers.now) }
 {
+    let mut out = ArrayVec::new();
     for checker in basis.task.checkers {
         out.push(is_noticed(alloc, basis, checker)?);
     }
-    Ok(())
+    Ok(out)
 }
 
 /// Finds which programs of a run pass at each wanted cut, on the image in which nothing is lost or torn, without looking at a sector
 /// that an entry writes or discards. It makes a run of a program for each epoch and each number of marks at the cuts, up to the first
 /// cut at which it doesn't: no more runs than the images of the cuts need at least. Where more than 1,024 flushes and marks stand before
 /// the last wanted cut, and more than a sixteenth of the wanted cuts, it makes none and finds none.
-pub(crate) fn find_blind(
-    alloc: Global,
-    basis: &Basis<'_>,
-    found: &mut ArrayVec<bool, 8>,
-) -> Result<(), Refusal>
+pub(crate) fn find_blind(alloc: Global, basis: &Basis<'_>) -> Result<ArrayVec<bool, 8>, Refusal>
     requires few { length basis.now.task.now.checkers.now ≤ 8 }
     requires verified { AreFor basis.now.task.now.options.now.sectors basis.now.task.now.checkers.now }
-    requires fresh { found.old.items ≡ [] }
-    ensures found { OnOk result (found.new.items ≡ map (is_noticed basis.now.task.now.plan.now) basis.now.task.now.checkers.now) }
+    ensures found { IfOk result (λ blind. blind.items ≡ map (is_noticed basis.now.task.now.plan.now) basis.now.task.now.checkers.now) }
     ensures refused { IfErr result (λ r. r ≡ memory_refusal) }
 {
-    match put_blind(alloc, basis, found) {
-        Ok(()) => Ok(()),
+    match blind_checkers(alloc, basis) {
+        Ok(blind) => Ok(blind),
         Err(_error) => Err(Refusal::of_memory()),
     }
 }
@@ -306,12 +297,10 @@ pub(crate) fn find_blind(
 pub(crate) fn find_blind_of<'x>(
     alloc: Global,
     task: &'x Task<'x>,
-    found: &mut ArrayVec<bool, 8>,
-) -> Result<(), Refusal>
+) -> Result<ArrayVec<bool, 8>, Refusal>
     requires few { length task.now.checkers.now ≤ 8 }
     requires verified { AreFor task.now.options.now.sectors task.now.checkers.now }
-    requires fresh { found.old.items ≡ [] }
-    ensures found { OnOk result (found.new.items ≡ map (is_noticed task.now.plan.now) task.now.checkers.now) }
+    ensures found { IfOk result (λ blind. blind.items ≡ map (is_noticed task.now.plan.now) task.now.checkers.now) }
     ensures refused { IfErr result (λ r. r ≡ memory_refusal) }
 {
     let (plan, options) = (task.plan, task.options);
@@ -329,5 +318,5 @@ pub(crate) fn find_blind_of<'x>(
         starts: &starts,
         history: &history,
     };
-    find_blind(alloc, &basis, found)
+    find_blind(alloc, &basis)
 }

@@ -1,6 +1,6 @@
 //! From the checkers of a run to the text of its failing cases, whatever is lost.
 
-ghost use Rattle.std.specs.Prelude.{◌≡◌, ◌≤◌, [], length, map, min, true, false, All, IfOk, IfErr};
+ghost use Rattle.std.specs.Prelude.{◌≡◌, ◌≤◌, length, map, min, true, false, All, IfOk, IfErr};
 ghost use Rattle.base.specs.Refusals.{memory_refusal};
 ghost use Rattle.checker.specs.Checker.{AreFor};
 ghost use Rattle.case_runs.specs.Found.{AreFoundIn, cases_in, most_cases};
@@ -10,25 +10,36 @@ ghost use Rattle.case_runs.specs.Cuts.{case_cuts};
 ghost use Rattle.runs.specs.Blind.{is_noticed};
 ghost use Rattle.runs.specs.CaseCuts.{losses_of, left_out_of};
 ghost use Rattle.runs.specs.Cases.{IsTextOf, TellsCases, TellsFirst, TellsLosses};
-ghost use Rattle.runs.specs.CaseRefusals.{StopsFor, RefusesFor, RefusesAll};
+ghost use Rattle.runs.specs.CaseRefusals.{StopsFor, RefusesForLog, RefusesFor, RefusesAll};
+ghost use Rattle.runs.specs.Judged.{IsJudged};
+ghost use Rattle.request.specs.Source.{images_of, plan_of};
 
 use crate::blind::find_blind_of;
-use crate::explore_command::{Explored, head_of_run};
+use crate::explore_command::{Explored, Told, head_of_run};
 use crate::task::Task;
-use arrayvec::ArrayVec;
 use base::causes::RequestCause;
 use base::refusal::{Cause, Refusal};
 use case_runs::{
     CaseGate, CutFound, FirstCase, Losses, SearchFault, Sought, case_cuts, find_failing, find_first,
 };
 use case_text::{is_any_failing, left_out, write_cases, write_first, write_why};
+use checker::Checker;
 use crash_page::case_page;
-use report::Head;
+use epochs::Plan;
+use logfmt::Log;
+use report::{Head, Span};
 use request::facts::LeftOut;
 use request::{AnyLosses, CaseTelling, Options};
 use std::alloc::{AllocError, Global};
 use std::thread::Threads;
 use workers::Gate;
+
+/// What is told of cases, and how many were left out, where none that was judged fails.
+#[derive(Drop)]
+struct ToldCases {
+    explored: Explored,
+    left_out: Option<LeftOut>,
+}
 
 /// The gate of a run, told of cases one by one: before each run of a program, and after each case, as of a block.
 #[derive(Drop)]
@@ -164,25 +175,26 @@ fn text_of(
     losses: AnyLosses,
     cuts: &[u32],
     found: &[CutFound],
-    out: &mut Option<LeftOut>,
-) -> Result<Explored, AllocError>
+) -> Result<ToldCases, AllocError>
     requires cuts { cuts.now ≡ case_cuts losses.at_most task.now.options.now.cuts task.now.log.now.entries }
     requires within { All (λ cut. cut ≤ length task.now.log.now.entries) cuts.now }
     requires found { AreFoundIn (losses_of losses task.now.options.now) task.now.log.now task.now.options.now.by cuts.now task.now.checkers.now found.now }
     requires small { length task.now.checkers.now ≤ 8 }
     requires few { cases_in found.now ≤ most_cases }
-    ensures told { IfOk result (λ e. TellsCases task.now.span.inputs losses task.now.options.now task.now.log.now task.now.checkers.now e.bytes.items e.failing) }
-    ensures failing { IfOk result (λ e. e.failing ≡ is_any_failing found.now) }
-    ensures left_out { out.new ≡ left_out_of found.now }
+    ensures told { IfOk result (λ t. TellsCases task.now.span.inputs losses task.now.options.now task.now.log.now task.now.checkers.now t.explored.bytes.items t.explored.failing) }
+    ensures failing { IfOk result (λ t. t.explored.failing ≡ is_any_failing found.now) }
+    ensures left_out { IfOk result (λ t. t.left_out ≡ left_out_of found.now) }
 {
     let _cuts = cuts;
-    *out = left_out_of(found);
     let head = head_of_run(alloc, task, false)?;
     let bytes = bytes_of(alloc, task, losses, &head, found)?;
-    Ok(Explored {
-        bytes,
-        hits: 0,
-        failing: is_any_failing(found),
+    Ok(ToldCases {
+        explored: Explored {
+            bytes,
+            hits: 0,
+            failing: is_any_failing(found),
+        },
+        left_out: left_out_of(found),
     })
 }
 
@@ -224,20 +236,23 @@ fn first_text_of(
     losses: AnyLosses,
     cuts: &[u32],
     first: &FirstCase,
-) -> Result<Explored, AllocError>
+) -> Result<ToldCases, AllocError>
     requires cuts { cuts.now ≡ case_cuts losses.at_most task.now.options.now.cuts task.now.log.now.entries }
     requires within { All (λ cut. cut ≤ length task.now.log.now.entries) cuts.now }
     requires first { IsFirstFailing (losses_of losses task.now.options.now) task.now.log.now task.now.options.now.by cuts.now task.now.checkers.now first.now }
-    ensures { IfOk result (λ e. TellsFirst task.now.span.inputs losses task.now.options.now task.now.log.now task.now.checkers.now e.bytes.items e.failing) }
+    ensures { IfOk result (λ t. TellsFirst task.now.span.inputs losses task.now.options.now task.now.log.now task.now.checkers.now t.explored.bytes.items t.explored.failing) }
 {
     let _cuts = cuts;
     let head = head_of_run(alloc, task, false)?;
     let asked = losses_of(losses, task.options);
     let bytes = write_first(alloc, &head, task.log, task.plan, asked, first)?;
-    Ok(Explored {
-        bytes,
-        hits: 0,
-        failing: true,
+    Ok(ToldCases {
+        explored: Explored {
+            bytes,
+            hits: 0,
+            failing: true,
+        },
+        left_out: None,
     })
 }
 
@@ -248,16 +263,15 @@ fn passing_text_of(
     losses: AnyLosses,
     cuts: &[u32],
     found: &[CutFound],
-    out: &mut Option<LeftOut>,
-) -> Result<Explored, AllocError>
+) -> Result<ToldCases, AllocError>
     requires cuts { cuts.now ≡ case_cuts losses.at_most task.now.options.now.cuts task.now.log.now.entries }
     requires within { All (λ cut. cut ≤ length task.now.log.now.entries) cuts.now }
     requires small { length task.now.checkers.now ≤ 8 }
     requires passing { AllPass (losses_of losses task.now.options.now) task.now.log.now task.now.options.now.by cuts.now task.now.checkers.now found.now }
-    ensures { IfOk result (λ e. TellsFirst task.now.span.inputs losses task.now.options.now task.now.log.now task.now.checkers.now e.bytes.items e.failing) }
+    ensures { IfOk result (λ t. TellsFirst task.now.span.inputs losses task.now.options.now task.now.log.now task.now.checkers.now t.explored.bytes.items t.explored.failing) }
 {
-    let explored = text_of(alloc, task, losses, cuts, found, out)?;
-    Ok(explored)
+    let told = text_of(alloc, task, losses, cuts, found)?;
+    Ok(told)
 }
 
 /// The text of what was found where the first failing case was looked for.
@@ -267,18 +281,15 @@ fn sought_text_of(
     losses: AnyLosses,
     cuts: &[u32],
     sought: &Sought,
-    out: &mut Option<LeftOut>,
-) -> Result<Explored, AllocError>
+) -> Result<ToldCases, AllocError>
     requires cuts { cuts.now ≡ case_cuts losses.at_most task.now.options.now.cuts task.now.log.now.entries }
     requires within { All (λ cut. cut ≤ length task.now.log.now.entries) cuts.now }
     requires small { length task.now.checkers.now ≤ 8 }
     requires found { IsSought (losses_of losses task.now.options.now) task.now.log.now task.now.options.now.by cuts.now task.now.checkers.now sought.now }
-    ensures { IfOk result (λ e. TellsFirst task.now.span.inputs losses task.now.options.now task.now.log.now task.now.checkers.now e.bytes.items e.failing) }
+    ensures { IfOk result (λ t. TellsFirst task.now.span.inputs losses task.now.options.now task.now.log.now task.now.checkers.now t.explored.bytes.items t.explored.failing) }
 {
     match sought {
-        Sought::Passing(found) => {
-            passing_text_of(alloc, task, losses, cuts, found.as_slice(), out)
-        }
+        Sought::Passing(found) => passing_text_of(alloc, task, losses, cuts, found.as_slice()),
         Sought::Failing(first) => first_text_of(alloc, task, losses, cuts, first),
     }
 }
@@ -291,19 +302,18 @@ fn all_told<G: Gate + Sync, R: Threads + Sync>(
     task: &Task<'_>,
     losses: AnyLosses,
     cuts: &[u32],
-    out: &mut Option<LeftOut>,
-) -> Result<Explored, Refusal>
+) -> Result<ToldCases, Refusal>
     requires cuts { cuts.now ≡ case_cuts losses.at_most task.now.options.now.cuts task.now.log.now.entries }
     requires within { All (λ cut. cut ≤ length task.now.log.now.entries) cuts.now }
     requires verified { AreFor task.now.options.now.sectors task.now.checkers.now }
     requires small { length task.now.checkers.now ≤ 8 }
     requires all { task.now.options.now.first ≡ false }
-    ensures told { IfOk result (λ e. TellsCases task.now.span.inputs losses task.now.options.now task.now.log.now task.now.checkers.now e.bytes.items e.failing) }
+    ensures told { IfOk result (λ t. TellsCases task.now.span.inputs losses task.now.options.now task.now.log.now task.now.checkers.now t.explored.bytes.items t.explored.failing) }
     ensures refused { IfErr result (RefusesFor losses task.now) }
 {
     let found = cases_at(rt, alloc, gate, task, losses, cuts)?;
-    match text_of(alloc, task, losses, cuts, found.as_slice(), out) {
-        Ok(explored) => Ok(explored),
+    match text_of(alloc, task, losses, cuts, found.as_slice()) {
+        Ok(told) => Ok(told),
         Err(_error) => Err(Refusal::of_memory()),
     }
 }
@@ -315,50 +325,101 @@ fn first_told<G: Gate>(
     task: &Task<'_>,
     losses: AnyLosses,
     cuts: &[u32],
-    out: &mut Option<LeftOut>,
-) -> Result<Explored, Refusal>
+) -> Result<ToldCases, Refusal>
     requires cuts { cuts.now ≡ case_cuts losses.at_most task.now.options.now.cuts task.now.log.now.entries }
     requires within { All (λ cut. cut ≤ length task.now.log.now.entries) cuts.now }
     requires verified { AreFor task.now.options.now.sectors task.now.checkers.now }
     requires small { length task.now.checkers.now ≤ 8 }
     requires first { task.now.options.now.first ≡ true }
-    ensures told { IfOk result (λ e. TellsFirst task.now.span.inputs losses task.now.options.now task.now.log.now task.now.checkers.now e.bytes.items e.failing) }
+    ensures told { IfOk result (λ t. TellsFirst task.now.span.inputs losses task.now.options.now task.now.log.now task.now.checkers.now t.explored.bytes.items t.explored.failing) }
     ensures refused { IfErr result (RefusesFor losses task.now) }
 {
     let sought = first_at(alloc, gate, task, losses, cuts)?;
-    match sought_text_of(alloc, task, losses, cuts, &sought, out) {
-        Ok(explored) => Ok(explored),
+    match sought_text_of(alloc, task, losses, cuts, &sought) {
+        Ok(told) => Ok(told),
         Err(_error) => Err(Refusal::of_memory()),
     }
 }
 
-/// The failing cases of a task, told as a text; or the first of them alone, where that is asked for. Where none fails, it is found how
-/// many were left out. It is found which programs pass without looking at what the log writes.
-pub(crate) fn told_cases<'x, G: Gate + Sync, R: Threads + Sync>(
+/// The failing cases of a task, told as a text; or the first of them alone, where that is asked for.
+fn cases_told<G: Gate + Sync, R: Threads + Sync>(
     rt: &R,
     alloc: Global,
     gate: &G,
-    task: &'x Task<'x>,
+    task: &Task<'_>,
     losses: AnyLosses,
-    blind: &mut ArrayVec<bool, 8>,
-    out: &mut Option<LeftOut>,
-) -> Result<Explored, Refusal>
+) -> Result<ToldCases, Refusal>
     requires verified { AreFor task.now.options.now.sectors task.now.checkers.now }
     requires small { length task.now.checkers.now ≤ 8 }
-    requires fresh { blind.old.items ≡ [] }
-    ensures blind { IfOk result (λ _. blind.new.items ≡ map (is_noticed task.now.plan.now) task.now.checkers.now) }
-    ensures told { IfOk result (λ e. TellsLosses task.now.options.now.first task.now.span.inputs losses task.now.options.now task.now.log.now task.now.checkers.now e.bytes.items e.failing) }
+    ensures told { IfOk result (λ t. TellsLosses task.now.options.now.first task.now.span.inputs losses task.now.options.now task.now.log.now task.now.checkers.now t.explored.bytes.items t.explored.failing) }
     ensures refused { IfErr result (RefusesFor losses task.now) }
 {
-    if find_blind_of(alloc, task, blind).is_err() {
-        return Err(Refusal::of_memory());
-    }
     let cuts = match cuts_of_cases(alloc, task, losses) {
         Ok(cuts) => cuts,
         Err(_error) => return Err(Refusal::of_memory()),
     };
     if task.options.first() {
-        return first_told(alloc, gate, task, losses, cuts.as_slice(), out);
+        return first_told(alloc, gate, task, losses, cuts.as_slice());
     }
-    all_told(rt, alloc, gate, task, losses, cuts.as_slice(), out)
+    all_told(rt, alloc, gate, task, losses, cuts.as_slice())
+}
+
+/// The failing cases of a task, told as a text; or the first of them alone, where that is asked for. Where none fails, it is told how
+/// many were left out. It is found which programs pass without looking at what the log writes.
+fn told_cases<'x, G: Gate + Sync, R: Threads + Sync>(
+    rt: &R,
+    alloc: Global,
+    gate: &G,
+    task: &'x Task<'x>,
+    losses: AnyLosses,
+) -> Result<Told, Refusal>
+    requires verified { AreFor task.now.options.now.sectors task.now.checkers.now }
+    requires small { length task.now.checkers.now ≤ 8 }
+    ensures told { IfOk result (λ t. TellsLosses task.now.options.now.first task.now.span.inputs losses task.now.options.now task.now.log.now task.now.checkers.now t.explored.bytes.items t.explored.failing) }
+    ensures blind { IfOk result (λ t. t.blind.items ≡ map (is_noticed task.now.plan.now) task.now.checkers.now) }
+    ensures refused { IfErr result (RefusesFor losses task.now) }
+{
+    let blind = match find_blind_of(alloc, task) {
+        Ok(blind) => blind,
+        Err(_refusal) => return Err(Refusal::of_memory()),
+    };
+    match cases_told(rt, alloc, gate, task, losses) {
+        Ok(told) => Ok(Told {
+            explored: told.explored,
+            blind,
+            left_out: told.left_out,
+        }),
+        Err(refusal) => Err(refusal),
+    }
+}
+
+/// The failing cases of a log, as its plan has its cuts, told as `told_cases` tells those of a task.
+pub(crate) fn told_cases_of<G: Gate + Sync, R: Threads + Sync>(
+    rt: &R,
+    alloc: Global,
+    gate: &G,
+    losses: AnyLosses,
+    log: &Log<'_>,
+    plan: &Plan<'_>,
+    checkers: &[Checker<'_>],
+    options: &Options,
+    span: Span,
+) -> Result<Told, Refusal>
+    requires plan { plan.now ≡ plan_of options.now log.now }
+    requires device { log.now.sectors ≡ options.now.sectors }
+    requires judged { IsJudged options.now.extent (length (images_of options.now log.now)) span }
+    requires verified { AreFor options.now.sectors checkers.now }
+    requires small { length checkers.now ≤ 8 }
+    ensures told { IfOk result (λ t. TellsLosses options.now.first span.inputs losses options.now log.now checkers.now t.explored.bytes.items t.explored.failing) }
+    ensures blind { IfOk result (λ t. t.blind.items ≡ map (is_noticed plan.now) checkers.now) }
+    ensures refused { IfErr result (RefusesForLog losses options.now log.now checkers.now) }
+{
+    let task = Task {
+        log,
+        plan,
+        checkers,
+        options,
+        span,
+    };
+    told_cases(rt, alloc, gate, &task, losses)
 }

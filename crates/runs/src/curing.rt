@@ -1,6 +1,6 @@
 //! Where flushes are missing, tried run by run (docs/COMMANDS.md, cure).
 
-ghost use Rattle.std.specs.Prelude.{◌≡◌, ◌≢◌, ◌≤◌, ◌<◌, ◌↔◌, ◌⊎◌, ◌++◌, ℕ, [], map, length, true, All, None, Some, IsTrue, IfOk, IfErr, IfSome, OnOk, string_bytes};
+ghost use Rattle.std.specs.Prelude.{◌≡◌, ◌≢◌, ◌≤◌, ◌<◌, ◌↔◌, ◌⊎◌, ◌++◌, ℕ, [], map, length, true, All, None, Some, IsTrue, IfOk, IfErr, OnOk, string_bytes};
 ghost use Rattle.std.specs.List.{flat_map};
 ghost use Rattle.std.specs.List.Sorted.{IsNonDecreasing};
 ghost use Rattle.logfmt.specs.Bounds.{IsLog};
@@ -13,7 +13,8 @@ ghost use Rattle.losses.specs.FailureWindows.{windows_in, places_in, calm_entrie
 ghost use Rattle.losses.specs.CureText.{begin_text, uncured_text, flush_line, refused_line};
 ghost use Rattle.case_runs.specs.Found.{AreFoundIn, cases_in, most_cases};
 ghost use Rattle.request.specs.declared.extent.Extent.TheVariants as extent;
-ghost use Rattle.request.specs.Source.{RefusesPlan, images_refusal};
+ghost use Rattle.request.specs.Extents.{most_images};
+ghost use Rattle.request.specs.Source.{RefusesPlan, images_of, images_refusal, plan_of};
 ghost use Rattle.report.specs.Report.{totals_line};
 ghost use Rattle.runs.specs.declared.explore_command.WantedAnswer.TheVariants as wants;
 ghost use Rattle.case_runs.specs.Cuts.{case_cuts};
@@ -23,14 +24,11 @@ ghost use Rattle.runs.specs.Explore.{RefusesWanted};
 ghost use Rattle.runs.specs.Tasks.{lines_of};
 ghost use Rattle.runs.specs.Why.{starts_of};
 ghost use Rattle.runs.specs.Cured.{IsCured, Cures, TellsCure, RefusesRun, run_lines};
-ghost use Rattle.request.specs.Fewer.{FindsFewer};
-ghost use Rattle.request.specs.Promises.{FindsPromises};
-ghost use Rattle.runs.specs.Finds.{FindsBreach, FindsAll};
 ghost use Rattle.runs.specs.Trials.{HasFailures, IsFound, HasFound, TellsOn};
 
 use crate::basis::{Basis, judge_images};
 use crate::case_command::{cases_at, cuts_of_cases, losses_of};
-use crate::explore_command::{Explored, Question, WantedAnswer, head_of_run, run_with};
+use crate::explore_command::{Explored, Question, WantedAnswer, explored_by, head_of_run};
 use crate::task::Task;
 use base::causes::RequestCause;
 use base::refusal::{Cause, Refusal};
@@ -38,6 +36,7 @@ use case_runs::CutFound;
 use case_text::cure_of_cases;
 use checker::Checker;
 use choices::Starts;
+use epochs::Plan;
 use images::History;
 use logfmt::Log;
 use losses::cure::{
@@ -47,7 +46,6 @@ use losses::cure::{
 use losses::flushes::Window;
 use report::lines::Lines;
 use report::{Head, Span, put_totals};
-use request::facts::Facts;
 use request::{AnyLosses, Options, plan_of};
 use std::alloc::{AllocError, Global};
 use std::sync::Wait;
@@ -80,8 +78,8 @@ pub(crate) struct CureRun {
 
 /// A log, and what a run of it finds.
 #[derive(Drop)]
-pub(crate) struct LogRun {
-    pub(crate) log: Log,
+pub(crate) struct LogRun<'x> {
+    pub(crate) log: Log<'x>,
     pub(crate) found: CureFindings,
 }
 
@@ -247,6 +245,44 @@ fn cases_found<G: Gate + Sync, R: Threads + Sync>(
     }
 }
 
+/// What a run of a plan of a log that has that many images finds.
+fn run_by<G: Gate + Sync, R: Threads + Wait + Sync>(
+    rt: &R,
+    alloc: Global,
+    gate: &G,
+    judges: &CureJudges<'_>,
+    log: &Log<'_>,
+    plan: &Plan<'_>,
+    images: u64,
+) -> Result<CureRun, Refusal>
+    requires checkers { length judges.now.checkers.now ≤ 8 }
+    requires verified { AreFor judges.now.options.now.sectors judges.now.checkers.now }
+    requires whole { judges.now.options.now.extent ≡ extent.Whole }
+    requires device { log.now.sectors ≡ judges.now.options.now.sectors }
+    requires plan { plan.now ≡ plan_of judges.now.options.now log.now }
+    requires count { images ≡ length (images_of judges.now.options.now log.now) }
+    requires few { images ≤ most_images judges.now.options.now.extent }
+    ensures found { IfOk result (λ run. IsFound judges.now.losses judges.now.options.now judges.now.checkers.now log.now run.found.failures.items run.begin.items (string_bytes run.found.last)) }
+    ensures refused { IfErr result (RefusesRun judges.now.losses judges.now.options.now judges.now.checkers.now log.now) }
+{
+    let task = Task {
+        log,
+        plan,
+        checkers: judges.checkers,
+        options: judges.options,
+        span: Span {
+            from: 0,
+            to: images,
+            images,
+            inputs: 0,
+        },
+    };
+    match judges.losses {
+        None => images_found(rt, alloc, gate, &task),
+        Some(losses) => cases_found(rt, alloc, gate, &task, losses),
+    }
+}
+
 /// What a run of a log finds.
 fn run_of<G: Gate + Sync, R: Threads + Wait + Sync>(
     rt: &R,
@@ -263,38 +299,23 @@ fn run_of<G: Gate + Sync, R: Threads + Wait + Sync>(
     ensures refused { IfErr result (RefusesRun judges.now.losses judges.now.options.now judges.now.checkers.now log.now) }
 {
     let (plan, images) = plan_of(alloc, log, judges.options)?;
-    let task = Task {
-        log,
-        plan: &plan,
-        checkers: judges.checkers,
-        options: judges.options,
-        span: Span {
-            from: 0,
-            to: images,
-            images,
-            inputs: 0,
-        },
-    };
-    match judges.losses {
-        None => images_found(rt, alloc, gate, &task),
-        Some(losses) => cases_found(rt, alloc, gate, &task, losses),
-    }
+    run_by(rt, alloc, gate, judges, log, &plan, images)
 }
 
 /// Adds the flushes that are missing for these windows to a log, and tells of them.
-fn next_log(
+fn next_log<'x>(
     alloc: Global,
     out: &mut String,
     round: u64,
-    log: Log,
+    log: Log<'x>,
     windows: &[Window],
-) -> Result<Added, Refusal>
+) -> Result<Added<'x>, Refusal>
     requires some { windows.now ≢ [] }
     requires inside { AreWindows (length log.entries) windows.now }
     requires calm { HoldNoFlush log.entries windows.now }
     ensures missing { IfOk result (λ added. AreMissing windows.now added.flushes.items) }
-    ensures log { IfOk result (λ added. added.log ≡ with_flushes (places_in added.flushes.items) log) }
-    ensures fewer { IfOk result (λ added. calm_entries added.log.entries < calm_entries log.entries) }
+    ensures log { IfOk result (λ added. added.log ≡ with_flushes (places_in added.flushes.items) log.entry) }
+    ensures fewer { IfOk result (λ added. calm_entries added.log.entries < calm_entries log.entry.entries) }
     ensures told { IfOk result (λ added. string_bytes out.new ≡ string_bytes out.old ++ flat_map (flush_line round) added.flushes.items) }
     ensures refused { IfErr result (λ r. r ≡ memory_refusal) }
 {
@@ -354,7 +375,7 @@ fn all_rounds<G: Gate + Sync, R: Threads + Wait + Sync>(
     gate: &G,
     judges: &CureJudges<'_>,
     out: &mut String,
-    first: LogRun,
+    first: LogRun<'_>,
 ) -> Result<u64, Refusal>
     requires checkers { length judges.now.checkers.now ≤ 8 }
     requires verified { AreFor judges.now.options.now.sectors judges.now.checkers.now }
@@ -362,7 +383,7 @@ fn all_rounds<G: Gate + Sync, R: Threads + Wait + Sync>(
     requires log { IsLog first.log }
     requires device { first.log.sectors ≡ judges.now.options.now.sectors }
     requires found { HasFound judges.now.losses judges.now.options.now judges.now.checkers.now first.log first.found.failures.items (string_bytes first.found.last) }
-    ensures told { IfOk result (λ hits. TellsOn judges.now.losses judges.now.options.now judges.now.checkers.now first.log (string_bytes out.old) (string_bytes out.new)) }
+    ensures told { IfOk result (λ hits. TellsOn judges.now.losses judges.now.options.now judges.now.checkers.now first.entry.log (string_bytes out.old) (string_bytes out.new)) }
     ensures refused { IfErr result (λ r. r ≡ memory_refusal) }
 {
     let LogRun { mut log, mut found } = first;
@@ -413,15 +434,15 @@ pub(crate) fn cured_log<G: Gate + Sync, R: Threads + Wait + Sync>(
     alloc: Global,
     gate: &G,
     judges: &CureJudges<'_>,
-    log: Log,
+    log: Log<'_>,
 ) -> Result<Explored, Refusal>
     requires checkers { length judges.now.checkers.now ≤ 8 }
     requires verified { AreFor judges.now.options.now.sectors judges.now.checkers.now }
     requires whole { judges.now.options.now.extent ≡ extent.Whole }
     requires log { IsLog log }
     requires device { log.sectors ≡ judges.now.options.now.sectors }
-    ensures cured { IfOk result (λ e. Cures judges.now.losses judges.now.options.now log judges.now.checkers.now e.bytes.items e.failing) }
-    ensures refused { IfErr result (RefusesRun judges.now.losses judges.now.options.now judges.now.checkers.now log) }
+    ensures cured { IfOk result (λ e. Cures judges.now.losses judges.now.options.now log.entry judges.now.checkers.now e.bytes.items e.failing) }
+    ensures refused { IfErr result (RefusesRun judges.now.losses judges.now.options.now judges.now.checkers.now log.entry) }
 {
     let made = run_of(rt, alloc, gate, judges, &log)?;
     let failing = is_failing(&made.found);
@@ -446,16 +467,16 @@ pub(crate) fn cured_images<'x, G: Gate + Sync, R: Threads + Wait + Sync>(
     gate: &G,
     checkers: &'x [Checker<'x>],
     options: &'x Options,
-    log: Log,
+    log: Log<'_>,
 ) -> Result<Explored, Refusal>
     requires checkers { length checkers.now ≤ 8 }
     requires verified { AreFor options.now.sectors checkers.now }
     requires whole { options.now.extent ≡ extent.Whole }
     requires log { IsLog log }
     requires device { log.sectors ≡ options.now.sectors }
-    ensures bytes { IfOk result (λ e. TellsCure None options.now log checkers.now e.bytes.items) }
-    ensures failing { IfOk result (λ e. IsTrue e.failing ↔ (run_lines options.now checkers.now log ≢ [])) }
-    ensures refused { IfErr result (RefusesPlan options.now log) }
+    ensures bytes { IfOk result (λ e. TellsCure None options.now log.entry checkers.now e.bytes.items) }
+    ensures failing { IfOk result (λ e. IsTrue e.failing ↔ (run_lines options.now checkers.now log.entry ≢ [])) }
+    ensures refused { IfErr result (RefusesPlan options.now log.entry) }
 {
     let judges = CureJudges {
         checkers,
@@ -473,15 +494,15 @@ pub(crate) fn cured_cases<'x, G: Gate + Sync, R: Threads + Wait + Sync>(
     checkers: &'x [Checker<'x>],
     options: &'x Options,
     losses: AnyLosses,
-    log: Log,
+    log: Log<'_>,
 ) -> Result<Explored, Refusal>
     requires checkers { length checkers.now ≤ 8 }
     requires verified { AreFor options.now.sectors checkers.now }
     requires whole { options.now.extent ≡ extent.Whole }
     requires log { IsLog log }
     requires device { log.sectors ≡ options.now.sectors }
-    ensures cured { IfOk result (λ e. Cures (Some losses) options.now log checkers.now e.bytes.items e.failing) }
-    ensures refused { IfErr result (RefusesRun (Some losses) options.now checkers.now log) }
+    ensures cured { IfOk result (λ e. Cures (Some losses) options.now log.entry checkers.now e.bytes.items e.failing) }
+    ensures refused { IfErr result (RefusesRun (Some losses) options.now checkers.now log.entry) }
 {
     let judges = CureJudges {
         checkers,
@@ -494,8 +515,7 @@ pub(crate) fn cured_cases<'x, G: Gate + Sync, R: Threads + Wait + Sync>(
 /// Tries where flushes would take failing images of a log away (docs/COMMANDS.md, cure): judges its crash images as
 /// `explore_with` does, adds the flushes that are missing for the failing ones, judges those of the log with them, and so on,
 /// until no failing image that is left has a window. `gate` is told of each run. What is to be told by the
-/// question, and whether the first failing image alone is asked for, changes nothing. What is found on the
-/// way takes the place of what `facts` held.
+/// question, and whether the first failing image alone is asked for, changes nothing.
 ///
 /// # Errors
 ///
@@ -505,18 +525,13 @@ pub fn cure_run<G: Gate + Sync, R: Threads + Wait + Sync>(
     alloc: Global,
     gate: &G,
     question: &Question<'_>,
-    facts: &mut Facts,
 ) -> Result<Explored, Refusal>
     ensures cured { IfOk result (λ e. IsCured question.now.recording.now (map (λ f. f.items) question.now.programs.now) question.now.options.now e.bytes.items e.failing) }
     ensures refused { IfErr result (RefusesWanted wants.Cured question.now.recording.now (map (λ f. f.items) question.now.programs.now) question.now.options.now) }
-    ensures found { IfOk result (λ _. FindsAll question.now.recording.now (map (λ f. f.items) question.now.programs.now) question.now.options.now facts.new) }
-    ensures promises { IfOk result (λ _. IfSome facts.new.promises (FindsPromises question.now.recording.now question.now.options.now)) }
-    ensures breach { IfErr result (λ r. IfSome facts.new.breach (FindsBreach question.now.options.now (map (λ f. f.items) question.now.programs.now) r)) }
-    ensures fewer { IfSome facts.new.fewer (FindsFewer question.now.recording.now question.now.options.now) }
 {
     let question = Question {
         wanted: WantedAnswer::Cured,
         ..*question
     };
-    run_with(rt, alloc, gate, &question, facts)
+    explored_by(rt, alloc, gate, &question)
 }

@@ -1,32 +1,31 @@
 //! From the bytes of a log and of programs to the bytes of the report, or to why the programs fail.
 
-ghost use Rattle.std.specs.Prelude.{◌≡◌, ◌≢◌, ◌≤◌, ◌<◌, ◌+◌, ◌⊎◌, ◌↔◌, IsTrue, ◌++◌, ◌∷◌, [], length, map, true, false, IfOk, IfErr, IfSome, OnOk, None, Some};
+ghost use Rattle.std.specs.Prelude.{◌≡◌, ◌≢◌, ◌≤◌, ◌<◌, ◌+◌, ◌⊎◌, ◌↔◌, IsTrue, ◌++◌, ◌∷◌, [], length, map, true, false, IfOk, IfErr, OnOk, None, Some};
 ghost use Rattle.base.specs.declared.causes.CodeCause.TheVariants as code;
 ghost use Rattle.bpf_isa.specs.Program.{IsSpelledBy, HasNoFault};
 ghost use Rattle.std.specs.List.Sorted.{IsNonDecreasing};
 ghost use Rattle.checker.specs.Checker.{AreFor};
 ghost use Rattle.base.specs.Refusals.{memory_refusal};
 ghost use Rattle.request.specs.Extents.{is_extent, most_images, has_extent};
-ghost use Rattle.request.specs.Source.{RefusesPlan};
-ghost use Rattle.runs.specs.Explore.{HasReport, IsReport, IsProgramCount, RefusesWanted, program_head, head_of};
+ghost use Rattle.request.specs.Source.{RefusesPlan, images_of, plan_of};
+ghost use Rattle.workers.specs.Failing.{failing_lines};
+ghost use Rattle.runs.specs.Explore.{HasReport, IsReport, IsProgramCount, RefusesWanted, program_head, head_of, subject_of};
 ghost use Rattle.runs.specs.Inputs.{inputs_number, number_told};
 ghost use Rattle.runs.specs.Judged.{takes, IsJudged};
 ghost use Rattle.runs.specs.declared.explore_command.WantedAnswer.TheVariants as wants;
 ghost use Rattle.request.specs.declared.settings.Telling.TheVariants as tells;
-ghost use Rattle.runs.specs.Why.{with_first, first_asked, IsExplained, IsPaged};
+ghost use Rattle.runs.specs.Why.{Tells, with_first, first_asked, IsExplained, IsPaged};
 ghost use Rattle.runs.specs.Blind.{is_noticed, FindsBlind};
 ghost use Rattle.runs.specs.Cured.{IsAnswered};
 ghost use Rattle.runs.specs.Tasks.{lines_of, telling_in, TellsTask};
 ghost use Rattle.runs.specs.Found.{AreFound};
-ghost use Rattle.request.specs.Fewer.{FindsFewer};
-ghost use Rattle.request.specs.Promises.{FindsPromises};
-ghost use Rattle.runs.specs.Finds.{FindsNext, FindsUnreached, IsBreachOf, IsBreachIn, FindsBreach, FindsAll};
-ghost use Rattle.request.specs.Found.{AddsUnreached, KeepsLog};
+ghost use Rattle.runs.specs.Finds.{IsUnreachedOf, AreUnreached, FindsUnreached};
+ghost use Rattle.request.specs.Found.{IsUnreached};
 ghost use Rattle.runs.specs.Programs.{IsRunWithin, IsCodeFault, IsUnaccepted, code_refusal, verifier_refusal, AreDecoded, AreFirstMade, RefusesOneOf};
 
 use crate::basis::{Basis, judge_images};
 use crate::blind::find_blind;
-use crate::case_command::told_cases;
+use crate::case_command::told_cases_of;
 use crate::causes::causes_text;
 use crate::curing::{cured_cases, cured_images};
 use crate::inputs::{case_number, part_number};
@@ -40,15 +39,19 @@ use bpf_isa::program::{CodeFault, Program};
 use bpf_shape::Fault;
 use checker::Checker;
 use choices::Starts;
+use epochs::Plan;
 use images::{History, initial_number};
+use logfmt::Log;
 use losses::outcomes::printed_text;
 use report::{Head, ProgramHead, Span, write_part, write_report};
-use request::facts::{Facts, Recording};
-use request::{AnyLosses, Extent, MOST_PROGRAMS, OptionPlace, Options, Telling, option_refusal_of};
+use request::facts::{LeftOut, Recording, RunFacts};
+use request::{
+    AnyLosses, Extent, MOST_PROGRAMS, OptionPlace, Options, Telling, option_refusal_of, plan_of,
+};
 use std::alloc::{AllocError, Global};
 use std::sync::Wait;
 use std::thread::Threads;
-use verifier::verify_with;
+use verifier::{Unreached, unreached_of, verify_with};
 use workers::{Gate, OpenGate, accepted_checkers_run_safely, lines_are_set};
 
 /// What a run answers.
@@ -60,6 +63,52 @@ pub struct Explored {
     pub hits: u64,
     /// Whether there is a failing image.
     pub failing: bool,
+}
+
+/// What a run answers, with what it knows for the notes.
+#[derive(Drop)]
+pub struct RunAnswer {
+    pub explored: Explored,
+    pub facts: RunFacts,
+}
+
+/// What is told of a run, and what is known of its programs and cases by then.
+#[derive(Drop)]
+pub(crate) struct Told {
+    pub(crate) explored: Explored,
+    /// Of each program whether it passes without looking at what the log writes; nothing where that isn't looked for.
+    pub(crate) blind: ArrayVec<bool, 8>,
+    /// How many cases were left out, where none that was judged fails.
+    pub(crate) left_out: Option<LeftOut>,
+}
+
+/// What a cure tells.
+fn told_alone(explored: Explored) -> Told
+    ensures explored { result.explored ≡ explored }
+    ensures blind { result.blind.items ≡ [] }
+{
+    Told {
+        explored,
+        blind: ArrayVec::new(),
+        left_out: None,
+    }
+}
+
+/// What a run answers that told this, by what no run reaches of its programs.
+fn answer_of(told: Told, unreached: ArrayVec<Option<Unreached>, 8>) -> RunAnswer
+    ensures explored { result.explored ≡ told.explored }
+    ensures unreached { result.facts.unreached ≡ unreached }
+    ensures blind { result.facts.blind ≡ told.blind }
+    ensures left_out { result.facts.left_out ≡ told.left_out }
+{
+    RunAnswer {
+        explored: told.explored,
+        facts: RunFacts {
+            unreached,
+            blind: told.blind,
+            left_out: told.left_out,
+        },
+    }
 }
 
 /// Whether a run may have that many programs.
@@ -148,6 +197,13 @@ fn verifier_refusal_of(number: u8, fault: Fault) -> Refusal
     program_refusal(number, Cause::Verifier(fault.code), fault.slot)
 }
 
+/// A program as a checker, and what no run reaches of it; none where it isn't verified.
+#[derive(Drop)]
+struct MadeChecker<'p> {
+    checker: Checker<'p>,
+    unreached: Option<Unreached>,
+}
+
 /// A program as a checker where no limit of steps is asked for: verified, with guards or without.
 #[tactic(auto, using(crate::proofs::Fitting::accepted_within))]
 fn verified_checker<'p>(
@@ -155,31 +211,22 @@ fn verified_checker<'p>(
     number: u8,
     program: &'p Program,
     options: &Options,
-    facts: &mut Facts,
-) -> Result<Checker<'p>, Refusal>
+) -> Result<MadeChecker<'p>, Refusal>
     requires unlimited { options.now.checked ≡ None }
-    requires few { length facts.old.unreached.items < 8 }
-    requires calm { facts.old.breach ≡ None }
-    ensures program { IfOk result (λ c. c.program ≡ program.now) }
-    ensures within { IfOk result (λ c. IsRunWithin options.now.checked options.now.guards options.now.sectors c) }
+    ensures program { IfOk result (λ made. made.checker.program ≡ program.now) }
+    ensures within { IfOk result (λ made. IsRunWithin options.now.checked options.now.guards options.now.sectors made.checker) }
+    ensures unreached { IfOk result (λ made. IsUnreached program.now options.now.sectors made.unreached) }
     ensures refused { IfErr result (IsUnaccepted options.now number program.now) }
-    ensures unreached { OnOk result (AddsUnreached program.now options.now.sectors facts.old.unreached.items facts.new.unreached.items) }
-    ensures calm { OnOk result (facts.new.breach ≡ facts.old.breach) }
-    ensures breach { IfErr result (λ r. IfSome facts.new.breach (IsBreachOf options.now number program.now r)) }
-    ensures others { KeepsLog facts.old facts.new }
 {
     match verify_with(alloc, program, options.sectors(), options.guards()) {
-        Ok(verified) => {
-            facts.accept(&verified);
-            match Checker::verified(alloc, &verified) {
-                Ok(checker) => Ok(checker),
-                Err(error) => Err(verifier_refusal_of(number, Fault::from(error))),
-            }
-        }
-        Err(unaccepted) => {
-            facts.refuse(program, &unaccepted);
-            Err(verifier_refusal_of(number, unaccepted.fault))
-        }
+        Ok(verified) => match Checker::verified(alloc, &verified) {
+            Ok(checker) => Ok(MadeChecker {
+                checker,
+                unreached: unreached_of(&verified),
+            }),
+            Err(error) => Err(verifier_refusal_of(number, Fault::from(error))),
+        },
+        Err(unaccepted) => Err(verifier_refusal_of(number, unaccepted.fault)),
     }
 }
 
@@ -189,21 +236,18 @@ fn checker_of<'p>(
     number: u8,
     program: &'p Program,
     options: &Options,
-    facts: &mut Facts,
-) -> Result<Checker<'p>, Refusal>
-    requires few { length facts.old.unreached.items < 8 }
-    requires calm { facts.old.breach ≡ None }
-    ensures program { IfOk result (λ c. c.program ≡ program.now) }
-    ensures within { IfOk result (λ c. IsRunWithin options.now.checked options.now.guards options.now.sectors c) }
+) -> Result<MadeChecker<'p>, Refusal>
+    ensures program { IfOk result (λ made. made.checker.program ≡ program.now) }
+    ensures within { IfOk result (λ made. IsRunWithin options.now.checked options.now.guards options.now.sectors made.checker) }
+    ensures unreached { IfOk result (λ made. IsUnreachedOf options.now.checked options.now.sectors program.now made.unreached) }
     ensures refused { IfErr result (IsUnaccepted options.now number program.now) }
-    ensures unreached { OnOk result (FindsNext options.now.checked options.now.sectors program.now facts.old.unreached.items facts.new.unreached.items) }
-    ensures calm { OnOk result (facts.new.breach ≡ facts.old.breach) }
-    ensures breach { IfErr result (λ r. IfSome facts.new.breach (IsBreachOf options.now number program.now r)) }
-    ensures others { KeepsLog facts.old facts.new }
 {
     match options.step_limit() {
-        Some(limit) => Ok(Checker::limited(program, limit)),
-        None => verified_checker(alloc, number, program, options, facts),
+        Some(limit) => Ok(MadeChecker {
+            checker: Checker::limited(program, limit),
+            unreached: None,
+        }),
+        None => verified_checker(alloc, number, program, options),
     }
 }
 
@@ -218,30 +262,36 @@ fn push_checker<'p>(checkers: &mut Vec<Checker<'p>>, checker: Checker<'p>) -> Re
     }
 }
 
+/// Programs as checkers, and what no run reaches of each of them.
+#[derive(Drop)]
+pub(crate) struct MadeCheckers<'p> {
+    pub(crate) checkers: Vec<Checker<'p>>,
+    pub(crate) unreached: ArrayVec<Option<Unreached>, 8>,
+}
+
 /// The programs as checkers.
 pub(crate) fn checkers_of<'p>(
     alloc: Global,
     programs: &'p [Program],
     options: &Options,
-    facts: &mut Facts,
-) -> Result<Vec<Checker<'p>>, Refusal>
+) -> Result<MadeCheckers<'p>, Refusal>
     requires few { length programs.now ≤ 8 }
-    requires fresh { facts.old.unreached.items ≡ [] }
-    requires calm { facts.old.breach ≡ None }
-    ensures made { IfOk result (λ checkers. AreFirstMade options.now programs.now checkers.items) }
-    ensures all { IfOk result (λ checkers. length checkers.items ≡ length programs.now) }
+    ensures made { IfOk result (λ made. AreFirstMade options.now programs.now made.checkers.items) }
+    ensures all { IfOk result (λ made. length made.checkers.items ≡ length programs.now) }
+    ensures unreached { IfOk result (λ made. AreUnreached options.now.checked options.now.sectors programs.now made.unreached.items) }
     ensures refused { IfErr result (RefusesOneOf options.now programs.now) }
-    ensures unreached { IfOk result (λ _. FindsUnreached options.now.checked options.now.sectors programs.now facts.new.unreached.items) }
-    ensures calm { OnOk result (facts.new.breach ≡ None) }
-    ensures breach { IfErr result (λ r. IfSome facts.new.breach (IsBreachIn options.now programs.now r)) }
-    ensures others { KeepsLog facts.old facts.new }
 {
     let mut checkers = Vec::new(alloc);
+    let mut unreached = ArrayVec::new();
     for (number, program) in programs.iter().enumerate() {
-        let checker = checker_of(alloc, number as u8, program, options, facts)?;
-        push_checker(&mut checkers, checker)?;
+        let made = checker_of(alloc, number as u8, program, options)?;
+        unreached.push(made.unreached);
+        push_checker(&mut checkers, made.checker)?;
     }
-    Ok(checkers)
+    Ok(MadeCheckers {
+        checkers,
+        unreached,
+    })
 }
 
 /// What the report says of each checker at its head.
@@ -398,22 +448,19 @@ fn is_first_asked(telling: Telling, options: &Options) -> bool
     }
 }
 
-/// Judges the crash images of a task, and tells of those that fail. It is found which programs pass without looking at what the log
-/// writes.
+/// Judges the crash images of a task, and tells of those that fail, and which programs pass without looking at what the log writes.
 fn judge_task<'x, G: Gate + Sync, R: Threads + Wait + Sync>(
     rt: &R,
     alloc: Global,
     gate: &G,
     telling: Telling,
     task: &'x Task<'x>,
-    blind: &mut ArrayVec<bool, 8>,
-) -> Result<Explored, Refusal>
+) -> Result<Told, Refusal>
     requires checkers { length task.now.checkers.now ≤ 8 }
     requires verified { AreFor task.now.options.now.sectors task.now.checkers.now }
-    requires fresh { blind.old.items ≡ [] }
-    ensures bytes { IfOk result (λ e. TellsTask telling task.now e.bytes.items) }
-    ensures blind { IfOk result (λ _. blind.new.items ≡ map (is_noticed task.now.plan.now) task.now.checkers.now) }
-    ensures failing { IfOk result (λ e. IsTrue e.failing ↔ (lines_of task.now ≢ [])) }
+    ensures bytes { IfOk result (λ t. TellsTask telling task.now t.explored.bytes.items) }
+    ensures blind { IfOk result (λ t. t.blind.items ≡ map (is_noticed task.now.plan.now) task.now.checkers.now) }
+    ensures failing { IfOk result (λ t. IsTrue t.explored.failing ↔ (lines_of task.now ≢ [])) }
     ensures refused { IfErr result (RefusesPlan task.now.options.now task.now.log.now) }
 {
     let (plan, options) = (task.plan, task.options);
@@ -433,7 +480,7 @@ fn judge_task<'x, G: Gate + Sync, R: Threads + Wait + Sync>(
     };
     let first = is_first_asked(telling, options);
     let work = judge_images(rt, alloc, gate, &basis, first)?;
-    find_blind(alloc, &basis, blind)?;
+    let blind = find_blind(alloc, &basis)?;
     let findings = Findings {
         task: &*task,
         starts: &starts,
@@ -441,13 +488,49 @@ fn judge_task<'x, G: Gate + Sync, R: Threads + Wait + Sync>(
         work: &work,
     };
     match tell(alloc, telling, &findings) {
-        Ok(bytes) => Ok(Explored {
-            bytes,
-            hits: work.hits,
-            failing: !work.lines.is_empty(),
+        Ok(bytes) => Ok(Told {
+            explored: Explored {
+                bytes,
+                hits: work.hits,
+                failing: !work.lines.is_empty(),
+            },
+            blind,
+            left_out: None,
         }),
         Err(_error) => Err(Refusal::of_memory()),
     }
+}
+
+/// Judges the crash images of a log that a span means, as its plan has them, and tells of those that fail, as `judge_task` does.
+fn judge_log<G: Gate + Sync, R: Threads + Wait + Sync>(
+    rt: &R,
+    alloc: Global,
+    gate: &G,
+    telling: Telling,
+    log: &Log<'_>,
+    plan: &Plan<'_>,
+    checkers: &[Checker<'_>],
+    options: &Options,
+    span: Span,
+) -> Result<Told, Refusal>
+    requires plan { plan.now ≡ plan_of options.now log.now }
+    requires device { log.now.sectors ≡ options.now.sectors }
+    requires judged { IsJudged options.now.extent (length (images_of options.now log.now)) span }
+    requires checkers { length checkers.now ≤ 8 }
+    requires verified { AreFor options.now.sectors checkers.now }
+    ensures bytes { IfOk result (λ t. Tells telling span.inputs options.now log.now checkers.now t.explored.bytes.items) }
+    ensures blind { IfOk result (λ t. t.blind.items ≡ map (is_noticed plan.now) checkers.now) }
+    ensures failing { IfOk result (λ t. IsTrue t.explored.failing ↔ (failing_lines (subject_of options.now log.now checkers.now) ≢ [])) }
+    ensures refused { IfErr result (RefusesPlan options.now log.now) }
+{
+    let task = Task {
+        log,
+        plan,
+        checkers,
+        options,
+        span,
+    };
+    judge_task(rt, alloc, gate, telling, &task)
 }
 
 /// What a run is asked for.
@@ -497,26 +580,24 @@ fn make_run<G: Gate + Sync, R: Threads + Wait + Sync>(
     alloc: Global,
     gate: &G,
     question: &Question<'_>,
-    facts: &mut Facts,
-) -> Result<Explored, Refusal>
+) -> Result<RunAnswer, Refusal>
     requires { takes question.now.wanted question.now.options.now.extent ≡ true }
-    ensures told { IfOk result (λ e. IsAnswered question.now.wanted question.now.recording.now (map (λ f. f.items) question.now.programs.now) question.now.options.now e.bytes.items e.failing) }
+    ensures told { IfOk result (λ a. IsAnswered question.now.wanted question.now.recording.now (map (λ f. f.items) question.now.programs.now) question.now.options.now a.explored.bytes.items a.explored.failing) }
+    ensures unreached { IfOk result (λ a. FindsUnreached (map (λ f. f.items) question.now.programs.now) question.now.options.now a.facts.unreached.items) }
+    ensures blind { IfOk result (λ a. FindsBlind question.now.wanted question.now.recording.now (map (λ f. f.items) question.now.programs.now) question.now.options.now a.facts.blind.items) }
     ensures refused { IfErr result (RefusesWanted question.now.wanted question.now.recording.now (map (λ f. f.items) question.now.programs.now) question.now.options.now) }
-    ensures found { IfOk result (λ _. FindsAll question.now.recording.now (map (λ f. f.items) question.now.programs.now) question.now.options.now facts.new) }
-    ensures promises { IfOk result (λ _. IfSome facts.new.promises (FindsPromises question.now.recording.now question.now.options.now)) }
-    ensures blind { IfOk result (λ _. FindsBlind question.now.wanted question.now.recording.now (map (λ f. f.items) question.now.programs.now) question.now.options.now facts.new.blind.items) }
-    ensures breach { IfErr result (λ r. IfSome facts.new.breach (FindsBreach question.now.options.now (map (λ f. f.items) question.now.programs.now) r)) }
-    ensures fewer { IfSome facts.new.fewer (FindsFewer question.now.recording.now question.now.options.now) }
 {
-    *facts = Facts::new();
     let (programs, options) = (question.programs, question.options);
     if !is_program_count(programs.len()) {
         return Err(option_refusal_of(OptionPlace::Programs));
     }
-    let log = question.recording.read(alloc, options, facts)?;
-    let (plan, images) = facts.plan(alloc, &log, options)?;
+    let log = question.recording.read(alloc, options)?;
+    let (plan, images) = plan_of(alloc, &log, options)?;
     let decoded = decode_all(alloc, programs)?;
-    let checkers = checkers_of(alloc, decoded.programs.as_slice(), options, facts)?;
+    let MadeCheckers {
+        checkers,
+        unreached,
+    } = checkers_of(alloc, decoded.programs.as_slice(), options)?;
     if let Some(refusal) = decoded.refusal {
         return Err(refusal);
     }
@@ -525,48 +606,40 @@ fn make_run<G: Gate + Sync, R: Threads + Wait + Sync>(
     let made = checkers.as_slice();
     match question.wanted {
         WantedAnswer::Told(telling) => {
-            let task = Task {
-                log: &log,
-                plan: &plan,
-                checkers: made,
-                options,
-                span: span_of(question, images),
-            };
-            judge_task(rt, alloc, gate, telling, &task, &mut facts.blind)
+            let span = span_of(question, images);
+            match judge_log(rt, alloc, gate, telling, &log, &plan, made, options, span) {
+                Ok(told) => Ok(answer_of(told, unreached)),
+                Err(refusal) => Err(refusal),
+            }
         }
         WantedAnswer::Cured => {
             // The log is changed from run to run.
             drop(plan);
-            cured_images(rt, alloc, gate, made, options, log)
+            match cured_images(rt, alloc, gate, made, options, log) {
+                Ok(explored) => Ok(answer_of(told_alone(explored), unreached)),
+                Err(refusal) => Err(refusal),
+            }
         }
         WantedAnswer::CuredCases(losses) => {
             drop(plan);
-            cured_cases(rt, alloc, gate, made, options, losses, log)
+            match cured_cases(rt, alloc, gate, made, options, losses, log) {
+                Ok(explored) => Ok(answer_of(told_alone(explored), unreached)),
+                Err(refusal) => Err(refusal),
+            }
         }
         WantedAnswer::Cases(losses) => {
-            let task = Task {
-                log: &log,
-                plan: &plan,
-                checkers: made,
-                options,
-                span: span_of(question, images),
-            };
-            told_cases(
-                rt,
-                alloc,
-                gate,
-                &task,
-                losses,
-                &mut facts.blind,
-                &mut facts.left_out,
-            )
+            let span = span_of(question, images);
+            match told_cases_of(rt, alloc, gate, losses, &log, &plan, made, options, span) {
+                Ok(told) => Ok(answer_of(told, unreached)),
+                Err(refusal) => Err(refusal),
+            }
         }
     }
 }
 
 /// Judges the crash images of a log by one to eight programs, and tells of those that fail what is asked for: what
-/// `explore_with`, `why`, `page` or `cure_run` answers, or the failing cases of any number of losses, or a cure by these. What is found on
-/// the way takes the place of what `facts` held.
+/// `explore_with`, `why`, `page` or `cure_run` answers, or the failing cases of any number of losses, or a cure by these; with what is
+/// known of the programs for the notes.
 ///
 /// # Errors
 ///
@@ -577,22 +650,34 @@ pub fn run_with<G: Gate + Sync, R: Threads + Wait + Sync>(
     alloc: Global,
     gate: &G,
     question: &Question<'_>,
-    facts: &mut Facts,
+) -> Result<RunAnswer, Refusal>
+    ensures taken { IfOk result (λ _. takes question.now.wanted question.now.options.now.extent ≡ true) }
+    ensures told { IfOk result (λ a. IsAnswered question.now.wanted question.now.recording.now (map (λ f. f.items) question.now.programs.now) question.now.options.now a.explored.bytes.items a.explored.failing) }
+    ensures unreached { IfOk result (λ a. FindsUnreached (map (λ f. f.items) question.now.programs.now) question.now.options.now a.facts.unreached.items) }
+    ensures blind { IfOk result (λ a. FindsBlind question.now.wanted question.now.recording.now (map (λ f. f.items) question.now.programs.now) question.now.options.now a.facts.blind.items) }
+    ensures refused { IfErr result (RefusesWanted question.now.wanted question.now.recording.now (map (λ f. f.items) question.now.programs.now) question.now.options.now) }
+{
+    if !does_take(question.wanted, question.options.extent()) {
+        return Err(option_refusal_of(OptionPlace::Images));
+    }
+    make_run(rt, alloc, gate, question)
+}
+
+/// The same, without what is known for the notes.
+pub(crate) fn explored_by<G: Gate + Sync, R: Threads + Wait + Sync>(
+    rt: &R,
+    alloc: Global,
+    gate: &G,
+    question: &Question<'_>,
 ) -> Result<Explored, Refusal>
     ensures taken { IfOk result (λ _. takes question.now.wanted question.now.options.now.extent ≡ true) }
     ensures told { IfOk result (λ e. IsAnswered question.now.wanted question.now.recording.now (map (λ f. f.items) question.now.programs.now) question.now.options.now e.bytes.items e.failing) }
     ensures refused { IfErr result (RefusesWanted question.now.wanted question.now.recording.now (map (λ f. f.items) question.now.programs.now) question.now.options.now) }
-    ensures found { IfOk result (λ _. FindsAll question.now.recording.now (map (λ f. f.items) question.now.programs.now) question.now.options.now facts.new) }
-    ensures promises { IfOk result (λ _. IfSome facts.new.promises (FindsPromises question.now.recording.now question.now.options.now)) }
-    ensures blind { IfOk result (λ _. FindsBlind question.now.wanted question.now.recording.now (map (λ f. f.items) question.now.programs.now) question.now.options.now facts.new.blind.items) }
-    ensures breach { IfErr result (λ r. IfSome facts.new.breach (FindsBreach question.now.options.now (map (λ f. f.items) question.now.programs.now) r)) }
-    ensures fewer { IfSome facts.new.fewer (FindsFewer question.now.recording.now question.now.options.now) }
 {
-    if !does_take(question.wanted, question.options.extent()) {
-        *facts = Facts::new();
-        return Err(option_refusal_of(OptionPlace::Images));
+    match run_with(rt, alloc, gate, question) {
+        Ok(answer) => Ok(answer.explored),
+        Err(refusal) => Err(refusal),
     }
-    make_run(rt, alloc, gate, question, facts)
 }
 
 /// Explores the crash images of a log: judges each by the one to eight programs, and reports those that
@@ -625,7 +710,7 @@ pub fn explore_with<G: Gate + Sync, R: Threads + Wait + Sync>(
         programs,
         options,
     };
-    run_with(rt, alloc, gate, &question, &mut Facts::new())
+    explored_by(rt, alloc, gate, &question)
 }
 
 /// Says why programs fail on the crash images of a log: how many images fail and where flushes are missing, and of each program how
@@ -652,7 +737,7 @@ pub fn why<G: Gate + Sync, R: Threads + Wait + Sync>(
         programs,
         options,
     };
-    run_with(rt, alloc, gate, &question, &mut Facts::new())
+    explored_by(rt, alloc, gate, &question)
 }
 
 /// Shows where programs fail on the crash images of a log, as a page for a browser (docs/OUTPUT.md, The page of `page`). It
@@ -678,7 +763,7 @@ pub fn page<G: Gate + Sync, R: Threads + Wait + Sync>(
         programs,
         options,
     };
-    run_with(rt, alloc, gate, &question, &mut Facts::new())
+    explored_by(rt, alloc, gate, &question)
 }
 
 /// The bytes of `explore_with`, with a gate that does nothing.

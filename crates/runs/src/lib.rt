@@ -3,8 +3,8 @@
 //!
 //! # Place
 //!
-//! Below `commands`, which performs `explore`, `why`, `page` and `cure` by `run_with`. `request` reads the log, counts its images
-//! and takes what the notes say (`facts`), `bpf_isa` decodes the programs, `verifier` accepts them, `workers` judges the images
+//! Below `commands`, which performs `explore`, `why`, `page` and `cure` by `run_with`. `request` reads the log and counts its images,
+//! `bpf_isa` decodes the programs, `verifier` accepts them, `workers` judges the images
 //! by `checker`, `report` writes the lines and what stands at the head of each text, `losses` tells what fails of a program at
 //! each cut (`why`) and which flushes are missing (`cure`), and `crash_page` writes the page. Of any number of losses `case_runs` finds
 //! the failing cases, and `case_text` writes them.
@@ -15,8 +15,8 @@
 //! | `explore(rt, alloc, recording, programs, options)` | the bytes of the report |
 //! | `why(rt, alloc, gate, recording, programs, options)` | the same run told by its causes (`causes.rt`) |
 //! | `page(rt, alloc, gate, recording, programs, options)` | the same run as a page for a browser (`paging.rt`) |
-//! | `run_with(rt, alloc, gate, question, facts)` | one of the four, or the failing cases of any number of losses (`case_command.rt`), or a cure by these, by what is wanted |
-//! | `cure_run(rt, alloc, gate, question, facts)` | where flushes are missing, and what is left with them, run by run (`curing.rt`) |
+//! | `run_with(rt, alloc, gate, question)` | what is known of the programs for the notes, and one of the four, or the failing cases of any number of losses (`case_command.rt`), or a cure by these, by what is wanted |
+//! | `cure_run(rt, alloc, gate, question)` | where flushes are missing, and what is left with them, run by run (`curing.rt`) |
 //! | `blind_programs_pass()` | a law, by a function that does nothing: what it means that a program is blind (`blind.rt`) |
 //! | `any_loss_is_told()`, `told_cases_fail()` | laws: on which images of any cut a program fails, by the text of cases |
 //!
@@ -56,10 +56,8 @@
 //! `curing.rt`). Rounds, their text and the end are stated and proved once, for both. A cure by cases has all of them in each run, also with
 //! the option `first`. Where a later run has more than 16,777,216 cases, that ends the text.
 //!
-//! What `run_with` and `cure_run` find for the notes is that of `specs/Finds.antt`: of the log how many entries no image loses as a
-//! whole and how many have FUA, of each program that is verified what no run reaches, and of a refused one the instruction and what is
-//! known there. Which marks of the log promise what nothing made durable is that of `specs/Promises.antt` of `request`, where there was
-//! memory to find them.
+//! What `run_with` knows for the notes is that of `specs/Finds.antt`: of each program that is verified what no run reaches. What notes say
+//! of a log alone, or of a refused program, `request` finds where they are made.
 //!
 //! Where failing images or cases are told, `run_with` also finds which programs are blind (`specs/Blind.antt`): at each wanted cut, run on the
 //! image in which nothing is lost or torn, they answer 0 and look at no sector that an entry covers. A flag of each program says it,
@@ -114,6 +112,6 @@ mod task;
 
 pub use curing::cure_run;
 pub use explore_command::{
-    Explored, Question, WantedAnswer, explore, explore_with, page, run_with, why,
+    Explored, Question, RunAnswer, WantedAnswer, explore, explore_with, page, run_with, why,
 };
 pub use laws::{any_loss_is_told, blind_programs_pass, told_cases_fail};

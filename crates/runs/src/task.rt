@@ -17,7 +17,7 @@ use workers::Work;
 /// What a run judges: the crash images of a log that its options ask for, by checkers.
 #[derive(Clone, Copy)]
 pub(crate) struct Task<'x> {
-    pub(crate) log: &'x Log,
+    pub(crate) log: &'x Log<'x>,
     pub(crate) plan: &'x Plan<'x>,
     pub(crate) checkers: &'x [Checker<'x>],
     pub(crate) options: &'x Options,

@@ -1,20 +1,21 @@
 //! The calls that judge blocks of images, by themselves.
 
-ghost use Rattle.std.specs.Prelude.{◌≡◌, ◌<◌, ◌≤◌, length};
+ghost use Rattle.std.specs.Prelude.{◌≡◌, ◌<◌, ◌≤◌, false, length};
+ghost use Rattle.choices.specs.Choices.{ranked_choices, limit};
+ghost use Rattle.epochs.specs.declared.part.By.TheVariants.{Sector};
 ghost use Rattle.workers.specs.Input.{IsRunOf};
 ghost use Rattle.workers.specs.Pieces.{block_count};
 
-use crate::calls::borrowing::{history_of, plan_of, starts_of};
+use crate::calls::borrowing::{history_of, log_of, plan_of, starts_of};
 use crate::calls::refused::OfMemory;
 use crate::calls::texts::{FLUSH, text_of};
-use base::limits::Limits;
 use base::refusal::Refusal;
 use bpf_isa::codec::decode;
+use bpf_isa::program::Program;
 use checker::Checker;
-use choices::count;
-use epochs::By;
+use choices::{Starts, count};
+use epochs::{By, Plan};
 use images::History;
-use logfmt::read;
 use report::lines::Lines;
 use std::alloc::Global;
 use std::marker::Brand;
@@ -75,29 +76,27 @@ fn blocks_are_right<'a, J: Run, R: Wait>(
     lines.len() == 71 && lines.first_image() == Some(0)
 }
 
-/// Whether each of the 71 images of a log of 70 flush entries is a line, of blocks by themselves and of a
-/// whole run.
-pub fn are_right<R: Threads + Wait + Sync>(rt: &R, alloc: Global) -> bool {
-    let text = settled!(text_of(alloc, &[(0, 0, FLUSH, 0); 70]));
-    let log = settled!(read(alloc, text.as_slice(), 1, Limits::Usual));
-    let Ok(plan) = plan_of(alloc, &log) else {
-        return false;
-    };
-    let Ok(history) = history_of(alloc, &plan, &log) else {
-        return false;
-    };
-    let program = settled!(decode(alloc, &ANSWER_1));
-    let checkers = [Checker::limited(&program, 3)];
-    let Ok(images) = count(&plan, 0, false) else {
-        return false;
-    };
-    let Ok(starts) = starts_of(alloc, &plan, 0) else {
-        return false;
-    };
+/// Whether each image of a plan that has that many is a line, of blocks by themselves and of a whole run, by a program with a limit.
+fn run_is_right<R: Threads + Wait + Sync>(
+    rt: &R,
+    alloc: Global,
+    plan: &Plan<'_>,
+    starts: &Starts<'_>,
+    history: &History<'_>,
+    program: &Program,
+    images: u64,
+) -> bool
+    requires by { plan.now.by ≡ Sector }
+    requires starts { starts.now ≡ record { plan = plan.now; bound = 0; tears = false } }
+    requires history { history.now ≡ plan.now }
+    requires count { images ≡ length (ranked_choices plan.now 0 false) }
+    requires few { images ≤ limit }
+{
+    let checkers = [Checker::limited(program, 3)];
     let input = Input::new(
-        &plan,
-        &starts,
-        &history,
+        plan,
+        starts,
+        history,
         &checkers,
         By::Sector,
         AskedRun {
@@ -110,9 +109,32 @@ pub fn are_right<R: Threads + Wait + Sync>(rt: &R, alloc: Global) -> bool {
             cache: 16,
         },
     );
-    if !blocks_are_right::<Brand, R>(rt, alloc, &input, &history, &checkers) {
+    if !blocks_are_right::<Brand, R>(rt, alloc, &input, history, &checkers) {
         return false;
     }
     let work = settled!(explore_all(rt, alloc, &OpenGate, &input));
     work.lines.len() == 71 && work.lines.first_image() == Some(0)
+}
+
+/// Whether each of the 71 images of a log of 70 flush entries is a line, of blocks by themselves and of a
+/// whole run.
+pub fn are_right<R: Threads + Wait + Sync>(rt: &R, alloc: Global) -> bool {
+    let text = settled!(text_of(alloc, &[(0, 0, FLUSH, 0); 70]));
+    let Ok(log) = log_of(alloc, text.as_slice(), 1) else {
+        return false;
+    };
+    let Ok(plan) = plan_of(alloc, &log) else {
+        return false;
+    };
+    let Ok(history) = history_of(alloc, &plan, &log) else {
+        return false;
+    };
+    let Ok(images) = count(&plan, 0, false) else {
+        return false;
+    };
+    let Ok(starts) = starts_of(alloc, &plan, 0) else {
+        return false;
+    };
+    let program = settled!(decode(alloc, &ANSWER_1));
+    run_is_right(rt, alloc, &plan, &starts, &history, &program, images)
 }

@@ -17,12 +17,12 @@ impl Deal for EightDealt {
 
 /// Which blocks were taken, a bit for each, and how often one was.
 #[derive(Drop)]
-struct Taken {
+struct TakenBlocks {
     blocks: u32,
     times: u32,
 }
 
-impl Taken {
+impl TakenBlocks {
     fn add(&mut self, block: Option<u32>) {
         if let Some(block) = block {
             self.blocks |= 1u32.checked_shl(block).unwrap_or(0);
@@ -32,7 +32,7 @@ impl Taken {
 }
 
 /// Takes two blocks, where there are some.
-fn take_two(hand: &mut Hand<EightDealt>, board: &Board, seat: &mut Seat, taken: &mut Taken)
+fn take_two(hand: &mut Hand<EightDealt>, board: &Board, seat: &mut Seat, taken: &mut TakenBlocks)
     requires board { seat.old.board ≡ board.now.name }
     requires blocks { board.now.name.blocks ≡ 8 }
     ensures { seat.new.board ≡ seat.old.board }
@@ -66,7 +66,7 @@ pub fn are_right(alloc: Global) -> bool {
     let (Some(mut own), Some(mut other)) = (hands.next(), hands.next()) else {
         return false;
     };
-    let mut taken = Taken {
+    let mut taken = TakenBlocks {
         blocks: 0,
         times: 0,
     };

@@ -3,14 +3,12 @@
 ghost use Rattle.std.specs.Prelude.{◌≡◌, ◌<◌, false, length};
 ghost use Rattle.choices.specs.Choices.{ranked_choices};
 
-use crate::calls::borrowing::{history_of, plan_of, starts_of};
+use crate::calls::borrowing::{history_of, log_of, plan_of, starts_of};
 use crate::calls::refused::OfMemory;
 use crate::calls::texts::{Item, text_of};
-use base::limits::Limits;
 use choices::{Starts, count};
 use epochs::Plan;
 use images::{Changes, History, View};
-use logfmt::read;
 use std::alloc::Global;
 
 /// Sectors 0 and 1 are written, without a flush between them.
@@ -71,7 +69,9 @@ fn keys_are_right(
 /// Whether the keys of all images are right.
 pub fn are_right(alloc: Global) -> bool {
     let text = settled!(text_of(alloc, &TWO_WRITES));
-    let log = settled!(read(alloc, text.as_slice(), 4, Limits::Usual));
+    let Ok(log) = log_of(alloc, text.as_slice(), 4) else {
+        return false;
+    };
     let Ok(plan) = plan_of(alloc, &log) else {
         return false;
     };

@@ -1,9 +1,9 @@
 //! The calls on the text of a log, and the notes on a log.
 
+use crate::calls::borrowing::log_of;
 use crate::calls::refused::OfMemory;
 use crate::calls::texts::{FLUSH, Item, text_of};
-use base::limits::Limits;
-use logfmt::{Log, read, write};
+use logfmt::{Log, write};
 use notes::{log_table, put_entry, put_escaped, put_least, put_note, put_refused};
 use std::alloc::{AllocError, Global};
 
@@ -15,7 +15,9 @@ const TABLE: &str =
 /// Whether a log is read, written and shown as it is.
 pub fn are_right(alloc: Global) -> bool {
     let text = settled!(text_of(alloc, &TWO_EPOCHS));
-    let log = settled!(read(alloc, text.as_slice(), 4, Limits::Usual));
+    let Ok(log) = log_of(alloc, text.as_slice(), 4) else {
+        return false;
+    };
     let written = settled!(write(alloc, &log));
     let table = settled!(log_table(alloc, &log));
     written == text && table.as_str() == TABLE
@@ -38,7 +40,9 @@ const NOTED: &str =
 /// Whether the notes on a log are said.
 pub fn notes_are_right(alloc: Global) -> bool {
     let text = settled!(text_of(alloc, &TWO_EPOCHS));
-    let log = settled!(read(alloc, text.as_slice(), 4, Limits::Usual));
+    let Ok(log) = log_of(alloc, text.as_slice(), 4) else {
+        return false;
+    };
     let notes = settled!(noted(alloc, &log));
     notes.as_str().starts_with(NOTED) && notes.as_str().ends_with("note: a note\na\\x{22}b")
 }

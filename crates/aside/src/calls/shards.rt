@@ -7,17 +7,15 @@ ghost use Rattle.checker.specs.Memory.{IsServed};
 ghost use Rattle.interp.specs.Ending.{ending_of};
 ghost use Rattle.verdict_cache.specs.Endings.{IsEndingOf};
 
-use crate::calls::borrowing::{history_of, plan_of};
+use crate::calls::borrowing::{history_of, log_of, plan_of};
 use crate::calls::refused::OfMemory;
 use crate::calls::texts::{Item, text_of};
-use base::limits::Limits;
 use bpf_isa::codec::decode;
 use checker::{Checker, RunMemory};
 use choices::{count, nth};
 use epochs::Plan;
 use images::{History, Key, View};
 use interp::Outcome;
-use logfmt::read;
 use std::alloc::{AllocError, Global};
 use std::marker::Brand;
 use std::sync::Mutex;
@@ -141,7 +139,9 @@ fn shards_are_right<'a, J: Run>(
 /// Whether the shards of a run are made, and one keeps what is put into it.
 pub fn are_right(alloc: Global) -> bool {
     let text = settled!(text_of(alloc, &ONE_WRITE));
-    let log = settled!(read(alloc, text.as_slice(), 1, Limits::Usual));
+    let Ok(log) = log_of(alloc, text.as_slice(), 1) else {
+        return false;
+    };
     let Ok(plan) = plan_of(alloc, &log) else {
         return false;
     };

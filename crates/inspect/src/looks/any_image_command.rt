@@ -20,7 +20,7 @@ use cases::Cut;
 use crash_text::{Numbering, put_any_head, put_sector};
 use epochs::Plan;
 use logfmt::Log;
-use request::facts::{Facts, Recording};
+use request::facts::Recording;
 use request::{OptionPlace, Options, option_refusal_of};
 use std::alloc::{AllocError, Global};
 
@@ -142,7 +142,7 @@ fn put_lost(alloc: Global, out: &mut String, at: &Cut<'_>, lost: &Lost) -> Resul
 fn words_of<'x>(
     alloc: Global,
     plan: &'x Plan<'x>,
-    log: &'x Log,
+    log: &'x Log<'x>,
     at: &Cut<'_>,
     options: &Options,
     lost: &Lost,
@@ -177,7 +177,7 @@ fn told<'x>(
     alloc: Global,
     form: ImageForm,
     plan: &'x Plan<'x>,
-    log: &'x Log,
+    log: &'x Log<'x>,
     at: &Cut<'_>,
     options: &Options,
     lost: &Lost,
@@ -198,7 +198,7 @@ fn told<'x>(
 #[tactic(auto, using(crate::proofs::AnyTold::plan_is))]
 pub(crate) fn plan_for<'x>(
     alloc: Global,
-    log: &'x Log,
+    log: &'x Log<'x>,
     options: &Options,
 ) -> Result<Plan<'x>, AllocError>
     ensures { IfOk result (λ plan. plan ≡ plan_of options.now log.now) }
@@ -212,7 +212,7 @@ fn image_at<'x>(
     alloc: Global,
     form: ImageForm,
     plan: &'x Plan<'x>,
-    log: &'x Log,
+    log: &'x Log<'x>,
     cut: u64,
     number: u32,
     said: &str,
@@ -263,13 +263,11 @@ pub fn any_image(
     cut: u64,
     said: &str,
     options: &Options,
-    facts: &mut Facts,
 ) -> Result<Vec<u8>, Refusal>
     ensures shown { IfOk result (λ bytes. IsAnyImage form recording.now options.now cut said.now bytes.items) }
     ensures refused { IfErr result (RefusesAnyImage recording.now options.now cut said.now) }
 {
-    *facts = Facts::new();
-    let log = recording.read(alloc, options, facts)?;
+    let log = recording.read(alloc, options)?;
     let Ok(found) = image_said(alloc, form, &log, cut, said, options) else {
         return Err(Refusal::of_memory());
     };

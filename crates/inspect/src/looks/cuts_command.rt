@@ -16,7 +16,7 @@ use base::refusal::Refusal;
 use case_runs::{first_wanted, last_wanted};
 use epochs::{Cuts, Plan};
 use logfmt::Log;
-use request::facts::{Facts, Recording};
+use request::facts::Recording;
 use request::{AnyLosses, OptionPlace, Options, option_refusal_of};
 use std::alloc::{AllocError, Global};
 
@@ -76,7 +76,7 @@ fn bytes_of(
     losses: AnyLosses,
     parts: Option<u64>,
 ) -> Result<Vec<u8>, AllocError>
-    ensures { IfOk result (λ bytes. bytes.items ≡ cut_survey_text (plan_of options.now log.now) (risks_of losses options.now log.now)
+    ensures told { IfOk result (λ bytes. bytes.items ≡ cut_survey_text (plan_of options.now log.now) (risks_of losses options.now log.now)
         ++ laid_text parts (first_wanted options.now.cuts (length log.now.entries)) (last_wanted options.now.cuts (length log.now.entries)) (risks_of losses options.now log.now)) }
 {
     let plan = plan_for(alloc, log, options)?;
@@ -112,13 +112,11 @@ pub fn survey_cuts(
     parts: Option<u64>,
     losses: AnyLosses,
     options: &Options,
-    facts: &mut Facts,
 ) -> Result<Vec<u8>, Refusal>
     ensures told { IfOk result (λ bytes. IsCutSurvey parts losses recording.now options.now bytes.items) }
     ensures refused { IfErr result (RefusesCutSurvey parts recording.now options.now) }
 {
-    *facts = Facts::new();
-    let log = recording.read(alloc, options, facts)?;
+    let log = recording.read(alloc, options)?;
     if !can_be_laid_out(parts) {
         return Err(option_refusal_of(OptionPlace::Parts));
     }

@@ -1,9 +1,7 @@
 //! The crash images of a log as bytes, each by what differs.
 
-ghost use Rattle.std.specs.Prelude.{◌≡◌, ◌≤◌, length, IfOk, IfErr, OnOk, OnErr, IfSome, true, false};
+ghost use Rattle.std.specs.Prelude.{◌≡◌, ◌≤◌, length, IfOk, IfErr, OnOk, OnErr, true, false};
 ghost use Rattle.std.specs.Io.KnownBytes.{Appends};
-ghost use Rattle.request.specs.Fewer.{FindsLarge, FindsFewer};
-ghost use Rattle.request.specs.Forced.{FindsForced};
 ghost use Rattle.request.specs.Extents.{most_images, has_extent, is_at_once};
 ghost use Rattle.request.specs.Source.{plan_of, images_of};
 ghost use Rattle.export.specs.Export.{export_text};
@@ -14,8 +12,8 @@ use base::refusal::Refusal;
 use epochs::Plan;
 use export::{Output, PlannedImages, StreamFault, WantedImages, export};
 use logfmt::Log;
-use request::facts::{Facts, Recording};
-use request::{OptionPlace, Options, option_refusal_of};
+use request::facts::Recording;
+use request::{OptionPlace, Options, option_refusal_of, plan_of};
 use std::alloc::Global;
 use std::io::Write;
 
@@ -68,26 +66,21 @@ pub fn write_images<W: Write>(
     alloc: Global,
     recording: &Recording<'_>,
     options: &Options,
-    facts: &mut Facts,
     output: Output<W>,
 ) -> (Result<(), Stopped>, Output<W>)
     requires going { output.has_failed ≡ false }
     ensures told { OnOk result.0 (WritesExport recording.now options.now (W.contents output.writer) (W.contents result.1.writer)) }
     ensures stopped { IfErr result.0 (StopsExport recording.now options.now (W.contents output.writer) (W.contents result.1.writer)) }
-    ensures large { OnOk result.0 (FindsLarge recording.now options.now facts.new.large) }
-    ensures forced { OnOk result.0 (FindsForced recording.now options.now facts.new.forced) }
-    ensures fewer { IfSome facts.new.fewer (FindsFewer recording.now options.now) }
 {
-    *facts = Facts::new();
     if !options.extent().is_at_once() {
         let refusal = option_refusal_of(OptionPlace::Images);
         return (Err(Stopped::Refused(refusal)), output);
     }
-    let log = match recording.read(alloc, options, facts) {
+    let log = match recording.read(alloc, options) {
         Ok(log) => log,
         Err(refusal) => return (Err(Stopped::Refused(refusal)), output),
     };
-    let (plan, images) = match facts.plan(alloc, &log, options) {
+    let (plan, images) = match plan_of(alloc, &log, options) {
         Ok(planned) => planned,
         Err(refusal) => return (Err(Stopped::Refused(refusal)), output),
     };
@@ -117,16 +110,12 @@ pub fn export_images(
     alloc: Global,
     recording: &Recording<'_>,
     options: &Options,
-    facts: &mut Facts,
 ) -> Result<Vec<u8>, Refusal>
     ensures told { IfOk result (λ bytes. IsExport recording.now options.now bytes.items) }
     ensures refused { IfErr result (RefusesExport recording.now options.now) }
-    ensures large { IfOk result (λ _. FindsLarge recording.now options.now facts.new.large) }
-    ensures forced { IfOk result (λ _. FindsForced recording.now options.now facts.new.forced) }
-    ensures fewer { IfSome facts.new.fewer (FindsFewer recording.now options.now) }
 {
     let output = Output::new(Vec::new(alloc));
-    let (written, output) = write_images(alloc, recording, options, facts, output);
+    let (written, output) = write_images(alloc, recording, options, output);
     match written {
         Ok(()) => Ok(output.into_writer()),
         Err(why) => Err(refusal_of(why)),

@@ -1,10 +1,9 @@
 //! One crash image: as bytes, and what both forms have in common.
 
-ghost use Rattle.std.specs.Prelude.{◌≡◌, ◌<◌, ◌++◌, length, map, IfOk, IfErr, IfSome, OnOk, Some, slice_get, slice_index_or, []};
+ghost use Rattle.std.specs.Prelude.{◌≡◌, ◌<◌, ◌++◌, length, map, IfOk, IfErr, OnOk, Some, slice_get, slice_index_or, []};
 ghost use Rattle.logfmt.specs.Bounds.{IsLog};
 ghost use Rattle.images.specs.Views.{view_of, sectors_of, IsMember};
 ghost use Rattle.request.specs.Source.{plan_of};
-ghost use Rattle.request.specs.Fewer.{FindsFewer};
 ghost use Rattle.inspect.specs.Image.{sector_bytes, text_in, IsImageIn, IsImage, RefusesImage};
 
 use crate::looks::show_command::text_of;
@@ -15,8 +14,8 @@ use epochs::Plan;
 use helpers::Device;
 use images::History;
 use logfmt::Log;
-use request::facts::{Facts, Recording};
-use request::{Options, Which};
+use request::facts::Recording;
+use request::{Options, Which, plan_of};
 use std::alloc::{AllocError, Global};
 
 /// Appends a sector of a device.
@@ -44,7 +43,7 @@ fn bytes_of<D: Device>(alloc: Global, device: &D) -> Result<Vec<u8>, AllocError>
 /// The bytes of the crash image of a choice of a plan.
 fn image_bytes<'x>(
     alloc: Global,
-    log: &'x Log,
+    log: &'x Log<'x>,
     plan: &'x Plan<'x>,
     choice: &Choice,
 ) -> Result<Vec<u8>, AllocError>
@@ -67,11 +66,11 @@ pub enum ImageForm {
 }
 
 /// The image of a choice in that form.
-fn told<'x>(
+fn told(
     alloc: Global,
     form: ImageForm,
-    log: &'x Log,
-    plan: &'x Plan<'x>,
+    log: &Log<'_>,
+    plan: &Plan<'_>,
     options: &Options,
     choice: &Choice,
 ) -> Result<Vec<u8>, AllocError>
@@ -93,15 +92,12 @@ pub(crate) fn image_in(
     recording: &Recording<'_>,
     which: Which,
     options: &Options,
-    facts: &mut Facts,
 ) -> Result<Vec<u8>, Refusal>
     ensures shown { IfOk result (λ bytes. IsImageIn form recording.now options.now which bytes.items) }
     ensures refused { IfErr result (RefusesImage recording.now options.now which) }
-    ensures fewer { IfSome facts.new.fewer (FindsFewer recording.now options.now) }
 {
-    *facts = Facts::new();
-    let log = recording.read(alloc, options, facts)?;
-    let (plan, images) = facts.plan(alloc, &log, options)?;
+    let log = recording.read(alloc, options)?;
+    let (plan, images) = plan_of(alloc, &log, options)?;
     let choice = choice_meant(alloc, &plan, images, options, which)?;
     match told(alloc, form, &log, &plan, options, &choice) {
         Ok(bytes) => Ok(bytes),
@@ -121,11 +117,9 @@ pub fn image(
     recording: &Recording<'_>,
     which: Which,
     options: &Options,
-    facts: &mut Facts,
 ) -> Result<Vec<u8>, Refusal>
     ensures shown { IfOk result (λ bytes. IsImage recording.now options.now which bytes.items) }
     ensures refused { IfErr result (RefusesImage recording.now options.now which) }
-    ensures fewer { IfSome facts.new.fewer (FindsFewer recording.now options.now) }
 {
-    image_in(alloc, ImageForm::Bytes, recording, which, options, facts)
+    image_in(alloc, ImageForm::Bytes, recording, which, options)
 }

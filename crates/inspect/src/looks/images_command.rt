@@ -1,12 +1,10 @@
 //! The survey of the crash images of a log.
 
-ghost use Rattle.std.specs.Prelude.{◌≡◌, ◌≤◌, ◌++◌, length, codes, IfOk, IfErr, IfSome, MatchOption, OnOk, true, string_bytes};
+ghost use Rattle.std.specs.Prelude.{◌≡◌, ◌≤◌, ◌++◌, length, codes, IfOk, IfErr, MatchOption, OnOk, true, string_bytes};
 ghost use Rattle.std.specs.Fmt.{decimal};
 ghost use Rattle.std.specs.List.{flat_map};
 ghost use Rattle.epochs.specs.Cuts.{cuts_of};
 ghost use Rattle.choices.specs.Choices.{ranked_choices, ranked_at, wide_limit};
-ghost use Rattle.request.specs.Fewer.{FindsLarge, FindsFewer};
-ghost use Rattle.request.specs.Forced.{FindsForced};
 ghost use Rattle.inspect.specs.Layout.{is_layout};
 ghost use Rattle.inspect.specs.Survey.{parts_text, cut_text, open_text, cut_line, survey_text, IsSurvey, RefusesSurvey};
 
@@ -14,8 +12,8 @@ use crate::looks::layout::{is_layout, put_layout};
 use base::refusal::Refusal;
 use choices::count_at_up_to;
 use epochs::Plan;
-use request::facts::{Facts, Recording};
-use request::{OptionPlace, Options, option_refusal_of};
+use request::facts::Recording;
+use request::{OptionPlace, Options, option_refusal_of, plan_of};
 use std::alloc::{AllocError, Global};
 
 /// The most images that a cut is told to have.
@@ -139,17 +137,12 @@ pub fn survey(
     recording: &Recording<'_>,
     parts: Option<u64>,
     options: &Options,
-    facts: &mut Facts,
 ) -> Result<Vec<u8>, Refusal>
     ensures told { IfOk result (λ bytes. IsSurvey parts recording.now options.now bytes.items) }
     ensures refused { IfErr result (RefusesSurvey parts recording.now options.now) }
-    ensures large { IfOk result (λ _. FindsLarge recording.now options.now facts.new.large) }
-    ensures forced { IfOk result (λ _. FindsForced recording.now options.now facts.new.forced) }
-    ensures fewer { IfSome facts.new.fewer (FindsFewer recording.now options.now) }
 {
-    *facts = Facts::new();
-    let log = recording.read(alloc, options, facts)?;
-    let (plan, images) = facts.plan(alloc, &log, options)?;
+    let log = recording.read(alloc, options)?;
+    let (plan, images) = plan_of(alloc, &log, options)?;
     if !can_be_laid_out(images, parts) {
         return Err(option_refusal_of(OptionPlace::Parts));
     }

@@ -1,10 +1,9 @@
 //! One crash image in words.
 
-ghost use Rattle.std.specs.Prelude.{◌≡◌, ◌≤◌, [], length, IfOk, IfErr, IfSome};
+ghost use Rattle.std.specs.Prelude.{◌≡◌, ◌≤◌, [], length, IfOk, IfErr};
 ghost use Rattle.logfmt.specs.Bounds.{IsLog};
 ghost use Rattle.images.specs.Views.{view_of, sectors_of, IsMember};
 ghost use Rattle.crash_text.specs.Shown.{shown_text};
-ghost use Rattle.request.specs.Fewer.{FindsFewer};
 ghost use Rattle.inspect.specs.Image.{whole_view, IsShown, RefusesImage};
 ghost use Rattle.request.specs.Source.{plan_of};
 
@@ -15,7 +14,7 @@ use crash_text::{Numbering, put_shown};
 use epochs::Plan;
 use images::History;
 use logfmt::Log;
-use request::facts::{Facts, Recording};
+use request::facts::Recording;
 use request::{Options, Which};
 use std::alloc::{AllocError, Global};
 
@@ -42,7 +41,7 @@ fn nothing_departs(plan: &Plan<'_>, options: &Options, choice: &Choice) -> Choic
 /// The image of a choice in words.
 pub(crate) fn text_of<'x>(
     alloc: Global,
-    log: &'x Log,
+    log: &'x Log<'x>,
     plan: &'x Plan<'x>,
     options: &Options,
     choice: &Choice,
@@ -79,11 +78,9 @@ pub fn show(
     recording: &Recording<'_>,
     which: Which,
     options: &Options,
-    facts: &mut Facts,
 ) -> Result<Vec<u8>, Refusal>
     ensures shown { IfOk result (λ bytes. IsShown recording.now options.now which bytes.items) }
     ensures refused { IfErr result (RefusesImage recording.now options.now which) }
-    ensures fewer { IfSome facts.new.fewer (FindsFewer recording.now options.now) }
 {
-    image_in(alloc, ImageForm::Words, recording, which, options, facts)
+    image_in(alloc, ImageForm::Words, recording, which, options)
 }

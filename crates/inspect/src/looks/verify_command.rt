@@ -1,17 +1,23 @@
 //! What the verifier says of a program by itself.
 
-ghost use Rattle.std.specs.Prelude.{◌≡◌, ◌++◌, IfOk, IfErr, IfSome, OnOk, codes, length, string_bytes, if◌then◌else◌, []};
-ghost use Rattle.inspect.specs.Verifying.{accepted_text, guarded_text, slots_text, guards_text, verified_text, unaccepted_refusal, IsAcceptedText, RefusesVerified, FindsUnreached, FindsBreach};
+ghost use Rattle.std.specs.Prelude.{◌≡◌, ◌++◌, IfOk, IfErr, OnOk, codes, length, string_bytes, if◌then◌else◌, []};
+ghost use Rattle.inspect.specs.Verifying.{accepted_text, guarded_text, slots_text, guards_text, verified_text, unaccepted_refusal, IsAcceptedText, RefusesVerified, FindsUnreached};
 
 use base::refusal::{Cause, Refusal};
 use bpf_isa::codec::decode;
 use bpf_isa::program::Program;
 use bpf_shape::Fault;
 use notes::put_slot;
-use request::facts::Facts;
 use request::{Options, bytes_refusal_of};
 use std::alloc::{AllocError, Global};
-use verifier::{Verified, guarded_slots, verify_with};
+use verifier::{Unreached, Verified, guarded_slots, unreached_of, verify_with};
+
+/// What is said of an accepted program, and what no run reaches of it.
+#[derive(Drop)]
+pub struct VerifiedReport {
+    pub text: Vec<u8>,
+    pub unreached: Option<Unreached>,
+}
 
 /// The refusal of a program that the verifier does not accept.
 fn unaccepted_refusal_of(fault: Fault) -> Refusal
@@ -83,39 +89,35 @@ fn verified_line(alloc: Global, verified: &Verified<'_>, listed: bool) -> Result
 
 /// The budget with which the verifier accepts the program that bytes spell, for a device of that many
 /// sectors (docs/VERIFIER.md). With guards it is how many of its slots are guarded, too, and where they are listed, each
-/// with its instruction.
+/// with its instruction. Beside it stands what no run reaches of the program.
 ///
 /// # Errors
 ///
 /// The first fault of the bytes, then why the verifier refuses the program, each at its slot; or want of
-/// memory. What is found on the way takes the place of what `facts` held.
+/// memory.
 pub fn verify_program(
     alloc: Global,
     bytes: &[u8],
     options: &Options,
     listed: bool,
-    facts: &mut Facts,
-) -> Result<Vec<u8>, Refusal>
-    ensures accepted { IfOk result (λ text. IsAcceptedText bytes.now options.now listed text.items) }
+) -> Result<VerifiedReport, Refusal>
+    ensures accepted { IfOk result (λ report. IsAcceptedText bytes.now options.now listed report.text.items) }
     ensures refused { IfErr result (RefusesVerified bytes.now options.now) }
-    ensures unreached { IfOk result (λ _. FindsUnreached bytes.now options.now.sectors facts.new.unreached.items) }
-    ensures breach { IfErr result (λ r. IfSome facts.new.breach (FindsBreach bytes.now options.now r)) }
+    ensures unreached { IfOk result (λ report. FindsUnreached bytes.now options.now.sectors report.unreached) }
 {
-    *facts = Facts::new();
     let program = match decode(alloc, bytes) {
         Ok(program) => program,
         Err(fault) => return Err(bytes_refusal_of(fault)),
     };
     let verified = match verify_with(alloc, &program, options.sectors(), options.guards()) {
         Ok(verified) => verified,
-        Err(unaccepted) => {
-            facts.refuse(&program, &unaccepted);
-            return Err(unaccepted_refusal_of(unaccepted.fault));
-        }
+        Err(unaccepted) => return Err(unaccepted_refusal_of(unaccepted.fault)),
     };
-    facts.accept(&verified);
     match verified_line(alloc, &verified, listed) {
-        Ok(text) => Ok(text.into_bytes()),
+        Ok(text) => Ok(VerifiedReport {
+            text: text.into_bytes(),
+            unreached: unreached_of(&verified),
+        }),
         Err(_error) => Err(Refusal::of_memory()),
     }
 }

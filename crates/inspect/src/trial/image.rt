@@ -1,13 +1,12 @@
 //! An image that a file holds, as a device.
 
-ghost use Rattle.std.specs.Prelude.{◌≡◌, ◌≤◌, ◌*◌, length, IfOk, IsTrue};
+ghost use Rattle.std.specs.Prelude.{◌≡◌, ◌≤◌, ◌*◌, length, IsTrue};
 ghost use Rattle.base.specs.Sizes.{most_sectors};
 ghost use Rattle.inspect.specs.TrialImage.{is_image, sectors_of};
 
 use base::limits::Limits;
 use helpers::Device;
 use logfmt::InitialContent;
-use std::alloc::{AllocError, Global};
 use std::marker::Model;
 
 /// Whether bytes are an image: whole sectors, no fewer than 1 and no more than the limits allow.
@@ -35,12 +34,12 @@ pub(crate) fn sectors_of(bytes: &[u8]) -> u32
 ///
 /// Contracts see the bytes and the number of sectors.
 #[derive(Drop)]
-pub(crate) struct GivenImage {
-    content: InitialContent,
+pub(crate) struct GivenImage<'x> {
+    content: InitialContent<'x>,
     count: u32,
 }
 
-impl Model for GivenImage {
+impl<'x> Model for GivenImage<'x> {
     ghost use Rattle.inspect.specs.TrialImage.{ImageValue};
 
     ghost Value = { ImageValue };
@@ -48,17 +47,17 @@ impl Model for GivenImage {
     ghost view = { λ image. record { bytes = image.content; sectors = image.count } };
 }
 
-impl GivenImage {
+impl<'x> GivenImage<'x> {
     /// The device of that many sectors.
-    pub(crate) fn of(alloc: Global, bytes: &[u8], count: u32) -> Result<GivenImage, AllocError>
-        ensures { IfOk result (λ image. image ≡ record { bytes = bytes.now; sectors = count }) }
+    pub(crate) fn of(bytes: &'x [u8], count: u32) -> GivenImage<'x>
+        ensures { result ≡ record { bytes = bytes.now; sectors = count } }
     {
-        let content = InitialContent::of(alloc, bytes)?;
-        Ok(GivenImage { content, count })
+        let content = InitialContent::of(bytes);
+        GivenImage { content, count }
     }
 }
 
-impl Device for GivenImage {
+impl<'x> Device for GivenImage<'x> {
     ghost use Rattle.inspect.specs.TrialImage.{device_of, whole_device};
 
     ghost content = { λ image. device_of image.bytes image.sectors };

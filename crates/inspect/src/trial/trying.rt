@@ -1,6 +1,7 @@
 //! A run of a program on an image, and what is said of it.
 
 ghost use Rattle.std.specs.Prelude.{◌≡◌, ◌⊎◌, ◌≤◌, ◌*◌, ◌++◌, length, IfOk, IfErr, OnOk, None, string_bytes};
+ghost use Rattle.std.specs.Option.{option_map};
 ghost use Rattle.base.specs.declared.refusal.Cause.TheVariants.{Verifier};
 ghost use Rattle.base.specs.Sizes.{most_sectors};
 ghost use Rattle.interp.specs.Ending.{ending_of};
@@ -8,8 +9,9 @@ ghost use Rattle.notes.specs.SourceLines.{values_of, AreLines, NoLines};
 ghost use Rattle.base.specs.Refusals.{memory_refusal};
 ghost use Rattle.request.specs.Refusals.{file_refusal};
 ghost use Rattle.report.specs.Line.{fails};
+ghost use Rattle.verifier.specs.Reach.{unreached_slots, count_and_first};
 ghost use Rattle.inspect.specs.TrialImage.{sectors_of};
-ghost use Rattle.inspect.specs.TrialText.{context_of, ending_of_trial, Allows, Bound, bound_of, bound_text, context_text, guarded_count_text, head_text, program_text, ending_source, end_text, trial_text, IsTried, RefusesLimit, RefusesTrial};
+ghost use Rattle.inspect.specs.TrialText.{context_of, ending_of_trial, Allows, Bound, bound_of, bound_text, context_text, guarded_count_text, head_text, program_text, ending_source, end_text, trial_text, IsTried, LeavesUnreached, TellsUnreached, RefusesLimit, RefusesTrial};
 
 use crate::trial::course::course_of;
 use crate::trial::image::{GivenImage, is_image, sectors_of};
@@ -22,16 +24,19 @@ use helpers::Context;
 use interp::Outcome;
 use notes::{SourceLine, put_source, source_lines};
 use report::lines::put_outcome;
-use request::facts::Facts;
 use request::{Trial, bytes_refusal_of, unreadable};
 use std::alloc::{AllocError, Global};
-use verifier::{Verified, guarded_slots, verify_with};
+use verifier::{Unreached, Verified, guarded_slots, unreached_of, verify_with};
 
-/// What is said of a run, and whether the program rejects the image.
+/// What is said of a run on an image.
 #[derive(Drop)]
 pub struct TrialReport {
+    /// The text.
     pub bytes: Vec<u8>,
+    /// Whether the program rejects the image.
     pub failing: bool,
+    /// What no run reaches of the program, where the verifier was asked and there is some.
+    pub unreached: Option<Unreached>,
 }
 
 /// The refusal of a program that the verifier doesn't accept.
@@ -45,62 +50,63 @@ fn unaccepted_refusal_of(fault: Fault) -> Refusal
     }
 }
 
-/// The most steps of a run, and with guards how many slots are guarded.
+/// The most steps of a run, and what the verifier tells of its program, where it was asked: with guards how many slots are guarded, and
+/// what no run reaches.
 #[derive(Clone, Copy)]
 struct TrialBounds {
     limit: u64,
     guarded: Option<usize>,
+    unreached: Option<Unreached>,
 }
 
 /// How an accepted program is bounded.
 fn bounds_of(alloc: Global, verified: &Verified<'_>) -> Result<TrialBounds, AllocError>
-    ensures { IfOk result (λ b. record { limit = b.limit; guarded = b.guarded } ≡ bound_of verified.now) }
+    ensures bound { IfOk result (λ b. record { limit = b.limit; guarded = b.guarded } ≡ bound_of verified.now) }
+    ensures unreached { IfOk result (λ b. option_map (λ u. (u.count, u.first)) b.unreached ≡ count_and_first (unreached_slots verified.now)) }
 {
     let limit = verified.budget();
+    let unreached = unreached_of(verified);
     if !verified.has_guards() {
         return Ok(TrialBounds {
             limit,
             guarded: None,
+            unreached,
         });
     }
     let slots = guarded_slots(alloc, verified)?;
     Ok(TrialBounds {
         limit,
         guarded: Some(slots.len()),
+        unreached,
     })
 }
 
-/// How a run on an image is bounded. What is found on the way is put into `facts`.
+/// How a run on an image is bounded.
 fn limit_of(
     alloc: Global,
     program: &Program,
     image: &[u8],
     asked: &Trial,
-    facts: &mut Facts,
 ) -> Result<TrialBounds, Refusal>
     requires some { 512 ≤ length image.now }
     requires few { length image.now ≤ 512 * most_sectors }
     ensures allowed { IfOk result (λ b. Allows program.now image.now asked.now (record { limit = b.limit; guarded = b.guarded })) }
+    ensures unreached { IfOk result (λ b. LeavesUnreached program.now image.now asked.now b.unreached) }
     ensures refused { IfErr result (RefusesLimit program.now image.now asked.now) }
 {
     if let Some(limit) = asked.checked {
         return Ok(TrialBounds {
             limit,
             guarded: None,
+            unreached: None,
         });
     }
     match verify_with(alloc, program, sectors_of(image), asked.guards) {
-        Ok(verified) => {
-            facts.accept(&verified);
-            match bounds_of(alloc, &verified) {
-                Ok(bounds) => Ok(bounds),
-                Err(_error) => Err(Refusal::of_memory()),
-            }
-        }
-        Err(unaccepted) => {
-            facts.refuse(program, &unaccepted);
-            Err(unaccepted_refusal_of(unaccepted.fault))
-        }
+        Ok(verified) => match bounds_of(alloc, &verified) {
+            Ok(bounds) => Ok(bounds),
+            Err(_error) => Err(Refusal::of_memory()),
+        },
+        Err(unaccepted) => Err(unaccepted_refusal_of(unaccepted.fault)),
     }
 }
 
@@ -238,8 +244,9 @@ fn report_of(
     requires few { length image.now ≤ 512 * most_sectors }
     ensures text { IfOk result (λ report. report.bytes.items ≡ trial_text program.now image.now (values_of lines.now) asked.now (record { limit = bounds.limit; guarded = bounds.guarded })) }
     ensures failing { IfOk result (λ report. report.failing ≡ fails (ending_of_trial program.now image.now asked.now bounds.limit)) }
+    ensures unreached { IfOk result (λ report. report.unreached ≡ bounds.unreached) }
 {
-    let device = GivenImage::of(alloc, image, sectors_of(image))?;
+    let device = GivenImage::of(image, sectors_of(image));
     let context = context_of(image, asked);
     let course = course_of(
         alloc,
@@ -265,6 +272,7 @@ fn report_of(
     Ok(TrialReport {
         bytes: out.into_bytes(),
         failing: rejects(&course.outcome),
+        unreached: bounds.unreached,
     })
 }
 
@@ -286,20 +294,18 @@ fn lines_of(alloc: Global, bytes: &[u8]) -> Result<Vec<SourceLine<'_>>, Refusal>
 /// # Errors
 ///
 /// 14 at 1 for the size of the image; 14 at 2 for bytes that aren't lines of C; the first fault of the program's bytes; then, where no
-/// limit is given, why the verifier refuses the program with guards or without, each at its slot; or want of memory. What is found on
-/// the way takes the place of what `facts` held.
+/// limit is given, why the verifier refuses the program with guards or without, each at its slot; or want of memory.
 pub fn try_image(
     alloc: Global,
     code: &[u8],
     image: &[u8],
     lines: &[u8],
     asked: &Trial,
-    facts: &mut Facts,
 ) -> Result<TrialReport, Refusal>
     ensures tried { IfOk result (λ report. IsTried code.now image.now lines.now asked.now report.bytes.items report.failing) }
+    ensures unreached { IfOk result (λ report. TellsUnreached code.now image.now asked.now report.unreached) }
     ensures refused { IfErr result (RefusesTrial code.now image.now lines.now asked.now) }
 {
-    *facts = Facts::new();
     if !is_image(image, asked.limits) {
         return Err(unreadable(1));
     }
@@ -311,7 +317,7 @@ pub fn try_image(
         Ok(program) => program,
         Err(fault) => return Err(bytes_refusal_of(fault)),
     };
-    let bounds = match limit_of(alloc, &program, image, asked, facts) {
+    let bounds = match limit_of(alloc, &program, image, asked) {
         Ok(bounds) => bounds,
         Err(refusal) => return Err(refusal),
     };

@@ -12,9 +12,9 @@ use std::alloc::{AllocError, Global};
 
 /// A log to which the flushes of a round were added.
 #[derive(Drop)]
-pub struct Added {
+pub struct Added<'x> {
     /// The log with them.
-    pub log: Log,
+    pub log: Log<'x>,
     /// The flushes.
     pub flushes: Vec<MissingFlush>,
 }
@@ -36,13 +36,17 @@ fn places_of(alloc: Global, flushes: &[MissingFlush]) -> Result<Vec<u32>, AllocE
 /// # Errors
 ///
 /// Memory was refused.
-pub fn add_missing(alloc: Global, log: Log, windows: &[Window]) -> Result<Added, AllocError>
+pub fn add_missing<'x>(
+    alloc: Global,
+    log: Log<'x>,
+    windows: &[Window],
+) -> Result<Added<'x>, AllocError>
     requires some { windows.now ≢ [] }
     requires inside { AreWindows (length log.entries) windows.now }
     requires calm { HoldNoFlush log.entries windows.now }
     ensures missing { IfOk result (λ added. AreMissing windows.now added.flushes.items) }
-    ensures log { IfOk result (λ added. added.log ≡ with_flushes (places_in added.flushes.items) log) }
-    ensures fewer { IfOk result (λ added. calm_entries added.log.entries < calm_entries log.entries) }
+    ensures log { IfOk result (λ added. added.log ≡ with_flushes (places_in added.flushes.items) log.entry) }
+    ensures fewer { IfOk result (λ added. calm_entries added.log.entries < calm_entries log.entry.entries) }
 {
     let flushes = missing_flushes(alloc, windows, log.entries().len())?;
     let places = places_of(alloc, flushes.as_slice())?;

@@ -2,6 +2,8 @@
 
 use crate::command_notes::breach::put_breach;
 use crate::command_notes::headers::{put_end, put_header};
+use crate::command_notes::held::{bytes_of, recording_of};
+use crate::command_notes::refused::breach_in;
 use crate::sources::first_bad_line;
 use crate::{
     asm_cure, code_cure, guarded_cure, log_cure, put_entry, put_escaped, put_least, put_note,
@@ -14,8 +16,8 @@ use command_line::Words;
 use epochs::{By, CutKind};
 use logfmt::read;
 use ranges::broken_rule;
-use request::facts::{Breach, Facts, Fewer, Smaller};
-use request::{Extent, LossWords, OptionWords, Request};
+use request::facts::{Breach, Fewer, Smaller, fewer_images};
+use request::{Extent, LossWords, OptionWords, Request, options_of};
 use std::alloc::{AllocError, Global};
 use std::fmt::Display;
 
@@ -28,6 +30,9 @@ const OBJECT_MAGIC: &[u8] = b"\x7fELF";
 /// What the limits of a large log are.
 const LARGE_LIMIT: &str =
     "with --large a log has at most 1073741824 bytes, 65536 entries, and 2097152 sectors written or discarded (docs/LOG-FORMAT.md, Limits)";
+
+/// What is said of a log that passes the usual limits, and not those of a large one.
+const LARGE_TAKES: &str = "with --large the log is within the limits (docs/LOG-FORMAT.md, Limits)";
 
 /// What helps where a raw log passes the limits.
 const RAW_CURE: &str = "record less at once; make file systems without discards";
@@ -47,14 +52,6 @@ const GUARDS_ELSEWHERE: &str =
 /// What a program breaks with guards that calls a helper which there isn't.
 const NO_GUARDED_HELPER: &str =
     "there is no helper of that number, with --guards only 1 to 11 (docs/MACHINE.md, Helpers)";
-
-/// What a file holds, where it could be read.
-pub(crate) fn bytes_of(files: &[Option<Vec<u8>>], place: usize) -> Option<&[u8]> {
-    match files.get(place) {
-        Some(Some(bytes)) => Some(bytes.as_slice()),
-        _ => None,
-    }
-}
 
 /// Appends what a cause means, and what most likely helps, where that isn't empty.
 fn put_cause<C: Display>(
@@ -108,13 +105,25 @@ fn put_kind(
     Ok(())
 }
 
-/// What is said of a log that no device within the limits holds.
-fn no_device(limits: Limits) -> &'static str {
-    match limits {
-        Limits::Usual => {
+/// What is said of a log that not even the largest device holds.
+const PAST_LARGEST: &str = "no device of at most 33554432 sectors holds this log";
+
+/// What is said of a log that no usual device holds. A larger one is named only where it does.
+fn past_usual(alloc: Global, bytes: &[u8]) -> &'static str {
+    match read(alloc, bytes, Limits::Large.sectors(), Limits::Large) {
+        Ok(_log) => {
             "no device of at most 16384 sectors holds this log; with --large one may have 33554432"
         }
-        Limits::Large => "no device of at most 33554432 sectors holds this log",
+        Err(fault) if matches!(fault.code, LogCause::Device) => PAST_LARGEST,
+        Err(_fault) => "no device of at most 16384 sectors holds this log",
+    }
+}
+
+/// What is said of a log that no device within the limits holds.
+fn no_device(alloc: Global, bytes: &[u8], limits: Limits) -> &'static str {
+    match limits {
+        Limits::Usual => past_usual(alloc, bytes),
+        Limits::Large => PAST_LARGEST,
     }
 }
 
@@ -131,7 +140,9 @@ fn put_device(
             put_entry(alloc, out, &log, at)?;
             put_least(out, &log)
         }
-        Err(fault) if matches!(fault.code, LogCause::Device) => { put_note(out, no_device(limits)) }
+        Err(fault) if matches!(fault.code, LogCause::Device) => {
+            put_note(out, no_device(alloc, bytes, limits))
+        }
         Err(_fault) => Ok(()),
     }
 }
@@ -183,6 +194,39 @@ fn put_import(out: &mut String, request: Request) -> Result<(), AllocError> {
     }
 }
 
+/// What is said of a log that passes the usual limits, where it may be within those of a large one. Of a longer file no more was
+/// read than shows that it is too long.
+fn large_note(alloc: Global, bytes: &[u8]) -> Option<&'static str> {
+    match read(alloc, bytes, Limits::Large.sectors(), Limits::Large) {
+        Ok(_log) if bytes.len() <= Limits::Usual.bytes() => Some(LARGE_TAKES),
+        Ok(_log) => Some(LARGE_LIMIT),
+        Err(fault) if matches!(fault.code, LogCause::CutShort) => {
+            if bytes.len() > Limits::Usual.bytes() {
+                Some(LARGE_LIMIT)
+            } else {
+                None
+            }
+        }
+        Err(_fault) => None,
+    }
+}
+
+/// Appends, where a log passes the usual limits, that it may be within those of a large one. Of a raw log nothing is said.
+fn put_large_takes(
+    alloc: Global,
+    out: &mut String,
+    words: &Words,
+    bytes: &[u8],
+) -> Result<(), AllocError> {
+    match (words.limits(), words.request()) {
+        (Limits::Large, _) | (_, Request::Import(_)) => Ok(()),
+        _ => match large_note(alloc, bytes) {
+            Some(text) => put_note(out, text),
+            None => Ok(()),
+        },
+    }
+}
+
 /// Appends what the cause of a log's refusal means, within the limits, and what most likely helps.
 fn put_log_cause(
     alloc: Global,
@@ -217,6 +261,10 @@ fn put_log_notes(
         },
         LogCause::Short | LogCause::Magic => put_kind(out, words, files, 1),
         LogCause::SectorSize => put_import(out, words.request()),
+        LogCause::Limit => match bytes_of(files, 0) {
+            Some(bytes) => put_large_takes(alloc, out, words, bytes),
+            None => Ok(()),
+        },
         _ => put_broken_entry(out, files, cause, at),
     }
 }
@@ -251,7 +299,7 @@ fn names_instruction(cause: VerifierCause) -> bool {
 }
 
 /// The options that a command takes, where it takes some of a log.
-fn log_options(request: Request) -> Option<OptionWords> {
+pub(crate) fn log_options(request: Request) -> Option<OptionWords> {
     match request {
         Request::Images(words, _) | Request::Image(words, _) => Some(words),
         Request::Show(words, _) | Request::Export(words) => Some(words),
@@ -350,13 +398,13 @@ fn put_verifier_notes(
     request: Request,
     cause: VerifierCause,
     slot: u64,
-    facts: &Facts,
+    breach: &Option<Breach>,
 ) -> Result<(), AllocError> {
     if names_instruction(cause) {
-        put_breach(out, slot, &facts.breach)?;
+        put_breach(out, slot, breach)?;
     }
     put_rule(alloc, out, &request, cause)?;
-    put_guards(out, request, &facts.breach)
+    put_guards(out, request, breach)
 }
 
 /// Appends how many images a log has with other cuts, where it has some, and not too many.
@@ -382,7 +430,7 @@ fn put_fewer(out: &mut String, kind: Option<CutKind>, fewer: &Fewer) -> Result<(
 }
 
 /// The options with which there are fewer images than with parts of that kind.
-fn fewer_images(by: Option<By>) -> &'static str {
+fn with_fewer_images(by: Option<By>) -> &'static str {
     match by {
         Some(By::Write) => "take fewer cuts (--cuts flush), a smaller --bound, or no --tears",
         _ => "take fewer cuts (--cuts flush), a smaller --bound, --by write, or no --tears",
@@ -400,7 +448,7 @@ fn too_many_images(images: Option<Extent>) -> &'static str {
 }
 
 /// The options with which there are fewer cases than with parts of that kind.
-fn fewer_cases(by: Option<By>) -> &'static str {
+fn with_fewer_cases(by: Option<By>) -> &'static str {
     match by {
         Some(By::Write) => "take a small --at-most, fewer cuts (--from, --to), or no --tears",
         _ => "take --by write, a small --at-most, fewer cuts (--from, --to), or no --tears",
@@ -412,23 +460,31 @@ fn put_cases_notes(out: &mut String, options: OptionWords) -> Result<(), AllocEr
     put_refused(
         out,
         "with this cut there are more than 16777216 cases (docs/CRASH-MODEL.md, Limits)",
-        fewer_cases(options.by),
+        with_fewer_cases(options.by),
     )
+}
+
+/// With what the log that the first file holds has fewer images than by these options.
+fn fewer_of(alloc: Global, options: OptionWords, files: &[Option<Vec<u8>>]) -> Option<Fewer> {
+    let options = options_of(options).ok()?;
+    let recording = recording_of(files)?;
+    fewer_images(alloc, &recording, &options)
 }
 
 /// Appends that there are too many images, and with what there are fewer.
 fn put_images_notes(
+    alloc: Global,
     out: &mut String,
     options: OptionWords,
-    facts: &Facts,
+    files: &[Option<Vec<u8>>],
 ) -> Result<(), AllocError> {
     put_refused(
         out,
         too_many_images(options.images),
-        fewer_images(options.by),
+        with_fewer_images(options.by),
     )?;
-    match &facts.fewer {
-        Some(fewer) => put_fewer(out, options.cuts, fewer),
+    match fewer_of(alloc, options, files) {
+        Some(fewer) => put_fewer(out, options.cuts, &fewer),
         None => Ok(()),
     }
 }
@@ -444,10 +500,11 @@ fn put_many_joined(out: &mut String, words: &Words, place: usize) -> Result<(), 
 
 /// Appends that there are too many images or cases, and with what there are fewer.
 fn put_many_notes(
+    alloc: Global,
     out: &mut String,
     words: &Words,
+    files: &[Option<Vec<u8>>],
     place: usize,
-    facts: &Facts,
 ) -> Result<(), AllocError> {
     let request = words.request();
     match (request, log_options(request)) {
@@ -455,7 +512,7 @@ fn put_many_notes(
         (Request::Cases(options, _) | Request::CureCases(options, _), _) => put_cases_notes(
             out, options,
         ),
-        (_, Some(options)) => put_images_notes(out, options, facts),
+        (_, Some(options)) => put_images_notes(alloc, out, options, files),
         _ => Ok(()),
     }
 }
@@ -516,6 +573,15 @@ fn bound_rule(options: OptionWords) -> &'static str {
     }
 }
 
+/// What the bound has to be of a report that is told again: it has images, and `any` has cases.
+fn report_bound_rule(options: OptionWords) -> &'static str {
+    if options.bound == u64::MAX {
+        "--report doesn't stand beside --bound any: a report has images, and with --bound any there are cases"
+    } else {
+        option_rule(2)
+    }
+}
+
 /// What the file has to be by which a device has its size.
 fn sized_rule(words: &Words) -> &'static str {
     match (words.base(), words.limits()) {
@@ -548,7 +614,11 @@ fn rule_of(words: &Words, place: u64) -> &'static str {
         (11, Request::AnyImage { .. }) => {
             "no image of that cut has that choice, as 'explore --bound any' prints it with the same --cuts, --by and --tears"
         }
+        (1 | 14, Request::Verify { .. }) if words.is_sized() => {
+            "verify takes a number for --sectors: it has no --base, by which 'base' would be one"
+        }
         (1 | 14, _) if words.is_sized() => sized_rule(words),
+        (2, Request::Retold(options, _)) => report_bound_rule(options),
         (2, Request::Image(options, _)) => bound_rule(options),
         (2, Request::Show(options, _)) => bound_rule(options),
         _ => rule_within(place, words.limits()),
@@ -559,7 +629,7 @@ fn rule_of(words: &Words, place: u64) -> &'static str {
 fn image_rule(limits: Limits) -> &'static str {
     match limits {
         Limits::Usual =>
-            "an image has 1 to 16384 whole sectors of 512 bytes (docs/COMMANDS.md, Commands)",
+            "an image has 1 to 16384 whole sectors of 512 bytes, with --large to 33554432 (docs/COMMANDS.md, Commands)",
         Limits::Large => {
             "with --large an image has 1 to 33554432 whole sectors of 512 bytes (docs/COMMANDS.md, Commands)"
         }
@@ -693,13 +763,13 @@ fn put_work_notes(out: &mut String, words: &Words) -> Result<(), AllocError> {
 
 /// The notes after the line of a refusal: what its number means there, the instruction, entry, option or file that is
 /// meant, and what most likely helps, where that is known; of a program that the verifier refuses also what it knew there. Each
-/// line begins with `note: ` (docs/REFUSALS.md, Notes).
+/// line begins with `note: ` (docs/REFUSALS.md, Notes). A program that is refused is verified once more for them, and images are counted
+/// once more where there are too many; where there is no memory for that, it isn't said.
 pub fn notes_after(
     alloc: Global,
     words: &Words,
     files: &[Option<Vec<u8>>],
     refusal: &Refusal,
-    facts: &Facts,
 ) -> Result<String, AllocError> {
     let mut out = String::new(alloc);
     let at = refusal.at as usize;
@@ -720,9 +790,11 @@ pub fn notes_after(
             words.request(),
             cause,
             refusal.at,
-            facts,
+            &breach_in(alloc, words.request(), files, place_of(refusal.program)),
         )?,
-        Cause::Request(RequestCause::TooManyImages) => put_many_notes(&mut out, words, at, facts)?,
+        Cause::Request(RequestCause::TooManyImages) => {
+            put_many_notes(alloc, &mut out, words, files, at)?
+        }
         Cause::Request(RequestCause::Option) => { put_note(&mut out, rule_of(words, refusal.at))? },
         Cause::Request(RequestCause::NotInLog) => put_note(&mut out, NOT_IN_LOG)?,
         Cause::Request(RequestCause::NotReport) => put_note(&mut out, NOT_REPORT)?,

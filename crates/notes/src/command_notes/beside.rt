@@ -2,20 +2,22 @@
 
 use crate::command_notes::blind::put_blind;
 use crate::command_notes::forced::put_forced;
+use crate::command_notes::held::recording_of;
 use crate::command_notes::large::put_large;
 use crate::command_notes::left_out::put_left_out;
+use crate::command_notes::no_cuts::put_no_cuts;
 use crate::command_notes::promises::put_promises;
 use crate::command_notes::unreached::put_unreached;
 use crate::put_note;
 use command_line::Words;
 use epochs::{By, CutKind};
-use request::facts::Facts;
-use request::{Extent, OptionWords, Request};
+use request::facts::{LogFacts, RunFacts, log_facts};
+use request::{Extent, LossWords, OptionWords, Request, options_of};
 use std::alloc::{AllocError, Global};
 
 /// Appends what no run reaches of the programs that were verified for a run, by their numbers, and which pass without looking at what
 /// the log writes.
-fn put_explored_notes(out: &mut String, facts: &Facts) -> Result<(), AllocError> {
+fn put_explored_notes(out: &mut String, facts: &RunFacts) -> Result<(), AllocError> {
     for (number, found) in facts.unreached.iter().enumerate() {
         put_unreached(out, Some(number as u8), *found)?;
     }
@@ -23,8 +25,8 @@ fn put_explored_notes(out: &mut String, facts: &Facts) -> Result<(), AllocError>
 }
 
 /// Appends which marks of a log promise what nothing made durable, where some do.
-fn put_mark_notes(out: &mut String, facts: &Facts) -> Result<(), AllocError> {
-    match &facts.promises {
+fn put_mark_notes(out: &mut String, log: &LogFacts) -> Result<(), AllocError> {
+    match &log.promises {
         Some(found) => put_promises(out, found),
         None => Ok(()),
     }
@@ -34,13 +36,13 @@ fn put_mark_notes(out: &mut String, facts: &Facts) -> Result<(), AllocError> {
 fn put_large_notes(
     out: &mut String,
     options: OptionWords,
-    facts: &Facts,
+    log: &LogFacts,
 ) -> Result<(), AllocError> {
     let by_sector = matches!(options.by, Some(By::Sector));
-    if !by_sector || options.bound == 0 || facts.large == 0 {
+    if !by_sector || options.bound == 0 || log.large == 0 {
         return Ok(());
     }
-    put_large(out, options.bound, facts.large)?;
+    put_large(out, options.bound, log.large)?;
     put_note(out, "with --by write each may be dropped as a whole")
 }
 
@@ -48,22 +50,24 @@ fn put_large_notes(
 fn put_forced_notes(
     out: &mut String,
     options: OptionWords,
-    facts: &Facts,
+    log: &LogFacts,
 ) -> Result<(), AllocError> {
-    if !options.tears || options.bound == 0 || facts.forced == 0 {
+    if !options.tears || options.bound == 0 || log.forced == 0 {
         return Ok(());
     }
-    put_forced(out, facts.forced)
+    put_forced(out, log.forced)
 }
 
-/// Appends that a log has no flush entry, where the cuts before flushes are asked for.
-fn put_flush_notes(
-    out: &mut String,
-    options: OptionWords,
-    facts: &Facts,
-) -> Result<(), AllocError> {
-    match (options.cuts, facts.flushes) {
-        (Some(CutKind::BeforeFlush), Some(0)) => put_note(
+/// Whether a first or a last cut is named.
+fn is_ranged(options: OptionWords) -> bool {
+    options.from.is_some() || options.to.is_some()
+}
+
+/// Appends that no cut of a log is wanted, or that it has no flush entry, where the cuts before flushes are asked for.
+fn put_cut_notes(out: &mut String, options: OptionWords, log: &LogFacts) -> Result<(), AllocError> {
+    match (options.cuts, log.cuts, log.flushes) {
+        (_, 0, _) => put_no_cuts(out, is_ranged(options)),
+        (Some(CutKind::BeforeFlush), _, 0) => put_note(
             out,
             "no entry is a flush, so --cuts flush has the one cut at the end; ask without --cuts",
         ),
@@ -93,60 +97,107 @@ fn put_one_loss(out: &mut String, options: OptionWords) -> Result<(), AllocError
 fn put_survey_notes(
     out: &mut String,
     options: OptionWords,
-    facts: &Facts,
+    log: &LogFacts,
 ) -> Result<(), AllocError> {
-    put_flush_notes(out, options, facts)?;
-    put_large_notes(out, options, facts)?;
-    put_forced_notes(out, options, facts)
+    put_cut_notes(out, options, log)?;
+    put_large_notes(out, options, log)?;
+    put_forced_notes(out, options, log)
 }
 
-/// The notes beside the answer of a command that succeeded, by what it found: what no run of a program reaches (`verify`, `check`
-/// and the commands of a run), which programs pass without looking at what the log writes (`explore`, `why` and `page`), which marks
-/// promise what nothing made durable (`log` and the commands of a run), that `--cuts flush` has one cut (the commands of a run, `images`
-/// and `export`, where no entry is a flush), how many writes never depart as a whole, and how many entries
-/// with FUA aren't torn (`images` and the commands of a run; not where any number of losses is explored, by which each write may be
-/// dropped, and one with FUA torn while it is in flight), and that an image loses at most one part (`explore` of a whole run). Each line begins with
-/// `note: `; mostly there is none.
-pub fn notes_beside(alloc: Global, words: &Words, facts: &Facts) -> Result<String, AllocError> {
-    let mut out = String::new(alloc);
+/// Appends what no run reaches of the programs that a command verified, and which pass without looking at what the log writes.
+fn put_program_notes(out: &mut String, words: &Words, facts: &RunFacts) -> Result<(), AllocError> {
     match words.request() {
         Request::Verify { .. } | Request::Check(_) => {
             for found in facts.unreached.iter() {
-                put_unreached(&mut out, None, *found)?;
+                put_unreached(out, None, *found)?;
             }
+            Ok(())
         }
-        Request::Explore(options) => {
-            put_explored_notes(&mut out, facts)?;
-            put_mark_notes(&mut out, facts)?;
-            put_survey_notes(&mut out, options, facts)?;
-            put_one_loss(&mut out, options)?
+        Request::Explore(_) | Request::Why(_) => put_explored_notes(out, facts),
+        Request::Cure(_) | Request::Page(_) => put_explored_notes(out, facts),
+        Request::Cases(_, _) | Request::CureCases(_, _) => put_explored_notes(out, facts),
+        _ => Ok(()),
+    }
+}
+
+/// The options by which a command asks for its log, where something is said of the log beside its answer.
+fn noted_options(words: &Words) -> Option<OptionWords> {
+    match words.request() {
+        Request::Explore(options) | Request::Why(options) => Some(options),
+        Request::Cure(options) | Request::Page(options) => Some(options),
+        Request::Cases(options, _) | Request::CureCases(options, _) => Some(options),
+        Request::Retold(options, _) | Request::Log(options) => Some(options),
+        Request::Export(options) | Request::Images(options, _) => Some(options),
+        Request::Cuts(options, _, _) => Some(options),
+        _ => None,
+    }
+}
+
+/// What notes say of the log that the first file holds, as these options ask for it.
+fn log_noted(alloc: Global, options: OptionWords, files: &[Option<Vec<u8>>]) -> Option<LogFacts> {
+    let options = options_of(options).ok()?;
+    let recording = recording_of(files)?;
+    log_facts(alloc, &recording, &options)
+}
+
+/// Appends what is said of the log of a command, by its options.
+fn put_log_notes(
+    out: &mut String,
+    words: &Words,
+    options: OptionWords,
+    log: &LogFacts,
+) -> Result<(), AllocError> {
+    match words.request() {
+        Request::Log(_) => put_mark_notes(out, log),
+        Request::Cuts(_, _, _) => put_cut_notes(out, options, log),
+        Request::Export(_) | Request::Images(_, _) => put_survey_notes(out, options, log),
+        Request::Cases(_, _) | Request::CureCases(_, _) => {
+            put_mark_notes(out, log)?;
+            put_cut_notes(out, options, log)
         }
-        Request::Why(options) | Request::Cure(options) | Request::Page(options) => {
-            put_explored_notes(&mut out, facts)?;
-            put_mark_notes(&mut out, facts)?;
-            put_survey_notes(&mut out, options, facts)?
+        _ => {
+            put_mark_notes(out, log)?;
+            put_survey_notes(out, options, log)
         }
-        Request::CureCases(options, _losses) => {
-            put_explored_notes(&mut out, facts)?;
-            put_mark_notes(&mut out, facts)?;
-            put_flush_notes(&mut out, options, facts)?
+    }
+}
+
+/// Appends what a clean run of any number of losses left out.
+fn put_left_notes(
+    out: &mut String,
+    losses: &LossWords,
+    facts: &RunFacts,
+) -> Result<(), AllocError> {
+    match &facts.left_out {
+        Some(left) => put_left_out(out, losses, left),
+        None => Ok(()),
+    }
+}
+
+/// The notes beside the answer of a command that succeeded, by what its files hold and what its run knows: what no run of a program
+/// reaches (`verify`, `check` and the commands of a run), which programs pass without looking at what the log writes (`explore`, `why` and
+/// `page`), which marks promise what nothing made durable (`log` and the commands of a run), that no cut is wanted, or that `--cuts flush`
+/// has one (the commands of a run, `images` and `export`; the latter where no entry is a flush), how many writes never depart as a whole,
+/// and how many entries with FUA aren't torn (`images` and the commands of a run; not where any number of losses is explored, by which
+/// each write may be dropped, and one with FUA torn while it is in flight), and that an image loses at most one part (`explore` of a whole
+/// run). Each line begins with `note: `; mostly there is none. The log is read once more for them, and where there is no memory for that
+/// nothing is said of it.
+pub fn notes_beside(
+    alloc: Global,
+    words: &Words,
+    files: &[Option<Vec<u8>>],
+    facts: &RunFacts,
+) -> Result<String, AllocError> {
+    let mut out = String::new(alloc);
+    put_program_notes(&mut out, words, facts)?;
+    if let Some(options) = noted_options(words) {
+        if let Some(log) = log_noted(alloc, options, files) {
+            put_log_notes(&mut out, words, options, &log)?;
         }
-        Request::Cases(options, losses) => {
-            put_explored_notes(&mut out, facts)?;
-            put_mark_notes(&mut out, facts)?;
-            put_flush_notes(&mut out, options, facts)?;
-            if let Some(left) = &facts.left_out {
-                put_left_out(&mut out, &losses, left)?;
-            }
-        }
-        Request::Retold(options, _) => {
-            put_mark_notes(&mut out, facts)?;
-            put_survey_notes(&mut out, options, facts)?
-        }
-        Request::Export(options) => put_survey_notes(&mut out, options, facts)?,
-        Request::Images(options, _) => put_survey_notes(&mut out, options, facts)?,
-        Request::Cuts(options, _, _) => put_flush_notes(&mut out, options, facts)?,
-        Request::Log(_) => put_mark_notes(&mut out, facts)?,
+    }
+    match words.request() {
+        Request::Explore(options) => put_one_loss(&mut out, options)?,
+        Request::Cases(_, losses) => put_left_notes(&mut out, &losses, facts)?,
         _ => (),
     }
     Ok(out)

@@ -1,10 +1,11 @@
 //! What makes a log with too many crash images have fewer.
 
-ghost use Rattle.std.specs.Prelude.{◌≡◌, ◌≤◌, IfOk, MatchOption};
+ghost use Rattle.std.specs.Prelude.{◌≡◌, ◌≤◌, IfOk, IfSome, MatchOption};
 ghost use Rattle.request.specs.Extents.{most_images};
-ghost use Rattle.request.specs.Fewer.{CountsImages, IsGreatest, NoneIsSmaller, plan_with, AreFewer};
+ghost use Rattle.request.specs.Fewer.{CountsImages, IsGreatest, NoneIsSmaller, plan_with, AreFewer, FindsFewer};
 
 use crate::Options;
+use crate::facts::recording::Recording;
 use choices::count_up_to;
 use epochs::{CutKind, Cuts, Plan};
 use logfmt::Log;
@@ -73,8 +74,8 @@ fn smaller_bound(plan: &Plan<'_>, below: u8, tears: bool, most: u64) -> Option<S
     None
 }
 
-/// What makes a log have fewer images.than by the options.
-pub(crate) fn fewer_of(alloc: Global, log: &Log, options: &Options) -> Result<Fewer, AllocError>
+/// What makes a log have fewer images than by the options.
+fn fewer_of(alloc: Global, log: &Log, options: &Options) -> Result<Fewer, AllocError>
     ensures { IfOk result (AreFewer options.now log.now) }
 {
     let plan = Plan::new(alloc, log, options.cuts(), options.by())?;
@@ -84,4 +85,15 @@ pub(crate) fn fewer_of(alloc: Global, log: &Log, options: &Options) -> Result<Fe
         mark: images_with(alloc, log, options, CutKind::AfterMark)?,
         smaller: smaller_bound(&plan, bound, tears, options.extent().most()),
     })
+}
+
+/// What makes the log of a recording have fewer images than by the options. None where they ask for none that it is, or for want of
+/// memory.
+pub fn fewer_images(alloc: Global, recording: &Recording<'_>, options: &Options) -> Option<Fewer>
+    ensures { IfSome result (FindsFewer recording.now options.now) }
+{
+    let Ok(log) = recording.read(alloc, options) else {
+        return None;
+    };
+    fewer_of(alloc, &log, options).ok()
 }

@@ -33,16 +33,18 @@ returns-in_err-bytes-clause-refused c =
     (for_recording c.in_ok-recording.recording.text c.in_ok-recording.recording.initial c.in_err-bytes.field-0.0 read.read read.based c.in_err-bytes.ensures.refused)))
 
 pub returns-clause-answers : goal.returns-clause-answers
-returns-clause-answers c = record {
-  settings = c.in_ok-options.options;
-  asked = c.in_ok-options.ensures;
-  good = rw (← c.any_words.ensures) c.in_ok-_losses.ensures.1;
-  answers = record {
-    held = c.in_ok-recording.recording.text;
-    initial = c.in_ok-recording.recording.initial;
-    read = c.in_ok-recording.ensures.read;
-    based = c.in_ok-recording.ensures.based;
-    is = rw (← c.form_of-form.ensures) c.in_ok-bytes.ensures.shown;
-    ends = refl;
-  };
-}
+returns-clause-answers c =
+    rw (c.answered.ensures.bytes, c.answered.ensures.status)
+    (record {
+      settings = c.in_ok-options.options;
+      asked = c.in_ok-options.ensures;
+      good = rw (← c.any_words.ensures) c.in_ok-_losses.ensures.1;
+      answers = record {
+        held = c.in_ok-recording.recording.text;
+        initial = c.in_ok-recording.recording.initial;
+        read = c.in_ok-recording.ensures.read;
+        based = c.in_ok-recording.ensures.based;
+        is = rw (← c.form_of-form.ensures) c.in_ok-bytes.ensures.shown;
+        ends = refl;
+      };
+    })

@@ -32,6 +32,6 @@ returns-clause-answers g c =
       settings = c.in_ok-options.options;
       asked = c.in_ok-options.ensures;
       good = c.in_ok-meant.ensures.1;
-      answers = subst (λ (l : AnyLosses). AnswersFiles (wanted_by c.args.cured l) c.in_ok-options.options (held_by c.args.files.now) x.0.items x.1) (sym c.in_ok-meant.ensures.0)
-          (subst (λ (w : WantedAnswer). AnswersFiles w c.in_ok-options.options (held_by c.args.files.now) x.0.items x.1) c.wanted_by.ensures is);
+      answers = subst (λ (l : AnyLosses). AnswersFiles (wanted_by c.args.cured l) c.in_ok-options.options (held_by c.args.files.now) x.bytes.items x.status) (sym c.in_ok-meant.ensures.0)
+          (subst (λ (w : WantedAnswer). AnswersFiles w c.in_ok-options.options (held_by c.args.files.now) x.bytes.items x.status) c.wanted_by.ensures is);
     })

@@ -45,5 +45,5 @@ returns-clause-answers c = record {
   named = c.in_ok-lines.ensures;
   failing = c.in_ok-report.report.failing;
   tried = c.in_ok-report.ensures.tried;
-  ends = c.status_of-status.ensures;
+  ends = c.status_of.ensures;
 }

@@ -33,16 +33,18 @@ returns-in_err-bytes-clause-refused c =
     (for_recording c.in_ok-recording.recording.text c.in_ok-recording.recording.initial c.in_err-bytes.field-0.0 read.read read.based c.in_err-bytes.ensures.refused)))
 
 pub returns-clause-answers : goal.returns-clause-answers
-returns-clause-answers c = record {
-  settings = c.in_ok-options.options;
-  asked = c.in_ok-options.ensures;
-  good = c.in_ok-meant.ensures.1;
-  answers = record {
-    held = c.in_ok-recording.recording.text;
-    initial = c.in_ok-recording.recording.initial;
-    read = c.in_ok-recording.ensures.read;
-    based = c.in_ok-recording.ensures.based;
-    is = rw c.in_ok-meant.ensures.0 c.in_ok-bytes.ensures.told;
-    ends = refl;
-  };
-}
+returns-clause-answers c =
+    rw (c.answered.ensures.bytes, c.answered.ensures.status)
+    (record {
+      settings = c.in_ok-options.options;
+      asked = c.in_ok-options.ensures;
+      good = c.in_ok-meant.ensures.1;
+      answers = record {
+        held = c.in_ok-recording.recording.text;
+        initial = c.in_ok-recording.recording.initial;
+        read = c.in_ok-recording.ensures.read;
+        based = c.in_ok-recording.ensures.based;
+        is = rw c.in_ok-meant.ensures.0 c.in_ok-bytes.ensures.told;
+        ends = refl;
+      };
+    })

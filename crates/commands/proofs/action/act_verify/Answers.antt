@@ -14,16 +14,16 @@ returns-in_err-code-clause-refused c =
     let p = err_from_is_err_and c.from_residual-in_err-code.result c.from_residual-in_err-code.ensures.1 in
     rw (p.1, p.2) (for_settings c.in_ok-options.options c.in_err-code.field-0.0 c.in_ok-options.ensures (unread_file _ _ c.in_err-code.field-0.0 c.in_err-code.ensures))
 
-pub returns-in_err-text-clause-refused : goal.returns-in_err-text-clause-refused
-returns-in_err-text-clause-refused c =
-    let p = err_from_is_err_and c.from_residual-in_err-text.result c.from_residual-in_err-text.ensures.1 in
+pub returns-in_err-report-clause-refused : goal.returns-in_err-report-clause-refused
+returns-in_err-report-clause-refused c =
+    let p = err_from_is_err_and c.from_residual-in_err-report.result c.from_residual-in_err-report.ensures.1 in
     rw (p.1, p.2)
-    (for_settings c.in_ok-options.options c.in_err-text.field-0.0 c.in_ok-options.ensures
-    (for_held c.in_ok-code.code.now c.in_err-text.field-0.0 c.in_ok-code.ensures c.in_err-text.ensures.refused))
+    (for_settings c.in_ok-options.options c.in_err-report.field-0.0 c.in_ok-options.ensures
+    (for_held c.in_ok-code.code.now c.in_err-report.field-0.0 c.in_ok-code.ensures c.in_err-report.ensures.refused))
 
 pub returns-clause-answers : goal.returns-clause-answers
 returns-clause-answers c = record {
   settings = c.in_ok-options.options;
   asked = c.in_ok-options.ensures;
-  answers = record { held = c.in_ok-code.code.now; read = c.in_ok-code.ensures; is = c.in_ok-text.ensures.accepted; ends = refl };
+  answers = record { held = c.in_ok-code.code.now; read = c.in_ok-code.ensures; is = c.in_ok-report.ensures.accepted; ends = refl };
 }

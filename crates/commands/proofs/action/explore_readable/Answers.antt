@@ -37,7 +37,7 @@ returns-in-Ok-clause-answers g c =
       based = c.in_ok-initial.ensures;
       read = files_read (λ f. f.items) c.args.asked.now.files.now.named.now c.in-Some.first.now c.in-Some.others.now c.in-Some-first.log c.as_slice.result.now _
           c.in-Some.ensures.cases.0 c.in-Some-first.is readable c.as_slice.ensures.value (ap (map (λ f. f.items)) c.as_slice-in-Ok.ensures.value ∙ c.in-Ok.ensures);
-      answers = subst (λ text. AnswersRun c.args.asked.now.wanted c.args.options.now text (map (λ f. f.items) c.as_slice-in-Ok.result.now) answer.0.items answer.1) c.of-recording.ensures run;
+      answers = subst (λ text. AnswersRun c.args.asked.now.wanted c.args.options.now text (map (λ f. f.items) c.as_slice-in-Ok.result.now) answer.bytes.items answer.status) c.of-recording.ensures run;
     })
 
 pub returns-in-Ok-clause-refused : goal.returns-in-Ok-clause-refused

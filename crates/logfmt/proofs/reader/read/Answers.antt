@@ -12,9 +12,9 @@ returns-in-Err-clause-fault c =
 
 pub loop-number-preserved : goal.loop-number-preserved
 loop-number-preserved c =
-    let made = c.in_ok-entry_of.ensures in
+    let made = c.entry_of.ensures in
     rw c.in_ok-push.ensures.items
-    (go_on _ _ _ _ _ _ _ c.in_ok-entry_of.field-0 c.loop-number.invariant c.in-Ok.ensures.exact made.stands made.fits made.recorded
+    (go_on _ _ _ _ _ _ _ c.entry_of.result c.loop-number.invariant c.in-Ok.ensures.exact made.stands made.fits made.recorded
     c.in-Ok.header c.in-Ok.ensures.stands c.in-Ok.ensures.within c.data_sectors.result c.data_sectors.ensures)
 
 pub returns-clause-found : goal.returns-clause-found

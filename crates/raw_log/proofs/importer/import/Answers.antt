@@ -22,12 +22,12 @@ loop-number-init c =
 pub loop-number-preserved : goal.loop-number-preserved
 loop-number-preserved c =
     let super = c.in-Ok.ensures.stands in
-    let made = c.in_ok-entry.ensures in
+    let made = c.entry_of-entry.ensures in
     let found = c.in-Ok-checked_header.ensures in
     let long : c.len.result ≡ length c.loop-number.out.items = search rules in
     let room = c.room_after-room.ensures.value ∙ ap (λ (n : ℕ). byte_limit c.args.limits - n) long in
     rw c.in_ok-put_entry.ensures
-    (go_on _ _ _ _ _ _ _ _ c.in_ok-entry.entry super.told c.loop-number.invariant c.room_after-room.result room found.exact made.stands made.fits made.recorded
+    (go_on _ _ _ _ _ _ _ _ c.entry_of-entry.result super.told c.loop-number.invariant c.room_after-room.result room found.exact made.stands made.fits made.recorded
     c.in-Ok-checked_header.header found.stands found.within c.data_bytes.result c.data_bytes.ensures (omega (arith, found.room)) (omega (arith, found.need)) made.text)
 
 pub returns-clause-imported : goal.returns-clause-imported

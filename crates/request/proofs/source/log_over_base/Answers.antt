@@ -16,15 +16,15 @@ returns-in-Err-clause-fault c =
 
 pub over-requires : goal.over-requires
 over-requires c =
-    let long = ap (λ (xs : List ℕ). length xs) c.in-Ok-of.ensures.value in
+    let long = ap (λ (xs : List ℕ). length xs) c.of.ensures in
     let device = c.in-Ok.ensures.sectors ∙ c.sectors.ensures.value in
     let fits = c.requires in
     omega (arith, long, device, fits)
 
-pub returns-in-Ok-of-clause-log : goal.returns-in-Ok-of-clause-log
-returns-in-Ok-of-clause-log c =
+pub returns-in-Ok-clause-log : goal.returns-in-Ok-clause-log
+returns-in-Ok-clause-log c =
     let are : AreBytes c.args.initial.now = search rules in
-    rw (c.over.ensures, c.in-Ok-of.ensures.value)
+    rw (c.over.ensures, c.of.ensures)
     (recorded_over (record { text = c.args.bytes.now; initial = c.args.initial.now }) c.args.options.now c.in-Ok.log c.in-Ok.ensures.found
     (c.in-Ok.ensures.sectors ∙ c.sectors.ensures.value)
     (subst (λ (l : Limits). length c.args.bytes.now ≤ byte_limit l) c.limits.ensures c.in-Ok.ensures.size)

@@ -23,7 +23,7 @@ returns-in-Some-clause-refused c =
     rw c.lacking_refusal_of.ensures
     (lacks_place _ c.args.options.now c.cuts-cuts.result c.in-Ok.log _ _ c.in-Some.place c.cuts-cuts.ensures c.in-Ok.ensures.log c.entries.ensures.value c.first_lacking.ensures c.in-Some.is)
 
-pub returns-in-None-clause-log : goal.returns-in-None-clause-log
-returns-in-None-clause-log c =
+pub returns-clause-log : goal.returns-clause-log
+returns-clause-log c =
     log_of _ c.args.options.now c.cuts-cuts.result c.in-Ok.log c.with_flushes.result _ c.places.result.now _ c.cuts-cuts.ensures c.in-Ok.ensures.log c.entries.ensures.value c.places.ensures.value
     c.first_lacking.ensures c.in-None.is c.with_flushes.ensures

@@ -1,32 +1,8 @@
-use Rattle.std.proofs.Common.{inl, Some}
+use Rattle.std.proofs.Common.{inl}
 use Rattle.std.proofs.lemmas.Result.{err_from_is_err_and}
-use Rattle.request.specs.Source.{no_plan_memory}
-use Rattle.request.proofs.Results.{one_err}
-use Rattle.runs.proofs.Judging.{judged_whole}
-use Rattle.runs.proofs.Tried.{cases_refused, few_images}
 use Rattle.runs.proofs.curing.run_of.Goals as goal
-
-pub invariant_of-task : goal.invariant_of-task
-invariant_of-task g c =
-    record {
-      plan_is = c.in_ok-plan.ensures.plan;
-      device = c.requires.device;
-      judged = judged_whole _ _ c.in_ok-plan.images 0 c.requires.whole c.in_ok-plan.ensures.count c.in_ok-plan.ensures.few;
-    }
 
 pub returns-in_err-plan-clause-refused : goal.returns-in_err-plan-clause-refused
 returns-in_err-plan-clause-refused g c =
     let p = err_from_is_err_and c.from_residual.result c.from_residual.ensures.1 in
     rw (p.1, p.2) (inl c.in_err-plan.ensures.refused)
-
-pub returns-in-None-clause-found : goal.returns-in-None-clause-found
-returns-in-None-clause-found g c = rw c.in-None.is c.images_found.ensures.found
-
-pub returns-in-None-clause-refused : goal.returns-in-None-clause-refused
-returns-in-None-clause-refused g c = one_err c.images_found.result _ _ c.images_found.ensures.refused (λ r memory. rw memory (inl no_plan_memory))
-
-pub returns-clause-found : goal.returns-clause-found
-returns-clause-found g c = rw c.in-Some.is c.cases_found.ensures.found
-
-pub returns-clause-refused : goal.returns-clause-refused
-returns-clause-refused g c = rw c.in-Some.is (one_err c.cases_found.result _ _ c.cases_found.ensures.refused (λ r refused. cases_refused c.in-Some.losses c.args.judges.now.options.now c.args.log.now c.args.judges.now.checkers.now r (few_images _ _ c.in_ok-plan.images c.requires.whole c.in_ok-plan.ensures.count c.in_ok-plan.ensures.few) refused))

@@ -28,10 +28,10 @@ returns-in_err-work-clause-refused g c =
     let p = err_from_is_err_and c.from_residual.result c.from_residual.ensures.1 in
     rw (p.1, p.2, c.in_err-work.ensures.refused) no_plan_memory
 
-pub returns-in_err-find_blind-clause-refused : goal.returns-in_err-find_blind-clause-refused
-returns-in_err-find_blind-clause-refused g c =
-    let p = err_from_is_err_and c.from_residual-in_err-find_blind.result c.from_residual-in_err-find_blind.ensures.1 in
-    rw (p.1, p.2, c.in_err-find_blind.ensures.refused) no_plan_memory
+pub returns-in_err-blind-clause-refused : goal.returns-in_err-blind-clause-refused
+returns-in_err-blind-clause-refused g c =
+    let p = err_from_is_err_and c.from_residual-in_err-blind.result c.from_residual-in_err-blind.ensures.1 in
+    rw (p.1, p.2, c.in_err-blind.ensures.refused) no_plan_memory
 
 pub invariant_of-findings : goal.invariant_of-findings
 invariant_of-findings g c =

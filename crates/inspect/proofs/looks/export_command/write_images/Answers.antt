@@ -13,5 +13,5 @@ returns-then-not-is_at_once-clause-stopped g c =
 pub returns-in-Err-clause-stopped : goal.returns-in-Err-clause-stopped
 returns-in-Err-clause-stopped g c = (for_source _ (for_log _ c.in-Err.ensures.refused), nothing_kept _)
 
-pub returns-in-Err-plan-clause-stopped : goal.returns-in-Err-plan-clause-stopped
-returns-in-Err-plan-clause-stopped g c = (for_source _ (for_plan _ c.in-Ok.log c.in-Ok.ensures.log c.in-Err-plan.ensures.refused), nothing_kept _)
+pub returns-in-Err-plan_of-clause-stopped : goal.returns-in-Err-plan_of-clause-stopped
+returns-in-Err-plan_of-clause-stopped g c = (for_source _ (for_plan _ c.in-Ok.log c.in-Ok.ensures.log c.in-Err-plan_of.ensures.refused), nothing_kept _)

@@ -1,16 +1,22 @@
-use Rattle.std.proofs.Common.{rules, ℕ, ◌*◌, ◌-◌, List, ◌++◌, length, ◌∙◌, ap, arith}
-use Rattle.std.proofs.lemmas.Grind.{div_ceil_times}
-use Rattle.base.specs.Numbers.{zeros}
+use Rattle.std.proofs.Common.{rules, ℕ, ◌≡◌, ◌-◌, ◌*◌, ◌/◌, ◌∙◌, List, length, drop, ap, arith}
+use Rattle.std.proofs.SliceLists.{take_long}
+use Rattle.std.proofs.lemmas.List.{length-drop}
 use Rattle.logfmt.specs.Bounds.{AreBytes}
-use Rattle.logfmt.proofs.KeptSectors.{filled}
+use Rattle.logfmt.specs.Initial.{initial_sector}
+use Rattle.logfmt.proofs.KeptSectors.{sector_begun}
 use Rattle.logfmt.proofs.initial.InitialContent.of.Goals as goal
 
 pub invariant_of-result : goal.invariant_of-result
 invariant_of-result c =
     let bytes : List ℕ = c.args.bytes.now in
     let are : AreBytes bytes = search rules in
-    let whole = div_ceil_times (length bytes) 512 (omega arith) in
-    let rounded = c.div_ceil-whole.ensures in
-    let is = c.in_ok-put_zeros.ensures.appended ∙ ap (λ (xs : List ℕ). xs ++ zeros (c.div_ceil-whole.result * 512 - length bytes))
-    (c.in_ok-extend_from_slice.ensures.items ∙ ap (λ (xs : List ℕ). xs ++ bytes) c.in_ok-kept.ensures.items) in
-    filled bytes _ c.div_ceil-whole.result are (rw rounded whole.0) is
+    record {
+      bytes = are;
+      sector = λ s lt past.
+          let whole : length bytes / 512 * 512 ≡ 512 * s = omega (arith, lt, past) in
+          let rest : List ℕ = drop (length bytes / 512 * 512) bytes in
+          let left : length rest ≡ length bytes - length bytes / 512 * 512 = length-drop (length bytes / 512 * 512) bytes in
+          c.filled.ensures
+          ∙ ap (λ (xs : List ℕ). initial_sector xs 0) (take_long rest (length bytes - length bytes / 512 * 512) (omega (arith, left)))
+          ∙ rw whole (sector_begun bytes s);
+    }

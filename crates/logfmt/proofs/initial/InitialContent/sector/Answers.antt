@@ -1,24 +1,15 @@
-use Rattle.std.proofs.Common.{ℕ, ◌+◌, ◌*◌, List, length, ◌∙◌, ap, arith}
-use Rattle.std.specs.List.{slice_range}
+use Rattle.std.proofs.Common.{ℕ, List, ◌∙◌, ap}
 use Rattle.logfmt.specs.Initial.{initial_sector}
-use Rattle.logfmt.proofs.KeptSectors.{sector_kept, sector_past, starts_inside}
+use Rattle.logfmt.proofs.KeptSectors.{sector_kept, sector_past}
 use Rattle.logfmt.proofs.initial.InitialContent.sector.Goals as goal
 
-pub sector_at-requires : goal.sector_at-requires
-sector_at-requires c =
-    let long = ap (λ (xs : List ℕ). length xs) c.as_slice.ensures.value in
-    let whole = starts_inside c.self.inside.count c.self.inside.kept.items c.args.number c.self.invariant (omega (arith, c.if-start-len.true)) in
-    omega (arith, long, whole)
-
-pub returns-then-start-len : goal.returns-then-start-len
-returns-then-start-len c =
-    let whole = starts_inside c.self.inside.count c.self.inside.kept.items c.args.number c.self.invariant (omega (arith, c.if-start-len.true)) in
+pub returns-then-start-length : goal.returns-then-start-length
+returns-then-start-length c =
     c.sector_at.ensures
-    ∙ ap (λ (xs : List ℕ). slice_range xs (512 * c.args.number) (512 * c.args.number + 512)) c.as_slice.ensures.value
-    ∙ sector_kept c.self.inside.count c.self.inside.kept.items c.args.number c.self.invariant whole
+    ∙ sector_kept c.self.inside.bytes.now c.args.number c.if-start-length.true
     ∙ ap (λ (initial : List ℕ). initial_sector initial c.args.number) c.self.view_is
 
-pub returns-else-start-len : goal.returns-else-start-len
-returns-else-start-len c =
-    sector_past c.self.inside.count c.self.inside.kept.items c.args.number c.self.invariant (omega (arith, c.if-start-len.false))
+pub returns-else-start-length-2 : goal.returns-else-start-length-2
+returns-else-start-length-2 c =
+    sector_past c.self.inside.bytes.now c.args.number c.if-start-length-2.false
     ∙ ap (λ (initial : List ℕ). initial_sector initial c.args.number) c.self.view_is

@@ -1,6 +1,0 @@
-use Rattle.std.proofs.Common.{◌≡◌, map, take}
-use Rattle.runs.specs.Blind.{is_noticed}
-use Rattle.runs.proofs.blind.put_blind.Given as goal
-
-abbrev pub invariant-loop-checker : goal.invariant-loop-checker
-invariant-loop-checker l = l.out.items ≡ map (is_noticed l.basis.task.now.plan.now) (take l.checker-index l.basis.task.now.checkers.now)
