@@ -256,14 +256,22 @@ def is_left_out(definition):
     return any(it[0] == crate and it[1] in ("", module) and (not it[2] or definition.name in it[2].split()) for it in rows)
 
 
-def followed(found, named):
+def followed(found, named, but_for=is_left_out):
     """Adds what is named to what was found, and what that names, but for what is left out."""
     left = list(named)
     while left:
         it = left.pop()
-        if it not in found and not (isinstance(it, Definition) and is_left_out(it)):
+        if it not in found and not (isinstance(it, Definition) and but_for(it)):
             found.add(it)
             left.extend(getattr(it, "names", []))
+
+
+def counted(named, but_for):
+    """Returns how many definitions are followed from what is named, and in how many files they stand."""
+    found = set()
+    followed(found, named, but_for)
+    modules = [it.module for it in found if isinstance(it, Definition)]
+    return f"{len(modules)} definitions in {len(set(modules))} files"
 
 
 def believed(sources):
@@ -372,14 +380,15 @@ class Page:
         return f"Definitions that no promise before leads to are in {names}." if names else "The promises before lead to all its definitions."
 
     def clause(self, crate, call, clause):
-        """Returns the text of a clause, and takes the definitions to which it leads."""
+        """Returns the text of a clause with how far it leads, and takes the definitions to which it leads."""
         at = self.sources.clause(crate, call, clause)
         if at is None:
             self.missing.append(f"{crate} has no call {call} with the clause '{clause}'")
             return ""
         path, text, named = at
         followed(self.found, named)
-        return f"`{call}` in `{path}`:\n\n```rust\n{text}\n```\n\n"
+        reach = f"It rests on {counted(named, is_left_out)}. With what is left out they are {counted(named, lambda it: False)}."
+        return f"`{call}` in `{path}`:\n\n```rust\n{text}\n```\n\n{reach}\n\n"
 
     def definitions(self):
         """Returns the rows of the contents and the definitions, by layer, crate and file."""

@@ -17,7 +17,8 @@ use Rattle.command_line.specs.Sized.{numbered, SizedIsNumbered}
 
 -- the options
 options_so : (any : ℕ) (p : Parsed) (n : ℕ) (w : OptionWords) → AreOptionsWith any p w → AreOptionsWith any (numbered p n) (options_on w n)
-options_so any p n w o = record { added = o.added; meant = o.meant; others = ap (λ x. options_on x n) o.others }
+unfolding AreOptionsWith
+options_so any p n w (added, meant, are, is, same) = (added, meant, are, is, ap (λ (x : OptionWords). options_on x n) same)
 
 -- one of two requests
 either_on : (b : Bool) (x y : Request) (n : ℕ) → request_on (if b then x else y) n ≡ (if b then request_on x n else request_on y n)

@@ -1,4 +1,5 @@
 mod Numbers
 mod FlushLists
 mod ImageRanges
+mod Asking
 mod BaseSizes

@@ -1,12 +1,14 @@
 -- What the words of a command ask for (docs/COMMANDS.md, Commands and Options).
 use Rattle.std.specs.Prelude.{ℕ, ◌≡◌, ◌<◌, ◌++◌, Bool, true, false, ◌||◌, ◌&&◌, List, [], ◌∷◌, length, map, Option, None, Some, is_none, is_some, option_map, unwrap_or, MatchOption, IsSomeAnd, codes, bytes_eq, if◌then◌else◌}
 use Rattle.std.specs.Borrow.{Bor}
+use Rattle.base.specs.Check.{check, first_failing}
 use Rattle.base.specs.Sizes.{sector_limit}
 use Rattle.base.specs.declared.limits.Limits.{Limits}
 use Rattle.base.specs.declared.limits.Limits.TheVariants as limits
 use Rattle.epochs.specs.declared.cuts.CutKind.{CutKind}
 use Rattle.epochs.specs.declared.cuts.CutKind.TheVariants as cuts
 use Rattle.epochs.specs.declared.flushes.Flushes.{Flushes}
+use Rattle.epochs.specs.Cuts.{all_cuts}
 use Rattle.epochs.specs.Flushes.{places_of}
 use Rattle.epochs.specs.declared.part.By.{By}
 use Rattle.epochs.specs.declared.part.By.TheVariants as by
@@ -17,6 +19,9 @@ use Rattle.request.specs.declared.command.Request.TheVariants as asks
 use Rattle.request.specs.declared.command.Which.{Which}
 use Rattle.request.specs.declared.command.Which.TheVariants as which
 use Rattle.request.specs.declared.trials.TrialWords.{TrialWords}
+use Rattle.request.specs.declared.settings.OptionPlace.{OptionPlace}
+use Rattle.request.specs.declared.settings.OptionPlace.TheVariants as place
+use Rattle.request.specs.declared.settings.Settings.{Settings}
 use Rattle.request.specs.declared.settings.CaseTelling.{CaseTelling}
 use Rattle.request.specs.declared.settings.CaseTelling.TheVariants as telling
 use Rattle.request.specs.declared.settings.Retelling.{Retelling}
@@ -109,32 +114,45 @@ bound_named p any = if p.any then any else unwrap_or p.bound 1
 abbrev pub sectors_named : Parsed → ℕ
 sectors_named p = if p.is_sized && is_none p.base then 0 else unwrap_or p.sectors (sector_limit (limits_named p.large))
 
--- the options, each that isn't written by its default, with that bound for `any`, and these flushes and images. All commands on a device
--- but `log` want --sectors.
-abbrev pub options_with : Parsed → ℕ → Option Flushes → Option Extent → OptionWords
-options_with p any added meant = record {
+-- no flush is added
+abbrev pub no_flushes : Flushes
+no_flushes = all_cuts.flushes
+
+-- what is asked for, with that bound for `any`, and these flushes and images: what isn't written has its default, and so has a word that
+-- names nothing. All commands on a device but `log` want --sectors.
+abbrev pub settings_named : Parsed → ℕ → Option Flushes → Option Extent → Settings
+settings_named p any added meant = record {
   sectors = sectors_named p;
   limits = limits_named p.large;
-  flushes = added;
-  cuts = cuts_named (word_bytes p.cuts);
-  from = p.from;
-  to = p.to;
+  cuts = record { kind = unwrap_or (cuts_named (word_bytes p.cuts)) cuts.All; from = p.from; to = p.to; flushes = unwrap_or added no_flushes };
   bound = bound_named p any;
   tears = p.tears;
-  by = parts_named (word_bytes p.by);
+  by = unwrap_or (parts_named (word_bytes p.by)) by.Sector;
   workers = unwrap_or p.workers 1;
   cache = unwrap_or p.cache 0;
   checked = p.checked;
   guards = p.guards;
   first = p.first;
-  images = meant;
+  extent = unwrap_or meant extent.Whole;
 }
 
+-- the first word that names nothing, where those after --flush and --images name these
+abbrev pub unnamed_in : Parsed → Option Flushes → Option Extent → Option OptionPlace
+unnamed_in p added meant = first_failing (
+    check place.Cuts (is_some (cuts_named (word_bytes p.cuts)))
+    ∷ check place.By (is_some (parts_named (word_bytes p.by)))
+    ∷ check place.Flush (is_some added)
+    ∷ check place.Images (is_some meant)
+    ∷ [])
+
+-- the options, with that bound for `any`, and these flushes and images
+abbrev pub options_with : Parsed → ℕ → Option Flushes → Option Extent → OptionWords
+options_with p any added meant = record { settings = settings_named p any added meant; unnamed = unnamed_in p added meant }
+
 -- the options that are asked for, with that bound for `any`
-pub record AreOptionsWith (any : ℕ) (p : Parsed) (w : OptionWords) : Type 0 where
-  pub added : AreFlushes (word_bytes p.flush) w.flushes
-  pub meant : IsExtent (word_bytes p.images) p.wide w.images
-  pub others : w ≡ options_with p any w.flushes w.images
+unfoldable pub AreOptionsWith : ℕ → Parsed → OptionWords → Type 0
+AreOptionsWith any p w = (added : Option Flushes) × (meant : Option Extent) × AreFlushes (word_bytes p.flush) added
+    × IsExtent (word_bytes p.images) p.wide meant × (w ≡ options_with p any added meant)
 
 -- the same where `any` is no bound: the number that stands for it is too great
 abbrev pub AreOptions : Parsed → OptionWords → Type 0

@@ -25,21 +25,21 @@ pub record WordsValue : Type 0 where
 -- the number of sectors of the device that is asked for; 0 where the command takes none
 abbrev pub sectors_asked : Request → ℕ
 sectors_asked asks.StoredRun = 0
-sectors_asked (asks.Explore w) = w.sectors
-sectors_asked (asks.Cases w losses) = w.sectors
-sectors_asked (asks.Why w) = w.sectors
-sectors_asked (asks.Cure w) = w.sectors
-sectors_asked (asks.CureCases w losses) = w.sectors
-sectors_asked (asks.Page w) = w.sectors
-sectors_asked (asks.Retold w telling) = w.sectors
-sectors_asked (asks.Images w parts) = w.sectors
-sectors_asked (asks.Cuts w losses parts) = w.sectors
-sectors_asked (asks.Export w) = w.sectors
-sectors_asked (asks.Log w) = w.sectors
-sectors_asked (asks.Image w which) = w.sectors
-sectors_asked (asks.Show w which) = w.sectors
-sectors_asked (asks.AnyImage w cut in_words) = w.sectors
-sectors_asked (asks.Verify w listed) = w.sectors
+sectors_asked (asks.Explore w) = w.settings.sectors
+sectors_asked (asks.Cases w losses) = w.settings.sectors
+sectors_asked (asks.Why w) = w.settings.sectors
+sectors_asked (asks.Cure w) = w.settings.sectors
+sectors_asked (asks.CureCases w losses) = w.settings.sectors
+sectors_asked (asks.Page w) = w.settings.sectors
+sectors_asked (asks.Retold w telling) = w.settings.sectors
+sectors_asked (asks.Images w parts) = w.settings.sectors
+sectors_asked (asks.Cuts w losses parts) = w.settings.sectors
+sectors_asked (asks.Export w) = w.settings.sectors
+sectors_asked (asks.Log w) = w.settings.sectors
+sectors_asked (asks.Image w which) = w.settings.sectors
+sectors_asked (asks.Show w which) = w.settings.sectors
+sectors_asked (asks.AnyImage w cut in_words) = w.settings.sectors
+sectors_asked (asks.Verify w listed) = w.settings.sectors
 sectors_asked (asks.Import limits) = 0
 sectors_asked (asks.Check w) = 0
 sectors_asked asks.Asm = 0
@@ -49,21 +49,21 @@ sectors_asked (asks.Join part) = 0
 -- how large the log and its device may be that a command asks for
 abbrev pub limits_asked : Request → Limits
 limits_asked asks.StoredRun = limits.Usual
-limits_asked (asks.Explore w) = w.limits
-limits_asked (asks.Cases w losses) = w.limits
-limits_asked (asks.Why w) = w.limits
-limits_asked (asks.Cure w) = w.limits
-limits_asked (asks.CureCases w losses) = w.limits
-limits_asked (asks.Page w) = w.limits
-limits_asked (asks.Retold w telling) = w.limits
-limits_asked (asks.Images w parts) = w.limits
-limits_asked (asks.Cuts w losses parts) = w.limits
-limits_asked (asks.Export w) = w.limits
-limits_asked (asks.Log w) = w.limits
-limits_asked (asks.Image w which) = w.limits
-limits_asked (asks.Show w which) = w.limits
-limits_asked (asks.AnyImage w cut in_words) = w.limits
-limits_asked (asks.Verify w listed) = w.limits
+limits_asked (asks.Explore w) = w.settings.limits
+limits_asked (asks.Cases w losses) = w.settings.limits
+limits_asked (asks.Why w) = w.settings.limits
+limits_asked (asks.Cure w) = w.settings.limits
+limits_asked (asks.CureCases w losses) = w.settings.limits
+limits_asked (asks.Page w) = w.settings.limits
+limits_asked (asks.Retold w telling) = w.settings.limits
+limits_asked (asks.Images w parts) = w.settings.limits
+limits_asked (asks.Cuts w losses parts) = w.settings.limits
+limits_asked (asks.Export w) = w.settings.limits
+limits_asked (asks.Log w) = w.settings.limits
+limits_asked (asks.Image w which) = w.settings.limits
+limits_asked (asks.Show w which) = w.settings.limits
+limits_asked (asks.AnyImage w cut in_words) = w.settings.limits
+limits_asked (asks.Verify w listed) = w.settings.limits
 limits_asked (asks.Import large) = large
 limits_asked (asks.Check w) = w.limits
 limits_asked asks.Asm = limits.Usual
@@ -72,7 +72,7 @@ limits_asked (asks.Join part) = limits.Usual
 
 -- the options on a device of that many sectors
 abbrev pub options_on : OptionWords → ℕ → OptionWords
-options_on w n = record { sectors = n; limits = w.limits; flushes = w.flushes; cuts = w.cuts; from = w.from; to = w.to; bound = w.bound; tears = w.tears; by = w.by; workers = w.workers; cache = w.cache; checked = w.checked; guards = w.guards; first = w.first; images = w.images }
+options_on w n = record w { settings = record w.settings { sectors = n } }
 
 -- what is asked for on a device of that many sectors
 abbrev pub request_on : Request → ℕ → Request

@@ -4,7 +4,7 @@ ghost use Rattle.std.specs.Prelude.{◌≡◌, ◌<◌, ◌++◌, codes, length,
 ghost use Rattle.clap.specs.Words.{first_value, found_of};
 ghost use Rattle.command_line.specs.Number.{NoNumber as NoNumberText};
 ghost use Rattle.request.specs.declared.settings.Retelling.TheVariants as retelling;
-ghost use Rattle.command_line.specs.Parsed.{Asks, AsksBounded, AsksImage, AsksTold, AreFlushes, AreOptions, AreOptionsWith, IsBoundOf, IsExtent, any_named, asks_losses, base_named, bound_named, choice_named, command_named, counted, cured, cuts_named, explained, explored, files_named, first_file, program_files, limits_named, losses_named, options_with, paged, parts_named, sectors_named, trial_asked, word_bytes, IsFlagOf, IsNumberOf, IsRead, IsSizeOf, IsWhich};
+ghost use Rattle.command_line.specs.Parsed.{Asks, AsksBounded, AsksImage, AsksTold, AreFlushes, AreOptions, AreOptionsWith, IsBoundOf, IsExtent, any_named, asks_losses, base_named, bound_named, choice_named, command_named, counted, cured, cuts_named, explained, explored, files_named, first_file, program_files, limits_named, losses_named, no_flushes, paged, parts_named, sectors_named, settings_named, trial_asked, unnamed_in, word_bytes, IsFlagOf, IsNumberOf, IsRead, IsSizeOf, IsWhich};
 
 use crate::extents::extent_in;
 use crate::flush_list::flushes_in;
@@ -12,8 +12,11 @@ use crate::number::number_in;
 use arrayvec::ArrayString;
 use base::limits::Limits;
 use clap::ArgMatches;
-use epochs::{By, CutKind, Flushes};
-use request::{CaseTelling, Extent, LossWords, OptionWords, Request, Retelling, TrialWords, Which};
+use epochs::{By, CutKind, Cuts, Flushes};
+use request::{
+    CaseTelling, Extent, LossWords, OptionPlace, OptionWords, Request, Retelling, Settings,
+    TrialWords, Which,
+};
 use std::alloc::{AllocError, Global};
 
 /// The bound that stands for `any` where a command takes none: it is too great.
@@ -205,6 +208,13 @@ fn flushes_of(word: Option<&str>) -> Option<Flushes>
         Some(word) => flushes_in(word),
         None => Some(Flushes::NONE),
     }
+}
+
+/// These flushes, and none of them where a word named no list of entries.
+fn or_no_flushes(flushes: Option<Flushes>) -> Flushes
+    ensures { result ≡ unwrap_or flushes no_flushes }
+{
+    flushes.unwrap_or(Flushes::NONE)
 }
 
 /// The images that are meant: those that a word says, or else all, of a run with as many images as there can be or not.
@@ -399,41 +409,63 @@ impl<'a> Parsed<'a> {
         self.sectors.unwrap_or(u64::from(most))
     }
 
-    /// The options that were written, each that wasn't by its default, with that bound for `any`, and these flushes and images.
-    fn options_with(
-        &self,
-        any: u64,
-        flushes: Option<Flushes>,
-        images: Option<Extent>,
-    ) -> OptionWords
-        ensures { result ≡ options_with self.now any flushes images }
+    /// What is asked for, with that bound for `any`, and these flushes and images. What isn't written has its default, and so has a word
+    /// that names nothing.
+    fn settings(&self, any: u64, flushes: Option<Flushes>, images: Option<Extent>) -> Settings
+        ensures { result ≡ settings_named self.now any flushes images }
     {
         let limits = limits_of(self.large);
-        OptionWords {
+        Settings {
             sectors: self.sectors(),
             limits,
-            flushes,
-            cuts: cuts_of(self.cuts),
-            from: self.from,
-            to: self.to,
+            cuts: Cuts {
+                kind: cuts_of(self.cuts).unwrap_or(CutKind::All),
+                from: self.from,
+                to: self.to,
+                flushes: or_no_flushes(flushes),
+            },
             bound: self.bound(any),
             tears: self.tears,
-            by: by_of(self.by),
+            by: by_of(self.by).unwrap_or(By::Sector),
             workers: self.workers.unwrap_or(1),
             cache: self.cache.unwrap_or(0),
             checked: self.checked,
             guards: self.guards,
             first: self.first,
-            images,
+            extent: images.unwrap_or(Extent::Whole),
         }
     }
 
+    /// The first word that names nothing, where those after `--flush` and `--images` name these.
+    fn unnamed(&self, flushes: Option<Flushes>, images: Option<Extent>) -> Option<OptionPlace>
+        ensures { result ≡ unnamed_in self.now flushes images }
+    {
+        if cuts_of(self.cuts).is_none() {
+            return Some(OptionPlace::Cuts);
+        }
+        if by_of(self.by).is_none() {
+            return Some(OptionPlace::By);
+        }
+        if flushes.is_none() {
+            return Some(OptionPlace::Flush);
+        }
+        if images.is_none() {
+            return Some(OptionPlace::Images);
+        }
+        None
+    }
+
     /// The options that were written, with that bound for `any`.
+    #[tactic(auto, unfolding(crate::specs::Parsed::AreOptionsWith))]
     fn options_by(&self, any: u64) -> OptionWords
         ensures { AreOptionsWith any self.now result }
     {
+        let flushes = flushes_of(self.flush);
         let images = extent_of(self.images, self.wide);
-        self.options_with(any, flushes_of(self.flush), images)
+        OptionWords {
+            settings: self.settings(any, flushes, images),
+            unnamed: self.unnamed(flushes, images),
+        }
     }
 
     /// The options that were written, of a command that takes no `any`.

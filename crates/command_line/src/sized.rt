@@ -4,13 +4,19 @@ ghost use Rattle.std.specs.Prelude.{◌≡◌};
 ghost use Rattle.command_line.specs.Sized.{SizedIsNumbered};
 ghost use Rattle.command_line.specs.Words.{options_on, request_on};
 
-use request::{OptionWords, Request};
+use request::{OptionWords, Request, Settings};
 
 /// The options on a device of that many sectors.
 fn options_on(words: &OptionWords, sectors: u64) -> OptionWords
     ensures { result ≡ options_on words.now sectors }
 {
-    OptionWords { sectors, ..*words }
+    OptionWords {
+        settings: Settings {
+            sectors,
+            ..words.settings
+        },
+        unnamed: words.unnamed,
+    }
 }
 
 /// What is asked for on a device of that many sectors.

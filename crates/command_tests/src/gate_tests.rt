@@ -3,11 +3,10 @@
 
 ghost use Rattle.std.specs.Prelude.{◌≤◌};
 
-use base::limits::Limits;
 use base::refusal::Refusal;
 use commands::{
-    By, CutKind, Cuts, Explored, Extent, Flushes, Gate, OpenGate, Options, Recording, Settings,
-    explore, explore_with, fault_line,
+    CutKind, Cuts, Explored, Flushes, Gate, OpenGate, Options, Recording, Settings, explore,
+    explore_with, fault_line,
 };
 use std::alloc::Global;
 use std::process::Abort;
@@ -23,17 +22,10 @@ const ANSWER_1: [u8; 16] = [0xb7, 0, 0, 0, 1, 0, 0, 0, 0x95, 0, 0, 0, 0, 0, 0, 0
 /// A device of one sector, every cut, and a limit of two steps.
 const SETTINGS: Settings = Settings {
     sectors: 1,
-    limits: Limits::Usual,
-    cuts: Cuts::ALL,
     bound: 0,
     tears: true,
-    by: By::Sector,
-    workers: 1,
-    cache: 0,
     checked: Some(2),
-    guards: false,
-    first: false,
-    extent: Extent::Whole,
+    ..Settings::USUAL
 };
 
 /// Appends a sector that begins with these bytes.
@@ -274,17 +266,12 @@ fn held<R: Threads + Wait + Sync + Abort>(
 fn by_workers(workers: u64, cache: u64, first: bool) -> Settings {
     Settings {
         sectors: 1,
-        limits: Limits::Usual,
-        cuts: Cuts::ALL,
         bound: 0,
-        tears: false,
-        by: By::Sector,
         workers,
         cache,
         checked: Some(2),
-        guards: false,
         first,
-        extent: Extent::Whole,
+        ..Settings::USUAL
     }
 }
 
@@ -357,17 +344,11 @@ const BEFORE_FLUSHES: Cuts = Cuts {
 /// The run sixteen_codes of docs/OUTPUT.md, with 256 images, by two workers.
 const SIXTEEN_CODES: Settings = Settings {
     sectors: 4,
-    limits: Limits::Usual,
     cuts: BEFORE_FLUSHES,
     bound: 2,
     tears: true,
-    by: By::Sector,
     workers: 2,
-    cache: 0,
-    checked: None,
-    guards: false,
-    first: false,
-    extent: Extent::Whole,
+    ..Settings::USUAL
 };
 
 #[test]
@@ -461,17 +442,9 @@ fn hits_of<R: Threads + Wait + Sync>(
 ) -> Result<u64, Fail> {
     let options = Options::new(&Settings {
         sectors: 4,
-        limits: Limits::Usual,
-        cuts: Cuts::ALL,
-        bound: 1,
-        tears: false,
-        by: By::Sector,
-        workers: 1,
         cache,
         checked: Some(7),
-        guards: false,
-        first: false,
-        extent: Extent::Whole,
+        ..Settings::USUAL
     })
     .ok()
     .ok_or("options")?;

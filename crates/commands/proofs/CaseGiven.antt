@@ -1,7 +1,7 @@
 -- What a run of any number of losses finds is what a text of cases may tell.
 use Rattle.std.proofs.Common.{ℕ, zero, suc, ◌≡◌, ◌+◌, ◌-◌, ◌<◌, ◌≤◌, ◌^◌, ◌==◌, ◌&&◌, ◌||◌, nat_le, min, not, Bool, true, false, if◌then◌else◌, List, [], ◌∷◌, length, map, filter, slice_get, All, Option, None, Some, is_some, unwrap_or, refl, sym, subst, ◌∙◌, ap, arith}
 use Rattle.std.specs.List.{range_with_len}
-use Rattle.std.specs.Option.{option_map, option_and_then}
+use Rattle.std.specs.Option.{option_map}
 use Rattle.std.proofs.lemmas.Bool.Decides.{nat_tests}
 use Rattle.std.proofs.lemmas.Int.{clamps}
 use Rattle.std.proofs.lemmas.List.Sums.{sum_by-cons}
@@ -11,8 +11,6 @@ use Rattle.logfmt.specs.Bounds.{LogValue, IsLog}
 use Rattle.epochs.specs.declared.cuts.Cuts.{Cuts}
 use Rattle.epochs.specs.declared.part.By.{By}
 use Rattle.epochs.specs.Cuts.{is_of_kind, is_after_first, is_before_last, is_wanted}
-use Rattle.epochs.specs.declared.cuts.CutKind.{CutKind}
-use Rattle.epochs.specs.declared.flushes.Flushes.{Flushes}
 use Rattle.bpf_isa.specs.Program.{IsProgram}
 use Rattle.machine.specs.Outcome.{Ending, outcome, OutOfSteps}
 use Rattle.machine.specs.Guards.{guarded_outcome}
@@ -46,12 +44,9 @@ use Rattle.request.specs.declared.settings.OptionPlace.TheVariants as place
 use Rattle.request.specs.declared.settings.Settings.{Settings}
 use Rattle.request.specs.AnyLosses.{is_torn_asked, is_lost_asked, loss_checks, losses_asked, losses_refusal, torn_asked}
 use Rattle.request.specs.Extents.{is_whole}
-use Rattle.request.specs.OptionWords.{settings_of, settings_with}
 use Rattle.request.specs.Settings.{option_refusal, IsAsked}
 use Rattle.request.specs.Source.{Recording}
 use Rattle.request.proofs.Logs.{bounds_of}
-use Rattle.request.specs.declared.command.OptionWords.{OptionWords}
-use Rattle.request.specs.declared.extent.Extent.{Extent}
 use Rattle.runs.specs.Cases.{TellsCases, IsTextOf, IsCases, IsLosses}
 use Rattle.runs.specs.CaseCuts.{losses_of}
 use Rattle.runs.specs.Explore.{AreCheckersOf, head_of}
@@ -361,20 +356,6 @@ are_printed text files s value checkers w found given good are few =
 pub all_asked : (s : Settings) → s.first ≡ false → with_first false s ≡ s
 all_asked s all = ap (λ (first : Bool). with_first first s) (sym all)
 
-pub settings_first : (w : OptionWords) (s : Settings) → settings_of w ≡ Some s → s.first ≡ w.first
-settings_first w s asked = by_words w.cuts w.by w.flushes w.images asked
-  where
-    by_words : (c : Option CutKind) (b : Option By) (fl : Option Flushes) (e : Option Extent)
-        → option_and_then (λ kind. option_and_then (λ way. option_and_then (λ added. option_map (settings_with w kind way added) e) fl) b) c ≡ Some s → s.first ≡ w.first
-    by_words None b fl e is = absurd (let bad : None ≡ Some s = is in cc)
-    by_words (Some kind) None fl e is = absurd (let bad : None ≡ Some s = is in cc)
-    by_words (Some kind) (Some way) None e is = absurd (let bad : None ≡ Some s = is in cc)
-    by_words (Some kind) (Some way) (Some added) None is = absurd (let bad : None ≡ Some s = is in cc)
-    by_words (Some kind) (Some way) (Some added) (Some extent) is =
-        let both : Some (settings_with w kind way added extent) ≡ Some s = is in
-        let same : settings_with w kind way added extent ≡ s = cc in
-        sym (ap (λ (t : Settings). t.first) same)
-
 -- what a run prints of all its failing cases
 pub record IsPrintedRun (text : Recording) (files : List (List ℕ)) (s : Settings) (w : LossWords) (bytes : List ℕ) (failing : Bool) : Type 0 where
   pub value : LogValue
@@ -421,6 +402,6 @@ pub cases_are_text : CasesAreText
 cases_are_text w l files bytes status all cases answer =
     let s : Settings = answer.settings in
     let own = answer.answers in
-    let first : s.first ≡ false = settings_first w s answer.asked.asked ∙ all in
+    let first : s.first ≡ false = ap (λ (t : Settings). t.first) (sym answer.asked.asked) ∙ all in
     let run = run_printed _ own.programs s l bytes own.answers.failing (asked_of s answer.asked.good) first cases own.answers.told in
     (_, printed_told _ own.programs s l bytes own.answers.failing answer.good run)

@@ -1,14 +1,12 @@
 -- Texts of ranges of cuts of a run, joined, are what the run answers of the whole range.
 use Rattle.std.proofs.Common.{ℕ, zero, suc, ◌≡◌, ◌↔◌, IsTrue, ◌+◌, ◌<◌, ◌≤◌, ◌==◌, ◌&&◌, nat_le, nat_lt, bytes_eq, Bool, true, false, if◌then◌else◌, List, [], ◌∷◌, ◌++◌, length, map, filter, get_or, slice_get, All, Option, None, Some, unwrap_or, refl, sym, subst, ◌∙◌, ap, arith}
 use Rattle.std.specs.List.{flat_map, sum_by, range_with_len}
-use Rattle.std.specs.Option.{option_map, option_and_then}
 use Rattle.std.proofs.lemmas.Bool.Decides.{nat_tests}
 use Rattle.std.proofs.lemmas.List.Sorted.{sum_by-IsPermutation}
 use Rattle.logfmt.specs.declared.entry.Entry.{Entry}
 use Rattle.logfmt.specs.Bounds.{LogValue}
 use Rattle.logfmt.specs.Laws.{TextOfOneLog}
 use Rattle.epochs.specs.declared.cuts.Cuts.{Cuts}
-use Rattle.epochs.specs.declared.cuts.CutKind.{CutKind}
 use Rattle.epochs.specs.declared.flushes.Flushes.{Flushes}
 use Rattle.epochs.specs.declared.part.By.{By}
 use Rattle.epochs.specs.Cuts.{is_of_kind, is_after_first, is_before_last, is_wanted}
@@ -32,11 +30,10 @@ use Rattle.inspect.proofs.CutPieces.{same_on}
 use Rattle.request.specs.declared.any_losses.LossWords.{LossWords}
 use Rattle.request.specs.declared.command.OptionWords.{OptionWords}
 use Rattle.request.specs.declared.command.Request.TheVariants as request
-use Rattle.request.specs.declared.extent.Extent.{Extent}
 use Rattle.request.specs.declared.settings.CaseTelling.TheVariants as telling
 use Rattle.request.specs.declared.settings.Settings.{Settings}
 use Rattle.request.specs.AnyLosses.{loss_checks, losses_asked, losses_refusal}
-use Rattle.request.specs.OptionWords.{settings_with, settings_of, AskFor}
+use Rattle.request.specs.OptionWords.{AskFor}
 use Rattle.request.specs.Source.{Recording, cut_past, lacking, IsLogOf, HasImages}
 use Rattle.request.proofs.Logs.{bounds_of}
 use Rattle.runs.specs.declared.explore_command.WantedAnswer.TheVariants as wanted
@@ -50,7 +47,7 @@ use Rattle.commands.specs.Acting.{Files, first_file, initial_of, recording, Hold
 use Rattle.join.specs.declared.case_parts.fault.CasesFault.{CasesFault}
 use Rattle.commands.specs.CaseParts.{over, end_in, as_asked, FollowTo, cuts_over, ArePartsOfRange, PrintsRange, PrintRanges, JoinIsExploreOfCases, IsOfSize, RangesOfRunAreJoined}
 use Rattle.commands.proofs.CaseRefused.{all_by_place, refused_so}
-use Rattle.commands.proofs.CaseGiven.{cases_are_text, Up, cuts_are, losses_are, found_is_printed, made_programs, settings_first, all_asked, IsPrintedRun, run_printed}
+use Rattle.commands.proofs.CaseGiven.{cases_are_text, Up, cuts_are, losses_are, found_is_printed, made_programs, all_asked, IsPrintedRun, run_printed}
 use Rattle.commands.proofs.CaseOrder.{CutsRise}
 use Rattle.commands.proofs.CasePrinted.{ArePrinted, printed_cases, failing_in, text_is, printed_is_text, all_few_failing}
 use Rattle.commands.proofs.CaseSegments.{cuts_found, run_over, between_is, joined_of, all_own, EachAmong, segments_among, HaveSegments, text_of, ArePrintedRanges, FewFail, reads_counted, any_counted}
@@ -67,23 +64,8 @@ use Rattle.cases.specs.Laws.{IsAmong}
 abbrev ranged : AskedRange → Settings → Settings
 ranged x s = record s { cuts = cuts_between s.cuts x.from x.to }
 
-abbrev of_words : OptionWords → AskedRange → Option CutKind → Option By → Option Flushes → Option Extent → Option Settings
-of_words w x c b fl e = option_and_then (λ kind. option_and_then (λ way. option_and_then (λ added. option_map (settings_with (over x w) kind way added) e) fl) b) c
-
-settings_ranged : (x y : AskedRange) (w : OptionWords) (s t : Settings) → settings_of (over x w) ≡ Some s → settings_of (over y w) ≡ Some t → t ≡ ranged y s
-settings_ranged x y w s t = by_words w.cuts w.by w.flushes w.images
-  where
-    by_words : (c : Option CutKind) (b : Option By) (fl : Option Flushes) (e : Option Extent) → of_words w x c b fl e ≡ Some s → of_words w y c b fl e ≡ Some t → t ≡ ranged y s
-    by_words None b fl e one two = absurd (let bad : None ≡ Some s = one in cc)
-    by_words (Some kind) None fl e one two = absurd (let bad : None ≡ Some s = one in cc)
-    by_words (Some kind) (Some way) None e one two = absurd (let bad : None ≡ Some s = one in cc)
-    by_words (Some kind) (Some way) (Some added) None one two = absurd (let bad : None ≡ Some s = one in cc)
-    by_words (Some kind) (Some way) (Some added) (Some e) one two =
-        let first : Some (settings_with (over x w) kind way added e) ≡ Some s = one in
-        let second : Some (settings_with (over y w) kind way added e) ≡ Some t = two in
-        let own : settings_with (over x w) kind way added e ≡ s = cc in
-        let other : settings_with (over y w) kind way added e ≡ t = cc in
-        sym other ∙ ap (λ (u : Settings). ranged y u) own
+settings_ranged : (x y : AskedRange) (w : OptionWords) (s t : Settings) → (over x w).settings ≡ s → (over y w).settings ≡ t → t ≡ ranged y s
+settings_ranged x y w s t one two = sym two ∙ ap (ranged y) one
 
 abbrev no_range : AskedRange
 no_range = record { from = None; to = None }
@@ -139,7 +121,7 @@ abbrev pub HoldsRun : Files → Recording → List (List ℕ) → Type 0
 HoldsRun files log programs = (files.named ≡ map Some (log.text ∷ programs)) × (initial_of files.base ≡ Some log.initial)
 
 -- what is answered of a range
-pub range_printed : (w : OptionWords) (l : LossWords) (files : Files) (s : Settings) (log : Recording) (programs : List (List ℕ)) (y x : AskedRange) (t : List ℕ) → w.first ≡ false → l.telling ≡ telling.Cases
+pub range_printed : (w : OptionWords) (l : LossWords) (files : Files) (s : Settings) (log : Recording) (programs : List (List ℕ)) (y x : AskedRange) (t : List ℕ) → w.settings.first ≡ false → l.telling ≡ telling.Cases
     → AskFor (over y w) s → HoldsRun files log programs → PrintsRange w l files x t → (good : losses_refusal l (ranged x s) ≡ None) × (failing : Bool) × IsPrintedRun log programs (ranged x s) l t failing
 range_printed w l files s log programs y x t all cases asked held prints =
     let a = prints.1 in
@@ -150,7 +132,7 @@ range_printed w l files s log programs y x t all cases asked held prints =
     let others : own.programs ≡ programs = cc in
     let initial : own.initial ≡ log.initial = same_initial files own.initial log.initial own.based held.1 in
     let recorded : recording own.log own.initial ≡ log = λ i. record { text = text i; initial = initial i } in
-    let first : a.settings.first ≡ false = settings_first (over x w) a.settings a.asked.asked ∙ all in
+    let first : a.settings.first ≡ false = ap (λ (u : Settings). u.first) (sym a.asked.asked) ∙ all in
     let run : IsPrintedRun (recording own.log own.initial) own.programs a.settings l t own.answers.failing =
     run_printed (recording own.log own.initial) own.programs a.settings l t own.answers.failing (asked_of a.settings a.asked.good) first cases own.answers.told in
     let by_log = subst (λ (r : Recording). IsPrintedRun r own.programs a.settings l t own.answers.failing) recorded run in
@@ -552,7 +534,7 @@ good_ranged : (l : LossWords) (x : AskedRange) (s : Settings) → losses_refusal
 unfolding loss_checks
 good_ranged l x s good = good
 
-run_there : (w : OptionWords) (l : LossWords) (files : Files) (s : Settings) (log : Recording) (y x : AskedRange) (t : List ℕ) → w.first ≡ false → l.telling ≡ telling.Cases → AskFor (over y w) s
+run_there : (w : OptionWords) (l : LossWords) (files : Files) (s : Settings) (log : Recording) (y x : AskedRange) (t : List ℕ) → w.settings.first ≡ false → l.telling ≡ telling.Cases → AskFor (over y w) s
     → HoldsRecording files log → PrintsRange w l files x t → IsRunThere files s l log
 run_there w l files s log y x t all cases asked held prints =
     let a = prints.1 in
@@ -573,7 +555,7 @@ run_there w l files s log y x t all cases asked held prints =
     }
 
 segments_of : AreOne → (w : OptionWords) (l : LossWords) (files : Files) (s : Settings) (log : Recording) (programs : List (List ℕ)) (value : LogValue) (checkers : List CheckerValue) (y : AskedRange)
-    (xs : List AskedRange) (ts : List (List ℕ)) → w.first ≡ false → l.telling ≡ telling.Cases → AskFor (over y w) s → HoldsRun files log programs → IsLogOf log s value → AreCheckersOf s programs checkers
+    (xs : List AskedRange) (ts : List (List ℕ)) → w.settings.first ≡ false → l.telling ≡ telling.Cases → AskFor (over y w) s → HoldsRun files log programs → IsLogOf log s value → AreCheckersOf s programs checkers
     → PrintRanges w l files xs ts → Segments log programs s l value checkers xs ts
 segments_of one w l files s log programs value checkers y [] [] all cases asked holds reads made prints = tt
 segments_of one w l files s log programs value checkers y [] (t ∷ ts) all cases asked holds reads made prints = absurd prints
@@ -583,7 +565,7 @@ segments_of one w l files s log programs value checkers y (x ∷ xs) (t ∷ ts) 
     (range_segment one s l log programs value checkers x t run.1 reads made run.0 run.2, segments_of one w l files s log programs value checkers y xs ts all cases asked holds reads made prints.1)
 
 -- the first text begins as a text of cases
-first_begins : (w : OptionWords) (l : LossWords) (files : Files) (x : AskedRange) (t : List ℕ) (ts : List (List ℕ)) → w.first ≡ false → l.telling ≡ telling.Cases → PrintsRange w l files x t
+first_begins : (w : OptionWords) (l : LossWords) (files : Files) (x : AskedRange) (t : List ℕ) (ts : List (List ℕ)) → w.settings.first ≡ false → l.telling ≡ telling.Cases → PrintsRange w l files x t
     → are_cases (t ∷ ts) ≡ true
 first_begins w l files x t ts all cases prints =
     let told = cases_are_text (over x w) l files t prints.0 all cases prints.1 in
@@ -644,7 +626,7 @@ join_is_explore_of_cases one part w l files parts whole n bytes status all cases
         let value : LogValue = h.run.value in
         let run : IsRunThere files s l log = run_there w l files s log y x t all cases h.run.asked h.run.held prints.0 in
         let segs = segments_of one w l files s log run.programs value run.checkers y (x ∷ xs) (t ∷ ts) all cases h.run.asked run.holds h.run.source.reads run.made prints in
-        let first : s.first ≡ false = settings_first (over y w) s h.run.asked.asked ∙ all in
+        let first : s.first ≡ false = ap (λ (u : Settings). u.first) (sym h.run.asked.asked) ∙ all in
         let own : s ≡ ranged y s = settings_ranged y y w s s h.run.asked.asked h.run.asked.asked in
         let also : s ≡ ranged (as_asked (length value.entries) whole) s = subst (λ (m : ℕ). s ≡ ranged (as_asked m whole) s) h.entries own in
         let is = whole_is part log run.programs s l value run.checkers (x ∷ xs) (t ∷ ts) whole bytes also of_range segs j.joined in

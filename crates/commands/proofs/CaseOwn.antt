@@ -1,5 +1,5 @@
 -- What texts of ranges of cuts were made by changes nothing of what they come to.
-use Rattle.std.proofs.Common.{ℕ, ◌≡◌, Bool, true, false, List, [], ◌∷◌, None, sym, ◌∙◌, subst}
+use Rattle.std.proofs.Common.{ℕ, ◌≡◌, Bool, true, false, List, [], ◌∷◌, None, sym, ◌∙◌, subst, ap}
 use Rattle.request.specs.declared.any_losses.LossWords.{LossWords}
 use Rattle.request.specs.declared.command.OptionWords.{OptionWords}
 use Rattle.request.specs.declared.command.Request.TheVariants as request
@@ -16,7 +16,6 @@ use Rattle.join.specs.CaseLaws.{AskedRange}
 use Rattle.commands.specs.Acting.{Files, recording, Answers}
 use Rattle.commands.specs.OneAnswer.{alone}
 use Rattle.commands.specs.CaseParts.{over, as_asked, PrintsRange, PrintRanges, AreOfRun, JoinIsExploreOfCases, PrintsRangeByOwn, PrintRangesByOwn, JoinIsExploreOfCasesByOwn}
-use Rattle.commands.proofs.CaseGiven.{settings_first}
 use Rattle.commands.proofs.OneAnswer.{same_settings}
 use Rattle.commands.proofs.OneWork.{set_alone, ask_alone, log_alone, answers_alone}
 use Rattle.commands.proofs.OtherWork.{images_back, checkers_back}
@@ -61,13 +60,13 @@ losses_back l text files s bytes failing first h =
     subst (λ (b : Bool). IsLosses b (losses_asked l s) text files s bytes failing) (sym first)
     (cases_back l text files s bytes failing (subst (λ (b : Bool). IsLosses b (losses_asked l s) text files (set_alone s) bytes failing) first h))
 
-whole_back : (y : AskedRange) (w : OptionWords) (l : LossWords) (files : Files) (bytes : List ℕ) (status : ℕ) (s : Settings) → w.first ≡ false → AskFor (over y w) s → losses_refusal l s ≡ None
+whole_back : (y : AskedRange) (w : OptionWords) (l : LossWords) (files : Files) (bytes : List ℕ) (status : ℕ) (s : Settings) → w.settings.first ≡ false → AskFor (over y w) s → losses_refusal l s ≡ None
     → Answers (request.Cases (over y (alone w)) l) files bytes status → Answers (request.Cases (over y w) l) files bytes status
 whole_back y w l files bytes status s all asked good h =
     let own = h.answers in
     let run = own.answers in
     let same : h.settings ≡ set_alone s = same_settings (over y (alone w)) h.settings (set_alone s) h.asked (ask_alone (over y w) s asked) in
-    let first : s.first ≡ false = settings_first (over y w) s asked.asked ∙ all in
+    let first : s.first ≡ false = ap (λ (u : Settings). u.first) (sym asked.asked) ∙ all in
     record {
       settings = s;
       asked = asked;

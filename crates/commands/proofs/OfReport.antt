@@ -1,14 +1,11 @@
 -- Of the report of checkers `why --report` says what `why` says of the checkers, and `page --report` shows what `page` shows of them.
 use Rattle.std.proofs.Common.{ℕ, ◌≡◌, ◌≢◌, ◌≤◌, ◌^◌, ◌↔◌, ◌∷◌, [], Bool, false, IsTrue, List, length, map, Option, None, Some, option_map, refl, sym, ◌∙◌, ap, subst, arith}
-use Rattle.std.specs.Option.{option_map_or, option_and_then}
+use Rattle.std.specs.Option.{option_map_or}
 use Rattle.base.specs.Check.{first_failing}
 use Rattle.base.specs.declared.causes.RequestCause.TheVariants as asked
 use Rattle.base.specs.declared.refusal.Cause.TheVariants.{Request}
 use Rattle.base.specs.declared.refusal.Refusal.{Refusal}
 use Rattle.logfmt.specs.Bounds.{LogValue}
-use Rattle.epochs.specs.declared.cuts.CutKind.{CutKind}
-use Rattle.epochs.specs.declared.flushes.Flushes.{Flushes}
-use Rattle.epochs.specs.declared.part.By.{By}
 use Rattle.checker.specs.Checker.{CheckerValue}
 use Rattle.report.specs.Line.{FailingLine}
 use Rattle.join.specs.Given as reports
@@ -18,13 +15,12 @@ use Rattle.request.specs.declared.command.OptionWords.{OptionWords}
 use Rattle.request.specs.declared.extent.Extent.{Extent}
 use Rattle.request.specs.declared.extent.Extent.TheVariants as extent
 use Rattle.request.specs.declared.settings.OptionPlace.{OptionPlace}
-use Rattle.request.specs.declared.settings.OptionPlace.TheVariants as place
 use Rattle.request.specs.declared.settings.Retelling.{Retelling}
 use Rattle.request.specs.declared.settings.Retelling.TheVariants as retelling
 use Rattle.request.specs.declared.settings.Settings.{Settings}
 use Rattle.request.specs.declared.settings.Telling.{Telling}
 use Rattle.request.specs.declared.settings.Telling.TheVariants as telling
-use Rattle.request.specs.OptionWords.{settings_with, settings_of, words_refusal, AskFor}
+use Rattle.request.specs.OptionWords.{AskFor}
 use Rattle.request.specs.Settings.{option_checks, option_refusal, settings_refusal}
 use Rattle.request.specs.Source.{Recording, IsLogOf, HasImages, images_of}
 use Rattle.request.specs.Source as source
@@ -45,37 +41,8 @@ use Rattle.commands.proofs.PartsJoined.{AreOne}
 use Rattle.commands.proofs.Printed.{asked_of, whole_asked}
 use Rattle.commands.proofs.GivenRun.{set_images, told_all, given_of, is_report, tells_causes, tells_page, some_are}
 
--- words that ask for settings ask for these, without what changes no image
-images_asked : (w : OptionWords) (cuts : Option CutKind) (way : Option By) (added : Option Flushes) (images : Option Extent) (s : Settings)
-    → option_and_then (λ c. option_and_then (λ b. option_and_then (λ f. option_map (settings_with w c b f) images) added) way) cuts ≡ Some s
-    → option_and_then (λ c. option_and_then (λ b. option_and_then (λ f. option_map (settings_with (of_images w) c b f) images) added) way) cuts ≡ Some (set_images s)
-images_asked w None way added images s h = absurd (let bad : None ≡ Some s = h in cc)
-images_asked w (Some c) None added images s h = absurd (let bad : None ≡ Some s = h in cc)
-images_asked w (Some c) (Some way) None images s h = absurd (let bad : None ≡ Some s = h in cc)
-images_asked w (Some c) (Some way) (Some added) None s h = absurd (let bad : None ≡ Some s = h in cc)
-images_asked w (Some c) (Some way) (Some added) (Some extent) s h =
-    let both : Some (settings_with w c way added extent) ≡ Some s = h in
-    let same : settings_with w c way added extent ≡ s = cc in
-    ap (λ (t : Settings). Some (set_images t)) same
-
 same_images : (v w : OptionWords) (r s : Settings) → of_images v ≡ of_images w → AskFor v r → AskFor w s → set_images r ≡ set_images s
-same_images v w r s same h k =
-    let one : settings_of (of_images v) ≡ Some (set_images r) = images_asked v v.cuts v.by v.flushes v.images r h.asked in
-    let two : settings_of (of_images w) ≡ Some (set_images s) = images_asked w w.cuts w.by w.flushes w.images s k.asked in
-    let both : Some (set_images r) ≡ Some (set_images s) = sym one ∙ ap settings_of same ∙ two in
-    cc
-
--- whether the first failing image alone is asked for
-first_asked : (w : OptionWords) (cuts : Option CutKind) (way : Option By) (added : Option Flushes) (images : Option Extent) (s : Settings)
-    → option_and_then (λ c. option_and_then (λ b. option_and_then (λ f. option_map (settings_with w c b f) images) added) way) cuts ≡ Some s → s.first ≡ w.first
-first_asked w None way added images s h = absurd (let bad : None ≡ Some s = h in cc)
-first_asked w (Some c) None added images s h = absurd (let bad : None ≡ Some s = h in cc)
-first_asked w (Some c) (Some way) None images s h = absurd (let bad : None ≡ Some s = h in cc)
-first_asked w (Some c) (Some way) (Some added) None s h = absurd (let bad : None ≡ Some s = h in cc)
-first_asked w (Some c) (Some way) (Some added) (Some extent) s h =
-    let both : Some (settings_with w c way added extent) ≡ Some s = h in
-    let same : settings_with w c way added extent ≡ s = cc in
-    ap (λ (t : Settings). t.first) (sym same)
+same_images v w r s same h k = ap set_images (sym h.asked) ∙ ap (λ (u : OptionWords). u.settings) same ∙ ap set_images k.asked
 
 log_images : {text : Recording} {s : Settings} {v : LogValue} → IsLogOf text s v → IsLogOf text (set_images s) v
 log_images h =
@@ -140,7 +107,7 @@ run_of_report v w files given report h =
       based = own.based;
       ask = a.asked;
       whole = ap (λ (s : Settings). s.extent) same;
-      all = first_asked (asking extent.Whole w) w.cuts w.by w.flushes (Some extent.Whole) a.settings a.asked.asked ∙ h.all;
+      all = ap (λ (s : Settings). s.first) (sym a.asked.asked) ∙ h.all;
       is = own.answers.told;
     }
 
@@ -216,15 +183,10 @@ not_of_settings : (o : Option OptionPlace) (r : Refusal) → option_map option_r
 not_of_settings None r is bad = let none : None ≡ Some r = is in cc
 not_of_settings (Some p) r is bad = let both : Some (option_refusal p) ≡ Some r = is in let one : option_refusal p ≡ r = cc in not_of_option p r one bad
 
-not_of_words : (w : OptionWords) (cuts : Option CutKind) (way : Option By) (added : Option Flushes) (images : Option Extent) (r : Refusal)
-    → option_map_or (λ c. option_map_or (λ b. option_map_or (λ f. option_map_or (λ e. settings_refusal (settings_with w c b f e)) images (Some (option_refusal place.Images)))
-    added (Some (option_refusal place.Flush))) way (Some (option_refusal place.By))) cuts (Some (option_refusal place.Cuts)) ≡ Some r
+not_of_words : (w : OptionWords) (unnamed : Option OptionPlace) (r : Refusal) → option_map_or (λ at. Some (option_refusal at)) unnamed (settings_refusal w.settings) ≡ Some r
     → r.code ≢ Request asked.NotReport
-not_of_words w None way added images r is = let both : Some (option_refusal place.Cuts) ≡ Some r = is in let one : option_refusal place.Cuts ≡ r = cc in not_of_option place.Cuts r one
-not_of_words w (Some c) None added images r is = let both : Some (option_refusal place.By) ≡ Some r = is in let one : option_refusal place.By ≡ r = cc in not_of_option place.By r one
-not_of_words w (Some c) (Some way) None images r is = let both : Some (option_refusal place.Flush) ≡ Some r = is in let one : option_refusal place.Flush ≡ r = cc in not_of_option place.Flush r one
-not_of_words w (Some c) (Some way) (Some added) None r is = let both : Some (option_refusal place.Images) ≡ Some r = is in let one : option_refusal place.Images ≡ r = cc in not_of_option place.Images r one
-not_of_words w (Some c) (Some way) (Some added) (Some extent) r is = not_of_settings (first_failing (option_checks (settings_with w c way added extent))) r is
+not_of_words w None r is = not_of_settings (first_failing (option_checks w.settings)) r is
+not_of_words w (Some p) r is = not_of_settings (Some p) r is
 
 not_of_log : (text : Recording) (s : Settings) (r : Refusal) → source.RefusesLog text s r → r.code ≢ Request asked.NotReport
 not_of_log text s _ (source.past_device long) bad = let own : Request asked.Option ≡ Request asked.NotReport = bad in cc
@@ -268,7 +230,7 @@ not_refused one w files report r s _ same short retold.want_of_memory bad = cc
 
 not_none : AreOne → (t : Retelling) (v w : OptionWords) (files given : Files) (report : List ℕ) (refusal : Refusal) → IsOfRun v w files given report → length report ≤ 2 ^ 30
     → RefusesWith v (RefusesReportOf t given) refusal → refusal.code ≢ Request asked.NotReport
-not_none one t v w files given report _ is short (for_words r why) = not_of_words v v.cuts v.by v.flushes v.images r why
+not_none one t v w files given report _ is short (for_words r why) = not_of_words v v.unnamed r why
 not_none one t v w files given report _ is short (for_settings s r ask why) = of_files r why
   where
     run : IsRunOf w files report

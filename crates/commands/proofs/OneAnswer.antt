@@ -131,7 +131,7 @@ files_once laws t s files bytes others status ended a b =
     (subst (λ (ps : List (List ℕ)). AnswersRun t s (recording a.log a.initial) ps others ended) programs by_log)
 
 pub same_settings : (w : OptionWords) (s t : Settings) → AskFor w s → AskFor w t → s ≡ t
-same_settings w s t a b = let both : Some s ≡ Some t = sym a.asked ∙ b.asked in cc
+same_settings w s t a b = sym a.asked ∙ b.asked
 
 explore_once : Laws → (t : WantedAnswer) (w : OptionWords) (files : Files) (bytes others : List ℕ) (status ended : ℕ)
     → AnswersExplore t w files bytes status → AnswersExplore t w files others ended → Same bytes others status ended

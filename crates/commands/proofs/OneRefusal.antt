@@ -1,20 +1,17 @@
 -- Where there is an answer, a command is refused for want of memory alone.
-use Rattle.std.proofs.Common.{ℕ, suc, ◌≡◌, ◌⊎◌, ◌+◌, ◌<◌, ◌≤◌, nat_lt, Bool, true, false, cond, List, [], ◌∷◌, length, map, Option, None, Some, option_map, position, is_none, inl, inr, refl, sym, ◌∙◌, ap, subst, arith}
+use Rattle.std.proofs.Common.{ℕ, suc, ◌≡◌, ◌⊎◌, ◌+◌, ◌<◌, ◌≤◌, nat_lt, Bool, true, false, cond, List, [], ◌∷◌, length, map, Option, None, Some, position, is_none, inl, inr, refl, sym, ◌∙◌, ap, subst, arith}
 use Rattle.std.specs.Prelude.{MatchOption}
-use Rattle.std.specs.Option.{option_map_or, option_and_then}
+use Rattle.std.specs.Option.{option_map_or}
 use Rattle.std.specs.List.{position_or_len}
 use Rattle.std.proofs.lemmas.Bool.{false≢true}
 use Rattle.std.proofs.lemmas.Bool.Decides.{nat_tests}
 use Rattle.base.specs.declared.refusal.Refusal.{Refusal}
 use Rattle.base.specs.Refusals.{memory_refusal}
 use Rattle.logfmt.specs.Bounds.{LogValue}
-use Rattle.epochs.specs.declared.cuts.CutKind.{CutKind}
-use Rattle.epochs.specs.declared.flushes.Flushes.{Flushes}
-use Rattle.epochs.specs.declared.part.By.{By}
 use Rattle.bpf_isa.specs.declared.instr.Instr.{Instr}
 use Rattle.choices.specs.Choices.{ChoiceValue}
-use Rattle.request.specs.declared.extent.Extent.{Extent}
 use Rattle.request.specs.declared.settings.OptionPlace.TheVariants as place
+use Rattle.request.specs.declared.settings.OptionPlace.{OptionPlace}
 use Rattle.request.specs.declared.settings.Settings.{Settings}
 use Rattle.request.specs.declared.settings.Telling.TheVariants as telling
 use Rattle.request.specs.declared.command.OptionWords.{OptionWords}
@@ -22,7 +19,7 @@ use Rattle.request.specs.declared.command.Which.{Which}
 use Rattle.request.specs.declared.command.Request.{Request}
 use Rattle.request.specs.declared.command.Request.TheVariants as request
 use Rattle.request.specs.Settings.{option_refusal, settings_refusal}
-use Rattle.request.specs.OptionWords.{AskFor, settings_with, words_refusal}
+use Rattle.request.specs.OptionWords.{AskFor, words_refusal}
 use Rattle.request.specs.Source.{Recording, plan_of, images_of, HasImages}
 use Rattle.checker.specs.Checker.{CheckerValue}
 use Rattle.case_runs.specs.Cuts.{case_cuts}
@@ -85,23 +82,11 @@ use Rattle.request.specs.declared.settings.Retelling.{Retelling}
 use Rattle.commands.proofs.OneAnswer.{same_files, same_initial, same_settings, same_held, tried_alike}
 
 -- words that ask for settings are not refused
-asked_by : (w : OptionWords) (cuts : Option CutKind) (way : Option By) (added : Option Flushes) (images : Option Extent) (s : Settings) (r : Refusal)
-    → option_and_then (λ c. option_and_then (λ b. option_and_then (λ f. option_map (settings_with w c b f) images) added) way) cuts ≡ Some s → settings_refusal s ≡ None
-    → option_map_or (λ c. option_map_or (λ b. option_map_or (λ f. option_map_or (λ e. settings_refusal (settings_with w c b f e)) images (Some (option_refusal place.Images)))
-    added (Some (option_refusal place.Flush))) way (Some (option_refusal place.By))) cuts (Some (option_refusal place.Cuts)) ≡ Some r
-    → ⊥
-asked_by w None way added images s r asked good bad = let none : None ≡ Some s = asked in cc
-asked_by w (Some c) None added images s r asked good bad = let none : None ≡ Some s = asked in cc
-asked_by w (Some c) (Some way) None images s r asked good bad = let none : None ≡ Some s = asked in cc
-asked_by w (Some c) (Some way) (Some added) None s r asked good bad = let none : None ≡ Some s = asked in cc
-asked_by w (Some c) (Some way) (Some added) (Some extent) s r asked good bad =
-    let both : Some (settings_with w c way added extent) ≡ Some s = asked in
-    let same : settings_with w c way added extent ≡ s = cc in
-    let none : None ≡ Some r = sym good ∙ sym (ap settings_refusal same) ∙ bad in
-    cc
-
 not_for_words : (w : OptionWords) (s : Settings) (r : Refusal) → AskFor w s → words_refusal w ≡ Some r → ⊥
-not_for_words w s r h bad = asked_by w w.cuts w.by w.flushes w.images s r h.asked h.good bad
+not_for_words w s r h bad =
+    let none : words_refusal w ≡ None = ap (λ (at : Option OptionPlace). option_map_or (λ p. Some (option_refusal p)) at (settings_refusal w.settings)) h.named ∙ ap settings_refusal h.asked ∙ h.good in
+    let both : None ≡ Some r = sym none ∙ bad in
+    cc
 
 of_words : (w : OptionWords) (s : Settings) (Rest : Settings → Refusal → Type 0) (r : Refusal) → AskFor w s → ((q : Refusal) → Rest s q → IsOfMemory q.code)
     → RefusesWith w Rest r → IsOfMemory r.code

@@ -1,11 +1,8 @@
 -- Who does the work changes no answer.
 use Rattle.std.proofs.Common.{ℕ, ◌≡◌, ◌==◌, nat_le, Bool, true, false, not, ◌&&◌, ◌||◌, is_some, List, [], ◌∷◌, Option, None, Some, ◌⊎◌, inl, inr, option_map, refl, sym, ◌∙◌, ap, subst}
-use Rattle.std.specs.Option.{option_map_or, option_and_then}
+use Rattle.std.specs.Option.{option_map_or}
 use Rattle.base.specs.Check.{Check, check, first_failing}
 use Rattle.logfmt.specs.Bounds.{LogValue}
-use Rattle.epochs.specs.declared.cuts.CutKind.{CutKind}
-use Rattle.epochs.specs.declared.flushes.Flushes.{Flushes}
-use Rattle.epochs.specs.declared.part.By.{By}
 use Rattle.choices.specs.declared.choice.Departure.{Departure}
 use Rattle.request.specs.declared.settings.OptionPlace.{OptionPlace}
 use Rattle.request.specs.declared.settings.OptionPlace.TheVariants as place
@@ -21,11 +18,10 @@ use Rattle.request.specs.AnyLosses.{is_torn_asked, is_lost_asked, loss_checks, l
 use Rattle.request.specs.declared.command.OptionWords.{OptionWords}
 use Rattle.request.specs.declared.command.Request.{Request}
 use Rattle.request.specs.declared.command.Request.TheVariants as request
-use Rattle.request.specs.declared.extent.Extent.{Extent}
 use Rattle.request.specs.Extents.{is_extent, is_whole}
 use Rattle.runs.specs.Inputs.{inputs_number}
 use Rattle.request.specs.Settings.{is_one_kind, is_ordered, option_refusal, option_checks, settings_refusal}
-use Rattle.request.specs.OptionWords.{settings_with, AskFor}
+use Rattle.request.specs.OptionWords.{AskFor}
 use Rattle.request.specs.Source.{plan_of, Recording, IsLogOf, HasImages}
 use Rattle.runs.specs.Explore.{AreCheckersOf, head_of}
 use Rattle.choices.specs.Choices.{IsFirstPast}
@@ -69,19 +65,6 @@ set_alone s = record {
   extent = s.extent;
 }
 
--- words that ask for settings ask for these, for one worker without a cache
-alone_of : (w : OptionWords) (cuts : Option CutKind) (way : Option By) (added : Option Flushes) (images : Option Extent) (s : Settings)
-    → option_and_then (λ c. option_and_then (λ b. option_and_then (λ f. option_map (settings_with w c b f) images) added) way) cuts ≡ Some s
-    → option_and_then (λ c. option_and_then (λ b. option_and_then (λ f. option_map (settings_with (alone w) c b f) images) added) way) cuts ≡ Some (set_alone s)
-alone_of w None way added images s h = absurd (let bad : None ≡ Some s = h in cc)
-alone_of w (Some c) None added images s h = absurd (let bad : None ≡ Some s = h in cc)
-alone_of w (Some c) (Some way) None images s h = absurd (let bad : None ≡ Some s = h in cc)
-alone_of w (Some c) (Some way) (Some added) None s h = absurd (let bad : None ≡ Some s = h in cc)
-alone_of w (Some c) (Some way) (Some added) (Some extent) s h =
-    let both : Some (settings_with w c way added extent) ≡ Some s = h in
-    let same : settings_with w c way added extent ≡ s = cc in
-    ap (λ (t : Settings). Some (set_alone t)) same
-
 -- where no check fails, none fails with one worker without a cache
 passed_alone : (sectors bound workers cache : Bool) (rest : List (Check OptionPlace))
     → option_map option_refusal (first_failing (check place.Sectors sectors ∷ check place.Bound bound ∷ check place.Workers workers ∷ check place.Cache cache ∷ rest)) ≡ None
@@ -100,7 +83,7 @@ good_alone s h =
     ∷ check place.Guards (is_one_kind s.guards s.checked) ∷ []) h
 
 pub ask_alone : (w : OptionWords) (s : Settings) → AskFor w s → AskFor (alone w) (set_alone s)
-ask_alone w s h = record { asked = alone_of w w.cuts w.by w.flushes w.images s h.asked; good = good_alone s h.good }
+ask_alone w s h = record { asked = ap set_alone h.asked; named = h.named; good = good_alone s h.good }
 
 pub log_alone : {text : Recording} {s : Settings} {v : LogValue} → IsLogOf text s v → IsLogOf text (set_alone s) v
 log_alone h = record { read = h.read; recorded = record { device = h.recorded.device; size = h.recorded.size; units = h.recorded.units; of_log = h.recorded.of_log; initial = h.recorded.initial }; has = h.has; added = h.added }

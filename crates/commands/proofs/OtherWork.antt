@@ -1,5 +1,5 @@
 -- What parts were made by changes nothing of what they come to.
-use Rattle.std.proofs.Common.{ℕ, ◌≡◌, Bool, true, List, [], ◌∷◌, Some, sym, ◌∙◌, subst}
+use Rattle.std.proofs.Common.{ℕ, ◌≡◌, Bool, true, List, [], ◌∷◌, sym, ◌∙◌, subst}
 use Rattle.logfmt.specs.Bounds.{LogValue}
 use Rattle.checker.specs.Checker.{CheckerValue}
 use Rattle.request.specs.declared.settings.Settings.{Settings}
@@ -70,16 +70,13 @@ report_back text files s bytes failing h =
       faultless = h.faultless;
     }
 
-same_settings : (s t : Settings) → Some s ≡ Some t → s ≡ t
-same_settings s t e = cc
-
 whole_back : (w : OptionWords) (files : Files) (bytes : List ℕ) (status : ℕ) (s : Settings) → AskFor (asking extent.Whole w) s
     → Answers (request.Explore (asking extent.Whole (alone w))) files bytes status → Answers (request.Explore (asking extent.Whole w)) files bytes status
 whole_back w files bytes status s asked h =
     let own = h.answers in
     let run = own.answers in
     let given = ask_alone (asking extent.Whole w) s asked in
-    let same : h.settings ≡ set_alone s = same_settings h.settings (set_alone s) (sym h.asked.asked ∙ given.asked) in
+    let same : h.settings ≡ set_alone s = sym h.asked.asked ∙ given.asked in
     record {
       settings = s;
       asked = asked;

@@ -1,14 +1,11 @@
 -- What `join` prints of the parts of a run is what `explore` prints.
 use Rattle.std.proofs.Common.{ℕ, ◌≡◌, ◌<◌, ◌≤◌, ◌&&◌, nat_le, Bool, true, false, List, [], ◌∷◌, bytes_eq, take, length, map, Option, None, Some, refl, sym, ◌∙◌, ap, subst, arith}
-use Rattle.std.specs.Option.{option_map, option_map_or, option_and_then}
+use Rattle.std.specs.Option.{option_map, option_map_or}
 use Rattle.std.proofs.lemmas.Bool.Decides.{nat_tests}
 use Rattle.base.specs.Check.{check, first_failing}
 use Rattle.base.specs.declared.limits.Limits.{Limits}
 use Rattle.base.specs.declared.limits.Limits.TheVariants as limits
 use Rattle.base.specs.Sizes.{most_sectors, sector_limit}
-use Rattle.epochs.specs.declared.cuts.CutKind.{CutKind}
-use Rattle.epochs.specs.declared.flushes.Flushes.{Flushes}
-use Rattle.epochs.specs.declared.part.By.{By}
 use Rattle.logfmt.specs.Bounds.{LogValue}
 use Rattle.checker.specs.Checker.{CheckerValue}
 use Rattle.report.specs.Part.{span_text}
@@ -21,7 +18,7 @@ use Rattle.request.specs.declared.settings.OptionPlace.TheVariants as place
 use Rattle.request.specs.declared.settings.Settings.{Settings}
 use Rattle.request.specs.declared.settings.Telling.TheVariants as telling
 use Rattle.request.specs.Extents.{is_extent}
-use Rattle.request.specs.OptionWords.{settings_with, settings_of, AskFor}
+use Rattle.request.specs.OptionWords.{AskFor}
 use Rattle.request.specs.Settings.{is_one_kind, is_ordered, option_checks, settings_refusal, option_refusal, IsAsked}
 use Rattle.request.specs.Source.{Recording}
 use Rattle.runs.specs.declared.explore_command.WantedAnswer.TheVariants as wanted
@@ -105,22 +102,8 @@ asked_of s good =
 
 -- words that differ in the images alone ask for settings that differ in them alone
 
-abbrev of_words : OptionWords → Extent → Option CutKind → Option By → Option Flushes → Option Settings
-of_words w e c b fl = option_and_then (λ kind. option_and_then (λ way. option_and_then (λ added. option_map (settings_with (asking e w) kind way added) (Some e)) fl) b) c
-
-settings_meant : (e f : Extent) (w : OptionWords) (s t : Settings) → settings_of (asking e w) ≡ Some s → settings_of (asking f w) ≡ Some t → t ≡ meant f s
-settings_meant e f w s t = by_words w.cuts w.by w.flushes
-  where
-    by_words : (c : Option CutKind) (b : Option By) (fl : Option Flushes) → of_words w e c b fl ≡ Some s → of_words w f c b fl ≡ Some t → t ≡ meant f s
-    by_words None b fl one two = absurd (let bad : None ≡ Some s = one in cc)
-    by_words (Some kind) None fl one two = absurd (let bad : None ≡ Some s = one in cc)
-    by_words (Some kind) (Some way) None one two = absurd (let bad : None ≡ Some s = one in cc)
-    by_words (Some kind) (Some way) (Some added) one two =
-        let first : Some (settings_with (asking e w) kind way added e) ≡ Some s = one in
-        let second : Some (settings_with (asking f w) kind way added f) ≡ Some t = two in
-        let own : settings_with (asking e w) kind way added e ≡ s = cc in
-        let other : settings_with (asking f w) kind way added f ≡ t = cc in
-        sym other ∙ ap (λ (x : Settings). meant f x) own
+settings_meant : (e f : Extent) (w : OptionWords) (s t : Settings) → (asking e w).settings ≡ s → (asking f w).settings ≡ t → t ≡ meant f s
+settings_meant e f w s t one two = sym two ∙ ap (meant f) one
 
 -- what a part's text answers
 abbrev HoldsRun : Files → Recording → List (List ℕ) → Type 0

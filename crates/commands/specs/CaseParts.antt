@@ -30,14 +30,14 @@ use Rattle.commands.specs.OneAnswer.{alone}
 
 -- What it prints of all failing cases is a text that `join` reads: the text of some cases, as a run can print it.
 abbrev pub CasesAreText : Type 0
-CasesAreText = (w : OptionWords) (l : LossWords) (files : Files) (bytes : List ℕ) (status : ℕ) → w.first ≡ false → l.telling ≡ telling.Cases
+CasesAreText = (w : OptionWords) (l : LossWords) (files : Files) (bytes : List ℕ) (status : ℕ) → w.settings.first ≡ false → l.telling ≡ telling.Cases
     → Answers (request.Cases w l) files bytes status → (c : CasesValue) × IsCasesText bytes c
 
 -- RANGES OF CUTS
 
 -- the same words over a range of cuts
 abbrev pub over : AskedRange → OptionWords → OptionWords
-over x w = record w { from = x.from; to = x.to }
+over x w = record w { settings = record w.settings { cuts = cuts_between w.settings.cuts x.from x.to } }
 
 -- the last cut of a range, of a log of n entries
 abbrev pub end_in : ℕ → AskedRange → ℕ
@@ -115,7 +115,7 @@ pub record HoldRanges (w : OptionWords) (l : LossWords) (files parts : Files) (w
 -- Of such files `join` prints what `explore --bound any` prints of the whole range, with the same status, and so it does with --part. Where
 -- the range has all cuts of the log that is what `explore` prints without --from and --to.
 abbrev pub JoinIsExploreOfCases : Type 0
-JoinIsExploreOfCases = (part : Bool) (w : OptionWords) (l : LossWords) (files parts : Files) (whole : AskedRange) (n : ℕ) (bytes : List ℕ) (status : ℕ) → w.first ≡ false
+JoinIsExploreOfCases = (part : Bool) (w : OptionWords) (l : LossWords) (files parts : Files) (whole : AskedRange) (n : ℕ) (bytes : List ℕ) (status : ℕ) → w.settings.first ≡ false
     → l.telling ≡ telling.Cases → HoldRanges w l files parts whole n → Answers (request.Join part) parts bytes status
     → Answers (request.Cases (over (as_asked n whole) w) l) files bytes status
 
@@ -147,7 +147,7 @@ pub record HoldRangesByOwn (w : OptionWords) (l : LossWords) (files parts : File
 
 -- of such files `join` prints what `explore --bound any` prints of the whole range with any number of workers
 abbrev pub JoinIsExploreOfCasesByOwn : Type 0
-JoinIsExploreOfCasesByOwn = (part : Bool) (w : OptionWords) (l : LossWords) (files parts : Files) (whole : AskedRange) (n : ℕ) (bytes : List ℕ) (status : ℕ) → w.first ≡ false
+JoinIsExploreOfCasesByOwn = (part : Bool) (w : OptionWords) (l : LossWords) (files parts : Files) (whole : AskedRange) (n : ℕ) (bytes : List ℕ) (status : ℕ) → w.settings.first ≡ false
     → l.telling ≡ telling.Cases → HoldRangesByOwn w l files parts whole n → Answers (request.Join part) parts bytes status
     → Answers (request.Cases (over (as_asked n whole) w) l) files bytes status
 
@@ -160,5 +160,5 @@ IsOfSize (refused.TooMany file) = Unit {0}
 
 -- such texts are refused for that alone, where the range has all cuts of the log, or may be a part of them
 abbrev pub RangesOfRunAreJoined : Type 0
-RangesOfRunAreJoined = (part : Bool) (w : OptionWords) (l : LossWords) (files parts : Files) (whole : AskedRange) (n : ℕ) (fault : CasesFault) → w.first ≡ false → l.telling ≡ telling.Cases
+RangesOfRunAreJoined = (part : Bool) (w : OptionWords) (l : LossWords) (files parts : Files) (whole : AskedRange) (n : ℕ) (fault : CasesFault) → w.settings.first ≡ false → l.telling ≡ telling.Cases
     → (h : HoldRanges w l files parts whole n) → (part ≡ false → (start_of whole ≡ 0) × (end_in n whole ≡ n)) → RefusesCases part h.texts fault → IsOfSize fault

@@ -14,7 +14,7 @@ use Rattle.commands.specs.Parts.{asking}
 
 -- the same words but for what changes no image: who does the work, how programs are taken, and of which failing images the report is
 abbrev pub of_images : OptionWords → OptionWords
-of_images w = record w { workers = 1; cache = 0; checked = None; guards = false; first = false }
+of_images w = record w { settings = record w.settings { workers = 1; cache = 0; checked = None; guards = false; first = false } }
 
 -- files of a command on a report: the log and the initial content of others, and that report
 pub record HaveReport (files : Files) (report : List ℕ) (given : Files) : Type 0 where
@@ -24,7 +24,7 @@ pub record HaveReport (files : Files) (report : List ℕ) (given : Files) : Type
 
 -- a report that `explore` printed of all failing images, and words of a command on it with the same log and images
 pub record IsOfRun (v w : OptionWords) (files given : Files) (report : List ℕ) : Type 0 where
-  pub all : w.first ≡ false
+  pub all : w.settings.first ≡ false
   pub images : of_images v ≡ of_images (asking extent.Whole w)
   pub status : ℕ
   pub printed : Answers (request.Explore (asking extent.Whole w)) files report status

@@ -20,23 +20,7 @@ AnswerOrRefusal = (r : Request) (files : Files) (bytes : List ℕ) (status : ℕ
 
 -- the same options for one worker without a cache
 abbrev pub alone : OptionWords → OptionWords
-alone w = record {
-  sectors = w.sectors;
-  limits = w.limits;
-  flushes = w.flushes;
-  cuts = w.cuts;
-  from = w.from;
-  to = w.to;
-  bound = w.bound;
-  tears = w.tears;
-  by = w.by;
-  workers = 1;
-  cache = 0;
-  checked = w.checked;
-  guards = w.guards;
-  first = w.first;
-  images = w.images;
-}
+alone w = record w { settings = record w.settings { workers = 1; cache = 0 } }
 
 -- the same request for one worker without a cache
 abbrev pub asked_alone : Request → Request

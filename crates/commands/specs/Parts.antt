@@ -78,7 +78,7 @@ PartsOfRunAreJoined = (part : Bool) (text : Recording) (files : List (List ℕ))
 
 -- the same words, by which these images are meant
 abbrev pub asking : Extent → OptionWords → OptionWords
-asking e w = record w { images = Some e }
+asking e w = record w { settings = meant e w.settings }
 
 -- `explore --images` prints this text for these images of a run, and ends with some status
 abbrev pub PrintsPart : OptionWords → Files → Range → List ℕ → Type 0

@@ -3,9 +3,7 @@
 ghost use Rattle.std.specs.Prelude.{◌≡◌, IfOk, map};
 ghost use Rattle.commands.specs.Stored.{stored_log, stored_programs, stored_settings};
 
-use base::limits::Limits;
-use epochs::{By, Cuts};
-use request::{Extent, Options, Settings};
+use request::{Options, Settings};
 use std::alloc::{AllocError, Global};
 
 /// The log and the program of a run, as bytes.
@@ -23,17 +21,9 @@ const STORED_PROGRAM: [u8; 16] = [0xb7, 0, 0, 0, 0, 0, 0, 0, 0x95, 0, 0, 0, 0, 0
 /// What the run is asked, `--sectors 1 --bound 0 --checked 2`.
 const STORED_SETTINGS: Settings = Settings {
     sectors: 1,
-    limits: Limits::Usual,
-    cuts: Cuts::ALL,
     bound: 0,
-    tears: false,
-    by: By::Sector,
-    workers: 1,
-    cache: 0,
     checked: Some(2),
-    guards: false,
-    first: false,
-    extent: Extent::Whole,
+    ..Settings::USUAL
 };
 
 /// The log and the program that the product holds itself.

@@ -6,18 +6,45 @@ ghost use Rattle.std.specs.Option.{option_map_or};
 ghost use Rattle.helpers.specs.Footprint.{footprint_after, footprint_with, on_device, sectors_at};
 ghost use Rattle.machine.specs.Memory.{byte_count};
 ghost use Rattle.helpers.specs.Sums.{checksum_of};
-ghost use Rattle.plain.specs.Reads.{plain_call_reads, plain_number_reads, plain_sum_reads, record_reads};
+ghost use Rattle.plain.specs.Reads.{helper_sectors, look_of, plain_number_reads, plain_sum_reads, record_reads};
 ghost use Rattle.plain.specs.Steps.{plain_address};
 
 use crate::state::Machine;
 use bpf_isa::instr::Size;
 use bpf_isa::ready::Code::*;
-use bpf_isa::ready::Ready;
+use bpf_isa::ready::{Code, Ready};
 use helpers::{Checksum, Device, Footprint, Helper, Query};
+
+/// What a step reads of the device.
+pub enum Look {
+    Nothing,
+    /// The number that a load of this size finds at its address.
+    Load(Size),
+    /// What a call of a helper asks for.
+    Call,
+}
+
+/// What the step of a code reads of the device.
+#[inline(always)]
+pub fn look_of(code: Code) -> Look
+    ensures { result ≡ look_of code }
+{
+    match code {
+        CallHelper => Look::Call,
+        LoadByte => Look::Load(Size::Byte),
+        LoadHalf => Look::Load(Size::Half),
+        LoadWord => Look::Load(Size::Word),
+        LoadDouble => Look::Load(Size::Double),
+        LoadSignedByte => Look::Load(Size::Byte),
+        LoadSignedHalf => Look::Load(Size::Half),
+        LoadSignedWord => Look::Load(Size::Word),
+        _ => Look::Nothing,
+    }
+}
 
 /// The number of bytes of an access.
 #[inline(always)]
-pub(crate) fn bytes_of(size: Size) -> u8
+pub fn bytes_of(size: Size) -> u8
     ensures count { result ≡ byte_count size }
     ensures some { 0 < result }
     ensures few { result ≤ 8 }
@@ -101,30 +128,31 @@ pub(crate) fn note_from<D: Device, const ROOM: usize>(
     }
 }
 
+/// Notes at which sectors a call of a helper looks, by the words of registers 1 to 3.
+#[tactic(auto, unfolding(crate::specs::Reads::helper_sectors))]
+pub fn note_call<D: Device, const ROOM: usize>(
+    footprint: &mut Footprint<ROOM>,
+    device: &D,
+    helper: Helper,
+    first: u64,
+    second: u64,
+    third: u64,
+)
+    ensures { footprint.new ≡ footprint_after footprint.old (on_device (D.content device.now) (helper_sectors helper first second third)) }
+{
+    match helper {
+        Helper::Copy => footprint.look_over(device, first, third),
+        Helper::Query(query) => footprint.look_for(device, query, first, second, third),
+        Helper::Again => {}
+        Helper::Report => {}
+    }
+}
+
 impl<const COUNTS: usize, const CALLED: usize, const PIECES: usize> Machine<
     COUNTS,
     CALLED,
     PIECES,
 > {
-    /// Notes at which sectors a helper looks.
-    #[tactic(auto, unfolding(crate::specs::Reads::plain_call_reads))]
-    fn note_call<D: Device, const ROOM: usize>(
-        &self,
-        footprint: &mut Footprint<ROOM>,
-        device: &D,
-        helper: Helper,
-    )
-        ensures { footprint.new ≡ footprint_after footprint.old (plain_call_reads (D.content device.now) self.now helper) }
-    {
-        let [_, first, second, third, ..] = self.registers;
-        match helper {
-            Helper::Copy => footprint.look_over(device, first, third),
-            Helper::Query(query) => footprint.look_for(device, query, first, second, third),
-            Helper::Again => {}
-            Helper::Report => {}
-        }
-    }
-
     /// Notes at which sectors a checksum looks.
     #[tactic(auto, unfolding(crate::specs::Reads::plain_sum_reads))]
     fn note_sum<D: Device, const ROOM: usize>(
@@ -168,8 +196,9 @@ impl<const COUNTS: usize, const CALLED: usize, const PIECES: usize> Machine<
     )
         ensures { footprint.new ≡ footprint_after footprint.old (plain_number_reads (D.content device.now) self.now number) }
     {
+        let [_, first, second, third, ..] = self.registers;
         match Helper::of(number) {
-            Some(helper) => self.note_call(footprint, device, helper),
+            Some(helper) => note_call(footprint, device, helper, first, second, third),
             None => self.note_checksum(footprint, device, number),
         }
     }
@@ -207,7 +236,7 @@ impl<const COUNTS: usize, const CALLED: usize, const PIECES: usize> Machine<
 
     /// Notes at which sectors the step of a record looks, which isn't made.
     #[inline(never)]
-    #[tactic(auto, unfolding(crate::specs::Reads::plain_reads))]
+    #[tactic(auto, unfolding(crate::specs::Reads::plain_looks))]
     pub(crate) fn note<D: Device, const ROOM: usize>(
         &self,
         footprint: &mut Footprint<ROOM>,
@@ -216,19 +245,13 @@ impl<const COUNTS: usize, const CALLED: usize, const PIECES: usize> Machine<
     )
         ensures { footprint.new ≡ footprint_after footprint.old (record_reads (D.content device.now) self.now ready.now) }
     {
-        match ready.code {
-            CallHelper => {
+        match look_of(ready.code) {
+            Look::Nothing => {}
+            Look::Load(size) => self.note_load(footprint, device, ready, size),
+            Look::Call => {
                 let number = (ready.immediate % 0x1_0000_0000) as u32;
                 self.note_helper(footprint, device, number);
             }
-            LoadByte => self.note_load(footprint, device, ready, Size::Byte),
-            LoadHalf => self.note_load(footprint, device, ready, Size::Half),
-            LoadWord => self.note_load(footprint, device, ready, Size::Word),
-            LoadDouble => self.note_load(footprint, device, ready, Size::Double),
-            LoadSignedByte => self.note_load(footprint, device, ready, Size::Byte),
-            LoadSignedHalf => self.note_load(footprint, device, ready, Size::Half),
-            LoadSignedWord => self.note_load(footprint, device, ready, Size::Word),
-            _ => {}
         }
     }
 }

@@ -1,18 +1,38 @@
 -- The options of a run, and which are refused (docs/COMMANDS.md, Options).
-use Rattle.std.specs.Prelude.{ℕ, ◌≡◌, ◌≤◌, Bool, true, ◌&&◌, not, nat_le, List, [], ◌∷◌, Option, None, is_some}
+use Rattle.std.specs.Prelude.{ℕ, ◌≡◌, ◌≤◌, Bool, true, false, ◌&&◌, not, nat_le, List, [], ◌∷◌, Option, None, is_some}
 use Rattle.std.specs.Option.{option_map, option_map_or}
 use Rattle.base.specs.Check.{Check, check, first_failing}
 use Rattle.base.specs.Sizes.{most_sectors, sector_limit}
 use Rattle.base.specs.declared.causes.RequestCause.TheVariants as request
+use Rattle.base.specs.declared.limits.Limits.TheVariants as limits
 use Rattle.base.specs.declared.refusal.Refusal.{Refusal}
 use Rattle.base.specs.declared.refusal.Cause.TheVariants.{Request}
 use Rattle.epochs.specs.declared.cuts.Cuts.{Cuts}
-use Rattle.epochs.specs.Cuts.{is_before_last}
+use Rattle.epochs.specs.declared.part.By.TheVariants as by
+use Rattle.epochs.specs.Cuts.{all_cuts, is_before_last}
+use Rattle.request.specs.declared.extent.Extent.TheVariants as extent
 use Rattle.request.specs.declared.settings.Settings.{Settings}
 use Rattle.request.specs.declared.settings.OptionPlace.{OptionPlace}
 use Rattle.request.specs.declared.settings.OptionPlace.TheVariants as place
 use Rattle.request.specs.Places.{place_number}
 use Rattle.request.specs.Extents.{is_extent}
+
+-- what a run is asked on a device of 16,384 sectors where nothing else is written
+abbrev pub usual_settings : Settings
+usual_settings = record {
+  sectors = 16384;
+  limits = limits.Usual;
+  cuts = all_cuts;
+  bound = 1;
+  tears = false;
+  by = by.Sector;
+  workers = 1;
+  cache = 0;
+  checked = None;
+  guards = false;
+  first = false;
+  extent = extent.Whole;
+}
 
 -- the refusal of the option at that place
 abbrev pub option_refusal : OptionPlace → Refusal

@@ -1,11 +1,9 @@
 //! What a command line asks for, and the options that its words stand for.
 
-ghost use Rattle.std.specs.Prelude.{◌≡◌, None, Some, IfOk, MatchResult};
-ghost use Rattle.request.specs.Settings.{settings_refusal};
-ghost use Rattle.request.specs.OptionWords.{AskFor, settings_with, words_refusal};
+ghost use Rattle.std.specs.Prelude.{◌≡◌, Some, MatchResult};
+ghost use Rattle.request.specs.OptionWords.{AskFor, words_refusal};
 
 use crate::any_losses::LossWords;
-use crate::extent::Extent;
 use crate::options::Options;
 use crate::refusals::option_refusal_of;
 use crate::settings::{OptionPlace, Retelling, Settings};
@@ -13,41 +11,15 @@ use crate::trials::TrialWords;
 use arrayvec::ArrayString;
 use base::limits::Limits;
 use base::refusal::Refusal;
-use epochs::{By, CutKind, Cuts, Flushes};
 
-/// The options as they were written; no check was made of them (docs/COMMANDS.md, Options).
+/// What the options of a command line ask for, before any check of it (docs/COMMANDS.md, Options).
 #[derive(Clone, Copy)]
 pub struct OptionWords {
-    /// The number after `--sectors`.
-    pub sectors: u64,
-    /// How large the log and its device may be: more where `--large` stands there.
-    pub limits: Limits,
-    /// The entries after `--flush`, none of them where that doesn't stand there; none where the word is no list of entries.
-    pub flushes: Option<Flushes>,
-    /// The kind of cut after `--cuts`; none where the word is no kind of cut.
-    pub cuts: Option<CutKind>,
-    /// The number after `--from`, where that stands there.
-    pub from: Option<u64>,
-    /// The number after `--to`, where that stands there.
-    pub to: Option<u64>,
-    /// The number after `--bound`.
-    pub bound: u64,
-    /// Whether `--tears` stands there.
-    pub tears: bool,
-    /// The kind of part after `--by`; none where the word is no kind of part.
-    pub by: Option<By>,
-    /// The number after `--workers`.
-    pub workers: u64,
-    /// The number after `--cache`.
-    pub cache: u64,
-    /// The number after `--checked`, where that stands there.
-    pub checked: Option<u64>,
-    /// Whether `--guards` stands there.
-    pub guards: bool,
-    /// Whether `--first` stands there.
-    pub first: bool,
-    /// How many images the run may have, and which of them are meant, by `--images`; none where the word after it names no images.
-    pub images: Option<Extent>,
+    /// What is asked for. Where a word names nothing, what stands here is asked for without it.
+    pub settings: Settings,
+    /// The first word that names nothing: the one after `--cuts` that is no kind of cut, after `--by` no kind of part, after `--flush` no
+    /// list of entries, or after `--images` no images.
+    pub unnamed: Option<OptionPlace>,
 }
 
 /// Which image is meant.
@@ -122,60 +94,17 @@ pub enum Request {
     },
 }
 
-/// The options that these words ask for, of which those for the cuts, the parts, the flushes and the images are good.
-fn options_with(
-    words: &OptionWords,
-    kind: CutKind,
-    by: By,
-    flushes: Flushes,
-    extent: Extent,
-) -> Result<Options, Refusal>
-    ensures made { IfOk result (λ o. o ≡ settings_with words.now kind by flushes extent) }
-    ensures refused { MatchResult result (λ o. settings_refusal (settings_with words.now kind by flushes extent) ≡ None)
-        (λ r. settings_refusal (settings_with words.now kind by flushes extent) ≡ Some r) }
-{
-    Options::new(&Settings {
-        sectors: words.sectors,
-        limits: words.limits,
-        cuts: Cuts {
-            kind,
-            from: words.from,
-            to: words.to,
-            flushes,
-        },
-        bound: words.bound,
-        tears: words.tears,
-        by,
-        workers: words.workers,
-        cache: words.cache,
-        checked: words.checked,
-        guards: words.guards,
-        first: words.first,
-        extent,
-    })
-}
-
 /// The options that these words ask for.
 ///
 /// # Errors
 ///
-/// 13 at 7 where the word after `--cuts` is no kind of cut, 13 at 10 where that after `--by` is no kind of part, 13 at 12
-/// where that after `--flush` is no list of entries, 13 at 17 where that after `--images` names no images, then those of
-/// `Options::new`.
+/// 13 at the place of the first word that names nothing: at 7 after `--cuts`, at 10 after `--by`, at 12 after `--flush`, at 17 after
+/// `--images`. Then those of `Options::new`.
 pub fn options_of(words: OptionWords) -> Result<Options, Refusal>
     ensures { MatchResult result (λ o. AskFor words o) (λ r. words_refusal words ≡ Some r) }
 {
-    let Some(kind) = words.cuts else {
-        return Err(option_refusal_of(OptionPlace::Cuts));
-    };
-    let Some(by) = words.by else {
-        return Err(option_refusal_of(OptionPlace::By));
-    };
-    let Some(flushes) = words.flushes else {
-        return Err(option_refusal_of(OptionPlace::Flush));
-    };
-    let Some(extent) = words.images else {
-        return Err(option_refusal_of(OptionPlace::Images));
-    };
-    options_with(&words, kind, by, flushes, extent)
+    match words.unnamed {
+        Some(place) => Err(option_refusal_of(place)),
+        None => Options::new(&words.settings),
+    }
 }

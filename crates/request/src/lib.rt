@@ -52,8 +52,8 @@
 //! `losses_of` answers how many parts may be torn, at most 3 and none without tears, and how many may be lost or torn, 1 to 64 where that
 //! is bounded. It refuses exactly the first number that is out of its range, or option that doesn't go with any number of losses
 //! (`specs/AnyLosses.antt`).
-//! `options_of` refuses first a word that names no kind of cut, then one that names no kind of part, then one that is no list of
-//! entries (`specs/OptionWords.antt`). `trial_of` refuses exactly the first number that is out of its range (`specs/Trials.antt`).
+//! `options_of` refuses the first word that names nothing, of those for cuts, parts, flushes and images, and then what they ask for
+//! (`specs/OptionWords.antt`). `trial_of` refuses exactly the first number that is out of its range (`specs/Trials.antt`).
 //!
 //! Where `read_log` answers a log, the bytes are a text of a log for that device that has all entries and cuts that are named, and
 //! the answer is that log over the initial content that is given, with the flushes that are added (`IsLogOf`). Where it refuses
@@ -76,23 +76,12 @@
 //! # Example
 //!
 //! ```
-//! use base::limits::Limits;
-//! use epochs::{By, Cuts};
-//! use request::{Extent, Options, Settings, fault_line, plan_of, read_log};
+//! use request::{Options, Settings, fault_line, plan_of, read_log};
 //!
 //! let mut settings = Settings {
 //!     sectors: 1,
-//!     limits: Limits::Usual,
-//!     cuts: Cuts::ALL,
-//!     bound: 0,
-//!     tears: false,
-//!     by: By::Sector,
-//!     workers: 1,
 //!     cache: 16,
-//!     checked: None,
-//!     guards: false,
-//!     first: false,
-//!     extent: Extent::Whole,
+//!     ..Settings::USUAL
 //! };
 //! let options = Options::new(&settings)?;
 //! let log = read_log(alloc, bytes, &[], &options)?;

@@ -31,18 +31,7 @@ const MOST_CHECKED_STEPS: u64 = 1_000_000_000;
 /// The options of a run that were found good (docs/COMMANDS.md, Options).
 #[derive(Drop)]
 pub struct Options {
-    sectors: u32,
-    limits: Limits,
-    cuts: Cuts,
-    bound: u8,
-    tears: bool,
-    by: By,
-    workers: u8,
-    cache: u32,
-    checked: Option<u64>,
-    guards: bool,
-    first: bool,
-    extent: Extent,
+    settings: Settings,
 }
 
 impl Model for Options {
@@ -51,9 +40,9 @@ impl Model for Options {
 
     ghost Value = { Settings };
 
-    ghost view = { λ o. record { sectors = o.sectors; limits = o.limits; cuts = o.cuts; bound = o.bound; tears = o.tears; by = o.by; workers = o.workers; cache = o.cache; checked = o.checked; guards = o.guards; first = o.first; extent = o.extent } };
+    ghost view = { λ o. o.settings };
 
-    ghost invariant = { λ o. IsAsked (record { sectors = o.sectors; limits = o.limits; cuts = o.cuts; bound = o.bound; tears = o.tears; by = o.by; workers = o.workers; cache = o.cache; checked = o.checked; guards = o.guards; first = o.first; extent = o.extent }) };
+    ghost invariant = { λ o. IsAsked o.settings };
 }
 
 /// Whether there is a limit of steps that is too great.
@@ -113,18 +102,7 @@ impl Options {
             return Err(option_refusal_of(OptionPlace::Guards));
         }
         Ok(Options {
-            sectors: settings.sectors as u32,
-            limits: settings.limits,
-            cuts: settings.cuts,
-            bound: settings.bound as u8,
-            tears: settings.tears,
-            by: settings.by,
-            workers: settings.workers as u8,
-            cache: settings.cache as u32,
-            checked: settings.checked,
-            guards: settings.guards,
-            first: settings.first,
-            extent: settings.extent,
+            settings: *settings,
         })
     }
 
@@ -133,21 +111,21 @@ impl Options {
         ensures value { result ≡ self.now.sectors }
         ensures asked { IsAsked self.now }
     {
-        self.sectors
+        self.settings.sectors as u32
     }
 
     /// How large the log and its device may be.
     pub fn limits(&self) -> Limits
         ensures { result ≡ self.now.limits }
     {
-        self.limits
+        self.settings.limits
     }
 
     /// The wanted cuts, and the flushes that are added to the log.
     pub fn cuts(&self) -> Cuts
         ensures { result ≡ self.now.cuts }
     {
-        self.cuts
+        self.settings.cuts
     }
 
     /// How many parts may depart, 0 to 3.
@@ -155,28 +133,28 @@ impl Options {
         ensures value { result ≡ self.now.bound }
         ensures few { result ≤ 3 }
     {
-        self.bound
+        self.settings.bound as u8
     }
 
     /// Whether parts may be torn.
     pub fn tears(&self) -> bool
         ensures { result ≡ self.now.tears }
     {
-        self.tears
+        self.settings.tears
     }
 
     /// What departs as one.
     pub fn by(&self) -> By
         ensures { result ≡ self.now.by }
     {
-        self.by
+        self.settings.by
     }
 
     /// How many workers judge, 1 to 64.
     pub fn workers(&self) -> u8
         ensures { (1 ≤ result) × (result ≤ 64) }
     {
-        self.workers
+        self.settings.workers as u8
     }
 
     /// How many entries the cache has at most, up to 65,536.
@@ -184,14 +162,14 @@ impl Options {
         ensures value { result ≡ self.now.cache }
         ensures few { result ≤ 65536 }
     {
-        self.cache
+        self.settings.cache as u32
     }
 
     /// Whether the report is to hold the first failing image alone.
     pub fn first(&self) -> bool
         ensures { result ≡ self.now.first }
     {
-        self.first
+        self.settings.first
     }
 
     /// How many images the run may have, and which of them are meant.
@@ -199,14 +177,14 @@ impl Options {
         ensures value { result ≡ self.now.extent }
         ensures good { is_extent result ≡ true }
     {
-        self.extent
+        self.settings.extent
     }
 
     /// The limit of steps of a program, where there is one.
     pub fn step_limit(&self) -> Option<u64>
         ensures { result ≡ self.now.checked }
     {
-        self.checked
+        self.settings.checked
     }
 
     /// Whether programs are accepted with guards. Then there is no limit of steps.
@@ -214,6 +192,6 @@ impl Options {
         ensures value { result ≡ self.now.guards }
         ensures alone { is_one_kind result self.now.checked ≡ true }
     {
-        self.guards
+        self.settings.guards
     }
 }

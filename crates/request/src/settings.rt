@@ -36,6 +36,24 @@ pub struct Settings {
     pub extent: Extent,
 }
 
+impl Settings {
+    /// What a run is asked on a device of 16,384 sectors where nothing else is written.
+    pub const USUAL: Settings = Settings {
+        sectors: 16_384,
+        limits: Limits::Usual,
+        cuts: Cuts::ALL,
+        bound: 1,
+        tears: false,
+        by: By::Sector,
+        workers: 1,
+        cache: 0,
+        checked: None,
+        guards: false,
+        first: false,
+        extent: Extent::Whole,
+    };
+}
+
 /// What a run is to tell of the failing images.
 #[derive(Clone, Copy)]
 pub enum Telling {

@@ -22,6 +22,8 @@ use Rattle.runs.specs.Judged.{IsJudged}
 use Rattle.runs.specs.Explore.{subject_of, head_of, images_text, report_of}
 use Rattle.runs.specs.Why.{with_first, Tells}
 use Rattle.runs.specs.Found.{AreFound}
+use Rattle.runs.specs.Tasks.{lines_of}
+use Rattle.runs.specs.declared.task.Task.{Task}
 
 same_findings : (first : Bool) (images : ℕ) (ls ms : List FailingLine) → (first ≡ false → ls ≡ ms) → first_lines ls ≡ first_lines ms
     → findings_text first images ls ≡ findings_text first images ms
@@ -77,13 +79,12 @@ same_lines s value checkers plan bound from to tears first e f g h k =
     ap failing_lines same ∙ any_first s value checkers first
 
 -- what the work found of them
-pub found_of : (s : Settings) (value : LogValue) (checkers : List CheckerValue) (plan : PlanValue) (bound : ℕ) (span : Span) (tears first : Bool) (input : Subject) (ls : List FailingLine)
-    → plan ≡ plan_of s value → bound ≡ s.bound → tears ≡ s.tears → IsJudged s.extent (length (images_of s value)) span
-    → input ≡ record { plan = plan; checkers = checkers; bound = bound; tears = tears; from = span.from; to = span.to; first = first }
+pub found_of : (t : Task) (first : Bool) (input : Subject) (ls : List FailingLine)
+    → input ≡ record { plan = t.plan.now; checkers = t.checkers.now; bound = t.options.now.bound; tears = t.options.now.tears; from = t.span.from; to = t.span.to; first = first }
     → (input.first ≡ false → ls ≡ failing_lines input) → first_lines ls ≡ first_lines (failing_lines input)
-    → AreFound first (failing_lines (subject_of s value checkers)) ls
-found_of s value checkers plan bound span tears first input ls e f g judged path whole firsts =
-    let all = same_lines s value checkers plan bound span.from span.to tears first e f g judged.first judged.end in
+    → AreFound first (lines_of t) ls
+found_of t first input ls path whole firsts =
+    let all = same_lines t.options.now t.log.now t.checkers.now t.plan.now t.options.now.bound t.span.from t.span.to t.options.now.tears first t.plan_is refl refl t.judged.first t.judged.end in
     record {
       whole = λ none. subst (λ (x : Subject). x.first ≡ false → ls ≡ failing_lines x) path whole none ∙ all;
       firsts = subst (λ (x : Subject). first_lines ls ≡ first_lines (failing_lines x)) path firsts ∙ ap first_lines all;

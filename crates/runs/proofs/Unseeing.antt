@@ -1,5 +1,5 @@
 -- Programs that pass without looking at what a log writes.
-use Rattle.std.proofs.Common.{ℕ, zero, suc, ◌≡◌, ◌+◌, ◌==◌, ◌≤◌, ◌<◌, nat_le, nat_lt, Bool, true, false, not, ◌&&◌, ◌||◌, List, [], ◌∷◌, ◌++◌, length, map, take, get_or, slice_get, Option, Some, None, refl, sym, ap, ◌∙◌, subst, arith}
+use Rattle.std.proofs.Common.{ℕ, suc, ◌≡◌, ◌+◌, ◌==◌, ◌≤◌, ◌<◌, nat_le, nat_lt, Bool, true, false, not, ◌&&◌, ◌||◌, List, [], ◌∷◌, ◌++◌, length, map, take, get_or, slice_get, Option, Some, None, refl, sym, ap, ◌∙◌, subst, arith}
 use Rattle.std.specs.List.{list_all}
 use Rattle.std.specs.Option.{option_map_or}
 use Rattle.std.proofs.lemmas.Bool.Decides.{nat_tests}
@@ -12,7 +12,6 @@ use Rattle.epochs.specs.Parts.{volatile_parts}
 use Rattle.epochs.specs.Cuts.{cuts_of}
 use Rattle.epochs.specs.Plan.{PlanValue}
 use Rattle.choices.specs.declared.choice.Departure.{Departure}
-use Rattle.choices.specs.declared.pick.Pick.{Pick}
 use Rattle.choices.specs.Picks.{fates_of, picks_within, ranked_picks}
 use Rattle.choices.specs.Ways.{ways, ways_below}
 use Rattle.choices.specs.Choices.{ChoiceValue, choice_of, choices_at, ranked_choices, ranked_before, ranked_at}
@@ -26,8 +25,8 @@ use Rattle.images.specs.Views.{ViewValue, view_of, sectors_of, context_at}
 use Rattle.images.proofs.Members.{member_parts}
 use Rattle.epochs.specs.Touching.{covers as part_covers}
 use Rattle.machine.specs.Outcome.{Ending}
-use Rattle.checker.specs.Checker.{CheckerValue, judgement}
-use Rattle.checker.specs.Footprints.{AgreeingAreJudgedAlike, AgreeAt, kept_footprint}
+use Rattle.checker.specs.Checker.{CheckerValue}
+use Rattle.checker.specs.Footprints.{AgreeingAreJudgedAlike, AgreeAt}
 use Rattle.report.specs.Line.{FailingLine, fails}
 use Rattle.workers.specs.Failing.{Subject, choices_of, ending_at, failing_lines}
 use Rattle.workers.specs.Laws.{IsFailing, LinesAreSet}
@@ -103,20 +102,18 @@ whole_view plan b tears place first cut choice is there wanted =
 
 -- What a run on its image comes to.
 
-pub at_cut : (starts plan : PlanValue) (log : LogValue) (place cut : ℕ) → starts ≡ plan → plan.log ≡ log → slice_get (cuts_of plan.kind log.entries) place ≡ Some cut
+at_cut : (starts plan : PlanValue) (log : LogValue) (place cut : ℕ) → starts ≡ plan → plan.log ≡ log → slice_get (cuts_of plan.kind log.entries) place ≡ Some cut
     → slice_get (cuts_of starts.kind starts.log.entries) place ≡ Some cut
 at_cut starts plan log place cut same of_log wanted =
     ap (λ (p : PlanValue). slice_get (cuts_of p.kind p.log.entries) place) same ∙ ap (λ (l : LogValue). slice_get (cuts_of plan.kind l.entries) place) of_log ∙ wanted
 
-pub blind_of : (checker : CheckerValue) (log : LogValue) (starts history plan : PlanValue) (choice : ChoiceValue) (view : ViewValue) (entries : List Entry) (cut : ℕ)
-    (ending : Ending) (sectors : Option (List ℕ)) (result : Bool) → starts ≡ plan → history ≡ plan → plan.log ≡ log → entries ≡ log.entries → view ≡ view_of history choice
-    → view_of starts choice ≡ whole_at starts.log cut → ending ≡ ending_on checker view → sectors ≡ looks_on checker view
+blind_of : (checker : CheckerValue) (log : LogValue) (starts plan : PlanValue) (view : ViewValue) (entries : List Entry) (cut : ℕ)
+    (ending : Ending) (sectors : Option (List ℕ)) (result : Bool) → starts ≡ plan → plan.log ≡ log → entries ≡ log.entries → view ≡ whole_at starts.log cut
+    → ending ≡ ending_on checker view → sectors ≡ looks_on checker view
     → result ≡ (not (fails ending) && option_map_or (list_all (is_bare entries)) sectors false) → result ≡ is_blind_at checker log cut
 unfolding is_blind_at
-blind_of checker log starts history plan choice view entries cut ending sectors result same history_is of_log entries_is view_is whole ends looks is =
-    let at : view ≡ whole_at log cut =
-    view_is ∙ ap (λ (p : PlanValue). view_of p choice) (history_is ∙ sym same) ∙ whole
-    ∙ ap (λ (l : LogValue). whole_at l cut) (ap (λ (p : PlanValue). p.log) same ∙ of_log) in
+blind_of checker log starts plan view entries cut ending sectors result same of_log entries_is whole ends looks is =
+    let at : view ≡ whole_at log cut = whole ∙ ap (λ (l : LogValue). whole_at l cut) (ap (λ (p : PlanValue). p.log) same ∙ of_log) in
     is
     ∙ ap (λ (e : Ending). not (fails e) && option_map_or (list_all (is_bare entries)) sectors false) (ends ∙ ap (ending_on checker) at)
     ∙ ap (λ (o : Option (List ℕ)). not (fails (ending_on checker (whole_at log cut))) && option_map_or (list_all (is_bare entries)) o false) (looks ∙ ap (looks_on checker) at)
@@ -135,6 +132,24 @@ and_true false = refl
 -- of a run it is known at a wanted cut
 abbrev pub IsKnownAt : CheckerValue → LogValue → List ℕ → ℕ → Bool → Type 0
 IsKnownAt checker log cuts place blind = (cut : ℕ) → slice_get cuts place ≡ Some cut → blind ≡ is_blind_at checker log cut
+
+pub known_of : (checker : CheckerValue) (log : LogValue) (starts plan : PlanValue) (view : ViewValue) (entries : List Entry) (place : ℕ)
+    (ending : Ending) (sectors : Option (List ℕ)) (result : Bool) → starts ≡ plan → plan.log ≡ log → entries ≡ log.entries
+    → ((cut : ℕ) → slice_get (cuts_of starts.kind starts.log.entries) place ≡ Some cut → view ≡ whole_at starts.log cut)
+    → ending ≡ ending_on checker view → sectors ≡ looks_on checker view
+    → result ≡ (not (fails ending) && option_map_or (list_all (is_bare entries)) sectors false) → IsKnownAt checker log (cuts_of plan.kind log.entries) place result
+known_of checker log starts plan view entries place ending sectors result same of_log entries_is whole ends looks is =
+    λ cut wanted.
+    blind_of checker log starts plan view entries cut ending sectors result same of_log entries_is (whole cut (at_cut starts plan log place cut same of_log wanted)) ends looks is
+
+-- what stands bare by a list of the entries stands so by the same list
+pub same_bare : (es fs : List Entry) (known : List ℕ) → es ≡ fs → list_all (is_bare es) known ≡ true → list_all (is_bare fs) known ≡ true
+same_bare es fs known same bare = subst (λ (gs : List Entry). list_all (is_bare gs) known ≡ true) same bare
+
+-- a place of the cuts of a plan is one of the cuts of its log
+pub place_inside : (plan : PlanValue) (log : LogValue) (own : List ℕ) (place : ℕ) → plan.log ≡ log → own ≡ cuts_of plan.kind plan.log.entries → place < length own
+    → place < length (cuts_of plan.kind log.entries)
+place_inside plan log own place of_log is lt = subst (λ (l : LogValue). place < length (cuts_of plan.kind l.entries)) of_log (subst (λ (ks : List ℕ). place < length ks) is lt)
 
 pub blind_not : (plan : PlanValue) (log : LogValue) (checker : CheckerValue) (place : ℕ) (blind : Bool) → plan.log ≡ log → place < length (cuts_of plan.kind log.entries)
     → IsKnownAt checker log (cuts_of plan.kind log.entries) place blind → blind ≡ false → false ≡ is_blind plan checker

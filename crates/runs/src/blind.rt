@@ -1,10 +1,9 @@
 //! Programs that pass without looking at what a log writes (docs/CRASH-MODEL.md, A checker that looks at nothing).
 
-ghost use Rattle.std.specs.Prelude.{◌≡◌, ◌≤◌, ◌<◌, ◌+◌, ◌&&◌, ℕ, not, [], length, map, IsTrue, IfOk, IfErr, OnOk, take, slice_get, Some, true, false};
+ghost use Rattle.std.specs.Prelude.{◌≡◌, ◌≤◌, ◌<◌, ◌+◌, ◌&&◌, ℕ, not, length, map, IsTrue, IfOk, IfErr, slice_get, Some, true, false};
 ghost use Rattle.std.specs.List.{list_all};
 ghost use Rattle.std.specs.Option.{option_map_or};
 ghost use Rattle.base.specs.Refusals.{memory_refusal};
-ghost use Rattle.logfmt.specs.Bounds.{IsLog};
 ghost use Rattle.epochs.specs.Cuts.{cuts_of};
 ghost use Rattle.images.specs.Views.{IsMember, view_of};
 ghost use Rattle.helpers.specs.Footprint.{lists};
@@ -12,9 +11,8 @@ ghost use Rattle.interp.specs.Ending.{ending_of};
 ghost use Rattle.checker.specs.Checker.{IsFor, AreFor};
 ghost use Rattle.checker.specs.Memory.{IsServed};
 ghost use Rattle.report.specs.Line.{fails};
-ghost use Rattle.runs.specs.Blind.{covers, is_bare, ending_on, looks_on, whole_at, is_blind_at, is_blind, changes, has_few_contexts, is_noticed, same_context, IsLastContext};
+ghost use Rattle.runs.specs.Blind.{covers, is_bare, ending_on, looks_on, whole_at, is_blind, changes, has_few_contexts, is_noticed, same_context, IsLastContext};
 
-use crate::basis::Basis;
 use crate::task::Task;
 use arrayvec::ArrayVec;
 use base::refusal::Refusal;
@@ -143,29 +141,21 @@ fn whole_choice(starts: &Starts<'_>, place: usize) -> Choice
     starts.nth(first)
 }
 
-/// Whether a checker passes the image of a wanted cut in which nothing is lost or torn, and looks at no sector there that an entry
-/// writes or discards.
-fn is_blind_at(
+/// The image of a wanted cut in which nothing is lost or torn.
+fn whole_view<'x>(
     alloc: Global,
-    memory: &mut RunMemory,
-    basis: &Basis<'_>,
-    checker: &Checker<'_>,
+    starts: &Starts<'_>,
+    history: &'x History<'x>,
     place: usize,
-    known: &mut ArrayVec<u32, KEPT>,
-) -> Result<bool, AllocError>
-    requires device { IsFor basis.now.task.now.log.now.sectors checker.now.verified }
-    requires served { IsServed memory.old checker.now.guards }
-    requires place { place < length (cuts_of basis.now.task.now.plan.now.kind basis.now.task.now.log.now.entries) }
-    requires known { list_all (is_bare basis.now.task.now.log.now.entries) known.old.items ≡ true }
-    ensures memory { memory.new ≡ memory.old }
-    ensures value { IfOk result (λ blind. (cut : ℕ) → slice_get (cuts_of basis.now.task.now.plan.now.kind basis.now.task.now.log.now.entries) place ≡ Some cut
-        → blind ≡ is_blind_at checker.now basis.now.task.now.log.now cut) }
-    ensures known { OnOk result (list_all (is_bare basis.now.task.now.log.now.entries) known.new.items ≡ true) }
+) -> Result<View<'x>, AllocError>
+    requires same { history.now ≡ starts.now.plan }
+    requires place { place < length (cuts_of starts.now.plan.kind starts.now.plan.log.entries) }
+    ensures log { IfOk result (λ view. view.log ≡ starts.now.plan.log) }
+    ensures whole { IfOk result (λ view. (cut : ℕ) → slice_get (cuts_of starts.now.plan.kind starts.now.plan.log.entries) place ≡ Some cut
+        → view ≡ whole_at starts.now.plan.log cut) }
 {
-    let choice = whole_choice(basis.starts, place);
-    let view = basis.history.view(alloc, &choice)?;
-    let run = noted_on(memory, &view, checker);
-    Ok(was_blind(basis.task.log.entries(), known, &run))
+    let choice = whole_choice(starts, place);
+    history.view(alloc, &choice)
 }
 
 /// Whether two cuts have the same epoch and the same marks.
@@ -177,56 +167,46 @@ fn is_same_context(plan: &Plan<'_>, last: u32, cut: u32) -> bool
     plan.epoch(last) == plan.epoch(cut) && plan.marks(last) == plan.marks(cut)
 }
 
-/// Whether a wanted cut has the epoch and the marks of the one before it.
+/// Whether a wanted cut has the epoch and the marks of the one before it. There a checker is blind that was so before: what it
+/// looked at, no entry changed.
 fn has_last_context(plan: &Plan<'_>, place: usize) -> bool
-    requires some { 0 < place }
     requires inside { place < length (cuts_of plan.now.kind plan.now.log.entries) }
-    ensures { IsTrue result → (last : ℕ) × (cut : ℕ) × IsLastContext plan.now place last cut }
+    ensures some { IsTrue result → 0 < place }
+    ensures same { IsTrue result → (last : ℕ) × (cut : ℕ) × IsLastContext plan.now place last cut }
 {
+    if place == 0 {
+        return false;
+    }
     let cuts = plan.cuts();
     let (last, cut) = (cuts[place - 1], cuts[place]);
     is_same_context(plan, last, cut)
 }
 
-/// Whether a checker is blind up to one more wanted cut, after cuts at which it was. At a cut with the epoch and the marks of the one before it no run is made: what
-/// the checker looked at there, no entry changed.
-fn is_blind_next(
+/// Whether a checker passes on the image of each wanted cut in which nothing is lost or torn, and looks there at no sector that an
+/// entry writes or discards; and there is a wanted cut.
+fn is_blind(
     alloc: Global,
-    memory: &mut RunMemory,
-    basis: &Basis<'_>,
+    task: &Task<'_>,
+    starts: &Starts<'_>,
+    history: &History<'_>,
     checker: &Checker<'_>,
-    place: usize,
-    known: &mut ArrayVec<u32, KEPT>,
 ) -> Result<bool, AllocError>
-    requires device { IsFor basis.now.task.now.log.now.sectors checker.now.verified }
-    requires served { IsServed memory.old checker.now.guards }
-    requires place { place < length (cuts_of basis.now.task.now.plan.now.kind basis.now.task.now.log.now.entries) }
-    requires known { list_all (is_bare basis.now.task.now.log.now.entries) known.old.items ≡ true }
-    requires before { list_all (is_blind_at checker.now basis.now.task.now.log.now) (take place (cuts_of basis.now.task.now.plan.now.kind basis.now.task.now.log.now.entries)) ≡ true }
-    ensures memory { memory.new ≡ memory.old }
-    ensures value { IfOk result (λ blind. (cut : ℕ) → slice_get (cuts_of basis.now.task.now.plan.now.kind basis.now.task.now.log.now.entries) place ≡ Some cut
-        → blind ≡ is_blind_at checker.now basis.now.task.now.log.now cut) }
-    ensures known { OnOk result (list_all (is_bare basis.now.task.now.log.now.entries) known.new.items ≡ true) }
+    requires starts { starts.now.plan ≡ task.now.plan.now }
+    requires history { history.now ≡ task.now.plan.now }
+    requires device { IsFor task.now.log.now.sectors checker.now.verified }
+    ensures { IfOk result (λ blind. blind ≡ is_blind task.now.plan.now checker.now) }
 {
-    let _entries = basis.task.log.entries();
-    if place > 0 && has_last_context(basis.task.plan, place) {
-        return Ok(true);
-    }
-    is_blind_at(alloc, memory, basis, checker, place, known)
-}
-
-/// Whether a checker does so at each wanted cut, and there is one.
-fn is_blind(alloc: Global, basis: &Basis<'_>, checker: &Checker<'_>) -> Result<bool, AllocError>
-    requires { IsFor basis.now.task.now.log.now.sectors checker.now.verified }
-    ensures { IfOk result (λ blind. blind ≡ is_blind basis.now.task.now.plan.now checker.now) }
-{
-    let cuts = basis.task.plan.cuts();
+    let (plan, entries) = (task.plan, task.log.entries());
+    let cuts = plan.cuts();
     let mut memory = RunMemory::of(alloc, checker)?;
     let mut known = ArrayVec::new();
     for place in 0..cuts.len() {
-        let blind = is_blind_next(alloc, &mut memory, basis, checker, place, &mut known)?;
-        if !blind {
-            return Ok(false);
+        if !has_last_context(plan, place) {
+            let view = whole_view(alloc, starts, &*history, place)?;
+            let run = noted_on(&mut memory, &view, checker);
+            if !was_blind(entries, &mut known, &run) {
+                return Ok(false);
+            }
         }
     }
     Ok(!cuts.is_empty())
@@ -254,25 +234,40 @@ fn has_few_contexts(plan: &Plan<'_>) -> bool
 }
 
 /// Whether it is found of a checker that it is blind.
-fn is_noticed(alloc: Global, basis: &Basis<'_>, checker: &Checker<'_>) -> Result<bool, AllocError>
-    requires { IsFor basis.now.task.now.log.now.sectors checker.now.verified }
-    ensures { IfOk result (λ noticed. noticed ≡ is_noticed basis.now.task.now.plan.now checker.now) }
+fn is_noticed(
+    alloc: Global,
+    task: &Task<'_>,
+    starts: &Starts<'_>,
+    history: &History<'_>,
+    checker: &Checker<'_>,
+) -> Result<bool, AllocError>
+    requires starts { starts.now.plan ≡ task.now.plan.now }
+    requires history { history.now ≡ task.now.plan.now }
+    requires device { IsFor task.now.log.now.sectors checker.now.verified }
+    ensures { IfOk result (λ noticed. noticed ≡ is_noticed task.now.plan.now checker.now) }
 {
-    if !has_few_contexts(basis.task.plan) {
+    if !has_few_contexts(task.plan) {
         return Ok(false);
     }
-    is_blind(alloc, basis, checker)
+    is_blind(alloc, task, starts, history, checker)
 }
 
 /// Of each checker of a run whether it is so.
-fn blind_checkers(alloc: Global, basis: &Basis<'_>) -> Result<ArrayVec<bool, 8>, AllocError>
-    requires few { length basis.now.task.now.checkers.now ≤ 8 }
-    requires device { AreFor basis.now.task.now.log.now.sectors basis.now.task.now.checkers.now }
-    ensures { IfOk result (λ blind. blind.items ≡ map (is_noticed basis.now.task.now.plan.now) basis.now.task.now.checkers.now) }
+fn blind_checkers(
+    alloc: Global,
+    task: &Task<'_>,
+    starts: &Starts<'_>,
+    history: &History<'_>,
+) -> Result<ArrayVec<bool, 8>, AllocError>
+    requires starts { starts.now.plan ≡ task.now.plan.now }
+    requires history { history.now ≡ task.now.plan.now }
+    requires few { length task.now.checkers.now ≤ 8 }
+    requires device { AreFor task.now.log.now.sectors task.now.checkers.now }
+    ensures { IfOk result (λ blind. blind.items ≡ map (is_noticed task.now.plan.now) task.now.checkers.now) }
 {
     let mut out = ArrayVec::new();
-    for checker in basis.task.checkers {
-        out.push(is_noticed(alloc, basis, checker)?);
+    for checker in task.checkers {
+        out.push(is_noticed(alloc, task, starts, history, checker)?);
     }
     Ok(out)
 }
@@ -281,13 +276,20 @@ fn blind_checkers(alloc: Global, basis: &Basis<'_>) -> Result<ArrayVec<bool, 8>,
 /// that an entry writes or discards. It makes a run of a program for each epoch and each number of marks at the cuts, up to the first
 /// cut at which it doesn't: no more runs than the images of the cuts need at least. Where more than 1,024 flushes and marks stand before
 /// the last wanted cut, and more than a sixteenth of the wanted cuts, it makes none and finds none.
-pub(crate) fn find_blind(alloc: Global, basis: &Basis<'_>) -> Result<ArrayVec<bool, 8>, Refusal>
-    requires few { length basis.now.task.now.checkers.now ≤ 8 }
-    requires verified { AreFor basis.now.task.now.options.now.sectors basis.now.task.now.checkers.now }
-    ensures found { IfOk result (λ blind. blind.items ≡ map (is_noticed basis.now.task.now.plan.now) basis.now.task.now.checkers.now) }
+pub(crate) fn find_blind(
+    alloc: Global,
+    task: &Task<'_>,
+    starts: &Starts<'_>,
+    history: &History<'_>,
+) -> Result<ArrayVec<bool, 8>, Refusal>
+    requires starts { starts.now.plan ≡ task.now.plan.now }
+    requires history { history.now ≡ task.now.plan.now }
+    requires few { length task.now.checkers.now ≤ 8 }
+    requires verified { AreFor task.now.options.now.sectors task.now.checkers.now }
+    ensures found { IfOk result (λ blind. blind.items ≡ map (is_noticed task.now.plan.now) task.now.checkers.now) }
     ensures refused { IfErr result (λ r. r ≡ memory_refusal) }
 {
-    match blind_checkers(alloc, basis) {
+    match blind_checkers(alloc, task, starts, history) {
         Ok(blind) => Ok(blind),
         Err(_error) => Err(Refusal::of_memory()),
     }
@@ -313,10 +315,5 @@ pub(crate) fn find_blind_of<'x>(
         Ok(starts) => starts,
         Err(_error) => return Err(Refusal::of_memory()),
     };
-    let basis = Basis {
-        task: &*task,
-        starts: &starts,
-        history: &history,
-    };
-    find_blind(alloc, &basis)
+    find_blind(alloc, task, &starts, &history)
 }

@@ -1,7 +1,6 @@
 //! From the checkers of a run to the text of its failing cases, whatever is lost.
 
-ghost use Rattle.std.specs.Prelude.{◌≡◌, ◌≤◌, length, map, min, true, false, All, IfOk, IfErr};
-ghost use Rattle.base.specs.Refusals.{memory_refusal};
+ghost use Rattle.std.specs.Prelude.{◌≡◌, ◌≤◌, length, map, true, false, All, IfOk, IfErr};
 ghost use Rattle.checker.specs.Checker.{AreFor};
 ghost use Rattle.case_runs.specs.Found.{AreFoundIn, cases_in, most_cases};
 ghost use Rattle.case_runs.specs.First.{AllPass, IsSought, IsFirstFailing};

@@ -1,14 +1,14 @@
 //! Why programs fail, as a text (docs/OUTPUT.md, The text of `why`).
 
-ghost use Rattle.std.specs.Prelude.{◌≡◌, ◌++◌, ℕ, map, length, IfOk, OnOk, string_bytes};
+ghost use Rattle.std.specs.Prelude.{◌≡◌, ◌++◌, ℕ, map, IfOk, OnOk, string_bytes};
 ghost use Rattle.std.specs.List.Sorted.{IsNonDecreasing};
 ghost use Rattle.losses.specs.Failures.{AreImages};
-ghost use Rattle.runs.specs.Why.{IsMissing, why_head, missing_text, TellsCauses};
+ghost use Rattle.runs.specs.Why.{why_head, missing_text, TellsCauses};
 ghost use Rattle.runs.specs.Marked.{own_image, images_marked, TellsProgram, TellsPrograms};
 ghost use Rattle.runs.specs.Tasks.{lines_of};
 
 use crate::missing::{MissingInRun, missing_of};
-use crate::reading::Reading;
+use crate::task::Findings;
 use losses::cure::{put_missing, put_programs};
 use losses::outcomes::outcomes_of;
 use losses::why::{failures, put_cuts};
@@ -45,16 +45,15 @@ pub(crate) fn images_of_program(
 fn put_causes(
     alloc: Global,
     out: &mut String,
-    reading: &Reading<'_>,
+    findings: &Findings<'_>,
     program: usize,
 ) -> Result<(), AllocError>
-    requires { AreImages reading.now.findings.now.starts.now (images_marked reading.now.marks.now program) }
-    ensures { OnOk result (TellsProgram reading.now.findings.now.starts.now reading.now.findings.now.work.now.lines program (string_bytes out.old) (string_bytes out.new)) }
+    requires { AreImages findings.now.starts.now (images_marked findings.now.marks.now program) }
+    ensures { OnOk result (TellsProgram findings.now.starts.now findings.now.lines.now program (string_bytes out.old) (string_bytes out.new)) }
 {
-    let findings = reading.findings;
     let (by, starts) = (findings.task.options.by(), findings.starts);
-    let images = images_of_program(alloc, reading.marks, program)?;
-    let outcomes = outcomes_of(alloc, reading.text, reading.marks, program)?;
+    let images = images_of_program(alloc, findings.marks, program)?;
+    let outcomes = outcomes_of(alloc, findings.text, findings.marks, program)?;
     let cuts = failures(alloc, starts, images.as_slice(), outcomes.as_slice())?;
     put_cuts(
         out,
@@ -70,14 +69,14 @@ fn put_causes(
 fn put_all(
     alloc: Global,
     out: &mut String,
-    reading: &Reading<'_>,
+    findings: &Findings<'_>,
     programs: usize,
 ) -> Result<(), AllocError>
-    requires images { (program : ℕ) → AreImages reading.now.findings.now.starts.now (images_marked reading.now.marks.now program) }
-    ensures { OnOk result (TellsPrograms reading.now.findings.now.starts.now reading.now.findings.now.work.now.lines programs (string_bytes out.old) (string_bytes out.new)) }
+    requires images { (program : ℕ) → AreImages findings.now.starts.now (images_marked findings.now.marks.now program) }
+    ensures { OnOk result (TellsPrograms findings.now.starts.now findings.now.lines.now programs (string_bytes out.old) (string_bytes out.new)) }
 {
     for program in 0..programs {
-        put_causes(alloc, out, reading, program)?;
+        put_causes(alloc, out, findings, program)?;
     }
     Ok(())
 }
@@ -106,19 +105,18 @@ fn put_flushes(out: &mut String, programs: usize, missing: &MissingInRun) -> Res
 pub(crate) fn causes_text(
     alloc: Global,
     head: &Head,
-    reading: &Reading<'_>,
+    findings: &Findings<'_>,
 ) -> Result<Vec<u8>, AllocError>
-    requires order { IsNonDecreasing (map (λ l. l.image) reading.now.findings.now.work.now.lines) }
-    requires lines { reading.now.findings.now.work.now.lines ≡ lines_of reading.now.findings.now.task.now }
-    requires images { (program : ℕ) → AreImages reading.now.findings.now.starts.now (images_marked reading.now.marks.now program) }
-    ensures { IfOk result (λ bytes. TellsCauses head.now reading.now.findings.now.starts.now reading.now.findings.now.work.now.lines bytes.items) }
+    requires order { IsNonDecreasing (map (λ l. l.image) findings.now.lines.now) }
+    requires lines { findings.now.lines.now ≡ lines_of findings.now.task.now }
+    requires images { (program : ℕ) → AreImages findings.now.starts.now (images_marked findings.now.marks.now program) }
+    ensures { IfOk result (λ bytes. TellsCauses head.now findings.now.starts.now findings.now.lines.now bytes.items) }
 {
-    let findings = reading.findings;
     let programs = head.programs.len();
-    let missing = missing_of(alloc, findings, reading.marks)?;
+    let missing = missing_of(alloc, findings)?;
     let mut out = String::new(alloc);
-    put_head(&mut out, head, &findings.work.lines)?;
+    put_head(&mut out, head, findings.lines)?;
     put_flushes(&mut out, programs, &missing)?;
-    put_all(alloc, &mut out, reading, programs)?;
+    put_all(alloc, &mut out, findings, programs)?;
     Ok(out.into_bytes())
 }

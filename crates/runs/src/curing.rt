@@ -1,6 +1,6 @@
 //! Where flushes are missing, tried run by run (docs/COMMANDS.md, cure).
 
-ghost use Rattle.std.specs.Prelude.{◌≡◌, ◌≢◌, ◌≤◌, ◌<◌, ◌↔◌, ◌⊎◌, ◌++◌, ℕ, [], map, length, true, All, None, Some, IsTrue, IfOk, IfErr, OnOk, string_bytes};
+ghost use Rattle.std.specs.Prelude.{◌≡◌, ◌≢◌, ◌≤◌, ◌<◌, ◌↔◌, ◌⊎◌, ◌++◌, [], map, length, All, None, Some, IsTrue, IfOk, IfErr, OnOk, string_bytes};
 ghost use Rattle.std.specs.List.{flat_map};
 ghost use Rattle.std.specs.List.Sorted.{IsNonDecreasing};
 ghost use Rattle.logfmt.specs.Bounds.{IsLog};
@@ -26,10 +26,9 @@ ghost use Rattle.runs.specs.Why.{starts_of};
 ghost use Rattle.runs.specs.Cured.{IsCured, Cures, TellsCure, RefusesRun, run_lines};
 ghost use Rattle.runs.specs.Trials.{HasFailures, IsFound, HasFound, TellsOn};
 
-use crate::basis::{Basis, judge_images};
 use crate::case_command::{cases_at, cuts_of_cases, losses_of};
 use crate::explore_command::{Explored, Question, WantedAnswer, explored_by, head_of_run};
-use crate::task::Task;
+use crate::task::{Task, input_of};
 use base::causes::RequestCause;
 use base::refusal::{Cause, Refusal};
 use case_runs::CutFound;
@@ -50,7 +49,7 @@ use request::{AnyLosses, Options, plan_of};
 use std::alloc::{AllocError, Global};
 use std::sync::Wait;
 use std::thread::Threads;
-use workers::{Gate, Work, lines_are_set};
+use workers::{Gate, Work, explore_all, lines_are_set};
 
 /// What judges a log in each run: its images, or its cases, where any number of losses is asked for.
 #[derive(Clone, Copy)]
@@ -178,12 +177,8 @@ fn images_found<'x, G: Gate + Sync, R: Threads + Wait + Sync>(
         Ok(starts) => starts,
         Err(_error) => return Err(Refusal::of_memory()),
     };
-    let basis = Basis {
-        task: &*task,
-        starts: &starts,
-        history: &history,
-    };
-    let work = judge_images(rt, alloc, gate, &basis, false)?;
+    let input = input_of(&*task, &starts, &history, false);
+    let work = explore_all(rt, alloc, gate, &input)?;
     match found_by(alloc, task, &starts, work) {
         Ok(run) => Ok(run),
         Err(_error) => Err(Refusal::of_memory()),

@@ -14,7 +14,7 @@ ghost use Rattle.runs.specs.Inputs.{inputs_number, number_told};
 ghost use Rattle.runs.specs.Judged.{takes, IsJudged};
 ghost use Rattle.runs.specs.declared.explore_command.WantedAnswer.TheVariants as wants;
 ghost use Rattle.request.specs.declared.settings.Telling.TheVariants as tells;
-ghost use Rattle.runs.specs.Why.{Tells, with_first, first_asked, IsExplained, IsPaged};
+ghost use Rattle.runs.specs.Why.{Tells, with_first, first_asked, starts_of, IsExplained, IsPaged};
 ghost use Rattle.runs.specs.Blind.{is_noticed, FindsBlind};
 ghost use Rattle.runs.specs.Cured.{IsAnswered};
 ghost use Rattle.runs.specs.Tasks.{lines_of, telling_in, TellsTask};
@@ -23,15 +23,13 @@ ghost use Rattle.runs.specs.Finds.{IsUnreachedOf, AreUnreached, FindsUnreached};
 ghost use Rattle.request.specs.Found.{IsUnreached};
 ghost use Rattle.runs.specs.Programs.{IsRunWithin, IsCodeFault, IsUnaccepted, code_refusal, verifier_refusal, AreDecoded, AreFirstMade, RefusesOneOf};
 
-use crate::basis::{Basis, judge_images};
 use crate::blind::find_blind;
 use crate::case_command::told_cases_of;
 use crate::causes::causes_text;
 use crate::curing::{cured_cases, cured_images};
 use crate::inputs::{case_number, part_number};
 use crate::paging::page_bytes;
-use crate::reading::Reading;
-use crate::task::{Findings, Task};
+use crate::task::{Findings, Task, input_of};
 use arrayvec::ArrayVec;
 use base::refusal::{Cause, Refusal};
 use bpf_isa::codec::decode;
@@ -43,6 +41,7 @@ use epochs::Plan;
 use images::{History, initial_number};
 use logfmt::Log;
 use losses::outcomes::printed_text;
+use report::lines::Lines;
 use report::{Head, ProgramHead, Span, write_part, write_report};
 use request::facts::{LeftOut, Recording, RunFacts};
 use request::{
@@ -52,7 +51,7 @@ use std::alloc::{AllocError, Global};
 use std::sync::Wait;
 use std::thread::Threads;
 use verifier::{Unreached, unreached_of, verify_with};
-use workers::{Gate, OpenGate, accepted_checkers_run_safely, lines_are_set};
+use workers::{Gate, OpenGate, accepted_checkers_run_safely, explore_all, lines_are_set};
 
 /// What a run answers.
 #[derive(Drop)]
@@ -331,12 +330,11 @@ pub(crate) fn head_of_run(alloc: Global, task: &Task<'_>, first: bool) -> Result
 }
 
 /// The report of what was found, or the text of the part that is meant.
-fn report_of(alloc: Global, findings: &Findings<'_>) -> Result<Vec<u8>, AllocError>
-    requires order { IsNonDecreasing (map (λ l. l.image) findings.now.work.now.lines) }
-    requires lines { AreFound findings.now.task.now.options.now.first (lines_of findings.now.task.now) findings.now.work.now.lines }
-    ensures { IfOk result (λ bytes. TellsTask tells.Report findings.now.task.now bytes.items) }
+fn report_of(alloc: Global, task: &Task<'_>, lines: &Lines) -> Result<Vec<u8>, AllocError>
+    requires order { IsNonDecreasing (map (λ l. l.image) lines.now) }
+    requires lines { AreFound task.now.options.now.first (lines_of task.now) lines.now }
+    ensures { IfOk result (λ bytes. TellsTask tells.Report task.now bytes.items) }
 {
-    let (task, lines) = (findings.task, &findings.work.lines);
     let head = head_of_run(alloc, task, task.options.first())?;
     match task.options.extent() {
         Extent::Part {
@@ -356,25 +354,37 @@ pub(crate) enum CauseForm {
     Page,
 }
 
-/// Why the programs fail, in that form, by what was found.
-fn why_of(alloc: Global, form: CauseForm, findings: &Findings<'_>) -> Result<Vec<u8>, AllocError>
-    requires order { IsNonDecreasing (map (λ l. l.image) findings.now.work.now.lines) }
-    requires lines { findings.now.work.now.lines ≡ lines_of findings.now.task.now }
-    ensures { IfOk result (λ bytes. TellsTask (telling_in form) findings.now.task.now bytes.items) }
+/// Why the programs fail, in that form, by all failing lines.
+fn why_of(
+    alloc: Global,
+    form: CauseForm,
+    task: &Task<'_>,
+    starts: &Starts<'_>,
+    history: &History<'_>,
+    lines: &Lines,
+) -> Result<Vec<u8>, AllocError>
+    requires starts { starts.now ≡ starts_of task.now.options.now task.now.log.now }
+    requires history { history.now ≡ task.now.plan.now }
+    requires order { IsNonDecreasing (map (λ l. l.image) lines.now) }
+    requires lines { lines.now ≡ lines_of task.now }
+    ensures { IfOk result (λ bytes. TellsTask (telling_in form) task.now bytes.items) }
 {
-    let text = printed_text(alloc, &findings.work.lines)?;
-    let marks = findings.work.lines.marks(alloc)?;
-    let head = head_of_run(alloc, findings.task, false)?;
+    let text = printed_text(alloc, lines)?;
+    let marks = lines.marks(alloc)?;
+    let head = head_of_run(alloc, task, false)?;
     // A law of the failing lines, which does nothing: they are in their order, and so are those of each program.
     lines_are_set();
-    let reading = Reading {
-        findings,
+    let findings = Findings {
+        task,
+        starts,
+        history,
+        lines,
         text: text.as_str(),
         marks: marks.as_slice(),
     };
     match form {
-        CauseForm::Text => causes_text(alloc, &head, &reading),
-        CauseForm::Page => page_bytes(alloc, &head, &reading),
+        CauseForm::Text => causes_text(alloc, &head, &findings),
+        CauseForm::Page => page_bytes(alloc, &head, &findings),
     }
 }
 
@@ -395,16 +405,25 @@ fn span_with(wanted: WantedAnswer, extent: Extent, images: u64, inputs: u64) -> 
     }
 }
 
-/// What is to be told of what was found.
-fn tell(alloc: Global, telling: Telling, findings: &Findings<'_>) -> Result<Vec<u8>, AllocError>
-    requires order { IsNonDecreasing (map (λ l. l.image) findings.now.work.now.lines) }
-    requires lines { AreFound (first_asked telling findings.now.task.now.options.now.first) (lines_of findings.now.task.now) findings.now.work.now.lines }
-    ensures { IfOk result (λ bytes. TellsTask telling findings.now.task.now bytes.items) }
+/// What is to be told of the failing lines that were found.
+fn tell(
+    alloc: Global,
+    telling: Telling,
+    task: &Task<'_>,
+    starts: &Starts<'_>,
+    history: &History<'_>,
+    lines: &Lines,
+) -> Result<Vec<u8>, AllocError>
+    requires starts { starts.now ≡ starts_of task.now.options.now task.now.log.now }
+    requires history { history.now ≡ task.now.plan.now }
+    requires order { IsNonDecreasing (map (λ l. l.image) lines.now) }
+    requires lines { AreFound (first_asked telling task.now.options.now.first) (lines_of task.now) lines.now }
+    ensures { IfOk result (λ bytes. TellsTask telling task.now bytes.items) }
 {
     match telling {
-        Telling::Report => report_of(alloc, findings),
-        Telling::Causes => why_of(alloc, CauseForm::Text, findings),
-        Telling::Page => why_of(alloc, CauseForm::Page, findings),
+        Telling::Report => report_of(alloc, task, lines),
+        Telling::Causes => why_of(alloc, CauseForm::Text, task, starts, history, lines),
+        Telling::Page => why_of(alloc, CauseForm::Page, task, starts, history, lines),
     }
 }
 
@@ -473,21 +492,11 @@ fn judge_task<'x, G: Gate + Sync, R: Threads + Wait + Sync>(
         Ok(starts) => starts,
         Err(_error) => return Err(Refusal::of_memory()),
     };
-    let basis = Basis {
-        task: &*task,
-        starts: &starts,
-        history: &history,
-    };
     let first = is_first_asked(telling, options);
-    let work = judge_images(rt, alloc, gate, &basis, first)?;
-    let blind = find_blind(alloc, &basis)?;
-    let findings = Findings {
-        task: &*task,
-        starts: &starts,
-        history: &history,
-        work: &work,
-    };
-    match tell(alloc, telling, &findings) {
+    let input = input_of(&*task, &starts, &history, first);
+    let work = explore_all(rt, alloc, gate, &input)?;
+    let blind = find_blind(alloc, task, &starts, &history)?;
+    match tell(alloc, telling, task, &starts, &history, &work.lines) {
         Ok(bytes) => Ok(Told {
             explored: Explored {
                 bytes,

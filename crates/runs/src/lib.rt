@@ -97,7 +97,6 @@
 //! - `hits` of `explore_with` has no clause: what lies under a lock no contract names; tests show it.
 #![tactic(auto)]
 
-mod basis;
 mod blind;
 mod case_command;
 mod causes;
@@ -107,7 +106,6 @@ mod inputs;
 mod laws;
 mod missing;
 mod paging;
-mod reading;
 mod task;
 
 pub use curing::cure_run;

@@ -4,14 +4,12 @@
 ghost use Rattle.std.specs.Prelude.{◌≡◌, length, IfOk};
 ghost use Rattle.losses.specs.Places.{AreWindows};
 ghost use Rattle.losses.specs.FailureWindows.{AreFailures, windows_in};
-ghost use Rattle.report.specs.Marks.{marks_of};
 ghost use Rattle.runs.specs.Why.{IsMissing};
 ghost use Rattle.runs.specs.Tasks.{lines_of};
 
 use crate::task::Findings;
 use losses::cure::{Failure, failures_of, windows_of};
 use losses::flushes::{MissingFlush, missing_flushes};
-use report::lines::LineMark;
 use std::alloc::{AllocError, Global};
 use workers::lines_are_set;
 
@@ -26,30 +24,29 @@ pub(crate) struct MissingInRun {
 pub(crate) fn failures_found(
     alloc: Global,
     findings: &Findings<'_>,
-    marks: &[LineMark],
 ) -> Result<Vec<Failure>, AllocError>
-    requires lines { findings.now.work.now.lines ≡ lines_of findings.now.task.now }
-    requires marks { marks.now ≡ marks_of findings.now.work.now.lines }
-    ensures failures { IfOk result (λ fs. AreFailures findings.now.starts.now.plan.by findings.now.starts.now.plan.log.entries findings.now.work.now.lines fs.items) }
+    requires lines { findings.now.lines.now ≡ lines_of findings.now.task.now }
+    ensures failures { IfOk result (λ fs. AreFailures findings.now.starts.now.plan.by findings.now.starts.now.plan.log.entries findings.now.lines.now fs.items) }
     ensures inside { IfOk result (λ fs. AreWindows (length findings.now.task.now.log.now.entries) (windows_in fs.items)) }
 {
     // A law of the failing lines, which does nothing: each is of an image of the run.
     lines_are_set();
     let task = findings.task;
-    failures_of(alloc, task.options.by(), findings.starts, task.log, marks)
+    failures_of(
+        alloc,
+        task.options.by(),
+        findings.starts,
+        task.log,
+        findings.marks,
+    )
 }
 
 /// The failures of what was found, by the marks of its failing lines, and the flushes that are missing for them.
-pub(crate) fn missing_of(
-    alloc: Global,
-    findings: &Findings<'_>,
-    marks: &[LineMark],
-) -> Result<MissingInRun, AllocError>
-    requires lines { findings.now.work.now.lines ≡ lines_of findings.now.task.now }
-    requires marks { marks.now ≡ marks_of findings.now.work.now.lines }
-    ensures { IfOk result (λ m. IsMissing findings.now.starts.now findings.now.work.now.lines m.failures.items m.flushes.items) }
+pub(crate) fn missing_of(alloc: Global, findings: &Findings<'_>) -> Result<MissingInRun, AllocError>
+    requires lines { findings.now.lines.now ≡ lines_of findings.now.task.now }
+    ensures { IfOk result (λ m. IsMissing findings.now.starts.now findings.now.lines.now m.failures.items m.flushes.items) }
 {
-    let failures = failures_found(alloc, findings, marks)?;
+    let failures = failures_found(alloc, findings)?;
     let windows = windows_of(alloc, failures.as_slice())?;
     let flushes = missing_flushes(alloc, windows.as_slice(), findings.task.log.entries().len())?;
     Ok(MissingInRun { failures, flushes })

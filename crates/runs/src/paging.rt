@@ -15,8 +15,7 @@ ghost use Rattle.runs.specs.Tasks.{lines_of};
 
 use crate::causes::images_of_program;
 use crate::missing::failures_found;
-use crate::reading::Reading;
-use crate::task::Task;
+use crate::task::{Findings, Task};
 use crash_page::{PageJudge, PageRun, ProgramFailures, program_failures, put_page};
 use crash_text::Numbering;
 use losses::cure::Failure;
@@ -29,20 +28,20 @@ use std::alloc::{AllocError, Global};
 fn checker_failures<'x>(
     alloc: Global,
     run: &PageRun<'_>,
-    reading: &Reading<'x>,
+    findings: &Findings<'x>,
     failures: &[Failure],
     head: ProgramHead,
     program: usize,
 ) -> Result<ProgramFailures<'x>, AllocError>
-    requires run { run.now.starts.now ≡ reading.now.findings.now.starts.now }
+    requires run { run.now.starts.now ≡ findings.now.starts.now }
     requires inside { AreWindows (length run.now.numbering.log.now.entries) (windows_in failures.now) }
-    requires images { AreImages reading.now.findings.now.starts.now (images_marked reading.now.marks.now program) }
-    ensures failing { IfOk result (λ f. IsFailing reading.now.findings.now.starts.now (images_marked reading.now.marks.now program) (outcomes_failing program reading.now.findings.now.work.now.lines) program failures.now f) }
+    requires images { AreImages findings.now.starts.now (images_marked findings.now.marks.now program) }
+    ensures failing { IfOk result (λ f. IsFailing findings.now.starts.now (images_marked findings.now.marks.now program) (outcomes_failing program findings.now.lines.now) program failures.now f) }
     ensures head { IfOk result (λ f. judge_text f.judge ≡ checker_text head) }
-    ensures taken { IfOk result (AreOfRun reading.now.findings.now.starts.now) }
+    ensures taken { IfOk result (AreOfRun findings.now.starts.now) }
 {
-    let images = images_of_program(alloc, reading.marks, program)?;
-    let outcomes = outcomes_of(alloc, reading.text, reading.marks, program)?;
+    let images = images_of_program(alloc, findings.marks, program)?;
+    let outcomes = outcomes_of(alloc, findings.text, findings.marks, program)?;
     let judge = PageJudge::Checker(head);
     program_failures(
         alloc,
@@ -70,19 +69,19 @@ fn push_failures<'x>(
 fn all_failures<'x>(
     alloc: Global,
     run: &PageRun<'_>,
-    reading: &Reading<'x>,
+    findings: &Findings<'x>,
     failures: &[Failure],
     heads: &[ProgramHead],
 ) -> Result<Vec<ProgramFailures<'x>>, AllocError>
-    requires run { run.now.starts.now ≡ reading.now.findings.now.starts.now }
+    requires run { run.now.starts.now ≡ findings.now.starts.now }
     requires inside { AreWindows (length run.now.numbering.log.now.entries) (windows_in failures.now) }
-    requires images { (program : ℕ) → AreImages reading.now.findings.now.starts.now (images_marked reading.now.marks.now program) }
-    ensures failing { IfOk result (λ found. AreFailing reading.now.findings.now.starts.now (IsSaid heads.now) (images_marked reading.now.marks.now) (λ program. outcomes_failing program reading.now.findings.now.work.now.lines) failures.now (length heads.now) found.items) }
-    ensures taken { IfOk result (λ found. All (AreOfRun reading.now.findings.now.starts.now) found.items) }
+    requires images { (program : ℕ) → AreImages findings.now.starts.now (images_marked findings.now.marks.now program) }
+    ensures failing { IfOk result (λ found. AreFailing findings.now.starts.now (IsSaid heads.now) (images_marked findings.now.marks.now) (λ program. outcomes_failing program findings.now.lines.now) failures.now (length heads.now) found.items) }
+    ensures taken { IfOk result (λ found. All (AreOfRun findings.now.starts.now) found.items) }
 {
     let mut found = Vec::new(alloc);
     for (program, head) in heads.iter().enumerate() {
-        let failing = checker_failures(alloc, run, reading, failures, *head, program)?;
+        let failing = checker_failures(alloc, run, findings, failures, *head, program)?;
         push_failures(&mut found, failing)?;
     }
     Ok(found)
@@ -122,16 +121,15 @@ fn numbering_of<'x>(task: &Task<'x>) -> Numbering<'x>
 pub(crate) fn page_bytes(
     alloc: Global,
     head: &Head,
-    reading: &Reading<'_>,
+    findings: &Findings<'_>,
 ) -> Result<Vec<u8>, AllocError>
-    requires order { IsNonDecreasing (map (λ l. l.image) reading.now.findings.now.work.now.lines) }
-    requires lines { reading.now.findings.now.work.now.lines ≡ lines_of reading.now.findings.now.task.now }
-    requires images { (program : ℕ) → AreImages reading.now.findings.now.starts.now (images_marked reading.now.marks.now program) }
-    ensures { IfOk result (λ bytes. IsPageOf head.now reading.now.findings.now.starts.now (images_marked reading.now.marks.now) reading.now.findings.now.work.now.lines bytes.items) }
+    requires order { IsNonDecreasing (map (λ l. l.image) findings.now.lines.now) }
+    requires lines { findings.now.lines.now ≡ lines_of findings.now.task.now }
+    requires images { (program : ℕ) → AreImages findings.now.starts.now (images_marked findings.now.marks.now program) }
+    ensures { IfOk result (λ bytes. IsPageOf head.now findings.now.starts.now (images_marked findings.now.marks.now) findings.now.lines.now bytes.items) }
 {
-    let findings = reading.findings;
-    let text = about(alloc, head, &findings.work.lines)?;
-    let failures = failures_found(alloc, findings, reading.marks)?;
+    let text = about(alloc, head, findings.lines)?;
+    let failures = failures_found(alloc, findings)?;
     let run = PageRun {
         starts: findings.starts,
         history: findings.history,
@@ -140,7 +138,7 @@ pub(crate) fn page_bytes(
     let programs = all_failures(
         alloc,
         &run,
-        reading,
+        findings,
         failures.as_slice(),
         head.programs.as_slice(),
     )?;

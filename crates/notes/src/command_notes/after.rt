@@ -335,10 +335,10 @@ fn is_weakened(breach: &Option<Breach>) -> bool {
 /// Whether a command that verifies programs was asked for guards.
 fn asks_for_guards(request: &Request) -> bool {
     match request {
-        Request::Verify { words, .. } => words.guards,
-        Request::Explore(words) | Request::Cases(words, _) => words.guards,
-        Request::Why(words) | Request::CureCases(words, _) => words.guards,
-        Request::Cure(words) | Request::Page(words) => words.guards,
+        Request::Verify { words, .. } => words.settings.guards,
+        Request::Explore(words) | Request::Cases(words, _) => words.settings.guards,
+        Request::Why(words) | Request::CureCases(words, _) => words.settings.guards,
+        Request::Cure(words) | Request::Page(words) => words.settings.guards,
         Request::Check(words) => words.guards,
         _ => false,
     }
@@ -416,8 +416,8 @@ fn put_cuts(out: &mut String, name: &str, images: Option<u64>) -> Result<(), All
 }
 
 /// Appends with which cuts in place of all, and with how small a bound, a log hasn't too many images.
-fn put_fewer(out: &mut String, kind: Option<CutKind>, fewer: &Fewer) -> Result<(), AllocError> {
-    if matches!(kind, Some(CutKind::All)) {
+fn put_fewer(out: &mut String, kind: CutKind, fewer: &Fewer) -> Result<(), AllocError> {
+    if matches!(kind, CutKind::All) {
         put_cuts(out, "flush", fewer.flush)?;
         put_cuts(out, "mark", fewer.mark)?;
     }
@@ -430,28 +430,34 @@ fn put_fewer(out: &mut String, kind: Option<CutKind>, fewer: &Fewer) -> Result<(
 }
 
 /// The options with which there are fewer images than with parts of that kind.
-fn with_fewer_images(by: Option<By>) -> &'static str {
+fn with_fewer_images(by: By) -> &'static str {
     match by {
-        Some(By::Write) => "take fewer cuts (--cuts flush), a smaller --bound, or no --tears",
-        _ => "take fewer cuts (--cuts flush), a smaller --bound, --by write, or no --tears",
+        By::Write => "take fewer cuts (--cuts flush), a smaller --bound, or no --tears",
+        By::Sector => {
+            "take fewer cuts (--cuts flush), a smaller --bound, --by write, or no --tears"
+        }
     }
 }
 
 /// That there are too many images.
-fn too_many_images(images: Option<Extent>) -> &'static str {
+fn too_many_images(images: Extent) -> &'static str {
     match images {
-        Some(Extent::Wide | Extent::Part { .. }) => {
+        Extent::Wide | Extent::Part { .. } => {
             "with this cut there are 2^63 images or more (docs/CRASH-MODEL.md, Limits)"
         }
-        _ => "with this cut there are more than 16777216 images (docs/CRASH-MODEL.md, Limits)",
+        Extent::Whole => {
+            "with this cut there are more than 16777216 images (docs/CRASH-MODEL.md, Limits)"
+        }
     }
 }
 
 /// The options with which there are fewer cases than with parts of that kind.
-fn with_fewer_cases(by: Option<By>) -> &'static str {
+fn with_fewer_cases(by: By) -> &'static str {
     match by {
-        Some(By::Write) => "take a small --at-most, fewer cuts (--from, --to), or no --tears",
-        _ => "take --by write, a small --at-most, fewer cuts (--from, --to), or no --tears",
+        By::Write => "take a small --at-most, fewer cuts (--from, --to), or no --tears",
+        By::Sector => {
+            "take --by write, a small --at-most, fewer cuts (--from, --to), or no --tears"
+        }
     }
 }
 
@@ -460,7 +466,7 @@ fn put_cases_notes(out: &mut String, options: OptionWords) -> Result<(), AllocEr
     put_refused(
         out,
         "with this cut there are more than 16777216 cases (docs/CRASH-MODEL.md, Limits)",
-        with_fewer_cases(options.by),
+        with_fewer_cases(options.settings.by),
     )
 }
 
@@ -480,11 +486,11 @@ fn put_images_notes(
 ) -> Result<(), AllocError> {
     put_refused(
         out,
-        too_many_images(options.images),
-        with_fewer_images(options.by),
+        too_many_images(options.settings.extent),
+        with_fewer_images(options.settings.by),
     )?;
     match fewer_of(alloc, options, files) {
-        Some(fewer) => put_fewer(out, options.cuts, &fewer),
+        Some(fewer) => put_fewer(out, options.settings.cuts.kind, &fewer),
         None => Ok(()),
     }
 }
@@ -566,7 +572,7 @@ fn rule_within(place: u64, limits: Limits) -> &'static str {
 
 /// What the bound of one image has to be. The greatest number stands for `any`, which a number of an image doesn't go with.
 fn bound_rule(options: OptionWords) -> &'static str {
-    if options.bound == u64::MAX {
+    if options.settings.bound == u64::MAX {
         "image and show take --bound any beside --cut and --choice alone"
     } else {
         option_rule(2)
@@ -575,7 +581,7 @@ fn bound_rule(options: OptionWords) -> &'static str {
 
 /// What the bound has to be of a report that is told again: it has images, and `any` has cases.
 fn report_bound_rule(options: OptionWords) -> &'static str {
-    if options.bound == u64::MAX {
+    if options.settings.bound == u64::MAX {
         "--report doesn't stand beside --bound any: a report has images, and with --bound any there are cases"
     } else {
         option_rule(2)
@@ -751,7 +757,7 @@ fn put_join_notes(
 fn put_work_notes(out: &mut String, words: &Words) -> Result<(), AllocError> {
     put_note(out, "there is no memory for the work")?;
     match run_options(words.request()) {
-        Some(options) if options.workers > 1 => {
+        Some(options) if options.settings.workers > 1 => {
             put_note(
                 out,
                 "fewer workers take less memory, and --workers 1 the least",

@@ -38,11 +38,11 @@ fn put_large_notes(
     options: OptionWords,
     log: &LogFacts,
 ) -> Result<(), AllocError> {
-    let by_sector = matches!(options.by, Some(By::Sector));
-    if !by_sector || options.bound == 0 || log.large == 0 {
+    let by_sector = matches!(options.settings.by, By::Sector);
+    if !by_sector || options.settings.bound == 0 || log.large == 0 {
         return Ok(());
     }
-    put_large(out, options.bound, log.large)?;
+    put_large(out, options.settings.bound, log.large)?;
     put_note(out, "with --by write each may be dropped as a whole")
 }
 
@@ -52,7 +52,7 @@ fn put_forced_notes(
     options: OptionWords,
     log: &LogFacts,
 ) -> Result<(), AllocError> {
-    if !options.tears || options.bound == 0 || log.forced == 0 {
+    if !options.settings.tears || options.settings.bound == 0 || log.forced == 0 {
         return Ok(());
     }
     put_forced(out, log.forced)
@@ -60,14 +60,15 @@ fn put_forced_notes(
 
 /// Whether a first or a last cut is named.
 fn is_ranged(options: OptionWords) -> bool {
-    options.from.is_some() || options.to.is_some()
+    let cuts = options.settings.cuts;
+    cuts.from.is_some() || cuts.to.is_some()
 }
 
 /// Appends that no cut of a log is wanted, or that it has no flush entry, where the cuts before flushes are asked for.
 fn put_cut_notes(out: &mut String, options: OptionWords, log: &LogFacts) -> Result<(), AllocError> {
-    match (options.cuts, log.cuts, log.flushes) {
+    match (options.settings.cuts.kind, log.cuts, log.flushes) {
         (_, 0, _) => put_no_cuts(out, is_ranged(options)),
-        (Some(CutKind::BeforeFlush), _, 0) => put_note(
+        (CutKind::BeforeFlush, _, 0) => put_note(
             out,
             "no entry is a flush, so --cuts flush has the one cut at the end; ask without --cuts",
         ),
@@ -77,19 +78,18 @@ fn put_cut_notes(out: &mut String, options: OptionWords, log: &LogFacts) -> Resu
 
 /// Appends that an image loses at most one part, where that is asked of a whole run: so it is without an option.
 fn put_one_loss(out: &mut String, options: OptionWords) -> Result<(), AllocError> {
-    if options.bound != 1 || !matches!(options.images, Some(Extent::Whole)) {
+    if options.settings.bound != 1 || !matches!(options.settings.extent, Extent::Whole) {
         return Ok(());
     }
-    match options.by {
-        Some(By::Sector) => put_note(
+    match options.settings.by {
+        By::Sector => put_note(
             out,
             "in each image at most 1 sector is lost or torn; --bound any explores every loss (docs/CRASH-MODEL.md, What a clean report doesn't say)",
         ),
-        Some(By::Write) => put_note(
+        By::Write => put_note(
             out,
             "in each image at most 1 write is lost or torn; --bound any explores every loss (docs/CRASH-MODEL.md, What a clean report doesn't say)",
         ),
-        None => Ok(()),
     }
 }
 

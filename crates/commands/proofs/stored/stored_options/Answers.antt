@@ -1,29 +1,12 @@
-use Rattle.std.proofs.Common.{ℕ, ◌≡◌, ◌≤◌, ◌∙◌, arith, None, Some, false, replicate}
+use Rattle.std.proofs.Common.{ℕ, ◌≡◌, ◌≤◌, ◌∙◌, arith, replicate}
 use native.Mathlib.Bridge.{le_prop}
-use Rattle.base.specs.declared.limits.Limits.TheVariants as limit
-use Rattle.request.specs.declared.extent.Extent.TheVariants as extent
-use Rattle.epochs.specs.declared.cuts.CutKind.TheVariants as kind
-use Rattle.epochs.specs.declared.part.By.TheVariants as by
 use Rattle.request.specs.declared.settings.Settings.{Settings}
 use Rattle.commands.specs.Stored.{stored_settings}
 use Rattle.commands.proofs.stored.stored_options.Goals as goal
 
 -- the settings of the stored run, whichever proof says that few flushes are added
 abbrev settings_by : 0 ≤ 64 → Settings
-settings_by few = record {
-  sectors = 1;
-  limits = limit.Usual;
-  cuts = record { kind = kind.All; from = None; to = None; flushes = record { entries = replicate {A = ℕ} 64 0; count = 0; few = few } };
-  bound = 0;
-  tears = false;
-  by = by.Sector;
-  workers = 1;
-  cache = 0;
-  checked = Some 2;
-  guards = false;
-  first = false;
-  extent = extent.Whole;
-}
+settings_by few = record stored_settings { cuts = record stored_settings.cuts { flushes = record { entries = replicate {A = ℕ} 64 0; count = 0; few = few } } }
 
 same_settings : (few : 0 ≤ 64) → settings_by few ≡ stored_settings
 same_settings few = λ i. settings_by (le_prop few (omega arith) i)

@@ -3,4 +3,4 @@ use Rattle.runs.specs.Blind.{is_noticed}
 use Rattle.runs.proofs.blind.blind_checkers.Given as goal
 
 abbrev pub invariant-loop-checker : goal.invariant-loop-checker
-invariant-loop-checker l = l.out.items ≡ map (is_noticed l.basis.task.now.plan.now) (take l.checker-index l.basis.task.now.checkers.now)
+invariant-loop-checker l = l.out.items ≡ map (is_noticed l.task.plan.now) (take l.checker-index l.task.checkers.now)

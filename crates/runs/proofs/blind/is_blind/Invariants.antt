@@ -7,5 +7,5 @@ use Rattle.runs.proofs.blind.is_blind.Given as goal
 
 abbrev pub invariant-loop-place : goal.invariant-loop-place
 invariant-loop-place l =
-    (list_all (is_blind_at l.checker l.basis.task.now.log.now) (take l.place (cuts_of l.basis.task.now.plan.now.kind l.basis.task.now.log.now.entries)) ≡ true)
-    × (list_all (is_bare l.basis.task.now.log.now.entries) l.known.items ≡ true) × IsServed l.memory l.checker.guards
+    (list_all (is_blind_at l.checker l.task.log.now) (take l.place (cuts_of l.task.plan.now.kind l.task.log.now.entries)) ≡ true)
+    × (list_all (is_bare l.task.log.now.entries) l.known.items ≡ true) × IsServed l.memory l.checker.guards

@@ -3,4 +3,4 @@ use Rattle.runs.specs.Marked.{TellsPrograms}
 use Rattle.runs.proofs.causes.put_all.Given as goal
 
 abbrev pub invariant-loop-program : goal.invariant-loop-program
-invariant-loop-program l = TellsPrograms l.reading.findings.now.starts.now l.reading.findings.now.work.now.lines l.program (string_bytes l.initial.out) (string_bytes l.out)
+invariant-loop-program l = TellsPrograms l.findings.starts.now l.findings.lines.now l.program (string_bytes l.initial.out) (string_bytes l.out)

@@ -1,4 +1,4 @@
-use Rattle.std.proofs.Common.{◌∙◌, ap, ◌++◌, ◌≡◌, List, length, sym}
+use Rattle.std.proofs.Common.{◌∙◌, ap, ◌++◌, List, length, sym}
 use Rattle.report.specs.Line.{FailingLine}
 use Rattle.losses.specs.CureText.{begin_text, uncured_text}
 use Rattle.losses.specs.declared.cure.failure.Failure.{Failure}

@@ -1,4 +1,4 @@
-use Rattle.std.proofs.Common.{ℕ, ◌≡◌, true, None, Some, refl, ◌∙◌, sym, ap, map, subst, arith}
+use Rattle.std.proofs.Common.{true, None, Some, refl, ◌∙◌, sym, ap, map}
 use Rattle.std.proofs.lemmas.Bool.{false≢true}
 use Rattle.std.proofs.lemmas.Result.{err_from_is_err_and}
 use Rattle.epochs.specs.Plan.{PlanValue}
@@ -10,7 +10,6 @@ use Rattle.runs.specs.Cured.{TellsCure, Cures}
 use Rattle.runs.specs.Why.{Tells}
 use Rattle.runs.specs.Explore.{for_count, for_source, for_program, no_list_memory, for_rest}
 use Rattle.runs.specs.Inputs.{inputs_number, number_told}
-use Rattle.runs.specs.Judged.{takes, IsJudged}
 use Rattle.runs.specs.declared.explore_command.WantedAnswer.{WantedAnswer}
 use Rattle.runs.proofs.Findings.{told_by_number}
 use Rattle.runs.proofs.RefusalLemmas.{counted, uncounted, few_decoded, unaccepted_of, undecoded_of, checkers_decoded}

@@ -15,8 +15,8 @@ failures_of-requires-clause-images c =
     λ i m there.
     let found = c.args.findings.now in
     let task = found.task.now in
-    marks_within c.lines_are_set.ensures task.options.now task.log.now task.checkers.now found.starts.now found.work.now.lines c.args.marks.now i m
-    found.starts_are c.requires.lines c.requires.marks there
+    marks_within c.lines_are_set.ensures task.options.now task.log.now task.checkers.now found.starts.now found.lines.now found.marks.now i m
+    found.starts_are c.requires.lines found.marks_are there
 
 pub returns-clause-failures : goal.returns-clause-failures
 returns-clause-failures c =
@@ -24,12 +24,12 @@ returns-clause-failures c =
     let task = found.task.now in
     both_ok c.failures_of.result _ _ _ c.failures_of.ensures c.failures_of.ensures
     (λ fs are again.
-    failures_are c.lines_are_set.ensures task.options.now task.log.now task.checkers.now found.starts.now found.work.now.lines c.args.marks.now fs.items
-    found.starts_are c.requires.lines c.requires.marks are)
+    failures_are c.lines_are_set.ensures task.options.now task.log.now task.checkers.now found.starts.now found.lines.now found.marks.now fs.items
+    found.starts_are c.requires.lines found.marks_are are)
 
 pub returns-clause-inside : goal.returns-clause-inside
 returns-clause-inside c =
     let found = c.args.findings.now in
     let task = found.task.now in
     both_ok c.failures_of.result _ _ _ c.failures_of.ensures c.failures_of.ensures
-    (λ fs are again. windows_within task.options.now task.log.now found.starts.now c.args.marks.now fs.items found.starts_are are)
+    (λ fs are again. windows_within task.options.now task.log.now found.starts.now found.marks.now fs.items found.starts_are are)

@@ -8,5 +8,5 @@ use Rattle.runs.proofs.paging.all_failures.Given as goal
 
 abbrev pub invariant-loop-program : goal.invariant-loop-program
 invariant-loop-program l =
-    AreFailing l.reading.findings.now.starts.now (IsSaid l.heads) (images_marked l.reading.marks.now) (λ (program : ℕ). outcomes_failing program l.reading.findings.now.work.now.lines) l.failures l.program l.found.items
-    × All (AreOfRun l.reading.findings.now.starts.now) l.found.items
+    AreFailing l.findings.starts.now (IsSaid l.heads) (images_marked l.findings.marks.now) (λ (program : ℕ). outcomes_failing program l.findings.lines.now) l.failures l.program l.found.items
+    × All (AreOfRun l.findings.starts.now) l.found.items

@@ -10,21 +10,21 @@ use Rattle.runs.proofs.paging.checker_failures.Goals as goal
 pub program_failures-requires-clause-images : goal.program_failures-requires-clause-images
 program_failures-requires-clause-images c =
     subst (λ (s : StartsValue). AreImages s c.as_slice.result.now) (sym c.requires.run)
-    (subst (λ (ns : List ℕ). AreImages c.args.reading.now.findings.now.starts.now ns) (sym (c.as_slice.ensures.value ∙ c.in_ok-images.ensures)) c.requires.images)
+    (subst (λ (ns : List ℕ). AreImages c.args.findings.now.starts.now ns) (sym (c.as_slice.ensures.value ∙ c.in_ok-images.ensures)) c.requires.images)
 
 pub program_failures-requires-clause-outcomes : goal.program_failures-requires-clause-outcomes
 program_failures-requires-clause-outcomes c =
     let many = c.in_ok-outcomes.ensures.many in
-    let own = as_many c.args.program c.args.reading.now.marks.now in
+    let own = as_many c.args.program c.args.findings.now.marks.now in
     let images = ap (λ (ns : List ℕ). length ns) (c.as_slice.ensures.value ∙ c.in_ok-images.ensures) in
     omega (arith, many, own, images)
 
 pub returns-clause-failing : goal.returns-clause-failing
 returns-clause-failing c =
-    let reading = c.args.reading.now in
+    let found = c.args.findings.now in
     let fs = c.args.failures.now in
     let program = c.args.program in
-    let ends = c.in_ok-outcomes.ensures.read.read reading.findings.now.work.now.lines reading.text_is reading.marks_are in
+    let ends = c.in_ok-outcomes.ensures.read.read found.lines.now found.text_is found.marks_are in
     let images = c.as_slice.ensures.value ∙ c.in_ok-images.ensures in
     IfOk-weaker c.program_failures.result _ _
     (λ f is. failing_so _ _ _ _ _ _ program fs f c.requires.run images ends is) c.program_failures.ensures.failing
