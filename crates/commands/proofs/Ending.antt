@@ -22,7 +22,7 @@ use Rattle.helpers.specs.declared.device.Context.{Context}
 use Rattle.helpers.specs.declared.helper.Helper.{Helper}
 use Rattle.helpers.specs.declared.helper.Helper.TheVariants as helper
 use Rattle.helpers.specs.Helper.{helper_of}
-use Rattle.helpers.specs.Answers.{device_bytes, copy_answer, again_answer, report_answer, codes_after}
+use Rattle.helpers.specs.Answers.{device_bytes, copy_answer, again_answer, counts_after, report_answer, codes_after}
 use Rattle.helpers.specs.declared.sums.Checksum.{Checksum}
 use Rattle.helpers.specs.declared.sums.Checksum.TheVariants as of
 use Rattle.helpers.specs.Sums.{taken, sum_answer}
@@ -32,7 +32,7 @@ use Rattle.machine.specs.Arithmetic.{arithmetic, sign_extension, in_order, holds
 use Rattle.machine.specs.State.{State, Frame, Caller, word, start, stack_end, unset_stack}
 use Rattle.machine.specs.Memory.{context_bytes, byte_at, byte_count, plain_size, extension_of, number_from, frames_with}
 use Rattle.machine.specs.OwnMemory.{memory_start, zero_memory, is_in_memory, overwritten}
-use Rattle.machine.specs.Step.{Stepped, Next, Done, Fault, second, is_length, address, branch_slot, goes_on, caller_of, turns_here, count_turn, answer_step, saved_caller, enter_function, exit_frame, call_effect, checks, effect, step_of, step}
+use Rattle.machine.specs.Step.{Stepped, Next, Done, Fault, second, is_length, address, branch_slot, goes_on, caller_of, turns_here, answer_step, saved_caller, enter_function, exit_frame, call_effect, checks, effect, step_of, step}
 use Rattle.machine.specs.Step as machine
 use Rattle.machine.specs.Outcome.{Ending, Verdict, after, steps_end, outcome}
 use Rattle.machine.specs.Guards.{filled_frame, filled, writes_own_here, is_place, guarded, stack_step, Made, goes_next, memory_load, memory_write, memory_call, memory_step, own_bytes, answers_step, sum_step, checksum_asked, with_memory, made_of, guarded_step, guarded_after, guarded_end, guarded_outcome}
@@ -94,7 +94,7 @@ called_goes device context s helper.Copy p =
 called_goes device context s helper.Again p =
     let near = p.near in
     let most = again_most (turns_here s) (word s 1) in
-    answer_goes (record s { turns = count_turn s (word s 1) }) (again_answer (turns_here s) (word s 1))
+    answer_goes (record s { turns = counts_after s.turns s.slot (word s 1) }) (again_answer (turns_here s) (word s 1))
     (record { slot = p.words.slot; registers = p.words.registers; frames = p.words.frames; few = p.words.few; codes = p.words.codes }) (omega (arith, near)) (omega (arith, most))
 called_goes device context s helper.Report p =
     let near = p.near in

@@ -25,7 +25,7 @@ use Rattle.request.specs.Settings.{option_checks, option_refusal, settings_refus
 use Rattle.request.specs.Source.{Recording, IsLogOf, HasImages, images_of}
 use Rattle.request.specs.Source as source
 use Rattle.runs.specs.declared.explore_command.WantedAnswer.TheVariants as wanted
-use Rattle.runs.specs.Explore.{IsReport, AreCheckersOf, subject_of, report_of}
+use Rattle.runs.specs.Explore.{IsReportOfRun, AreCheckersOf, subject_of, report_of}
 use Rattle.runs.specs.Inputs.{inputs_number}
 use Rattle.runs.specs.Why.{Tells, IsTold}
 use Rattle.retold.specs.declared.command.RetellFault.{RetellFault}
@@ -90,7 +90,7 @@ record IsRunOf (w : OptionWords) (files : Files) (report : List ℕ) : Type 0 wh
   ask : AskFor (asking extent.Whole w) settings
   whole : settings.extent ≡ extent.Whole
   all : settings.first ≡ false
-  is : IsReport (recording log initial) programs settings report failing
+  is : IsReportOfRun (recording log initial) programs settings report failing
 
 run_of_report : (v w : OptionWords) (files given : Files) (report : List ℕ) → IsOfRun v w files given report → IsRunOf w files report
 run_of_report v w files given report h =

@@ -42,7 +42,7 @@ use Rattle.request.specs.declared.settings.OptionPlace.TheVariants as place
 use Rattle.request.specs.Settings.{is_one_kind, is_ordered, option_checks, IsAsked}
 use Rattle.request.specs.Source.{Recording, images_of, IsLogOf}
 use Rattle.runs.specs.Inputs.{inputs_number}
-use Rattle.runs.specs.Explore.{AreCheckersOf, subject_of, head_of, report_of, IsSafe, IsReport}
+use Rattle.runs.specs.Explore.{AreCheckersOf, subject_of, head_of, report_of, IsSafe, IsReportOfRun}
 use Rattle.runs.proofs.Judging.{ordered}
 use Rattle.commands.specs.Parts.{meant, part_of, IsAnswer, HasAnswer, AnswerParts, HasCount, AreTextsOf, extent_of, JoinedPartsAreRun, PartsOfRunAreJoined}
 use Rattle.commands.proofs.OneReport.{same_asked, same_checkers}
@@ -497,7 +497,7 @@ joins one text files s texts x images h more = by_lists h.ranges texts h.answers
 report_meant : (text : Recording) (files : List (List ℕ)) (s : Settings) (texts : List (List ℕ)) (x : Range) (images : ℕ) (e : Extent) (bytes : List ℕ) (failing : Bool)
     → (j : Joins text files s texts x images) → length (images_of s j.value) ≤ most_images e → has_extent e (length (images_of s j.value)) ≡ true
     → bytes ≡ report_of (inputs_number text.text files) (meant e s) j.value j.checkers → IsTrue failing ↔ (failing_lines (subject_of (meant e s) j.value j.checkers) ≢ [])
-    → IsReport text files (meant e s) bytes failing
+    → IsReportOfRun text files (meant e s) bytes failing
 report_meant text files s texts x images e bytes failing j few within is fails = record {
   count = j.given.count;
   value = j.value;
@@ -526,7 +526,7 @@ unfolding run_bytes
 some_bytes r from to test = ap (λ (b : Bool). if b then report_bytes r.head (lines_between r from to) else part_bytes r from to) test
 
 joined_by : (text : Recording) (files : List (List ℕ)) (s : Settings) (texts : List (List ℕ)) (x : Range) (images : ℕ) (bytes : List ℕ) (failing : Bool)
-    → Joins text files s texts x images → IsJoined texts bytes failing → IsReport text files (meant (extent_of images x) s) bytes failing
+    → Joins text files s texts x images → IsJoined texts bytes failing → IsReportOfRun text files (meant (extent_of images x) s) bytes failing
 joined_by text files s texts x images bytes failing j joined = by_test (x.from == 0 && x.to == images) refl
   where
     inputs : ℕ
@@ -558,7 +558,7 @@ joined_by text files s texts x images bytes failing j joined = by_test (x.from =
       | inr none ↦ let zero_of : length (images_of s j.value) ≡ 0 = sym j.count ∙ none in let test : (length (images_of s j.value) == 0) ≡ true = grind (arith, nat_tests, zero_of) in let bad : false ≡ true = sym f ∙ test in cc
     ])
 
-    by_test : (b : Bool) → (x.from == 0 && x.to == images) ≡ b → IsReport text files (meant (if b then extent.Wide else extent.Part x.from x.to) s) bytes failing
+    by_test : (b : Bool) → (x.from == 0 && x.to == images) ≡ b → IsReportOfRun text files (meant (if b then extent.Wide else extent.Part x.from x.to) s) bytes failing
     by_test true e =
         let both = both_parts (x.from == 0) (x.to == images) e in
         let from : x.from ≡ 0 = grind (arith, nat_tests, both.0) in
@@ -595,7 +595,7 @@ same_text s value checkers inputs = refl
 
 -- the report of all images is that of a run that may have no more than the most
 whole_of_wide : (text : Recording) (files : List (List ℕ)) (s : Settings) (bytes : List ℕ) (failing : Bool) (images : ℕ) → AreOne → HasCount text s images → images ≤ limit
-    → IsReport text files (meant extent.Wide s) bytes failing → IsReport text files (meant extent.Whole s) bytes failing
+    → IsReportOfRun text files (meant extent.Wide s) bytes failing → IsReportOfRun text files (meant extent.Whole s) bytes failing
 whole_of_wide text files s bytes failing images one count few h =
     let value : h.value ≡ count.value = same_asked one.texts text (meant extent.Wide s) h.value count.value h.source.reads (log_itself text extent.Wide s count.value count.reads) in
     let long : length (images_of s h.value) ≡ images = ap (λ (v : LogValue). length (images_of s v)) value ∙ sym count.is in
@@ -669,7 +669,7 @@ pub whole_answer : AreOne → (text : Recording) (files : List (List ℕ)) (s : 
 whole_answer one text files s texts images bytes failing h joined few =
     let x : Range = record { from = 0; to = images } in
     let j = joins one text files s texts x images h (joined_some texts bytes failing joined) in
-    let report = subst (λ (e : Extent). IsReport text files (meant e s) bytes failing) (all_of images) (joined_by text files s texts x images bytes failing j joined) in
+    let report = subst (λ (e : Extent). IsReportOfRun text files (meant e s) bytes failing) (all_of images) (joined_by text files s texts x images bytes failing j joined) in
     record {
       asked = asked_meant (extent.Part j.first.from j.first.to) extent.Whole s refl j.given.asked;
       report = whole_of_wide text files s bytes failing images one h.count few report;
@@ -681,7 +681,7 @@ part_answer one text files s texts x images bytes failing h joined is few =
     let j = joins one text files s texts x images h (joined_some texts bytes failing joined) in
     record {
       asked = asked_meant (extent.Part j.first.from j.first.to) (extent.Part x.from x.to) s (part_asked x images j.some h.cover.up h.within few) j.given.asked;
-      report = subst (λ (e : Extent). IsReport text files (meant e s) bytes failing) is (joined_by text files s texts x images bytes failing j joined);
+      report = subst (λ (e : Extent). IsReportOfRun text files (meant e s) bytes failing) is (joined_by text files s texts x images bytes failing j joined);
     }
 
 pub joined_parts_are_run : AreOne → JoinedPartsAreRun

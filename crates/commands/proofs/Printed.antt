@@ -23,7 +23,7 @@ use Rattle.request.specs.Settings.{is_one_kind, is_ordered, option_checks, setti
 use Rattle.request.specs.Source.{Recording}
 use Rattle.runs.specs.declared.explore_command.WantedAnswer.TheVariants as wanted
 use Rattle.runs.specs.Inputs.{inputs_number}
-use Rattle.runs.specs.Explore.{IsReport, report_of}
+use Rattle.runs.specs.Explore.{IsReportOfRun, report_of}
 use Rattle.request.specs.declared.command.Request.TheVariants as request
 use Rattle.runs.specs.Judged.{takes}
 use Rattle.commands.specs.Acting.{Files, status_of, first_file, initial_of, recording, HoldsRecording, AnswersFiles, Answers, JoinsEither, join_of_parts, join_of_cases, are_cases, cases_line}
@@ -120,13 +120,13 @@ part_answers w files s log programs x t asked held prints =
     let others : own.programs ≡ programs = cc in
     let initial : own.initial ≡ log.initial = same_initial files own.initial log.initial own.based held.1 in
     let recorded : recording own.log own.initial ≡ log = λ i. record { text = text i; initial = initial i } in
-    let told : IsReport (recording own.log own.initial) own.programs a.settings t own.answers.failing = own.answers.told in
-    let by_log = subst (λ (r : Recording). IsReport r own.programs a.settings t own.answers.failing) recorded told in
-    let by_programs = subst (λ (ps : List (List ℕ)). IsReport log ps a.settings t own.answers.failing) others by_log in (
+    let told : IsReportOfRun (recording own.log own.initial) own.programs a.settings t own.answers.failing = own.answers.told in
+    let by_log = subst (λ (r : Recording). IsReportOfRun r own.programs a.settings t own.answers.failing) recorded told in
+    let by_programs = subst (λ (ps : List (List ℕ)). IsReportOfRun log ps a.settings t own.answers.failing) others by_log in (
       own.answers.failing,
       record {
         asked = subst (λ (u : Settings). IsAsked u) settings (asked_of a.settings a.asked.good);
-        report = subst (λ (u : Settings). IsReport log programs u t own.answers.failing) settings by_programs;
+        report = subst (λ (u : Settings). IsReportOfRun log programs u t own.answers.failing) settings by_programs;
       },
     )
 
@@ -157,10 +157,10 @@ pub whole_asked : (w : OptionWords) (s : Settings) → AskFor (asking extent.Who
 whole_asked w s asked = settings_meant extent.Whole extent.Whole w s s asked.asked asked.asked
 
 files_answer : (w : OptionWords) (files : Files) (s : Settings) (log : Recording) (programs : List (List ℕ)) (bytes : List ℕ) (failing : Bool) (status : ℕ) → AskFor (asking extent.Whole w) s
-    → HoldsRun files log programs → status ≡ status_of failing → IsReport log programs (meant extent.Whole s) bytes failing → AnswersFiles (wanted.Told telling.Report) s files bytes status
+    → HoldsRun files log programs → status ≡ status_of failing → IsReportOfRun log programs (meant extent.Whole s) bytes failing → AnswersFiles (wanted.Told telling.Report) s files bytes status
 files_answer w files s log programs bytes failing status asked held ends report =
     let same = whole_asked w s asked in
-    let told : IsReport log programs s bytes failing = subst (λ (u : Settings). IsReport log programs u bytes failing) (sym same) report in
+    let told : IsReportOfRun log programs s bytes failing = subst (λ (u : Settings). IsReportOfRun log programs u bytes failing) (sym same) report in
     let images : s.extent ≡ extent.Whole = ap (λ (u : Settings). u.extent) same in
     record {
       log = log.text;

@@ -13,13 +13,13 @@ use Rattle.request.specs.declared.settings.Settings.{Settings}
 use Rattle.request.specs.Source.{Recording}
 use Rattle.request.specs.declared.settings.Telling.TheVariants as telling
 use Rattle.runs.specs.declared.explore_command.WantedAnswer.TheVariants as wanted
-use Rattle.runs.specs.Explore.{IsReport, RefusesWanted}
+use Rattle.runs.specs.Explore.{IsReportOfRun, RefusesWanted}
 use Rattle.runs.specs.Judged.{takes}
 
 -- for given bytes and options there is at most one report, and it tells whether an image fails
 abbrev pub OneReport : Type 0
 OneReport = (text : Recording) (files : List (List ℕ)) (s : Settings) (bytes others : List ℕ) (failing fails : Bool)
-    → IsReport text files s bytes failing → IsReport text files s others fails → (bytes ≡ others) × (failing ≡ fails)
+    → IsReportOfRun text files s bytes failing → IsReportOfRun text files s others fails → (bytes ≡ others) × (failing ≡ fails)
 
 -- the cause says that memory was wanting
 abbrev pub IsOfMemory : Cause → Type 0
@@ -34,4 +34,4 @@ IsOfMemory (Work cause) = cause ≡ work.Memory
 -- where there is a report, a run that judges the images that are meant is refused for want of memory alone
 abbrev pub ReportOrRefusal : Type 0
 ReportOrRefusal = (text : Recording) (files : List (List ℕ)) (s : Settings) (bytes : List ℕ) (failing : Bool) (r : Refusal)
-    → takes (wanted.Told telling.Report) s.extent ≡ true → IsReport text files s bytes failing → RefusesWanted (wanted.Told telling.Report) text files s r → IsOfMemory r.code
+    → takes (wanted.Told telling.Report) s.extent ≡ true → IsReportOfRun text files s bytes failing → RefusesWanted (wanted.Told telling.Report) text files s r → IsOfMemory r.code

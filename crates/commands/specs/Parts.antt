@@ -14,7 +14,7 @@ use Rattle.request.specs.Source.{Recording, images_of, IsLogOf}
 use Rattle.join.specs.declared.fault.JoinFault.{JoinFault}
 use Rattle.join.specs.Joining.{IsJoined, RefusesJoin}
 use Rattle.join.specs.Laws.{Range, CoverOnce}
-use Rattle.runs.specs.Explore.{IsReport}
+use Rattle.runs.specs.Explore.{IsReportOfRun}
 use Rattle.commands.specs.Acting.{Files, HoldsRecording, Answers}
 
 -- the same settings, where these images are meant
@@ -27,7 +27,7 @@ part_of s x = meant (extent.Part x.from x.to) s
 -- what `explore` answers: the options pass their checks, and the bytes are the report of the images that are meant
 pub record IsAnswer (text : Recording) (files : List (List ℕ)) (s : Settings) (bytes : List ℕ) (failing : Bool) : Type 0 where
   pub asked : IsAsked s
-  pub report : IsReport text files s bytes failing
+  pub report : IsReportOfRun text files s bytes failing
 
 -- the same, whether or not there is a failing image
 abbrev pub HasAnswer : Recording → List (List ℕ) → Settings → List ℕ → Type 0
@@ -62,7 +62,7 @@ extent_of images x = if x.from == 0 && x.to == images then extent.Wide else exte
 -- images, or not all, and no more than the most of a run, it is what `explore` answers for them. Whether an image fails is told alike.
 pub record JoinedPartsAreRun : Type 0 where
   pub joined : (text : Recording) (files : List (List ℕ)) (s : Settings) (texts : List (List ℕ)) (x : Range) (images : ℕ) (bytes : List ℕ) (failing : Bool)
-      → AreTextsOf text files s texts x images → IsJoined texts bytes failing → IsReport text files (meant (extent_of images x) s) bytes failing
+      → AreTextsOf text files s texts x images → IsJoined texts bytes failing → IsReportOfRun text files (meant (extent_of images x) s) bytes failing
   pub whole : (text : Recording) (files : List (List ℕ)) (s : Settings) (texts : List (List ℕ)) (images : ℕ) (bytes : List ℕ) (failing : Bool)
       → AreTextsOf text files s texts (record { from = 0; to = images }) images → IsJoined texts bytes failing → images ≤ limit → IsAnswer text files (meant extent.Whole s) bytes failing
   pub part : (text : Recording) (files : List (List ℕ)) (s : Settings) (texts : List (List ℕ)) (x : Range) (images : ℕ) (bytes : List ℕ) (failing : Bool)

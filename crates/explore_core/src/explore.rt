@@ -100,16 +100,7 @@ impl<'a> Explore<'a> {
         ensures within { result ≡ true → worker < length self.now.late }
     {
         match (self.hands.get(worker), self.late.get(worker)) {
-            (Some(WorkerHand::Idle), Some(late)) => !late,
-            (
-                Some(
-                    WorkerHand::Holding {
-                        block: _,
-                        judged: _,
-                    },
-                ),
-                Some(late),
-            ) => !late,
+            (Some(hand), Some(late)) => hand.may_draw(*late),
             _ => false,
         }
     }

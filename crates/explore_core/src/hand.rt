@@ -1,7 +1,7 @@
 //! What a worker has in hand.
 
-ghost use Rattle.std.specs.Prelude.{◌≡◌, OnOk, OnErr};
-ghost use Rattle.explore_core.specs.State.{judging};
+ghost use Rattle.std.specs.Prelude.{◌≡◌, OnOk, OnErr, Some};
+ghost use Rattle.explore_core.specs.State.{judging, may_draw};
 
 use crate::job::{Job, JobList};
 use std::alloc::AllocError;
@@ -20,6 +20,20 @@ pub enum WorkerHand {
 }
 
 impl WorkerHand {
+    /// Whether a worker with this in hand may draw, by whether it found no block left.
+    pub(crate) fn may_draw(&self, late: bool) -> bool
+        ensures { result ≡ may_draw (Some self.now) (Some late) }
+    {
+        match self {
+            WorkerHand::Idle => !late,
+            WorkerHand::Holding {
+                block: _,
+                judged: _,
+            } => !late,
+            _ => false,
+        }
+    }
+
     /// Adds a judged job to those of the block in hand. Where memory is wanting, nothing changes.
     pub(crate) fn judge(&mut self, job: Job) -> Result<(), AllocError>
         ensures judged { OnOk result (self.new ≡ judging job self.old) }

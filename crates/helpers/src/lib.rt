@@ -27,8 +27,8 @@
 //! The crate stands low, on the words of `base`, the kernels of `lanes` and `checksums`. The machine runs a checker
 //! over any `Device`, the verifier reasons about any, and a view of a crash image is one. What each
 //! helper answers is defined once, in `specs/Answers.antt`, over a device as its list of sectors; the
-//! machine's definition cites it. `again` and `report` depend on the run alone, so that only their
-//! definitions stand here, and the machine keeps their counts and codes.
+//! machine's definition cites it. `again` and `report` depend on the run alone: their definitions stand here, and
+//! how a call of `again` is counted. A run keeps the counts and the codes.
 //!
 //! # What is proved
 //!
@@ -44,6 +44,8 @@
 //! - `sums::of_device` gives exactly the checksum of that many bytes of the device, zeros past it, and `sums::of_bytes` that of
 //!   bytes.
 //! - `Filled` is a device in which each byte is the same, as one that nothing has written.
+//! - `count_again` counts exactly the call at its place, while it was counted less often than the limit, and gives the defined
+//!   answer of `again`.
 //! - A `Footprint` keeps the sectors at which a run looked, each once, in the order in which it first did, up to its room;
 //!   where they are more it keeps none (`noted` in `specs/Footprint.antt`).
 //!
@@ -60,8 +62,8 @@
 //!
 //! # Choices
 //!
-//! - Helpers 3 (`again`) and 4 (`report`) have their answers defined in `helpers` and their code in `interp`: they
-//!   change what the machine holds, and no device is asked.
+//! - Helpers 3 (`again`) and 4 (`report`) change what the machine holds, and no device is asked. So the code of `report`
+//!   stands in `plain` and in `interp`, by the definition here.
 //!
 //! # How it is proved
 //!
@@ -72,12 +74,14 @@
 
 pub mod answers;
 pub mod copying;
+mod counts;
 mod device;
 mod filled;
 mod footprint;
 mod helper;
 pub mod sums;
 
+pub use counts::count_again;
 pub use device::{Context, Device};
 pub use filled::Filled;
 pub use footprint::Footprint;

@@ -16,14 +16,14 @@ use Rattle.bpf_isa.specs.Slots.{at, target_slot}
 use Rattle.helpers.specs.declared.helper.Helper.{Helper}
 use Rattle.helpers.specs.declared.helper.Helper.TheVariants as helper
 use Rattle.helpers.specs.Helper.{helper_of}
-use Rattle.helpers.specs.Answers.{sector_start, device_bytes, copy_answer, again_answer, report_answer, codes_after}
+use Rattle.helpers.specs.Answers.{sector_start, device_bytes, copy_answer, again_answer, counts_after, report_answer, codes_after}
 use Rattle.helpers.specs.Queries.{query_answer}
 use Rattle.machine.specs.declared.ByteAt.{ByteAt}
 use Rattle.machine.specs.declared.ByteAt.TheVariants.{Unmapped, Unset, Holds}
 use Rattle.machine.specs.Arithmetic.{arithmetic, sign_extension, in_order}
 use Rattle.machine.specs.State.{State, Frame, Caller, context_start, stack_start, stack_end, start, word, register, unset_stack}
 use Rattle.machine.specs.Memory.{addresses, all_at, all_mapped, all_set, all_in_stacks, is_mapped, value, cell, stacks, byte_at_place, in_blocks, byte_at, byte_count, plain_size, extension_of, number_from, change_at, with_byte, frames_with, context_bytes}
-use Rattle.machine.specs.Step.{Stepped, Next, Done, Fault, second, address, memory, may_write, reads, goes_on, load_tests, store_tests, is_length, checks, call_checks, effect, call_effect, set_and_go, with_answer, count_turn, turns_here, saved_caller, branch_slot, caller_of, exit_frame, after_checks, step, step_of, returns_to}
+use Rattle.machine.specs.Step.{Stepped, Next, Done, Fault, second, address, memory, may_write, reads, goes_on, load_tests, store_tests, is_length, checks, call_checks, effect, call_effect, set_and_go, with_answer, turns_here, saved_caller, branch_slot, caller_of, exit_frame, after_checks, step, step_of, returns_to}
 use Rattle.machine.specs.Outcome.{Ending, Verdict, Stopped, OutOfSteps, Stray, after, steps_end, outcome}
 use Rattle.machine.specs.Guards.{filled_frame, filled, is_own, call_writes_own, writes_own, writes_own_here, guarded, stack_step, Made, memory_step, sum_step, checksum_asked, with_memory, made_of, guarded_step, guarded_after, guarded_end, guarded_outcome, WritesOwnAfter, StepsWriteOwn, GuardsKeepVerdicts}
 use Rattle.machine.specs.OwnMemory.{zero_memory}
@@ -290,7 +290,7 @@ unfolding call_effect filled
 calls_same device s helper.Copy =
     stored s (record s { slot = s.slot + 1; registers = with_answer s.registers (copy_answer device (word s 1) (word s 3)) }) (word s 2) (device_bytes device (word s 1) (word s 3))
 calls_same device s helper.Again =
-    kept s (record s { slot = s.slot + 1; registers = with_answer s.registers (again_answer (turns_here s) (word s 1)); turns = count_turn s (word s 1) })
+    kept s (record s { slot = s.slot + 1; registers = with_answer s.registers (again_answer (turns_here s) (word s 1)); turns = counts_after s.turns s.slot (word s 1) })
 calls_same device s helper.Report =
     kept s (record s { slot = s.slot + 1; registers = with_answer s.registers (report_answer s.codes); codes = codes_after s.codes (word s 1) })
 calls_same device s (helper.Query q) = kept s (record s { slot = s.slot + 1; registers = with_answer s.registers (query_answer device q (word s 1) (word s 2) (word s 3)) })

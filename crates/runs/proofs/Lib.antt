@@ -6,6 +6,7 @@ pub mod RefusalLemmas
 pub mod Faultless
 pub mod Fitting
 pub mod Runs
+pub mod Reports
 pub mod Casing
 pub mod Losing
 pub mod ToldFail

@@ -124,13 +124,30 @@ pub record IsRun (Tells : Settings → LogValue → List CheckerValue → List �
   pub fails : IsTrue failing ↔ (failing_lines (subject_of s value checkers) ≢ [])
   pub faultless : s.checked ≡ None → IsSafe s.guards (subject_of s value checkers)
 
--- the bytes report every failing image of the log, of those that are meant, and no other, or the first alone where that is asked for
-abbrev pub IsReport : Recording → List (List ℕ) → Settings → List ℕ → Bool → Type 0
-IsReport text files s bytes failing = IsRun (λ s value checkers bytes. bytes ≡ report_of (inputs_number text.text files) s value checkers) text files s bytes failing
+-- each checker has the program that its file spells
+abbrev pub ArePrograms : List (List ℕ) → List CheckerValue → Type 0
+ArePrograms [] [] = Unit {0}
+ArePrograms [] (c ∷ checkers) = ⊥
+ArePrograms (bytes ∷ files) [] = ⊥
+ArePrograms (bytes ∷ files) (c ∷ checkers) = code_fault.IsSpelledBy bytes c.program × ArePrograms files checkers
+
+-- The bytes report every failing image of the log, of those that are meant, and no other, or the first alone where that is asked for. The
+-- programs are those that the files spell, and each is run for as many steps as the head of the report says.
+pub record IsReport (text : Recording) (files : List (List ℕ)) (s : Settings) (bytes : List ℕ) (failing : Bool) : Type 0 where
+  pub value : LogValue
+  pub source : HasImages text s value
+  pub checkers : List CheckerValue
+  pub programs : ArePrograms files checkers
+  pub tells : bytes ≡ report_of (inputs_number text.text files) s value checkers
+  pub fails : IsTrue failing ↔ (failing_lines (subject_of s value checkers) ≢ [])
+
+-- such a report of a run as it is asked for: of programs that have the limit of steps, or that the verifier accepts and that run safely
+abbrev pub IsReportOfRun : Recording → List (List ℕ) → Settings → List ℕ → Bool → Type 0
+IsReportOfRun text files s bytes failing = IsRun (λ s value checkers bytes. bytes ≡ report_of (inputs_number text.text files) s value checkers) text files s bytes failing
 
 -- the same, whether or not there is a failing image
 abbrev pub HasReport : Recording → List (List ℕ) → Settings → List ℕ → Type 0
-HasReport text files s bytes = (failing : Bool) × IsReport text files s bytes failing
+HasReport text files s bytes = (failing : Bool) × IsReportOfRun text files s bytes failing
 
 -- the refusals of the programs: of the first that can't be decoded or isn't accepted, or for which memory is wanting; or
 -- want of memory for their list

@@ -9,7 +9,7 @@ ghost use Rattle.base.specs.Refusals.{memory_refusal};
 ghost use Rattle.request.specs.Extents.{is_extent, most_images, has_extent};
 ghost use Rattle.request.specs.Source.{RefusesPlan, images_of, plan_of};
 ghost use Rattle.workers.specs.Failing.{failing_lines};
-ghost use Rattle.runs.specs.Explore.{HasReport, IsReport, IsProgramCount, RefusesWanted, program_head, head_of, subject_of};
+ghost use Rattle.runs.specs.Explore.{HasReport, IsReport, IsReportOfRun, IsProgramCount, RefusesWanted, program_head, head_of, subject_of};
 ghost use Rattle.runs.specs.Inputs.{inputs_number, number_told};
 ghost use Rattle.runs.specs.Judged.{takes, IsJudged};
 ghost use Rattle.runs.specs.declared.explore_command.WantedAnswer.TheVariants as wants;
@@ -711,6 +711,7 @@ pub fn explore_with<G: Gate + Sync, R: Threads + Wait + Sync>(
     options: &Options,
 ) -> Result<Explored, Refusal>
     ensures report { IfOk result (λ e. IsReport recording.now (map (λ f. f.items) programs.now) options.now e.bytes.items e.failing) }
+    ensures run { IfOk result (λ e. IsReportOfRun recording.now (map (λ f. f.items) programs.now) options.now e.bytes.items e.failing) }
     ensures refused { IfErr result (RefusesWanted (wants.Told tells.Report) recording.now (map (λ f. f.items) programs.now) options.now) }
 {
     let question = Question {

@@ -17,14 +17,14 @@ use Rattle.helpers.specs.declared.helper.Helper.{Helper}
 use Rattle.helpers.specs.declared.helper.Helper.TheVariants as helper
 use Rattle.helpers.specs.declared.helper.Answer.{Answer}
 use Rattle.helpers.specs.declared.helper.Answer.TheVariants as answer
-use Rattle.helpers.specs.Answers.{device_byte, device_bytes, copy_answer, again_answer, report_answer, codes_after}
+use Rattle.helpers.specs.Answers.{device_byte, device_bytes, copy_answer, again_answer, counts_after, report_answer, codes_after}
 use Rattle.helpers.specs.Queries.{query_arguments, query_answer, query_kind, IsAnswer, IsKind}
 use Rattle.helpers.proofs.Queries.{query_fits, kind_fits, answer_word, copy_most, report_most, again_most}
 use Rattle.machine.specs.State.{State, word, stack_start}
 use Rattle.machine.specs.Memory.{context_bytes, byte_at, all_mapped, all_in_stacks, frames_with}
 use Rattle.machine.specs.Step as step
 use Rattle.bpf_isa.specs.Slots.{at}
-use Rattle.machine.specs.Step.{checks, effect, step_of, after_checks, Stepped, Next, call_checks, call_effect, is_length, is_limit, turns_here, count_turn}
+use Rattle.machine.specs.Step.{checks, effect, step_of, after_checks, Stepped, Next, call_checks, call_effect, is_length, is_limit, turns_here}
 use Rattle.intervals.specs.Spans.{span, is_constant}
 use Rattle.intervals.specs.Reducing.{any_sign}
 use Rattle.ranges.specs.declared.place.AccessPlace.TheVariants as place
@@ -85,7 +85,7 @@ answer_means sectors frame answer.Address x kind is = (x, refl, is)
 answer_means sectors frame (answer.UpTo most) x kind is = number_means sectors frame most x kind is
 
 -- the counts of `again`
-pub counted_long : (m : Parts) (n : ℕ) → length m.turns ≡ 4096 → length (count_turn (machine m) n) ≡ 4096
+pub counted_long : (m : Parts) (n : ℕ) → length m.turns ≡ 4096 → length (counts_after m.turns m.slot n) ≡ 4096
 counted_long m n long = by (nat_lt (turns_here (machine m)) n)
   where
     by : (b : Bool) → length (if b then set m.turns m.slot (turns_here (machine m) + 1) else m.turns) ≡ 4096
@@ -218,7 +218,7 @@ other_goes guards program sectors device context known m helper.Again e set site
     let x : ℕ = again_answer (turns_here (machine m)) n in
     let most = again_most (turns_here (machine m)) n in
     answers sectors known m (step.reads (machine m) (1 ∷ []) ∷ check fault.HelperArgument (is_limit n) ∷ step.goes_on program (m.slot + 1) ∷ []) (Num (any_sign (span 0 1))) x
-    (count_turn (machine m) n) m.codes site (counted_long m n site.turns)
+    (counts_after m.turns m.slot n) m.codes site (counted_long m n site.turns)
     (pass_three fault.UnsetRegister fault.HelperArgument fault.NoInstruction (list_all (λ r. is_some (get_or m.registers r None)) (1 ∷ [])) (is_limit n) (is_some (at program (m.slot + 1)))
     (read_set guards sectors known m (1 ∷ []) site is) (limit refl) next)
     (omega (arith, most)) (number_means sectors (number m) 1 x (omega arith) most)

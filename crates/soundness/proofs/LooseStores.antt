@@ -23,7 +23,7 @@ use Rattle.machine.specs.State.{State, word, stack_start}
 use Rattle.machine.specs.Memory.{context_bytes, byte_count, byte_at, all_mapped, all_in_stacks, frames_with}
 use Rattle.machine.specs.declared.ByteAt.{ByteAt}
 use Rattle.machine.specs.Step as step
-use Rattle.machine.specs.Step.{Stepped, Next, Done, Fault, checks, effect, step_of, after_checks, call_checks, call_effect, is_length, is_limit, turns_here, count_turn}
+use Rattle.machine.specs.Step.{Stepped, Next, Done, Fault, checks, effect, step_of, after_checks, call_checks, call_effect, is_length, is_limit, turns_here}
 use Rattle.machine.specs.Guards.{own_start, is_own, call_writes_own, writes_own, guarded}
 use Rattle.ranges.specs.Passing.{passed_with}
 use Rattle.ranges.specs.declared.place.AccessPlace.{AccessPlace}

@@ -19,9 +19,9 @@ use Rattle.bpf_shape.specs.Calls.{callee}
 use Rattle.bpf_shape.specs.Weights.{Weighs, AreWeights}
 use Rattle.bpf_shape.specs.Again.{limit_of, limit_before, zero_test}
 use Rattle.bpf_shape.proofs.Walks.{reaches_more, stays}
-use Rattle.helpers.specs.Answers.{again_answer}
+use Rattle.helpers.specs.Answers.{again_answer, counts_after}
 use Rattle.machine.specs.State.{Caller, State, register, word}
-use Rattle.machine.specs.Step.{Next, caller_of, saved_caller, memory, turns_here, count_turn, step_of, step}
+use Rattle.machine.specs.Step.{Next, caller_of, saved_caller, memory, turns_here, step_of, step}
 use Rattle.soundness.proofs.Taken.{Moves, Asks, in_next, taken, effect_moves, answer_there, helper_called, again_asks, other_moves, Kind, Plain, Helps, Enters, Exits, kind_of, no_helper, Entered, local_entered, Exited, has_exited, HasLimit, Passes, Does, does}
 use Rattle.soundness.proofs.Coming.{inside, control_there, callee_there, entry_is, call_comes, stands_before, test_there, test_comes}
 use Rattle.soundness.proofs.Counts.{one_less}
@@ -173,11 +173,11 @@ module _ (program : List (Option Instr)) (context : List ℕ) (device : List (Li
 
       by_test : (b : Bool) → nat_lt (turns_here s) (word s 1) ≡ b → Runs program whole t steps
       by_test true is =
-          let more : count_turn s (word s 1) ≡ slice_set s.turns s.slot (turns_here s + 1) = rw is refl in
+          let more : counts_after s.turns s.slot (word s 1) ≡ slice_set s.turns s.slot (turns_here s + 1) = rw is refl in
           one_more s t i steps (word s 1) r arrived here (inside program s.slot i there) (limit_here s r.arrived calls) (ltb-true (turns_here s) (word s 1) is)
           (m.counts ∙ more)
       by_test false is =
-          let same : count_turn s (word s 1) ≡ s.turns = rw is refl in
+          let same : counts_after s.turns s.slot (word s 1) ≡ s.turns = rw is refl in
           let none : again_answer (turns_here s) (word s 1) ≡ 0 = rw is refl in
           let long = r.arrived.registers in
           let wide : 0 < length s.registers = omega (arith, long) in

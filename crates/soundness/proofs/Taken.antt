@@ -19,7 +19,7 @@ use Rattle.bpf_isa.specs.declared.instr.Condition.TheVariants as cond
 use Rattle.helpers.specs.declared.helper.Helper.{Helper}
 use Rattle.helpers.specs.declared.helper.Helper.TheVariants as helper
 use Rattle.helpers.specs.Helper.{helper_of}
-use Rattle.helpers.specs.Answers.{device_bytes, copy_answer, again_answer, report_answer}
+use Rattle.helpers.specs.Answers.{device_bytes, copy_answer, again_answer, counts_after, report_answer}
 use Rattle.helpers.specs.Queries.{query_answer}
 use Rattle.bpf_shape.specs.Edges.{edges, edges_of}
 use Rattle.bpf_shape.specs.Again.{helper_number, limit_of, zero_test, others_of}
@@ -31,7 +31,7 @@ use Rattle.base.specs.Numbers.{number_bytes}
 use Rattle.machine.specs.Memory.{byte_count, plain_size, extension_of, number_from, change_at, with_byte, frames_with}
 use Rattle.machine.specs.State.{Caller, Frame, State, register, word, stack_start, stack_end, unset_stack}
 use Rattle.bpf_isa.specs.Slots.{at, target_slot}
-use Rattle.machine.specs.Step.{Stepped, Next, Done, Fault, second, address, memory, checks, call_checks, with_answer, set_and_go, turns_here, count_turn, effect, call_effect, goes_on, reads, returns_to, caller_of, saved_caller, enter_function, exit_frame, after_checks, step_of, step}
+use Rattle.machine.specs.Step.{Stepped, Next, Done, Fault, second, address, memory, checks, call_checks, with_answer, set_and_go, turns_here, effect, call_effect, goes_on, reads, returns_to, caller_of, saved_caller, enter_function, exit_frame, after_checks, step_of, step}
 use Rattle.soundness.proofs.Room.{callers}
 
 -- an instruction that is no call and no EXIT
@@ -52,7 +52,7 @@ pub record Moves (s : State) (i : Instr) (t : State) : Type 0 where
 pub record Asks (s : State) (i : Instr) (t : State) : Type 0 where
   pub leads : Leads (edges_of s.slot i) t.slot
   pub width : length t.registers ≡ length s.registers
-  pub counts : t.turns ≡ count_turn s (word s 1)
+  pub counts : t.turns ≡ counts_after s.turns s.slot (word s 1)
   pub frames : callers t.frames ≡ callers s.frames
   pub answer : t.registers ≡ with_answer s.registers (again_answer (turns_here s) (word s 1))
 
