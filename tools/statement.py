@@ -29,7 +29,13 @@ PAGE = "docs/STATEMENT.md"
 PROMISES = [
     (
         "The report lists every failing image asked for, with `--bound any` every loss, and no other.",
-        [("runs", "explore_with", "report"), ("workers", "lines_are_set", ""), ("runs", "any_loss_is_told", ""), ("runs", "told_cases_fail", "")],
+        [
+            ("runs", "explore_with", "report"),
+            ("runs", "explore_with", "run"),
+            ("workers", "lines_are_set", ""),
+            ("runs", "any_loss_is_told", ""),
+            ("runs", "told_cases_fail", ""),
+        ],
     ),
     (
         "The images are those of the crash model, each once, with exact bytes.",
