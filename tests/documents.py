@@ -47,7 +47,8 @@ ROWS = [
 # A definition, and what is to be among those that it leads to, and what isn't.
 LEADS = [
     (("images.specs.Images", "crash_image"), {"byte_after", "survives", "keeps", "initial_byte", "unit_content"}, {"context_at", "failing_lines"}),
-    (("runs.specs.Explore", "IsReport"), {"line_text", "LogText", "IsSpelledBy", "step", "crash_image"}, {"IsPageOf", "IsGood", "HasNoFault"}),
+    (("runs.specs.Explore", "IsReport"), {"line_text", "LogText", "IsSpelledBy"}, {"IsPageOf", "IsVerified", "HasNoFault"}),
+    (("runs.specs.Explore", "IsReportOfRun"), {"line_text", "LogText", "IsSpelledBy", "step", "crash_image"}, {"IsPageOf", "IsGood", "HasNoFault"}),
     (("machine.specs.Outcome", "outcome"), {"step", "checks", "arithmetic"}, {"guarded_outcome"}),
     (("verifier.specs.Verdicts", "IsAccepted"), set(), {"IsGood", "rules"}),
 ]
