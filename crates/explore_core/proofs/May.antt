@@ -1,5 +1,5 @@
 -- An event whose condition fails changes nothing.
-use Rattle.std.proofs.Common.{ℕ, zero, suc, ◌≡◌, ◌-◌, ◌<◌, ◌==◌, ◌&&◌, inl, inr, Bool, true, false, cond, if◌then◌else◌, List, [], ◌∷◌, length, Option, None, Some, option_map, slice_get, refl, arith}
+use Rattle.std.proofs.Common.{ℕ, zero, suc, ◌≡◌, ◌-◌, ◌<◌, ◌==◌, ◌&&◌, inl, inr, Bool, true, false, cond, if◌then◌else◌, List, [], ◌∷◌, length, Option, None, Some, option_map, slice_get, slice_set, refl, sym, ap, arith}
 use Rattle.std.specs.List.{find}
 use Rattle.std.proofs.lemmas.Bool.Decides.{nat_tests}
 use Rattle.std.proofs.lemmas.Option.{slice_get_within}
@@ -9,7 +9,7 @@ use Rattle.explore_core.specs.declared.hand.WorkerHand.TheVariants.{Idle, Holdin
 use Rattle.explore_core.specs.declared.piece.BlockFindings.TheVariants.{Lines, Passed}
 use Rattle.explore_core.specs.declared.event.Event.TheVariants.{Draw, Take, Look, Put, Post, Pass, Done, Quit}
 use Rattle.explore_core.specs.Jobs.{block_at, failing, lies_after}
-use Rattle.explore_core.specs.State.{State, may_draw, after_draw, after_steal, next_job, after_look, last_judged, after_put, lower_image, after_post, handed_over, piece_passed, piece_done, quit}
+use Rattle.explore_core.specs.State.{State, may_draw, after_draw, is_idle, after_steal, next_job, after_look, last_judged, after_put, lower_image, after_post, handed_over, piece_passed, piece_done, quit}
 use Rattle.explore_core.specs.May.{May, UnlessItMay}
 use Rattle.explore_core.specs.Lists.{is_under, listed_under}
 use Rattle.explore_core.proofs.Each.{any_at}
@@ -38,7 +38,7 @@ draw_not s w (Some (Holding b judged)) (Some true) at is h = refl
 draw_not s w (Some (Holding b judged)) (Some false) at is h = absurd (h (inr (b, judged, at), is))
 
 take_not : (s : State) (w from block : ℕ) (hand : Option WorkerHand) (listed : Bool) → slice_get s.hands w ≡ hand → listed_under from block s.lists ≡ listed
-    → (May s (Take w from block) → ⊥) → after_steal s w from block hand listed ≡ s
+    → (May s (Take w from block) → ⊥) → after_steal s w from block (is_idle hand) listed ≡ s
 take_not s w from block None listed at there h = refl
 take_not s w from block (Some Ended) listed at there h = refl
 take_not s w from block (Some (Lost b)) listed at there h = refl
@@ -115,11 +115,17 @@ done_not s w (Some (Holding b judged)) at h = step (length judged == length (blo
     step false e = refl
     step true e = let whole : length judged ≡ length (block_at s.blocks b) = grind (arith, nat_tests, e) in absurd (h (b, judged, at, whole))
 
+-- what is set to what it was
+set_same : {X : Type 0} (xs : List X) (w : ℕ) (x : X) → slice_get xs w ≡ Some x → slice_set xs w x ≡ xs
+set_same [] w x at = refl
+set_same (y ∷ ys) zero x at = let same : y ≡ x = (let s : Some y ≡ Some x = at in cc) in ap (λ z. z ∷ ys) (sym same)
+set_same (y ∷ ys) (suc w) x at = ap (λ zs. y ∷ zs) (set_same ys w x at)
+
 quit_not : (s : State) (w : ℕ) (hand : Option WorkerHand) → slice_get s.hands w ≡ hand → (May s (Quit w) → ⊥) → quit s w hand ≡ s
 quit_not s w None at h = refl
 quit_not s w (Some Idle) at h = absurd (h (inl at))
-quit_not s w (Some Ended) at h = refl
-quit_not s w (Some (Lost b)) at h = refl
+quit_not s w (Some Ended) at h = λ i. record s { hands = set_same s.hands w Ended at i }
+quit_not s w (Some (Lost b)) at h = λ i. record s { hands = set_same s.hands w (Lost b) at i }
 quit_not s w (Some (Holding b judged)) at h = absurd (h (inr (b, judged, at)))
 
 pub unless_it_may : UnlessItMay

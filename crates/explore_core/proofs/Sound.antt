@@ -15,7 +15,7 @@ use Rattle.explore_core.specs.declared.piece.BlockFindings.TheVariants.{Lines, P
 use Rattle.explore_core.specs.declared.event.Event.{Event}
 use Rattle.explore_core.specs.declared.event.Event.TheVariants.{Draw, Take, Look, Put, Post, Pass, Done, Quit}
 use Rattle.explore_core.specs.Jobs.{AreJobs, all_jobs, block_at, failing, first_failing_image, lies_after}
-use Rattle.explore_core.specs.State.{State, start, with_hand, may_draw, after_list, too_late, after_draw, after_steal, job_by_cache, next_job, after_look, last_judged, after_put, lower_image, after_post, handed_over, piece_passed, piece_done, quit, after, after_all}
+use Rattle.explore_core.specs.State.{State, start, may_draw, after_list, too_late, after_draw, is_idle, after_steal, job_by_cache, next_job, after_look, last_judged, after_put, lower_image, after_post, handed_over, piece_passed, piece_done, quit, after, after_all}
 use Rattle.explore_core.specs.Lists.{listed_under}
 use Rattle.explore_core.specs.Sound.{Each, IsJob, IsTrueEntry, IsFailing, IsFailingIfAny, ComesBefore, IsTrueHand, IsTruePiece, ArePlaced, is_passed, IsSound}
 use Rattle.explore_core.proofs.Each.{each_none, each_cons, each_push, each_set, each_replicate, each_filter, found, taken_at}
@@ -77,7 +77,7 @@ sound_drawn s w true sound = step (nat_lt s.next (length s.blocks)) refl
           places = placed_late (length s.blocks) s.next s.lists s.hands s.pieces late sound.places;
         }
 
-sound_given : (s : State) (w from block : ℕ) (hand : Option WorkerHand) (after_list : Bool) → slice_get s.hands w ≡ hand → listed_under from block s.lists ≡ after_list → IsSound s → IsSound (after_steal s w from block hand after_list)
+sound_given : (s : State) (w from block : ℕ) (hand : Option WorkerHand) (after_list : Bool) → slice_get s.hands w ≡ hand → listed_under from block s.lists ≡ after_list → IsSound s → IsSound (after_steal s w from block (is_idle hand) after_list)
 sound_given s w from block None after_list at there sound = sound
 sound_given s w from block (Some (Holding b judged)) after_list at there sound = sound
 sound_given s w from block (Some Ended) after_list at there sound = sound
@@ -247,7 +247,7 @@ sound_done s w (Some (Holding b judged)) at sound = step (length judged == lengt
         sound_over s w judged (record { block = b; found = Lines (failing judged) }) at (holding.0, ap failing all) (λ off. refl) sound
 
 sound_hand : (s : State) (w : ℕ) (old new : WorkerHand) → slice_get s.hands w ≡ Some old → IsTrueHand s.blocks new
-    → ArePlaced (length s.blocks) s.next s.lists (slice_set s.hands w new) s.pieces → IsSound s → IsSound (with_hand s w new)
+    → ArePlaced (length s.blocks) s.next s.lists (slice_set s.hands w new) s.pieces → IsSound s → IsSound (record s { hands = slice_set s.hands w new })
 sound_hand s w old new at true_hand placed sound = record {
   jobs = sound.jobs;
   cache = sound.cache;
@@ -260,8 +260,10 @@ sound_hand s w old new at true_hand placed sound = record {
 
 sound_quit : (s : State) (w : ℕ) (hand : Option WorkerHand) → slice_get s.hands w ≡ hand → IsSound s → IsSound (quit s w hand)
 sound_quit s w None at sound = sound
-sound_quit s w (Some Ended) at sound = sound
-sound_quit s w (Some (Lost b)) at sound = sound
+sound_quit s w (Some Ended) at sound =
+    sound_hand s w Ended Ended at tt (placed_same (length s.blocks) s.next s.lists s.hands s.pieces w Ended Ended at (λ b. refl) sound.places) sound
+sound_quit s w (Some (Lost b)) at sound =
+    sound_hand s w (Lost b) (Lost b) at tt (placed_same (length s.blocks) s.next s.lists s.hands s.pieces w (Lost b) (Lost b) at (λ b. refl) sound.places) sound
 sound_quit s w (Some Idle) at sound =
     sound_hand s w Idle Ended at tt (placed_same (length s.blocks) s.next s.lists s.hands s.pieces w Idle Ended at (λ b. refl) sound.places) sound
 sound_quit s w (Some (Holding block judged)) at sound =

@@ -1,6 +1,6 @@
 -- The state of an exploration, and what each event makes of it
 -- (docs/PROVED.md, Threads and the cache).
-use Rattle.std.specs.Prelude.{ℕ, ◌+◌, ◌-◌, ◌==◌, nat_lt, min, Bool, true, false, if◌then◌else◌, List, [], ◌∷◌, ◌++◌, length, replicate, Option, None, Some, slice_get, slice_set, unwrap_or}
+use Rattle.std.specs.Prelude.{ℕ, ◌+◌, ◌-◌, ◌==◌, ◌&&◌, not, nat_lt, min, Bool, true, false, if◌then◌else◌, List, [], ◌∷◌, ◌++◌, length, replicate, Option, None, Some, slice_get, slice_set, unwrap_or}
 use Rattle.explore_core.specs.declared.job.Job.{Job}
 use Rattle.explore_core.specs.declared.hand.WorkerHand.{WorkerHand}
 use Rattle.explore_core.specs.declared.hand.WorkerHand.TheVariants.{Idle, Holding, Ended, Lost}
@@ -39,17 +39,22 @@ abbrev pub start : List (List Job) → ℕ → Bool → State
 start blocks workers first =
     record { blocks = blocks; first = first; next = 0; late = replicate workers false; lists = []; least = None; cache = []; pieces = []; hands = replicate workers Idle }
 
--- the state with another hand of that worker
-abbrev pub with_hand : State → ℕ → WorkerHand → State
-with_hand s w hand = record s { hands = slice_set s.hands w hand }
+-- the workers' hands, where that of one is changed, if there is such a worker
+abbrev pub change_hand : (WorkerHand → WorkerHand) → List WorkerHand → ℕ → Option WorkerHand → List WorkerHand
+change_hand change hands w (Some hand) = slice_set hands w (change hand)
+change_hand change hands w None = hands
 
 -- Draw: a worker that hasn't ended puts the next block into its list; where none is left, it draws no more
 
--- whether a worker may draw, by its hand, and by whether it found no block left
+-- whether a worker hasn't ended
+abbrev pub is_going : Option WorkerHand → Bool
+is_going (Some Idle) = true
+is_going (Some (Holding block judged)) = true
+is_going hand = false
+
+-- whether a worker hasn't ended, and found a block at each draw
 abbrev pub may_draw : Option WorkerHand → Option Bool → Bool
-may_draw (Some Idle) (Some false) = true
-may_draw (Some (Holding block judged)) (Some false) = true
-may_draw hand late = false
+may_draw hand late = is_going hand && not (unwrap_or late true)
 
 -- the next block is in the list of the worker
 abbrev pub after_list : State → ℕ → State
@@ -65,9 +70,13 @@ after_draw s w false = s
 
 -- Take: an idle worker gets a block out of a worker's list
 
-abbrev pub after_steal : State → ℕ → ℕ → ℕ → Option WorkerHand → Bool → State
-after_steal s w from block (Some Idle) true = record s { lists = lists_without from block s.lists; hands = slice_set s.hands w (Holding block []) }
-after_steal s w from block hand after_list = s
+abbrev pub is_idle : Option WorkerHand → Bool
+is_idle (Some Idle) = true
+is_idle hand = false
+
+abbrev pub after_steal : State → ℕ → ℕ → ℕ → Bool → Bool → State
+after_steal s w from block true true = record s { lists = lists_without from block s.lists; hands = slice_set s.hands w (Holding block []) }
+after_steal s w from block idle listed = s
 
 -- Look: a worker takes the outcome of the next job of its block
 
@@ -86,8 +95,8 @@ judging job (Holding block judged) = Holding block (judged ++ job ∷ [])
 judging job hand = hand
 
 abbrev pub after_look : State → ℕ → Option WorkerHand → Option Job → State
-after_look s w (Some hand) (Some job) = with_hand s w (judging (job_by_cache s.cache job) hand)
-after_look s w hand job = s
+after_look s w hand (Some job) = record s { hands = change_hand (judging (job_by_cache s.cache job)) s.hands w hand }
+after_look s w hand None = s
 
 -- Put: the pair of what a worker judged last enters the cache, and then pairs leave it
 
@@ -107,9 +116,13 @@ lower_image least None = least
 lower_image None (Some image) = Some image
 lower_image (Some least) (Some image) = Some (min least image)
 
+-- the image of the first failing job in hand, if there is one
+abbrev pub failing_in_hand : Option WorkerHand → Option ℕ
+failing_in_hand (Some (Holding block judged)) = first_failing_image judged
+failing_in_hand hand = None
+
 abbrev pub after_post : State → Option WorkerHand → State
-after_post s (Some (Holding block judged)) = record s { least = lower_image s.least (first_failing_image judged) }
-after_post s hand = s
+after_post s hand = record s { least = lower_image s.least (failing_in_hand hand) }
 
 -- Pass and Done: a worker hands over a piece of its block, and is idle
 
@@ -123,23 +136,37 @@ piece_passed blocks true (Some image) (Some (Holding block judged)) =
     if lies_after image (block_at blocks block) then Some (record { block = block; found = Passed image }) else None
 piece_passed blocks first least hand = None
 
--- the piece with the failing jobs of the block in hand, where it is wholly judged
+-- a piece as a list, which is empty where there is none
+abbrev pub as_list : Option HandedBlock → List HandedBlock
+as_list (Some piece) = piece ∷ []
+as_list None = []
+
+-- the block in hand with its failing jobs
+abbrev pub lines_in_hand : Option WorkerHand → Option HandedBlock
+lines_in_hand (Some (Holding block judged)) = Some (record { block = block; found = Lines (failing judged) })
+lines_in_hand hand = None
+
+-- the same, where the block is wholly judged
 abbrev pub piece_done : List (List Job) → Option WorkerHand → Option HandedBlock
 piece_done blocks (Some (Holding block judged)) =
-    if length judged == length (block_at blocks block) then Some (record { block = block; found = Lines (failing judged) }) else None
+    if length judged == length (block_at blocks block) then lines_in_hand (Some (Holding block judged)) else None
 piece_done blocks hand = None
 
 -- Quit: a worker ends, and the block in its hand is lost
 
+-- what a worker has in hand after it ended
+abbrev pub ended : WorkerHand → WorkerHand
+ended Idle = Ended
+ended (Holding block judged) = Lost block
+ended hand = hand
+
 abbrev pub quit : State → ℕ → Option WorkerHand → State
-quit s w (Some Idle) = with_hand s w Ended
-quit s w (Some (Holding block judged)) = with_hand s w (Lost block)
-quit s w hand = s
+quit s w hand = record s { hands = change_hand ended s.hands w hand }
 
 -- the state after an event; where there is no such worker, or the event's condition fails, it is the state before
 abbrev pub after : State → Event → State
 after s (Draw w) = after_draw s w (may_draw (slice_get s.hands w) (slice_get s.late w))
-after s (Take w from block) = after_steal s w from block (slice_get s.hands w) (listed_under from block s.lists)
+after s (Take w from block) = after_steal s w from block (is_idle (slice_get s.hands w)) (listed_under from block s.lists)
 after s (Look w) = after_look s w (slice_get s.hands w) (next_job s.blocks (slice_get s.hands w))
 after s (Put w gone) = after_put s gone (last_judged (slice_get s.hands w))
 after s (Post w) = after_post s (slice_get s.hands w)

@@ -1,21 +1,22 @@
 //! The state of an exploration, and its events.
 
-ghost use Rattle.std.specs.Prelude.{◌≡◌, ◌<◌, IfOk, OnOk, OnErr, slice_get, length, option_copied, OnSome, is_some, Some, None, if◌then◌else◌, true};
-ghost use Rattle.explore_core.specs.Jobs.{lies_after};
+ghost use Rattle.std.specs.Prelude.{◌≡◌, ◌<◌, IfOk, OnOk, OnErr, slice_get, length};
 ghost use Rattle.explore_core.specs.Sound.{IsSound};
 ghost use Rattle.explore_core.specs.Lists.{listed_under};
-ghost use Rattle.explore_core.specs.declared.piece.BlockFindings.TheVariants.{Passed};
-ghost use Rattle.explore_core.specs.State.{start, after, after_all, job_by_cache, lower_image, may_draw, after_list, after_draw, after_steal, next_job, after_look, last_judged, after_put, after_post, piece_passed, piece_done, handed_over, quit};
+ghost use Rattle.explore_core.specs.State.{start, after, after_all, job_by_cache, lower_image, may_draw, after_list, after_draw, is_idle, after_steal, next_job, after_look, last_judged, after_put, after_post, piece_passed, piece_done, handed_over, quit};
 
-use crate::cache::{CacheEntry, cache_outcome, take_out};
+use crate::cache::{CacheEntry, cache_outcome, put_entry};
 use crate::event::Event;
 use crate::hand::WorkerHand;
-use crate::job::{Job, JobList, Jobs, first_failing_image, lies_after};
+use crate::hands::{
+    end_worker, failing_in_hand, hand_over, idle_hands, is_idle, is_judged, judge_in_hand,
+    last_judged, may_draw, next_job, piece_passed, set_hand, set_late,
+};
+use crate::job::{Job, JobList, Jobs};
 use crate::lists::{Drawn, listed_under, unlist};
-use crate::piece::{BlockFindings, HandedBlock};
+use crate::piece::HandedBlock;
 use std::alloc::{AllocError, Global};
 use std::marker::Model;
-use std::mem;
 
 /// An exploration under way. Contracts see its state (`specs/State.antt`).
 #[derive(Drop)]
@@ -54,12 +55,9 @@ impl<'a> Explore<'a> {
     ) -> Result<Explore<'a>, AllocError>
         ensures { IfOk result (λ e. e ≡ start jobs.now workers first) }
     {
-        let mut hands = Vec::new(alloc);
+        let hands = idle_hands(alloc, workers)?;
         let mut late = Vec::new(alloc);
-        for _worker in 0..workers {
-            hands.push(WorkerHand::Idle)?;
-            late.push(false)?;
-        }
+        late.resize(usize::from(workers), false)?;
         Ok(Explore {
             jobs,
             first,
@@ -94,17 +92,6 @@ impl<'a> Explore<'a> {
         self.pieces.as_slice()
     }
 
-    /// Whether a worker hasn't ended, and found a block at each draw.
-    fn may_draw(&self, worker: usize) -> bool
-        ensures value { result ≡ may_draw (slice_get self.now.hands worker) (slice_get self.now.late worker) }
-        ensures within { result ≡ true → worker < length self.now.late }
-    {
-        match (self.hands.get(worker), self.late.get(worker)) {
-            (Some(hand), Some(late)) => hand.may_draw(*late),
-            _ => false,
-        }
-    }
-
     /// Puts the next block into a worker's list.
     fn list_next(&mut self, worker: usize) -> Result<(), AllocError>
         requires { self.old.next < length self.old.blocks }
@@ -123,70 +110,46 @@ impl<'a> Explore<'a> {
         ensures drawn { OnOk result (self.new ≡ after_draw self.old worker (may_draw (slice_get self.old.hands worker) (slice_get self.old.late worker))) }
         ensures kept { OnErr result (self.new ≡ self.old) }
     {
-        if !self.may_draw(worker) {
+        if !may_draw(self.hands.as_slice(), self.late.as_slice(), worker) {
             return Ok(());
         }
         if self.next < self.jobs.block_count() as u64 {
             return self.list_next(worker);
         }
-        self.late[worker] = true;
+        set_late(self.late.as_mut_slice(), worker);
         self.next += 1;
         Ok(())
     }
 
     fn take(&mut self, alloc: Global, worker: u8, from: u8, block: usize)
-        ensures { self.new ≡ after_steal self.old worker from block (slice_get self.old.hands worker) (listed_under from block self.old.lists) }
+        ensures { self.new ≡ after_steal self.old worker from block (is_idle (slice_get self.old.hands worker)) (listed_under from block self.old.lists) }
     {
         let taker = usize::from(worker);
         let owner = usize::from(from);
+        if !is_idle(self.hands.as_slice(), taker) {
+            return;
+        }
         if !listed_under(self.lists.as_slice(), owner, block) {
             return;
         }
-        match self.hands.get(taker) {
-            Some(WorkerHand::Idle) => unlist(&mut self.lists, owner, block),
-            _ => return,
-        }
-        self.hands[taker] = WorkerHand::Holding {
+        unlist(&mut self.lists, owner, block);
+        let hand = WorkerHand::Holding {
             block,
             judged: JobList::new(alloc),
         };
-    }
-
-    /// The job that a worker is to judge next, if there is one.
-    fn next_job(&self, worker: usize) -> Option<Job>
-        ensures job { result ≡ next_job self.now.blocks (slice_get self.now.hands worker) }
-        ensures within { OnSome result (worker < length self.now.hands) }
-    {
-        match self.hands.get(worker) {
-            Some(WorkerHand::Holding { block, judged }) => {
-                self.jobs
-                    .block(*block)
-                    .get(judged.as_slice().len())
-                    .copied()
-            }
-            _ => None,
-        }
+        set_hand(self.hands.as_mut_slice(), taker, hand);
     }
 
     fn look(&mut self, worker: usize) -> Result<(), AllocError>
         ensures looked { OnOk result (self.new ≡ after_look self.old worker (slice_get self.old.hands worker) (next_job self.old.blocks (slice_get self.old.hands worker))) }
         ensures kept { OnErr result (self.new ≡ self.old) }
     {
-        let Some(job) = self.next_job(worker) else {
-            return Ok(());
-        };
-        let judged = job_by_cache(self.cache.as_slice(), job);
-        self.hands[worker].judge(judged)?;
-        Ok(())
-    }
-
-    /// The job that a worker judged last, if there is one in its hand.
-    fn last_judged(&self, worker: usize) -> Option<Job>
-        ensures { result ≡ last_judged (slice_get self.now.hands worker) }
-    {
-        match self.hands.get(worker) {
-            Some(WorkerHand::Holding { block: _, judged }) => judged.as_slice().last().copied(),
-            _ => None,
+        match next_job(self.hands.as_slice(), worker, self.jobs) {
+            Some(job) => {
+                let judged = job_by_cache(self.cache.as_slice(), job);
+                judge_in_hand(self.hands.as_mut_slice(), worker, judged)
+            }
+            None => Ok(()),
         }
     }
 
@@ -194,99 +157,58 @@ impl<'a> Explore<'a> {
         ensures put { OnOk result (self.new ≡ after_put self.old gone.now (last_judged (slice_get self.old.hands worker))) }
         ensures kept { OnErr result (self.new ≡ self.old) }
     {
-        let Some(job) = self.last_judged(worker) else {
-            return Ok(());
-        };
-        self.cache.push(CacheEntry {
-            key: job.key,
-            outcome: job.outcome,
-        })?;
-        take_out(&mut self.cache, gone);
-        Ok(())
+        match last_judged(self.hands.as_slice(), worker) {
+            Some(job) => {
+                let entry = CacheEntry {
+                    key: job.key,
+                    outcome: job.outcome,
+                };
+                put_entry(&mut self.cache, entry, gone)
+            }
+            None => Ok(()),
+        }
     }
 
     fn post(&mut self, worker: usize)
         ensures { self.new ≡ after_post self.old (slice_get self.old.hands worker) }
     {
-        let image = match self.hands.get(worker) {
-            Some(WorkerHand::Holding { block: _, judged }) => first_failing_image(
-                judged.as_slice(),
-            ),
-            _ => return,
-        };
+        let image = failing_in_hand(self.hands.as_slice(), worker);
         self.least = lower_image(self.least, image);
-    }
-
-    /// The piece by which a worker may pass over its block, if it may.
-    fn piece_passed(&self, worker: usize) -> Option<HandedBlock>
-        ensures piece { result ≡ piece_passed self.now.blocks self.now.first self.now.least (slice_get self.now.hands worker) }
-        ensures within { OnSome result (worker < length self.now.hands) }
-    {
-        if !self.first {
-            return None;
-        }
-        match (self.least, self.hands.get(worker)) {
-            (Some(image), Some(WorkerHand::Holding { block, judged: _ })) => passed_by(
-                image,
-                *block,
-                self.jobs.block(*block),
-            ),
-            _ => None,
-        }
     }
 
     fn pass(&mut self, worker: usize) -> Result<(), AllocError>
         ensures passed { OnOk result (self.new ≡ handed_over self.old worker (piece_passed self.old.blocks self.old.first self.old.least (slice_get self.old.hands worker))) }
         ensures kept { OnErr result (self.new ≡ self.old) }
     {
-        let Some(piece) = self.piece_passed(worker) else {
+        if !self.first {
+            return Ok(());
+        }
+        let Some(image) = self.least else {
+            return Ok(());
+        };
+        let Some(piece) = piece_passed(self.hands.as_slice(), worker, self.jobs, image) else {
             return Ok(());
         };
         self.pieces.push(piece)?;
-        self.hands[worker] = WorkerHand::Idle;
+        set_hand(self.hands.as_mut_slice(), worker, WorkerHand::Idle);
         Ok(())
-    }
-
-    /// Whether a worker holds a block that is wholly judged.
-    fn is_judged(&self, worker: usize) -> bool
-        ensures piece { result ≡ is_some (piece_done self.now.blocks (slice_get self.now.hands worker)) }
-        ensures within { result ≡ true → worker < length self.now.hands }
-    {
-        match self.hands.get(worker) {
-            Some(WorkerHand::Holding { block, judged }) => {
-                judged.as_slice().len() == self.jobs.block(*block).len()
-            }
-            _ => false,
-        }
     }
 
     fn retire(&mut self, worker: usize) -> Result<(), AllocError>
         ensures done { OnOk result (self.new ≡ handed_over self.old worker (piece_done self.old.blocks (slice_get self.old.hands worker))) }
         ensures kept { OnErr result (self.new ≡ self.old) }
     {
-        if !self.is_judged(worker) {
-            return Ok(());
+        if is_judged(self.hands.as_slice(), worker, self.jobs) {
+            hand_over(&mut self.pieces, self.hands.as_mut_slice(), worker)
+        } else {
+            Ok(())
         }
-        self.pieces.reserve(1)?;
-        let hand = mem::replace(&mut self.hands[worker], WorkerHand::Idle);
-        if let WorkerHand::Holding { block, judged } = hand {
-            self.pieces.push(HandedBlock {
-                block,
-                found: BlockFindings::Lines(judged.into_failing()),
-            })?;
-        }
-        Ok(())
     }
 
     fn quit(&mut self, worker: usize)
         ensures { self.new ≡ quit self.old worker (slice_get self.old.hands worker) }
     {
-        let left = match self.hands.get(worker) {
-            Some(WorkerHand::Idle) => WorkerHand::Ended,
-            Some(WorkerHand::Holding { block, judged: _ }) => WorkerHand::Lost { block: *block },
-            _ => return,
-        };
-        self.hands[worker] = left;
+        end_worker(self.hands.as_mut_slice(), worker);
     }
 }
 
@@ -333,20 +255,6 @@ pub fn run<'a>(
         step(alloc, &mut explore, event)?;
     }
     Ok(explore)
-}
-
-/// The piece that names that image, where the jobs of the block lie wholly after it.
-fn passed_by(image: u64, block: usize, jobs: &[Job]) -> Option<HandedBlock>
-    ensures { result ≡ (if lies_after image jobs.now then Some (record { block = block; found = Passed image }) else None) }
-{
-    if lies_after(image, jobs) {
-        Some(HandedBlock {
-            block,
-            found: BlockFindings::Passed(image),
-        })
-    } else {
-        None
-    }
 }
 
 /// The job with the outcome that the cache has for its key, or else with its own.

@@ -1,9 +1,10 @@
 //! What a worker has in hand.
 
-ghost use Rattle.std.specs.Prelude.{◌≡◌, OnOk, OnErr, Some};
-ghost use Rattle.explore_core.specs.State.{judging, may_draw};
+ghost use Rattle.std.specs.Prelude.{◌≡◌, OnOk, OnErr, Some, true, is_some};
+ghost use Rattle.explore_core.specs.State.{ended, failing_in_hand, is_going, is_idle, judging, last_judged, lines_in_hand, next_job, piece_done, piece_passed};
 
-use crate::job::{Job, JobList};
+use crate::job::{Job, JobList, Jobs, first_failing_image, lies_after};
+use crate::piece::{BlockFindings, HandedBlock};
 use std::alloc::AllocError;
 
 /// What a worker has in hand.
@@ -20,16 +21,89 @@ pub enum WorkerHand {
 }
 
 impl WorkerHand {
-    /// Whether a worker with this in hand may draw, by whether it found no block left.
-    pub(crate) fn may_draw(&self, late: bool) -> bool
-        ensures { result ≡ may_draw (Some self.now) (Some late) }
+    /// Whether the worker hasn't ended.
+    pub(crate) fn is_going(&self) -> bool
+        ensures { result ≡ is_going (Some self.now) }
     {
         match self {
-            WorkerHand::Idle => !late,
+            WorkerHand::Idle => true,
             WorkerHand::Holding {
                 block: _,
                 judged: _,
-            } => !late,
+            } => true,
+            _ => false,
+        }
+    }
+
+    /// Whether the worker may take a block.
+    pub(crate) fn is_idle(&self) -> bool
+        ensures { result ≡ is_idle (Some self.now) }
+    {
+        match self {
+            WorkerHand::Idle => true,
+            _ => false,
+        }
+    }
+
+    /// The job of the block in hand that is to be judged next, if there is one.
+    pub(crate) fn next_job(&self, jobs: &Jobs) -> Option<Job>
+        ensures { result ≡ next_job jobs.now (Some self.now) }
+    {
+        match self {
+            WorkerHand::Holding { block, judged } => {
+                jobs.block(*block).get(judged.as_slice().len()).copied()
+            }
+            _ => None,
+        }
+    }
+
+    /// The job that was judged last, if there is one in hand.
+    pub(crate) fn last_judged(&self) -> Option<Job>
+        ensures { result ≡ last_judged (Some self.now) }
+    {
+        match self {
+            WorkerHand::Holding { block: _, judged } => judged.as_slice().last().copied(),
+            _ => None,
+        }
+    }
+
+    /// The image of the first failing job in hand, if there is one.
+    pub(crate) fn failing_image(&self) -> Option<u64>
+        ensures { result ≡ failing_in_hand (Some self.now) }
+    {
+        match self {
+            WorkerHand::Holding { block: _, judged } => first_failing_image(judged.as_slice()),
+            _ => None,
+        }
+    }
+
+    /// The piece that names that image, where the block in hand lies wholly after it.
+    pub(crate) fn piece_passed(&self, jobs: &Jobs, image: u64) -> Option<HandedBlock>
+        ensures { result ≡ piece_passed jobs.now true (Some image) (Some self.now) }
+    {
+        match self {
+            WorkerHand::Holding { block, judged: _ } => {
+                if lies_after(image, jobs.block(*block)) {
+                    Some(HandedBlock {
+                        block: *block,
+                        found: BlockFindings::Passed(image),
+                    })
+                } else {
+                    None
+                }
+            }
+            _ => None,
+        }
+    }
+
+    /// Whether a block is in hand that is wholly judged.
+    pub(crate) fn is_judged(&self, jobs: &Jobs) -> bool
+        ensures { result ≡ is_some (piece_done jobs.now (Some self.now)) }
+    {
+        match self {
+            WorkerHand::Holding { block, judged } => {
+                judged.as_slice().len() == jobs.block(*block).len()
+            }
             _ => false,
         }
     }
@@ -42,6 +116,33 @@ impl WorkerHand {
         match self {
             WorkerHand::Holding { block: _, judged } => judged.push(job),
             _ => Ok(()),
+        }
+    }
+
+    /// The block in hand with its failing jobs, if there is one.
+    pub(crate) fn into_lines(self) -> Option<HandedBlock>
+        ensures { result ≡ lines_in_hand (Some self) }
+    {
+        match self {
+            WorkerHand::Holding { block, mut judged } => {
+                judged.keep_failing();
+                Some(HandedBlock {
+                    block,
+                    found: BlockFindings::Lines(judged),
+                })
+            }
+            _ => None,
+        }
+    }
+
+    /// Ends the worker: a block in its hand is lost.
+    pub(crate) fn end(&mut self)
+        ensures { self.new ≡ ended self.old }
+    {
+        match self {
+            WorkerHand::Idle => *self = WorkerHand::Ended,
+            WorkerHand::Holding { block, judged: _ } => *self = WorkerHand::Lost { block: *block },
+            _ => {}
         }
     }
 }

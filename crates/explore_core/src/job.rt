@@ -1,9 +1,9 @@
 //! What is judged: jobs in blocks.
 
-ghost use Rattle.std.specs.Prelude.{◌≡◌, ◌<◌, ◌^◌, ◌++◌, ◌∷◌, [], IfOk, OnOk, OnErr, length, slice_get, map, filter, find, unwrap_or, MatchOption, is_some, Vec, option_copied, IfSome, IfNone};
+ghost use Rattle.std.specs.Prelude.{◌≡◌, ◌<◌, ◌^◌, ◌++◌, ◌∷◌, [], OnOk, OnErr, length, map, is_some, IfSome, IfNone};
 ghost use Rattle.std.specs.List.{list_all};
 ghost use Rattle.explore_core.specs.Agreement.{agrees, last_image};
-ghost use Rattle.explore_core.specs.Jobs.{AreJobs, Rise, Agree, all_jobs, block_at, failing, first_failing_image, lies_after};
+ghost use Rattle.explore_core.specs.Jobs.{AreJobs, all_jobs, block_at, failing, first_failing_image, lies_after};
 
 use std::alloc::{AllocError, Global};
 use std::marker::Model;
@@ -62,45 +62,40 @@ impl JobList {
         Ok(())
     }
 
-    /// The failing jobs of the list.
-    pub(crate) fn into_failing(self) -> JobList
-        ensures { result ≡ failing self }
+    /// Leaves the failing jobs.
+    pub(crate) fn keep_failing(&mut self)
+        ensures { self.new ≡ failing self.old }
     {
-        let JobList { mut items } = self;
-        keep_failing(&mut items);
-        JobList { items }
+        self.items.retain(
+            |job: &Job| -> bool
+                ensures { result ≡ job.now.fails }
+            { job.fails },
+        );
     }
-}
-
-/// Leaves the failing jobs in a list.
-fn keep_failing(jobs: &mut Vec<Job>)
-    ensures { jobs.new.items ≡ failing jobs.old.items }
-{
-    jobs.retain(
-        |job: &Job| -> bool
-            ensures { result ≡ job.now.fails }
-        { job.fails },
-    );
 }
 
 /// The image of the first failing job of a list.
 pub(crate) fn first_failing_image(jobs: &[Job]) -> Option<u64>
     ensures { result ≡ first_failing_image jobs.now }
 {
-    first_failing(jobs).map(|job| job.image)
-}
-
-fn first_failing(jobs: &[Job]) -> Option<&Job>
-    ensures { option_copied result ≡ find (λ j. j.fails) jobs.now }
-{
-    jobs.iter().find(|job| job.fails)
+    for job in jobs {
+        if job.fails {
+            return Some(job.image);
+        }
+    }
+    None
 }
 
 /// Whether each image of a list comes after that one.
 pub(crate) fn lies_after(image: u64, jobs: &[Job]) -> bool
     ensures { result ≡ lies_after image jobs.now }
 {
-    jobs.iter().all(|job| image < job.image)
+    for job in jobs {
+        if job.image <= image {
+            return false;
+        }
+    }
+    true
 }
 
 /// Jobs in blocks: images never fall from job to job, and equal keys have equal outcomes. Contracts
@@ -154,28 +149,48 @@ fn last_image(before: u64, jobs: &[Job]) -> Option<u64>
 fn outcomes_agree(blocks: &[Vec<Job>]) -> bool
     ensures { result ≡ list_all (λ own. list_all (λ job. list_all (λ b. agrees b.items job) blocks.now) own.items) blocks.now }
 {
-    blocks.iter().all(|own| all_agree(blocks, own.as_slice()))
+    for own in blocks {
+        if !all_agree(blocks, own.as_slice()) {
+            return false;
+        }
+    }
+    true
 }
 
 /// Whether the jobs with the key of one of these have its outcome.
 fn all_agree(blocks: &[Vec<Job>], jobs: &[Job]) -> bool
     ensures { result ≡ list_all (λ job. list_all (λ b. agrees b.items job) blocks.now) jobs.now }
 {
-    jobs.iter().all(|job| agrees_with(blocks, job))
+    for job in jobs {
+        if !agrees_with(blocks, job) {
+            return false;
+        }
+    }
+    true
 }
 
 /// Whether the jobs of all blocks with the key of that one have its outcome.
 fn agrees_with(blocks: &[Vec<Job>], job: &Job) -> bool
     ensures { result ≡ list_all (λ b. agrees b.items job.now) blocks.now }
 {
-    blocks.iter().all(|block| agrees(block.as_slice(), job))
+    for block in blocks {
+        if !agrees(block.as_slice(), job) {
+            return false;
+        }
+    }
+    true
 }
 
 /// Whether the jobs of a list with the key of that one have its outcome.
 fn agrees(jobs: &[Job], job: &Job) -> bool
     ensures { result ≡ agrees jobs.now job.now }
 {
-    jobs.iter().all(|other| other.key != job.key || other.outcome == job.outcome)
+    for other in jobs {
+        if other.key == job.key && other.outcome != job.outcome {
+            return false;
+        }
+    }
+    true
 }
 
 impl Jobs {
@@ -206,9 +221,10 @@ impl Jobs {
     pub fn block(&self, block: usize) -> &[Job]
         ensures { result.now ≡ block_at self.now block }
     {
-        match self.blocks.get(block) {
-            Some(jobs) => jobs.as_slice(),
-            None => &[],
+        if block < self.blocks.len() {
+            self.blocks[block].as_slice()
+        } else {
+            &[]
         }
     }
 

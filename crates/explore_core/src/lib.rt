@@ -42,8 +42,9 @@
 //!
 //! # How it is written
 //!
-//! `explore` has a method for each event, and `lists` has the lists of all workers in one. It looks at the worker's hand first, asks for memory before it
-//! changes anything, and puts another hand in place. `job` tests jobs without memory, each against all.
+//! `explore` has a method for each event. It looks at the worker's hand first, and asks for memory before it changes anything.
+//! What it looks for in hands, and what it changes there, are calls of `hands`, over the hands alone; `lists` has the lists of
+//! all workers in one. `job` tests jobs without memory, each against all.
 //!
 //! # Example
 //!
@@ -77,6 +78,7 @@ mod cache;
 mod event;
 mod explore;
 mod hand;
+mod hands;
 mod job;
 mod laws;
 mod lists;

@@ -14,9 +14,12 @@ pub struct Drawn {
 pub(crate) fn listed_under(lists: &[Drawn], worker: usize, block: usize) -> bool
     ensures { result ≡ listed_under worker block lists.now }
 {
-    lists
-        .iter()
-        .any(|drawn| drawn.worker == worker && drawn.block == block)
+    for drawn in lists {
+        if drawn.worker == worker && drawn.block == block {
+            return true;
+        }
+    }
+    false
 }
 
 /// Takes a block out of the list of a worker.
