@@ -4,8 +4,7 @@ use Rattle.std.proofs.lemmas.Bool.{eq-eqb}
 use Rattle.std.proofs.lemmas.List.Elements.{All-get_or}
 use Rattle.std.specs.Option.{option_map}
 use Rattle.std.proofs.lemmas.Option.{same_Some, slice_get_past, slice_get_within, slice_get-map, get_or_from_slice_get}
-use Rattle.machine.specs.Outcome.{OutOfSteps}
-use Rattle.report.specs.Line.{fails}
+use Rattle.machine.specs.Outcome.{OutOfSteps, fails}
 use Rattle.checker.specs.Checker.{judgement}
 use Rattle.images.specs.Views.{context_at}
 use Rattle.cases.specs.Choices.{image_at}

@@ -3,8 +3,7 @@ use Rattle.std.proofs.Common.{ℕ, ◌≡◌, ◌+◌, ◌≤◌, Bool, true, fa
 use Rattle.std.specs.List.{All}
 use Rattle.std.proofs.lemmas.List.{map-append, length-map}
 use Rattle.std.proofs.lemmas.List.Elements.{All-head, All-tail}
-use Rattle.machine.specs.Outcome.{Ending}
-use Rattle.report.specs.Line.{fails}
+use Rattle.machine.specs.Outcome.{Ending, fails}
 use Rattle.checker.specs.Checker.{CheckerValue}
 use Rattle.cases.specs.Cases.{Case, whole_case, representative}
 use Rattle.cases.specs.AtCut.{CutValue, parts_of, case_of}

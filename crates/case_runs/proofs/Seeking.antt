@@ -5,9 +5,8 @@ use Rattle.std.proofs.lemmas.List.Elements.{All-push}
 use Rattle.logfmt.specs.Bounds.{LogValue}
 use Rattle.epochs.specs.declared.part.By.{By}
 use Rattle.helpers.specs.declared.device.Context.{Context}
-use Rattle.machine.specs.Outcome.{Ending}
+use Rattle.machine.specs.Outcome.{Ending, fails}
 use Rattle.images.specs.Views.{context_at}
-use Rattle.report.specs.Line.{fails}
 use Rattle.checker.specs.Checker.{CheckerValue}
 use Rattle.cases.specs.Cases.{representative}
 use Rattle.cases.specs.AtCut.{CutValue}

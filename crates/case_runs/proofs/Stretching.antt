@@ -4,7 +4,7 @@ use Rattle.std.specs.List.{All, AllByRecursion}
 use Rattle.std.proofs.lemmas.List.{map-append, length-append}
 use Rattle.std.proofs.lemmas.List.Elements.{All-append, All-nil, All-from_recursion, All-head, All-tail}
 use Rattle.std.proofs.lemmas.List.Sums.{sum_by-append}
-use Rattle.report.specs.Line.{fails}
+use Rattle.machine.specs.Outcome.{fails}
 use Rattle.checker.specs.Checker.{CheckerValue}
 use Rattle.cases.specs.Cases.{Case, whole_case, with_part}
 use Rattle.cases.specs.AtCut.{CutValue}

@@ -2,10 +2,9 @@
 use Rattle.std.specs.Prelude.{ℕ, ◌≡◌, ◌+◌, ◌<◌, ◌≤◌, Bool, true, List, [], length, map, sum_by, slice_get, Some}
 use Rattle.logfmt.specs.Bounds.{LogValue, IsLog}
 use Rattle.epochs.specs.declared.part.By.{By}
-use Rattle.machine.specs.Outcome.{Ending}
+use Rattle.machine.specs.Outcome.{Ending, fails}
 use Rattle.interp.specs.Ending.{ending_of}
 use Rattle.checker.specs.Checker.{CheckerValue}
-use Rattle.report.specs.Line.{fails}
 use Rattle.cases.specs.Choices.{Choice}
 use Rattle.cases.specs.Cases.{Case}
 use Rattle.cases.specs.Laws.{Includes}

@@ -1,9 +1,8 @@
 -- The leaves of which a judge was told, and those that fail.
 use Rattle.std.specs.Prelude.{ℕ, Bool, ◌≡◌, ◌+◌, ◌≤◌, if◌then◌else◌, List, [], ◌∷◌, ◌++◌}
 use Rattle.helpers.specs.declared.device.Context.{Context}
-use Rattle.machine.specs.Outcome.{Ending}
+use Rattle.machine.specs.Outcome.{Ending, fails}
 use Rattle.interp.specs.Ending.{ending_of}
-use Rattle.report.specs.Line.{fails}
 use Rattle.checker.specs.Checker.{CheckerValue, IsFor}
 use Rattle.checker.specs.Memory.{IsServed}
 use Rattle.cases.specs.Search.{LeafValue}

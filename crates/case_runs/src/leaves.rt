@@ -2,13 +2,12 @@
 
 ghost use Rattle.std.specs.Prelude.{◌≡◌, ◌++◌, ◌∷◌, [], map, length, IfOk, OnOk};
 ghost use Rattle.interp.specs.Ending.{ending_of};
-ghost use Rattle.report.specs.Line.{fails};
+ghost use Rattle.machine.specs.Outcome.{fails};
 ghost use Rattle.case_runs.specs.Leaves.{failing_value, leaf_of, failing_if};
 
 use interp::Outcome;
 use std::alloc::{AllocError, Global};
 use std::snapshot::Snapshot;
-use verdict_cache::copy_of;
 
 /// A leaf on whose images a checker fails.
 #[derive(Drop)]
@@ -28,20 +27,8 @@ pub(crate) struct ToldLeaf {
     pub(crate) outcome: Snapshot<Outcome>,
 }
 
-/// Whether a checker fails that ends so.
-fn fails_with(outcome: &Outcome) -> bool
-    ensures { result ≡ fails (ending_of outcome.now) }
-{
-    match outcome {
-        Outcome::Verdict(verdict) => verdict.answer != 0,
-        Outcome::Fault { code: _, slot: _ } => true,
-        Outcome::OutOfSteps => true,
-        Outcome::Stray(_slot) => true,
-    }
-}
-
 /// A copy of the sets of a case.
-fn copy_sets(alloc: Global, sets: &[u16]) -> Result<Vec<u16>, AllocError>
+pub(crate) fn copy_sets(alloc: Global, sets: &[u16]) -> Result<Vec<u16>, AllocError>
     ensures { IfOk result (λ copy. copy.items ≡ sets.now) }
 {
     let mut copy = Vec::new(alloc);
@@ -58,11 +45,11 @@ pub(crate) fn put_failing(
 ) -> Result<(), AllocError>
     ensures { OnOk result (map failing_value failing.new.items ≡ map failing_value failing.old.items ++ failing_if number (record { sets = sets.now; ending = ending_of outcome.now })) }
 {
-    if fails_with(outcome) {
+    if outcome.fails() {
         let sets = copy_sets(*failing.allocator(), sets)?;
         failing.push(FailingCase {
             number,
-            outcome: copy_of(outcome),
+            outcome: outcome.copy(),
             sets,
         })?;
     }

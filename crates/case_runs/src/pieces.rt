@@ -9,6 +9,7 @@ ghost use Rattle.case_runs.specs.Pieces.{IsSearchOf, IsStart, start_case, RanFro
 use crate::found::{CaseFindings, Losses};
 use crate::gate::{CaseGate, Watched};
 use crate::judge::CaseJudge;
+use crate::leaves::copy_sets;
 use cases::{Cut, Search};
 use checker::Checker;
 use helpers::Context;
@@ -71,15 +72,6 @@ pub(crate) fn all_choices(alloc: Global) -> Start
         whole: true,
         sets: Vec::new(alloc),
     }
-}
-
-/// A copy of the sets of a case.
-fn copy_sets(alloc: Global, sets: &[u16]) -> Result<Vec<u16>, AllocError>
-    ensures { IfOk result (λ copy. copy.items ≡ sets.now) }
-{
-    let mut copy = Vec::new(alloc);
-    copy.extend_from_slice(sets)?;
-    Ok(copy)
 }
 
 /// A copy of a start.

@@ -12,7 +12,7 @@ use Rattle.losses.specs.declared.flushes.window.Window.{Window}
 use Rattle.losses.specs.declared.flushes.counted.MissingFlush.{MissingFlush}
 use Rattle.losses.specs.declared.cure.failure.Failure.{Failure}
 use Rattle.losses.specs.Counted.{AreMissing}
-use Rattle.losses.specs.CureText.{programs_text, missing_line}
+use Rattle.losses.specs.CureText.{missing_text}
 use Rattle.losses.specs.FailureWindows.{windows_in}
 use Rattle.cases.specs.AtCut.{CutValue, parts_of, case_of}
 use Rattle.case_runs.specs.declared.leaves.FailingCase.{FailingCase}
@@ -115,10 +115,6 @@ all_failures log way tears found = flat_map (cut_failures log way tears) found
 -- title, options, programs and totals
 unfoldable pub begin_text : HeadValue → Losses → List CutFound → List ℕ
 begin_text h asked found = codes "crash why cases 1\n" ++ options_text h asked ++ totals_text found
-
--- on how many cases each program fails, and which flushes are missing for them
-unfoldable pub missing_text : ℕ → List Failure → List MissingFlush → List ℕ
-missing_text programs failures missing = programs_text programs failures ++ flat_map missing_line missing
 
 -- the whole text, by the failures, the flushes and the lines of the cuts
 unfoldable pub parts_bytes : HeadValue → Losses → List CutFound → List Failure → List MissingFlush → List ℕ → List ℕ

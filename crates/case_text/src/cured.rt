@@ -51,7 +51,7 @@ fn line_of(
 }
 
 /// The window of a failing case.
-fn window_of(
+pub fn window_of(
     known: &mut KnownParts,
     site: &Site<'_>,
     case: &FailingCase,

@@ -1,54 +1,12 @@
 //! What stands before the lines of cases.
 
 ghost use Rattle.std.specs.Prelude.{◌≡◌, ◌++◌, OnOk, string_bytes};
-ghost use Rattle.report.specs.Text.{yes_or_no, cuts_word, by_words};
-ghost use Rattle.report.specs.Report.{device_text, given_text, base_words, program_line, program_lines};
 ghost use Rattle.case_text.specs.Text.{torn_words, at_most_words, losses_text, options_text, head_text, has_range, inputs_told, inputs_text, opening_text, cases_head};
 
 use case_runs::Losses;
-use epochs::{By, CutKind, Cuts};
-use report::choice_text::put_cuts_words;
-use report::{Head, ProgramHead, put_steps};
+use epochs::Cuts;
+use report::{Head, put_device, put_given, put_programs, yes_or_no_word};
 use std::alloc::AllocError;
-
-fn yes_or_no_word(b: bool) -> &'static str
-    ensures { result.now ≡ yes_or_no b }
-{
-    if b { "yes" } else { "no" }
-}
-
-fn word_of_cuts(kind: CutKind) -> &'static str
-    ensures { result.now ≡ cuts_word kind }
-{
-    match kind {
-        CutKind::All => "all",
-        CutKind::BeforeFlush => "flush",
-        CutKind::AfterMark => "mark",
-    }
-}
-
-/// What departs as one, where it isn't a sector.
-fn words_of_by(by: By) -> &'static str
-    ensures { result.now ≡ by_words by }
-{
-    match by {
-        By::Sector => "",
-        By::Write => " by write",
-    }
-}
-
-/// Appends the device, the length of the log and the cuts.
-#[tactic(auto, unfolding(report::specs::Report::device_text))]
-fn put_device(out: &mut String, head: &Head) -> Result<(), AllocError>
-    ensures { OnOk result (string_bytes out.new ≡ string_bytes out.old ++ device_text head.now) }
-{
-    let cuts = word_of_cuts(head.cuts.kind);
-    write!(
-        out,
-        "sectors {} entries {} cuts {cuts}",
-        head.sectors, head.entries
-    )
-}
 
 /// Appends how many parts may be torn, where some may be.
 fn put_torn(out: &mut String, asked: Losses) -> Result<(), AllocError>
@@ -78,49 +36,6 @@ fn put_losses(out: &mut String, asked: Losses) -> Result<(), AllocError>
     write!(out, " bound any tears {}", yes_or_no_word(asked.tears))?;
     put_torn(out, asked)?;
     put_at_most(out, asked.lost)
-}
-
-/// Appends the number of what the device held before entry 0, where that is given.
-fn put_base(out: &mut String, base: Option<u64>) -> Result<(), AllocError>
-    ensures { OnOk result (string_bytes out.new ≡ string_bytes out.old ++ base_words base) }
-{
-    match base {
-        Some(number) => write!(out, " base {number}"),
-        None => Ok(()),
-    }
-}
-
-/// Appends what departs as one where it isn't a sector, the flushes that were added, the range of the cuts, and the number of what
-/// the device held before entry 0.
-#[tactic(auto, unfolding(report::specs::Report::given_text))]
-fn put_given(out: &mut String, head: &Head) -> Result<(), AllocError>
-    ensures { OnOk result (string_bytes out.new ≡ string_bytes out.old ++ given_text head.now) }
-{
-    let by = words_of_by(head.by);
-    write!(out, "{by}")?;
-    put_cuts_words(out, &head.cuts)?;
-    put_base(out, head.base)?;
-    write!(out, "\n")
-}
-
-/// Appends the line of a program.
-#[tactic(auto, unfolding(report::specs::Report::program_line))]
-fn put_program(out: &mut String, number: usize, program: ProgramHead) -> Result<(), AllocError>
-    ensures { OnOk result (string_bytes out.new ≡ string_bytes out.old ++ program_line number program) }
-{
-    write!(out, "program {number} slots {} ", program.slots)?;
-    put_steps(out, program)?;
-    write!(out, "\n")
-}
-
-/// Appends the lines of the programs.
-fn put_programs(out: &mut String, programs: &[ProgramHead]) -> Result<(), AllocError>
-    ensures { OnOk result (string_bytes out.new ≡ string_bytes out.old ++ program_lines 0 programs.now) }
-{
-    for (number, program) in programs.iter().enumerate() {
-        put_program(out, number, *program)?;
-    }
-    Ok(())
 }
 
 /// Appends the options and the programs.

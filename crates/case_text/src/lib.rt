@@ -118,7 +118,7 @@ mod totals;
 mod why;
 mod writer;
 
-pub use cured::{CasesCure, cure_of_cases};
+pub use cured::{CasesCure, cure_of_cases, window_of};
 pub use fates::{Fates, fates_of, is_free, is_kept, is_never_whole, set_at};
 pub use first::write_first;
 pub use head::{has_range, put_opening, put_options};

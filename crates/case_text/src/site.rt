@@ -1,15 +1,14 @@
 //! A cut, with what is the same in each of its lines.
 
-ghost use Rattle.std.specs.Prelude.{◌≡◌, ◌+◌, ◌<◌, ◌≤◌, ◌==◌, ◌||◌, not, length, IfOk};
-ghost use Rattle.cases.specs.Risk.{is_at_risk};
+ghost use Rattle.std.specs.Prelude.{◌≡◌, ◌<◌, ◌≤◌, length, IfOk};
 ghost use Rattle.epochs.specs.Laws.{last_flush};
 ghost use Rattle.epochs.specs.Units.{epoch_at, marks_at};
 ghost use Rattle.cases.specs.AtCut.{Apart, parts_of};
 ghost use Rattle.case_text.specs.Window.{stays, last_staying, later, between};
 
 use crate::known::KnownParts;
-use cases::Cut;
-use epochs::{By, Part, Plan};
+use cases::{Cut, is_risky};
+use epochs::{By, Part, Plan, last_flush};
 use logfmt::{Entry, Log};
 use losses::flushes::Window;
 use std::alloc::{AllocError, Global};
@@ -37,40 +36,6 @@ impl<'a> Model for Site<'a> {
     ghost invariant = { λ s. IsSite (record { at = s.cut; tears = s.tears }) s.by s.epoch s.marks s.staying };
 }
 
-/// The last flush entry before a cut, or 0 where there is none.
-fn last_flush(entries: &[Entry], cut: u32) -> u32
-    requires { cut ≤ length entries.now }
-    ensures { result ≡ last_flush entries.now cut }
-{
-    let mut number = cut;
-    while number > 0 {
-        number -= 1;
-        if entries[number as usize].flags.flush {
-            return number;
-        }
-    }
-    0
-}
-
-/// Whether an entry isn't forced to the device with its data, or is the last before a cut, and so in flight.
-fn is_open(forced: bool, number: u32, cut: u32) -> bool
-    requires { number < cut }
-    ensures { result ≡ (not forced || (number + 1 == cut)) }
-{
-    if forced { number + 1 == cut } else { true }
-}
-
-/// Whether a crash may take something of an entry at a cut, by the last flush entry before that.
-fn is_at_risk(entries: &[Entry], cut: u32, flush: u32, number: u32) -> bool
-    requires cut { cut ≤ length entries.now }
-    requires number { number < cut }
-    requires flush { flush ≡ last_flush entries.now cut }
-    ensures { result ≡ is_at_risk entries.now cut number }
-{
-    let open = is_open(entries[number as usize].flags.fua, number, cut);
-    if open { flush <= number } else { false }
-}
-
 /// Whether an entry stands on each image of a cut.
 fn stays(by: By, entries: &[Entry], cut: u32, flush: u32, number: u32) -> bool
     requires cut { cut ≤ length entries.now }
@@ -78,7 +43,7 @@ fn stays(by: By, entries: &[Entry], cut: u32, flush: u32, number: u32) -> bool
     requires flush { flush ≡ last_flush entries.now cut }
     ensures { result ≡ stays by entries.now cut number }
 {
-    let risk = is_at_risk(entries, cut, flush, number);
+    let risk = is_risky(entries, cut, flush, number);
     let entry = &entries[number as usize];
     entry.flags.mark || (0 < by.parts(entry) && !risk)
 }

@@ -7,7 +7,7 @@ ghost use Rattle.losses.specs.Counted.{AreMissing};
 ghost use Rattle.losses.specs.Places.{AreWindows};
 ghost use Rattle.losses.specs.FailureWindows.{windows_in};
 ghost use Rattle.case_text.specs.Collected.{told_value};
-ghost use Rattle.case_text.specs.Why.{cut_line, told_text, program_causes, by_program, found_causes, cut_causes, program_failures, found_failures, cut_failures, all_failures, begin_text, missing_text, parts_bytes, TellsWhy};
+ghost use Rattle.case_text.specs.Why.{cut_line, told_text, program_causes, by_program, found_causes, cut_causes, program_failures, found_failures, cut_failures, all_failures, begin_text, parts_bytes, TellsWhy};
 
 use crate::grouped::put_groups;
 use crate::head::put_options;
@@ -18,8 +18,8 @@ use crate::totals::put_totals;
 use case_runs::{CaseFindings, CutFound, FailingCase, Losses};
 use epochs::{By, Plan};
 use logfmt::Log;
-use losses::cure::{Failure, put_missing, put_programs, windows_of};
-use losses::flushes::{MissingFlush, missing_flushes};
+use losses::cure::{Failure, missing_of, put_flushes};
+use losses::flushes::MissingFlush;
 use report::Head;
 use std::alloc::{AllocError, Global};
 
@@ -137,19 +137,6 @@ fn put_cuts(
     Ok(())
 }
 
-/// The flushes that are missing for some failures.
-fn missing_for(
-    alloc: Global,
-    log: &Log,
-    failures: &[Failure],
-) -> Result<Vec<MissingFlush>, AllocError>
-    requires { AreWindows (length log.now.entries) (windows_in failures.now) }
-    ensures { IfOk result (λ flushes. AreMissing (windows_in failures.now) flushes.items) }
-{
-    let windows = windows_of(alloc, failures)?;
-    missing_flushes(alloc, windows.as_slice(), log.entries().len())
-}
-
 /// Appends title, options, programs and totals.
 #[tactic(auto, unfolding(crate::specs::Why::begin_text))]
 fn put_begin(
@@ -163,20 +150,6 @@ fn put_begin(
     write!(out, "crash why cases 1\n")?;
     put_options(out, head, asked)?;
     put_totals(out, found)
-}
-
-/// Appends on how many cases each program fails, and which flushes are missing for them.
-#[tactic(auto, unfolding(crate::specs::Why::missing_text))]
-fn put_flushes(
-    out: &mut String,
-    programs: usize,
-    failures: &[Failure],
-    flushes: &[MissingFlush],
-) -> Result<(), AllocError>
-    ensures { OnOk result (string_bytes out.new ≡ string_bytes out.old ++ missing_text programs failures.now flushes.now) }
-{
-    put_programs(out, programs, failures)?;
-    put_missing(out, flushes)
 }
 
 /// The whole text, of its parts.
@@ -214,7 +187,7 @@ fn explained(
     requires causes { causes.now ≡ flat_map (cut_causes log.now head.now.by asked.tears) found.now }
     ensures { IfOk result (λ bytes. TellsWhy head.now asked log.now found.now bytes.items) }
 {
-    let flushes = missing_for(alloc, log, failures)?;
+    let flushes = missing_of(alloc, log, failures)?;
     let bytes = write_parts(
         alloc,
         head,

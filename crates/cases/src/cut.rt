@@ -10,7 +10,7 @@ ghost use Rattle.logfmt.specs.Bounds.{IsLog};
 ghost use Rattle.cases.specs.Risk.{is_at_risk, parts_at_risk};
 ghost use Rattle.cases.specs.AtCut.{parts_of, Apart};
 
-use epochs::{By, Part};
+use epochs::{By, Part, last_flush};
 use logfmt::{Entry, Log};
 use std::alloc::{AllocError, Global};
 use std::marker::Model;
@@ -37,22 +37,6 @@ impl<'a> Model for Cut<'a> {
     ghost view = { λ c. record { log = c.log.now; way = c.way; cut = c.number } };
 
     ghost invariant = { λ c. IsCut (record { log = c.log.now; way = c.way; cut = c.number }) c.flush c.parts.items };
-}
-
-/// The last flush entry before a cut, or 0 where there is none.
-fn last_flush(entries: &[Entry], cut: u32) -> u32
-    requires { cut ≤ length entries.now }
-    ensures value { result ≡ last_flush entries.now cut }
-    ensures bound { result ≤ cut }
-{
-    let mut number = cut;
-    while number > 0 {
-        number -= 1;
-        if entries[number as usize].flags.flush {
-            return number;
-        }
-    }
-    0
 }
 
 /// How many sectors a part of an entry has.
@@ -93,7 +77,7 @@ fn is_open(forced: bool, number: u32, cut: u32) -> bool
 }
 
 /// Whether a crash may take something of an entry at a cut, by the last flush entry before that.
-fn is_risky(entries: &[Entry], cut: u32, flush: u32, number: u32) -> bool
+pub fn is_risky(entries: &[Entry], cut: u32, flush: u32, number: u32) -> bool
     requires cut { cut ≤ length entries.now }
     requires number { number < cut }
     requires flush { flush ≡ last_flush entries.now cut }

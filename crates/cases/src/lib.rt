@@ -39,6 +39,7 @@
 //! | `Search::new(alloc, cut, tears, torn, lost)` | the same leaf by leaf: a search that hasn't begun |
 //! | `search.next(judge)` | goes on to the next leaf, if there is one; `search.sets()` is its case |
 //! | `search.torn_beyond()`, `search.lost_beyond()` | how many cases were left out so far |
+//! | `is_risky(entries, cut, flush, number)` | whether a crash may take something of an entry at a cut |
 //! | `cut.parts()` | the parts at risk, in order, each once |
 //! | `cut.first_split(sets, sectors)` | the part that splits a case, the first one of some sectors, with its fates in groups; or none |
 //! | `cut.sector(sets, number)` | a sector of the image of a case's representative, however many parts are lost or torn in it |
@@ -114,7 +115,7 @@ mod row;
 mod search;
 mod split;
 
-pub use cut::Cut;
+pub use cut::{Cut, is_risky};
 pub use fates::{fate_at, first_of};
 pub use known::KnownRows;
 pub use laws::{each_is_in_one, last_cuts_have_all, leaves_end_alike, tree_is_one};

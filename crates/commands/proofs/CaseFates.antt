@@ -4,7 +4,7 @@ use Rattle.std.specs.List.{list_all}
 use Rattle.std.proofs.lemmas.Bool.Decides.{nat_tests}
 use Rattle.epochs.specs.declared.part.Part.{Part}
 use Rattle.choices.specs.declared.fate.Fate.{Fate}
-use Rattle.report.specs.Line.{fails}
+use Rattle.machine.specs.Outcome.{fails}
 use Rattle.cases.specs.Choices.{all_fates}
 use Rattle.cases.specs.Cases.{Case, whole_case, is_same, with_part, show_alike, firsts, Split}
 use Rattle.cases.specs.Laws.{IsAmong, AreCases}

@@ -26,7 +26,8 @@ use Rattle.losses.specs.declared.why.cut.CutFailures.{CutFailures}
 use Rattle.losses.specs.Failures.{AreCuts}
 use Rattle.losses.specs.FailureWindows.{AreFailuresAt}
 use Rattle.losses.specs.ProgramOutcomes.{own_outcome, outcomes_failing}
-use Rattle.losses.specs.WhyText.{cuts_text}
+use Rattle.losses.specs.CureText.{missing_text}
+use Rattle.losses.specs.Causes.{causes_from}
 use Rattle.crash_page.specs.Judges.{judge_text}
 use Rattle.crash_page.specs.Failing.{IsFailing as FailsOn}
 use Rattle.join.specs.Given.{ToldLine, IsTold, AreToldOf, GivenValue, IsReport, told_body, told_line, told_totals, chosen_told, marks_told, images_told}
@@ -48,10 +49,10 @@ use Rattle.request.specs.Extents.{first_meant, end_meant}
 use Rattle.request.specs.Source.{Recording, images_of}
 use Rattle.runs.specs.Explore.{subject_of, program_head, head_of, images_text, report_of}
 use Rattle.runs.specs.Inputs.{inputs_number}
-use Rattle.runs.specs.Why.{images_failing, starts_of, IsMissing, IsCause, causes_from, why_head, missing_text, why_text, TellsCauses, PageOfLines, with_first}
+use Rattle.runs.specs.Why.{images_failing, starts_of, IsMissing, why_head, why_text, TellsCauses, PageOfLines, with_first}
 use Rattle.runs.specs.Paged.{IsSaid}
 use Rattle.runs.proofs.Missed.{failures_are}
-use Rattle.retold.specs.Told.{is_of, images_told_of, outcomes_told_of, causes_after, opening_told, missing_told, TellsWhy, TellsPage, of_checker, of_own}
+use Rattle.retold.specs.Told.{is_of, images_told_of, outcomes_told_of, opening_told, TellsWhy, TellsPage, of_checker, of_own}
 use Rattle.retold.specs.Told.{IsSaid as GivenSaid}
 use Rattle.retold.specs.Retold.{head_given, options_given, starts_given}
 use Rattle.commands.proofs.RunOf.{run_of, IsGiven, is_run}
@@ -274,21 +275,18 @@ is_report text files s value checkers report given whole all is =
 
 -- what is told of it is told of the failing lines
 
-causes_are : (s : StartsValue) (ls : List FailingLine) (number : ℕ) (causes : List (List CutFailures)) → causes_after s (told_all ls) number causes ≡ causes_from s ls number causes
-causes_are s ls number [] = refl
-causes_are s ls number (cuts ∷ causes) =
-    let own = own_outcomes number ls in
-    let rest = causes_are s ls (number + 1) causes in
-    λ i. cuts_text s.plan.by s (own i) number cuts ++ rest i
+causes_are : (s : StartsValue) (ls : List FailingLine) (causes : List (List CutFailures))
+    → causes_from s (λ program. outcomes_told_of program (told_all ls)) 0 causes ≡ causes_from s (λ program. outcomes_failing program ls) 0 causes
+causes_are s ls causes = λ i. causes_from s (λ program. own_outcomes program ls i) 0 causes
 
 pub tells_causes : (s : Settings) (value : LogValue) (checkers : List CheckerValue) (bytes : List ℕ) → TellsWhy (starts_given (set_images s) value) (given_of s value checkers) bytes
     → TellsCauses (head_of (with_first false s) value checkers) (starts_of s value) (failing_lines (subject_of s value checkers)) bytes
-unfolding head_of why_text why_head missing_text opening_told missing_told
+unfolding head_of why_text why_head missing_text opening_told
 tells_causes s value checkers bytes h =
     let ls : List FailingLine = failing_lines (subject_of s value checkers) in
     let starts : StartsValue = starts_of s value in
     let marks = subst (λ (ms : List LineMark). AreFailuresAt starts ms h.failures) (marks_are ls) h.are_missing.failures in
-    let causes = causes_are starts ls 0 h.causes in
+    let causes = causes_are starts ls h.causes in
     record {
       failures = h.failures;
       missing = h.missing;
@@ -299,9 +297,9 @@ tells_causes s value checkers bytes h =
           subst (λ (ns : List ℕ). AreCuts starts ns (outcomes_failing program ls) cuts) (own_images program ls)
           (subst (λ (os : List (List ℕ)). AreCuts starts (images_told_of program (told_all ls)) os cuts) (own_outcomes program ls) (h.each program cuts at));
       text = h.text
-          ∙ ap (λ (bs : List ℕ). opening_told (given_of s value checkers) ++ (missing_told (length (map program_head checkers)) h.failures h.missing ++ bs)) causes
+          ∙ ap (λ (bs : List ℕ). opening_told (given_of s value checkers) ++ (missing_text (length (map program_head checkers)) h.failures h.missing ++ bs)) causes
           ∙ grouped (codes "crash why 2\n") (options_text (head_of (with_first false s) value checkers)) (totals_line (length (images_of s value)) ls)
-          (missing_text (length (map program_head checkers)) h.failures h.missing) (causes_from starts ls 0 h.causes);
+          (missing_text (length (map program_head checkers)) h.failures h.missing) (causes_from starts (λ program. outcomes_failing program ls) 0 h.causes);
     }
   where
     grouped : (a b c d e : List ℕ) → (a ++ (b ++ c)) ++ (d ++ e) ≡ a ++ b ++ c ++ d ++ e

@@ -8,10 +8,10 @@ use Rattle.bpf_isa.specs.Program.{slot_bytes}
 use Rattle.bpf_isa.specs.declared.instr.Instr.{Instr}
 use Rattle.bpf_asm.specs.Laws as asm
 use Rattle.verifier.specs.Laws.{OneVerdict}
-use Rattle.report.specs.Line.{fails}
+use Rattle.machine.specs.Outcome.{fails}
 use Rattle.choices.specs.Choices.{ChoiceValue}
 use Rattle.checker.specs.Checker.{CheckerValue}
-use Rattle.notes.specs.LogTable.{log_table}
+use Rattle.crash_text.specs.LogTable.{log_table}
 use Rattle.request.specs.declared.settings.Settings.{Settings}
 use Rattle.request.specs.declared.settings.Telling.{Telling}
 use Rattle.request.specs.declared.settings.Telling.TheVariants as telling

@@ -24,7 +24,8 @@ use Rattle.case_text.specs.Text.{known_text, window_text, place_text, number_tex
 use Rattle.case_text.specs.Causes.{cause_text}
 use Rattle.case_text.specs.Cured as cured
 use Rattle.case_text.specs.Cured.{line_without, uncured_line, program_uncured, found_uncured, all_uncured, cure_begin}
-use Rattle.case_text.specs.Why.{ToldValue, tail_text, told_of, all_told, told_text, by_program, found_causes, cut_causes, failure_of, found_failures, all_failures, begin_text, missing_text, parts_bytes, why_bytes, TellsWhy}
+use Rattle.losses.specs.CureText.{missing_text}
+use Rattle.case_text.specs.Why.{ToldValue, tail_text, told_of, all_told, told_text, by_program, found_causes, cut_causes, failure_of, found_failures, all_failures, begin_text, parts_bytes, why_bytes, TellsWhy}
 use Rattle.losses.specs.declared.cure.failure.Failure.{Failure}
 use Rattle.losses.specs.Counted.{AreMissing}
 use Rattle.losses.specs.FailureWindows.{windows_in}

@@ -11,8 +11,8 @@ use Rattle.losses.specs.declared.flushes.counted.MissingFlush.{MissingFlush}
 use Rattle.losses.specs.Counted.{AreMissing}
 use Rattle.losses.specs.declared.cure.failure.Failure.{Failure}
 use Rattle.losses.specs.FailureWindows.{IsWindowIf, IsFailureAt, AreFailuresAt, windows_in}
-use Rattle.losses.specs.CureText.{programs_text, flush_line}
-use Rattle.losses.specs.declared.why.cut.CutFailures.{CutFailures}
+use Rattle.losses.specs.CureText.{programs_text, missing_text, flush_line}
+use Rattle.losses.specs.Causes.{causes_from}
 use Rattle.crash_page.specs.Judges.{checker_text, outside_text}
 use Rattle.crash_page.specs.Failing.{IsPage}
 use Rattle.join.specs.Given.{ToldLine, GivenValue, NoReport, marks_told}
@@ -23,7 +23,7 @@ use Rattle.request.specs.Source.{Recording, HasImages}
 use Rattle.epochs.specs.Flushes.{places_of}
 use Rattle.retold.specs.declared.command.RetellFault.{RetellFault}
 use Rattle.retold.specs.declared.command.RetellFault.TheVariants as fault
-use Rattle.retold.specs.Told.{images_told_of, outcomes_told_of, AreMissingFor, AreCausesOf, causes_after, opening_told, missing_told, count_of, TellsWhy, IsSaid, of_checker, of_own, TellsPage, TellsPlaces, uncured_told, end_told}
+use Rattle.retold.specs.Told.{images_told_of, outcomes_told_of, AreMissingFor, opening_told, count_of, TellsWhy, IsSaid, of_checker, of_own, TellsPage, TellsPlaces, uncured_told, end_told}
 use Rattle.retold.specs.Retold as retold
 use Rattle.retold.specs.Retold.{options_given, starts_given, IsGiven, Retells, IsRetoldOf, IsRetold, RefusesSourceAs, RefusesReport, RefusesRetold}
 use Rattle.commands.specs.Acting.{retold_refusal}
@@ -35,7 +35,7 @@ use Rattle.join.proofs.Outsides.{cancel_back}
 use Rattle.join.proofs.Texts.{cancel}
 use Rattle.commands.proofs.OnePage.{one_page_of}
 use Rattle.commands.proofs.OneReport.{Below, same_test, same_log, of_source}
-use Rattle.commands.proofs.OneText.{same_cause}
+use Rattle.commands.proofs.OneText.{same_programs}
 
 -- a mark has one failure
 same_failure_at : (s : StartsValue) (m : LineMark) (f g : Failure) → IsFailureAt s m f → IsFailureAt s m g → f ≡ g
@@ -72,15 +72,6 @@ same_flushes s ts fs gs ms ns a b =
     let windows : windows_in gs ≡ windows_in fs = ap windows_in (same_failures_at s (marks_told ts) gs fs b.failures a.failures) in
     same_missing (windows_in fs) ms ns a.missing (subst (λ (ws : List Window). AreMissing ws ns) windows b.missing)
 
-same_told : (s : StartsValue) (ts : List ToldLine) (number : ℕ) (cs ds : List (List CutFailures)) → AreAlike (AreAlike SameCut) cs ds → causes_after s ts number cs ≡ causes_after s ts number ds
-same_told s ts number [] [] h = refl
-same_told s ts number [] (d ∷ ds) h = absurd h
-same_told s ts number (c ∷ cs) [] h = absurd h
-same_told s ts number (c ∷ cs) (d ∷ ds) h =
-    let first = same_cause s (outcomes_told_of number ts) number c d h.0 in
-    let rest = same_told s ts (number + 1) cs ds h.1 in
-    λ i. first i ++ rest i
-
 -- why programs fail is told in one way
 pub one_why : (s : StartsValue) (g : GivenValue) (bytes others : List ℕ) → TellsWhy s g bytes → TellsWhy s g others → bytes ≡ others
 one_why s g bytes others a b =
@@ -88,10 +79,10 @@ one_why s g bytes others a b =
     let missing : a.missing ≡ b.missing = same_flushes s g.lines a.failures b.failures a.missing b.missing a.are_missing b.are_missing in
     let causes = alike (AreAlike SameCut) a.causes b.causes (a.all ∙ sym b.all)
     (λ program c d p q. same_cuts s (images_told_of program g.lines) (outcomes_told_of program g.lines) c d (a.each program c p) (b.each program d q)) in
-    let same = same_told s g.lines 0 a.causes b.causes causes in
-    let text : opening_told g ++ (missing_told (count_of g) a.failures a.missing ++ causes_after s g.lines 0 a.causes)
-    ≡ opening_told g ++ (missing_told (count_of g) b.failures b.missing ++ causes_after s g.lines 0 b.causes) =
-    λ i. opening_told g ++ (missing_told (count_of g) (failures i) (missing i) ++ same i) in
+    let same = same_programs s (λ program. outcomes_told_of program g.lines) 0 a.causes b.causes causes in
+    let text : opening_told g ++ (missing_text (count_of g) a.failures a.missing ++ causes_from s (λ program. outcomes_told_of program g.lines) 0 a.causes)
+    ≡ opening_told g ++ (missing_text (count_of g) b.failures b.missing ++ causes_from s (λ program. outcomes_told_of program g.lines) 0 b.causes) =
+    λ i. opening_told g ++ (missing_text (count_of g) (failures i) (missing i) ++ same i) in
     a.text ∙ text ∙ sym b.text
 
 -- and so are places for flushes

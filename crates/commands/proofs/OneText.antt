@@ -11,7 +11,9 @@ use Rattle.losses.specs.FailureWindows.{windows_in}
 use Rattle.losses.specs.ProgramOutcomes.{outcomes_failing}
 use Rattle.losses.specs.declared.why.cut.CutFailures.{CutFailures}
 use Rattle.losses.specs.WhyText.{group_line, cut_head, cut_text, cuts_text}
-use Rattle.runs.specs.Why.{images_failing, causes_from, why_head, missing_text, why_text, TellsCauses}
+use Rattle.losses.specs.CureText.{missing_text}
+use Rattle.losses.specs.Causes.{causes_from}
+use Rattle.runs.specs.Why.{images_failing, why_head, why_text, TellsCauses}
 use Rattle.commands.proofs.Alike.{AreAlike, alike, same_text}
 use Rattle.commands.proofs.OneCause.{SameCut, same_cuts}
 use Rattle.commands.proofs.OneMissing.{same_failures, same_missing}
@@ -36,18 +38,18 @@ same_lines way s outcomes program c d h =
     by_groups (cut_text way s outcomes program) c d h
     (ap (λ gs. if c.failing == 0 then [] else cut_head program c ++ flat_map (group_line way s outcomes) gs) h.groups)
 
-pub same_cause : (s : StartsValue) (outcomes : List (List ℕ)) (program : ℕ) (cs ds : List CutFailures) → AreAlike SameCut cs ds
+same_cause : (s : StartsValue) (outcomes : List (List ℕ)) (program : ℕ) (cs ds : List CutFailures) → AreAlike SameCut cs ds
     → cuts_text s.plan.by s outcomes program cs ≡ cuts_text s.plan.by s outcomes program ds
 same_cause s outcomes program cs ds h = same_text SameCut (cut_text s.plan.by s outcomes program) (same_lines s.plan.by s outcomes program) cs ds h
 
-same_programs : (s : StartsValue) (ls : List FailingLine) (number : ℕ) (cs ds : List (List CutFailures)) → AreAlike (AreAlike SameCut) cs ds
-    → causes_from s ls number cs ≡ causes_from s ls number ds
-same_programs s ls number [] [] h = refl
-same_programs s ls number [] (d ∷ ds) h = absurd h
-same_programs s ls number (c ∷ cs) [] h = absurd h
-same_programs s ls number (c ∷ cs) (d ∷ ds) h =
-    let first = same_cause s (outcomes_failing number ls) number c d h.0 in
-    let rest = same_programs s ls (number + 1) cs ds h.1 in
+pub same_programs : (s : StartsValue) (outcomes : ℕ → List (List ℕ)) (number : ℕ) (cs ds : List (List CutFailures)) → AreAlike (AreAlike SameCut) cs ds
+    → causes_from s outcomes number cs ≡ causes_from s outcomes number ds
+same_programs s outcomes number [] [] h = refl
+same_programs s outcomes number [] (d ∷ ds) h = absurd h
+same_programs s outcomes number (c ∷ cs) [] h = absurd h
+same_programs s outcomes number (c ∷ cs) (d ∷ ds) h =
+    let first = same_cause s (outcomes number) number c d h.0 in
+    let rest = same_programs s outcomes (number + 1) cs ds h.1 in
     λ i. first i ++ rest i
 
 pub one_explanation : (h : HeadValue) (s : StartsValue) (ls : List FailingLine) (bytes others : List ℕ) → TellsCauses h s ls bytes → TellsCauses h s ls others → bytes ≡ others
@@ -59,8 +61,8 @@ one_explanation h s ls bytes others a b =
     same_missing (windows_in a.failures) a.missing b.missing a.are_missing.missing (subst (λ (ws : List Window). AreMissing ws b.missing) (sym windows) b.are_missing.missing) in
     let causes = alike (AreAlike SameCut) a.causes b.causes (a.all ∙ sym b.all)
     (λ program c d p q. same_cuts s (images_failing program ls) (outcomes_failing program ls) c d (a.each program c p) (b.each program d q)) in
-    let same = same_programs s ls 0 a.causes b.causes causes in
-    let text : why_head h ls ++ missing_text (length h.programs) a.failures a.missing ++ causes_from s ls 0 a.causes
-    ≡ why_head h ls ++ missing_text (length h.programs) b.failures b.missing ++ causes_from s ls 0 b.causes =
+    let same = same_programs s (λ program. outcomes_failing program ls) 0 a.causes b.causes causes in
+    let text : why_head h ls ++ missing_text (length h.programs) a.failures a.missing ++ causes_from s (λ program. outcomes_failing program ls) 0 a.causes
+    ≡ why_head h ls ++ missing_text (length h.programs) b.failures b.missing ++ causes_from s (λ program. outcomes_failing program ls) 0 b.causes =
     λ i. why_head h ls ++ missing_text (length h.programs) (failures i) (missing i) ++ same i in
     a.text ∙ text ∙ sym b.text

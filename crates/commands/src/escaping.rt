@@ -1,9 +1,9 @@
 //! Words of the command line, as a fault of it shows them.
 
 ghost use Rattle.std.specs.Prelude.{◌≡◌, IfOk, map, string_bytes};
-ghost use Rattle.notes.specs.Escaped.{escaped_text};
+ghost use Rattle.crash_text.specs.Escaped.{escaped_text};
 
-use notes::put_escaped;
+use crash_text::put_escaped;
 use std::alloc::{AllocError, Global};
 
 /// A word, as `log` shows the text of a mark.

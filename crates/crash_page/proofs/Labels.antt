@@ -3,7 +3,7 @@ use Rattle.std.proofs.Common.{ℕ, ◌≡◌, Bool, true, false, List, [], ◌�
 use Rattle.std.proofs.lemmas.Str.{IsUtf8-from_is_utf8, is_utf8-from_IsUtf8}
 use Rattle.std.specs.List.{flat_map}
 use Rattle.std.specs.Str.{is_utf8}
-use Rattle.notes.specs.Escaped.{escaped_text}
+use Rattle.crash_text.specs.Escaped.{escaped_text}
 use Rattle.crash_page.specs.Html.{html, mark_char, mark_label}
 
 pub map_self : (cs : List ℕ) → map (λ c. c) cs ≡ cs

@@ -8,7 +8,7 @@ use Rattle.std.proofs.lemmas.Str.{inside_one}
 use Rattle.std.specs.Char.{encode_utf8}
 use Rattle.std.specs.List.{flat_map}
 use Rattle.std.specs.Str.{is_utf8}
-use Rattle.notes.specs.Escaped.{escaped_text}
+use Rattle.crash_text.specs.Escaped.{escaped_text}
 use Rattle.crash_page.specs.Html.{plain_byte, html_byte, html, is_odd, mark_char, mark_label}
 use Rattle.crash_page.specs.Laws.{is_markup, TextIsNoMarkup}
 

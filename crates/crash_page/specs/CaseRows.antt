@@ -4,7 +4,7 @@ use Rattle.std.specs.Fmt.{decimal}
 use Rattle.epochs.specs.declared.part.Part.{Part}
 use Rattle.choices.specs.declared.fate.Fate.{Fate}
 use Rattle.report.specs.LineText.{ending_text}
-use Rattle.notes.specs.LogTable.{word_text}
+use Rattle.crash_text.specs.LogTable.{word_text}
 use Rattle.losses.specs.declared.flushes.window.Window.{Window}
 use Rattle.cases.specs.AtCut.{CutValue, parts_of, case_of}
 use Rattle.cases.specs.Cases.{Case}

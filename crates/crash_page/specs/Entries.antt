@@ -6,7 +6,7 @@ use Rattle.std.specs.Fmt.{decimal}
 use Rattle.logfmt.specs.declared.entry.Entry.{Entry}
 use Rattle.losses.specs.declared.flushes.counted.MissingFlush.{MissingFlush}
 use Rattle.epochs.specs.Units.{epoch_at}
-use Rattle.notes.specs.LogTable.{word_text, is_write, line_at}
+use Rattle.crash_text.specs.LogTable.{word_text, is_write, line_at}
 use Rattle.crash_page.specs.declared.pieces.PagePart.TheVariants as piece
 use Rattle.crash_page.specs.Pieces.{piece_text}
 use Rattle.crash_page.specs.declared.counts.JudgedKind.{JudgedKind}

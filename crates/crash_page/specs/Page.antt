@@ -3,7 +3,7 @@ use Rattle.std.specs.Prelude.{ℕ, ◌+◌, ◌-◌, ◌≤◌, ◌==◌, nat_lt
 use Rattle.std.specs.Fmt.{decimal}
 use Rattle.logfmt.specs.declared.entry.Entry.{Entry}
 use Rattle.logfmt.specs.Bounds.{LogValue}
-use Rattle.notes.specs.LogTable.{word_text}
+use Rattle.crash_text.specs.LogTable.{word_text}
 use Rattle.choices.specs.Sums.{StartsValue}
 use Rattle.losses.specs.declared.flushes.counted.MissingFlush.{MissingFlush}
 use Rattle.losses.specs.declared.why.cut.CutFailures.{CutFailures}

@@ -2,20 +2,20 @@
 
 ghost use Rattle.std.specs.Prelude.{◌≡◌, ◌+◌, ◌<◌, ◌≤◌, ◌++◌, ◌∷◌, [], length, filter, option_copied, option_map, IfOk, OnOk, string_bytes};
 ghost use Rattle.std.specs.List.{flat_map, list_any, find};
-ghost use Rattle.notes.specs.LogTable.{is_write};
+ghost use Rattle.crash_text.specs.LogTable.{is_write};
 ghost use Rattle.crash_page.specs.Blocks.{is_large, width_of, begins_block, beyond, end_of, range_text, is_within, fails_within, count_within, is_listed, more_name, listed_name, block_link, block_title, block_failing, no_failing, block_cuts, lack_link, lack_text, lacks_within, block_lack, first_lack, block_lacks, is_mark, kinds_text, entries_class, entries_link, entries_cell, block_cell, row_block, row_at, row_blocks, cell_means, width_text, short_line, short_at, line_text, lines_text, block_name, list_block, list_at, list_blocks, large_list};
 
 use crate::counts::{CutCount, JudgedKind, put_kind};
-use crate::entry::{is_write, put_shade, put_word};
+use crate::entry::put_shade;
 use crate::html::put_html;
 use crate::lacking::{Lacking, MOST_NAMED, put_flush_title, put_name as put_flush_name};
 use crate::pieces::{PagePart, put, put_number};
 use crate::run::Logged;
 use crate::strip::{put_failing_class, put_failing_title, put_passing, put_place_name};
+use crash_text::{is_write, put_what, put_word};
 use epochs::Plan;
 use logfmt::{Entry, Log};
 use losses::flushes::MissingFlush;
-use notes::put_what;
 use std::alloc::{AllocError, Global};
 
 /// From how many entries on a log is large.
@@ -363,7 +363,7 @@ fn put_block_lacks(out: &mut String, lacking: &Lacking<'_>, block: Block) -> Res
 fn has_write(entries: &[Entry]) -> bool
     ensures { result ≡ list_any is_write entries.now }
 {
-    entries.iter().any(is_write)
+    entries.iter().any(|entry| is_write(entry))
 }
 
 /// Whether one of the entries is a mark.

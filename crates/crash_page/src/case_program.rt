@@ -1,21 +1,19 @@
 //! What a page of cases has of a program: the flushes that are missing for its failing cases.
 
 ghost use Rattle.std.specs.Prelude.{◌≡◌, ◌≤◌, ◌++◌, ◌∷◌, [], All, length, slice_get, Some, IfOk, OnOk};
-ghost use Rattle.cases.specs.AtCut.{parts_of, case_of};
 ghost use Rattle.case_runs.specs.declared.found.CutFound.{CutFound as FoundValue};
 ghost use Rattle.case_runs.specs.Leaves.{failing_value};
-ghost use Rattle.case_text.specs.Window.{case_window};
 ghost use Rattle.case_text.specs.Why.{failure_of, told_of, program_failures};
 ghost use Rattle.crash_page.specs.CasePage.{run_of};
 ghost use Rattle.crash_page.specs.CaseFlushes.{failures_at, failures_of, IsLacking, AreLacking};
 
 use crate::counts::failing_of;
-use crate::failing::{missing_of, uncured_of};
+use crate::failing::uncured_of;
 use crate::run::CaseRun;
 use case_runs::{CutFound, FailingCase};
-use case_text::{KnownParts, Site};
-use losses::cure::Failure;
-use losses::flushes::{MissingFlush, Window};
+use case_text::{KnownParts, Site, window_of};
+use losses::cure::{Failure, missing_of};
+use losses::flushes::MissingFlush;
 use report::ProgramHead;
 use std::alloc::{AllocError, Global};
 
@@ -28,18 +26,6 @@ pub struct CaseProgram {
     pub missing: Vec<MissingFlush>,
     /// How many of these no flush takes away.
     pub uncured: usize,
-}
-
-/// The window of a failing case.
-pub(crate) fn window_of(
-    known: &mut KnownParts,
-    site: &Site<'_>,
-    case: &FailingCase,
-) -> Result<Option<Window>, AllocError>
-    ensures { IfOk result (λ window. window ≡ case_window site.now.at (case_of site.now.tears (parts_of site.now.at) (failing_value case.now).sets)) }
-{
-    known.read(site.tears(), site.parts(), case.sets.as_slice())?;
-    Ok(site.window(known))
 }
 
 /// Takes a failing case as a failure.
@@ -124,7 +110,7 @@ fn case_program(
 {
     let _heads = heads;
     let failures = failures_of(alloc, run, program, found)?;
-    let missing = missing_of(alloc, failures.as_slice(), run.log.entries().len())?;
+    let missing = missing_of(alloc, run.log, failures.as_slice())?;
     Ok(CaseProgram {
         head,
         missing,

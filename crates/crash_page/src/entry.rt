@@ -1,7 +1,7 @@
 //! The entries of a log: a cell for each in the row of entries, and a line for each in the list of entries.
 
 ghost use Rattle.std.specs.Prelude.{◌≡◌, ◌<◌, ◌≤◌, ◌++◌, length, IfOk, OnOk, string_bytes};
-ghost use Rattle.notes.specs.LogTable.{word_text, is_write, line_at};
+ghost use Rattle.crash_text.specs.LogTable.{line_at};
 ghost use Rattle.crash_page.specs.Html.{html};
 ghost use Rattle.crash_page.specs.Entries.{shade_text, class_text, label_text, link_text, cell_class, cell_text, cell_at, place_at, cells_text, row_text, rows_text};
 
@@ -9,34 +9,16 @@ use crate::html::{put_html, put_mark_label};
 use crate::lacking::{Lacking, put_lacking};
 use crate::pieces::{PagePart, put, put_number};
 use crate::run::Logged;
+use crash_text::{is_write, put_entry_line, put_word};
 use epochs::Plan;
 use logfmt::{Entry, Log};
-use notes::put_entry_line;
 use std::alloc::{AllocError, Global};
-
-/// Appends a class where something is so.
-pub(crate) fn put_word(out: &mut String, is_so: bool, word: &str) -> Result<(), AllocError>
-    ensures { OnOk result (string_bytes out.new ≡ string_bytes out.old ++ word_text is_so word.now) }
-{
-    if is_so {
-        write!(out, " {word}")
-    } else {
-        Ok(())
-    }
-}
 
 /// Appends the class of every other epoch.
 pub(crate) fn put_shade(out: &mut String, epoch: u32) -> Result<(), AllocError>
     ensures { OnOk result (string_bytes out.new ≡ string_bytes out.old ++ shade_text epoch) }
 {
     put_word(out, epoch % 2 == 1, "o")
-}
-
-/// Whether an entry writes sectors.
-pub(crate) fn is_write(entry: &Entry) -> bool
-    ensures { result ≡ is_write entry.now }
-{
-    entry.count > 0 && !entry.flags.discard
 }
 
 /// Appends the classes of an entry.

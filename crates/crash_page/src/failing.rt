@@ -14,8 +14,9 @@ use crate::judge::PageJudge;
 use crate::laws::failures_are_of_run;
 use crate::program::ProgramFailures;
 use crate::run::PageRun;
-use losses::cure::{Failure, windows_of};
-use losses::flushes::{MissingFlush, missing_flushes};
+use logfmt::Log;
+use losses::cure::{Failure, missing_of};
+use losses::flushes::MissingFlush;
 use losses::why::failures;
 use std::alloc::{AllocError, Global};
 
@@ -66,33 +67,18 @@ pub(crate) fn uncured_of(failures: &[Failure], program: usize) -> usize
     count
 }
 
-/// The flushes that are missing for failures, of a log with that many entries.
-pub(crate) fn missing_of(
-    alloc: Global,
-    failures: &[Failure],
-    entries: usize,
-) -> Result<Vec<MissingFlush>, AllocError>
-    requires few { entries ≤ 65536 }
-    requires inside { AreWindows entries (windows_in failures.now) }
-    ensures { IfOk result (λ ms. AreMissing (windows_in failures.now) ms.items) }
-{
-    let windows = windows_of(alloc, failures)?;
-    missing_flushes(alloc, windows.as_slice(), entries)
-}
-
-/// The flushes that are missing for the failures of a program, of those of a run of a log with that many entries.
+/// The flushes that are missing for the failures of a program, of those of a run of a log.
 fn missing_for(
     alloc: Global,
+    log: &Log,
     failures: &[Failure],
     program: usize,
-    entries: usize,
 ) -> Result<Vec<MissingFlush>, AllocError>
-    requires few { entries ≤ 65536 }
-    requires inside { AreWindows entries (windows_in failures.now) }
+    requires { AreWindows (length log.now.entries) (windows_in failures.now) }
     ensures { IfOk result (λ ms. AreMissing (windows_in (own_failures program failures.now)) ms.items) }
 {
     let own = failures_of(alloc, failures, program)?;
-    missing_of(alloc, own.as_slice(), entries)
+    missing_of(alloc, log, own.as_slice())
 }
 
 /// What a page takes of the program of that number, which fails on these images of a run and ends so on each, of all failures of the run.
@@ -118,9 +104,8 @@ pub fn program_failures<'a>(
 {
     // A law of pages, which does nothing: what fails of the images of a run is what a page takes.
     failures_are_of_run();
-    let entries = run.numbering.log.entries().len();
     let cuts = failures(alloc, run.starts, images, outcomes.as_slice())?;
-    let missing = missing_for(alloc, failures_of_run, program, entries)?;
+    let missing = missing_for(alloc, run.numbering.log, failures_of_run, program)?;
     Ok(ProgramFailures {
         judge,
         failing: images.len(),

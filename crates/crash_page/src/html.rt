@@ -2,11 +2,11 @@
 
 ghost use Rattle.std.specs.Prelude.{◌≡◌, ◌<◌, ◌++◌, chars, OnOk, IfOk, string_bytes};
 ghost use Rattle.std.specs.List.{flat_map};
-ghost use Rattle.notes.specs.Escaped.{escaped_text};
+ghost use Rattle.crash_text.specs.Escaped.{escaped_text};
 ghost use Rattle.crash_page.specs.Html.{plain_byte, html_byte, html, is_odd, low_char, mark_char, mark_label, side_text, begin_text, end_text, sided_byte, side_by_side};
 
 use crate::pieces::{PagePart, put};
-use notes::put_escaped;
+use crash_text::put_escaped;
 use std::alloc::{AllocError, Global};
 
 /// Appends a byte for which no name stands.

@@ -6,10 +6,10 @@ ghost use Rattle.cases.specs.Sets.{fates_in};
 ghost use Rattle.cases.specs.AtCut.{Apart, case_of};
 ghost use Rattle.crash_page.specs.CaseRows.{state_of, state_word, full_room, room_of, less_room, room_left, is_inside, part_class, part_cell, part_shown, hidden_text, parts_from, all_parts};
 
-use crate::entry::put_word;
 use crate::pieces::{PagePart, put, put_number};
 use case_text::{fates_of, is_free, is_kept, is_never_whole, put_fates, set_at};
 use choices::Fate;
+use crash_text::put_word;
 use epochs::{By, Part};
 use losses::flushes::Window;
 use report::choice_text::put_part;

@@ -13,13 +13,13 @@ ghost use Rattle.crash_page.specs.Page.{counts_of, bad_text, judged_text, verdic
 use crate::block::{MOST_CELLS, is_large, put_more_name, put_row_blocks, put_width};
 use crate::counts::{CutCount, JudgedKind, count_failing, image_counts, put_kind};
 use crate::cut::{Showing, put_cut, shown_of};
-use crate::entry::put_word;
 use crate::judge::{PageJudge, put_judge};
 use crate::lacking::{Lacking, put_advice};
 use crate::pieces::{PagePart, put, put_number};
 use crate::run::{Logged, PageRun, logged_of};
 use crate::share::put_legend;
 use crate::strip::put_strip;
+use crash_text::put_word;
 use logfmt::Log;
 use losses::flushes::MissingFlush;
 use losses::why::CutFailures;

@@ -10,7 +10,7 @@ use Rattle.epochs.specs.Plan.{PlanValue}
 use Rattle.choices.specs.declared.fate.Fate.{Fate}
 use Rattle.choices.specs.declared.fate.Fate.TheVariants as fate
 use Rattle.choices.specs.declared.choice.Departure.{Departure}
-use Rattle.notes.specs.LogTable.{line_at}
+use Rattle.crash_text.specs.LogTable.{line_at}
 use Rattle.crash_text.specs.declared.cut.ToldKind.{ToldKind}
 use Rattle.crash_text.specs.declared.cut.ToldKind.TheVariants as told
 

@@ -1,3 +1,5 @@
+pub mod Escaped
+pub mod LogTable
 pub mod Rows
 pub mod Sectors
 pub mod Cut

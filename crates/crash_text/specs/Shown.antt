@@ -1,24 +1,18 @@
 -- A crash image in words (docs/OUTPUT.md, The text of `show`).
-use Rattle.std.specs.Prelude.{ℕ, Bool, if◌then◌else◌, List, ◌++◌, codes, length}
+use Rattle.std.specs.Prelude.{ℕ, Bool, List, ◌++◌, codes, length}
 use Rattle.std.specs.List.{flat_map}
 use Rattle.std.specs.Fmt.{decimal}
-use Rattle.epochs.specs.declared.cuts.CutKind.{CutKind}
-use Rattle.epochs.specs.declared.cuts.CutKind.TheVariants.{All, BeforeFlush, AfterMark}
 use Rattle.epochs.specs.declared.part.By.{By}
 use Rattle.epochs.specs.declared.part.By.TheVariants as by
 use Rattle.epochs.specs.Units.{epoch_at, marks_at}
 use Rattle.epochs.specs.Plan.{PlanValue}
 use Rattle.choices.specs.Choices.{ChoiceValue}
 use Rattle.report.specs.ChoiceText.{departures_text}
+use Rattle.report.specs.Text.{yes_or_no, cuts_word}
 use Rattle.report.specs.Words.{cuts_words}
 use Rattle.crash_text.specs.declared.cut.ToldKind.TheVariants as told
 use Rattle.crash_text.specs.Cut.{departed_line, volatile_text, last_text, before_text}
 use Rattle.crash_text.specs.Sectors.{difference_text}
-
-abbrev pub cuts_word : CutKind → List ℕ
-cuts_word All = codes "all"
-cuts_word BeforeFlush = codes "flush"
-cuts_word AfterMark = codes "mark"
 
 abbrev pub by_word : By → List ℕ
 by_word by.Sector = codes "sector"
@@ -29,7 +23,7 @@ unfoldable pub numbered_text : PlanValue → List ℕ
 numbered_text plan = codes "sectors " ++ decimal plan.log.sectors ++ codes " entries " ++ decimal (length plan.log.entries) ++ codes " cuts " ++ cuts_word plan.kind.kind
 
 unfoldable pub chosen_text : PlanValue → ℕ → Bool → List ℕ
-chosen_text plan bound tears = codes " bound " ++ decimal bound ++ codes " tears " ++ (if tears then codes "yes" else codes "no") ++ codes " by " ++ by_word plan.by ++ cuts_words plan.kind ++ codes "\n"
+chosen_text plan bound tears = codes " bound " ++ decimal bound ++ codes " tears " ++ yes_or_no tears ++ codes " by " ++ by_word plan.by ++ cuts_words plan.kind ++ codes "\n"
 
 -- the cut of an image and its choice
 unfoldable pub cut_text : PlanValue → ℕ → List ℕ

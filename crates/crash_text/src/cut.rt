@@ -2,16 +2,16 @@
 
 ghost use Rattle.std.specs.Prelude.{ℕ, ◌⊎◌, ◌≡◌, ◌+◌, ◌*◌, ◌<◌, ◌≤◌, ◌++◌, [], ◌∷◌, Bool, codes, if◌then◌else◌, length, slice_get, Some, IfSome, OnOk, string_bytes};
 ghost use Rattle.std.specs.Option.{option_map_or};
-ghost use Rattle.notes.specs.LogTable.{line_at};
+ghost use Rattle.crash_text.specs.LogTable.{line_at};
 ghost use Rattle.crash_text.specs.Cut.{place_text, arrived_text, departed_line, volatile_line, parts_text, volatile_text, told_word, is_told_at, last_before, last_text, before_line, before_text};
 ghost use Rattle.crash_text.specs.AnyShown.{any_cut_shown, any_departed_line, entry_part, flight_text, flight_word, has_forced_data, in_flight, is_in_flight, place_at};
 ghost use Rattle.crash_text.specs.Shown.{cut_shown};
 
 use crate::numbering::Numbering;
+use crate::table::put_entry_line;
 use choices::{Departure, Fate};
 use epochs::{Part, Plan};
 use logfmt::Entry;
-use notes::put_entry_line;
 use std::alloc::AllocError;
 
 /// Appends a part: its entry, and the sectors that it covers.
@@ -57,7 +57,7 @@ pub(crate) fn put_departed(out: &mut String, departure: Departure) -> Result<(),
 }
 
 /// Whether an entry is in flight at a cut: it is the last before it, and forced to the device with its data.
-fn is_in_flight(entries: &[Entry], cut: u32, number: u32) -> bool
+pub fn is_in_flight(entries: &[Entry], cut: u32, number: u32) -> bool
     ensures { result ≡ is_in_flight entries.now cut number }
 {
     match entries.get(number as usize) {

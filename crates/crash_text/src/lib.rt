@@ -1,11 +1,10 @@
-//! crash_text, a crash image in words: what stands at its cut, what departed, and what in it differs from the
-//! image of the same cut where nothing departed (docs/OUTPUT.md, The text of `show`).
+//! Logs and crash images in words: a log as a table (docs/OUTPUT.md, The text of `log`), and of a crash image what stands at its cut,
+//! what departed, and what in it differs from the image of the same cut where nothing departed (The text of `show`).
 //!
 //! # Place
 //!
-//! On `epochs` and `choices`, whose plan and choice it puts into words, on `report` for the text of the choice, on `notes` for
-//! the lines of entries, and on `helpers`, whose trait `Device` the images are read by. It forms no image and finds no choice:
-//! `commands` hands them over.
+//! On `epochs` and `choices`, whose plan and choice it puts into words, on `report` for the text of the choice, and on `helpers`,
+//! whose trait `Device` the images are read by. It forms no image and finds no choice: `commands` hands them over.
 //!
 //! | Call | Appends |
 //! |---|---|
@@ -15,6 +14,10 @@
 //! | `put_differences(out, whole, image)` | each sector in which two devices differ: how many bytes, the first of them, and rows of both |
 //! | `put_any_head(out, numbering, cut, departures)` | of a choice that may lose any number of parts, all that stands before the sectors that differ, and which entry is in flight |
 //! | `put_sector(out, number, left, right)` | a sector of two devices, where it differs |
+//! | `log_table(alloc, log)` | answers the entries of a log, one a line, by the numbers that the report names |
+//! | `put_entry_line(out, number, epoch, entry)`, `put_what(out, entry)` | a line of the table, what stands in it after the epoch |
+//! | `put_entry(alloc, out, log, number)` | a note with an entry, as in the table |
+//! | `put_escaped(out, bytes)` | bytes of a foreign text, so that they stay on their line |
 //!
 //! # What is proved
 //!
@@ -60,12 +63,16 @@
 #![tactic(auto)]
 
 mod cut;
+mod escaped;
 mod numbering;
 mod row;
 mod sector;
 mod shown;
+mod table;
 
-pub use cut::put_cut;
+pub use cut::{is_in_flight, put_cut};
+pub use escaped::put_escaped;
 pub use numbering::Numbering;
 pub use sector::{put_differences, put_sector};
 pub use shown::{put_any_head, put_choice, put_shown};
+pub use table::{is_write, log_table, put_entry, put_entry_line, put_what, put_word};

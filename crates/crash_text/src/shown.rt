@@ -1,30 +1,20 @@
 //! An image in words.
 
-ghost use Rattle.std.specs.Prelude.{ℕ, ◌≡◌, ◌<◌, ◌≤◌, ◌++◌, length, codes, true, if◌then◌else◌, OnOk, string_bytes};
+ghost use Rattle.std.specs.Prelude.{ℕ, ◌≡◌, ◌<◌, ◌≤◌, ◌++◌, length, true, OnOk, string_bytes};
 ghost use Rattle.base.specs.Sizes.{most_sectors};
 ghost use Rattle.crash_text.specs.AnyShown.{any_chosen_text, any_departed_text, any_head_text, any_line};
-ghost use Rattle.crash_text.specs.Shown.{cuts_word, by_word, numbered_text, chosen_text, cut_text, choice_line, departed_text, choice_shown, shown_text};
+ghost use Rattle.crash_text.specs.Shown.{by_word, numbered_text, chosen_text, cut_text, choice_line, departed_text, choice_shown, shown_text};
 
 use crate::cut::{put_any_cut, put_any_departed, put_cut, put_departed};
 use crate::numbering::Numbering;
 use crate::sector::put_differences;
 use choices::{Choice, Departure};
-use epochs::{By, CutKind};
+use epochs::By;
 use helpers::Device;
 use logfmt::Entry;
 use report::choice_text::{put_cuts_words, put_departures};
+use report::{word_of_cuts, yes_or_no_word};
 use std::alloc::AllocError;
-
-/// What the kinds of cuts are called.
-fn cuts_word(kind: CutKind) -> &'static str
-    ensures { result.now ≡ cuts_word kind }
-{
-    match kind {
-        CutKind::All => "all",
-        CutKind::BeforeFlush => "flush",
-        CutKind::AfterMark => "mark",
-    }
-}
 
 /// What the kinds of parts are called.
 fn by_word(by: By) -> &'static str
@@ -34,13 +24,6 @@ fn by_word(by: By) -> &'static str
         By::Sector => "sector",
         By::Write => "write",
     }
-}
-
-/// Whether something is so, in a word.
-fn yes_or_no(is_so: bool) -> &'static str
-    ensures { result.now ≡ if is_so then codes "yes" else codes "no" }
-{
-    if is_so { "yes" } else { "no" }
 }
 
 /// Appends the device, the log and the wanted cuts.
@@ -55,7 +38,7 @@ fn put_numbered(out: &mut String, numbering: &Numbering<'_>) -> Result<(), Alloc
         log.sectors(),
         log.entries().len()
     )?;
-    let cuts = cuts_word(numbering.cuts.kind);
+    let cuts = word_of_cuts(numbering.cuts.kind);
     write!(out, " cuts {cuts}")
 }
 
@@ -66,7 +49,7 @@ fn put_chosen(out: &mut String, numbering: &Numbering<'_>) -> Result<(), AllocEr
         ++ chosen_text numbering.now.plan.now numbering.now.bound numbering.now.tears) }
 {
     let bound = numbering.bound;
-    let tears = yes_or_no(numbering.tears);
+    let tears = yes_or_no_word(numbering.tears);
     write!(out, " bound {bound} tears {tears}")?;
     let by = by_word(numbering.by);
     write!(out, " by {by}")?;
@@ -156,7 +139,7 @@ pub fn put_shown<W: Device, I: Device>(
 fn put_any_chosen(out: &mut String, numbering: &Numbering<'_>) -> Result<(), AllocError>
     ensures { OnOk result (string_bytes out.new ≡ string_bytes out.old ++ any_chosen_text numbering.now.plan.now numbering.now.tears) }
 {
-    let tears = yes_or_no(numbering.tears);
+    let tears = yes_or_no_word(numbering.tears);
     write!(out, " bound any tears {tears}")?;
     let by = by_word(numbering.by);
     write!(out, " by {by}")?;

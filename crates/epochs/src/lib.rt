@@ -17,6 +17,7 @@
 //! | `plan.marks(k)` | how many marks stand before cut k |
 //! | `plan.volatile(k)` | how many volatile parts cut k has |
 //! | `plan.part(k, i)` | the volatile part of cut k with number i, in their order |
+//! | `last_flush(entries, k)` | the last flush entry before cut k, or 0 where there is none |
 //! | `plan.put_touching(numbers, k, sectors, most)` | appends the numbers of the volatile parts of cut k that cover one of some sectors, if they are few |
 //!
 //! # Place
@@ -85,6 +86,7 @@
 #![tactic(auto)]
 
 mod cuts;
+mod flushed;
 mod flushes;
 mod laws;
 mod part;
@@ -94,6 +96,7 @@ mod table;
 mod unit;
 
 pub use cuts::{CutKind, Cuts};
+pub use flushed::last_flush;
 pub use flushes::Flushes;
 pub use laws::{cuts_are_set, unit_is_sector, volatile_is_run, volatile_is_set};
 pub use part::{By, Part};

@@ -25,24 +25,14 @@ impl WorkerHand {
     pub(crate) fn is_going(&self) -> bool
         ensures { result ≡ is_going (Some self.now) }
     {
-        match self {
-            WorkerHand::Idle => true,
-            WorkerHand::Holding {
-                block: _,
-                judged: _,
-            } => true,
-            _ => false,
-        }
+        matches!(self, WorkerHand::Idle | WorkerHand::Holding { .. })
     }
 
     /// Whether the worker may take a block.
     pub(crate) fn is_idle(&self) -> bool
         ensures { result ≡ is_idle (Some self.now) }
     {
-        match self {
-            WorkerHand::Idle => true,
-            _ => false,
-        }
+        matches!(self, WorkerHand::Idle)
     }
 
     /// The job of the block in hand that is to be judged next, if there is one.

@@ -3,7 +3,7 @@
 //! The calls ask for the place first, and then index. By `get` their proofs took two to three times as long.
 
 ghost use Rattle.std.specs.Prelude.{◌≡◌, OnOk, OnErr, IfOk, Some, [], ◌∷◌, ◌++◌, true, is_some, replicate, slice_get, slice_set};
-ghost use Rattle.explore_core.specs.State.{change_hand, as_list, ended, failing_in_hand, is_going, is_idle, judging, last_judged, lines_in_hand, may_draw, next_job, piece_done, piece_passed};
+ghost use Rattle.explore_core.specs.State.{change_hand, as_list, ended, failing_in_hand, is_idle, judging, last_judged, lines_in_hand, may_draw, next_job, piece_done, piece_passed};
 ghost use Rattle.explore_core.specs.declared.hand.WorkerHand.TheVariants.{Idle as idle};
 
 use crate::hand::WorkerHand;
@@ -23,19 +23,11 @@ pub(crate) fn idle_hands(alloc: Global, workers: u8) -> Result<Vec<WorkerHand>, 
     Ok(hands)
 }
 
-/// Whether a worker hasn't ended.
-fn is_going(hands: &[WorkerHand], worker: usize) -> bool
-    ensures { result ≡ is_going (slice_get hands.now worker) }
-{
-    worker < hands.len() && hands[worker].is_going()
-}
-
 /// Whether a worker hasn't ended, and found a block at each draw.
 pub(crate) fn may_draw(hands: &[WorkerHand], late: &[bool], worker: usize) -> bool
     ensures { result ≡ may_draw (slice_get hands.now worker) (slice_get late.now worker) }
 {
-    let is_late = late.get(worker).copied().unwrap_or(true);
-    is_going(hands, worker) && !is_late
+    worker < hands.len() && worker < late.len() && hands[worker].is_going() && !late[worker]
 }
 
 /// Marks a worker that found no block left.

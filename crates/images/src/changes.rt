@@ -19,8 +19,7 @@ use crate::listing::{change_of, copy_sectors, put};
 use crate::versions::Versions;
 use crate::view::View;
 use choices::Departure;
-use epochs::{Part, Unit};
-use logfmt::Entry;
+use epochs::{Part, Unit, last_flush};
 use std::alloc::{AllocError, Global};
 use std::marker::Model;
 use std::mem;
@@ -153,22 +152,6 @@ fn known_at<'a>(
         cut,
         sectors,
     })
-}
-
-/// The last flush entry before a cut, or 0 where there is none.
-fn last_flush(entries: &[Entry], cut: u32) -> u32
-    requires { cut ≤ length entries.now }
-    ensures value { result ≡ last_flush entries.now cut }
-    ensures bound { result ≤ cut }
-{
-    let mut number = cut;
-    while number > 0 {
-        number -= 1;
-        if entries[number as usize].flags.flush {
-            return number;
-        }
-    }
-    0
 }
 
 /// The sectors in which the image of a cut differs from that of entry `flush`, from those of an earlier

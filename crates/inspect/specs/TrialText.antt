@@ -12,13 +12,12 @@ use Rattle.bpf_isa.specs.declared.instr.Instr.{Instr}
 use Rattle.bpf_isa.specs.Program.{IsSpelledBy, FirstFault}
 use Rattle.helpers.specs.declared.device.Context.{Context}
 use Rattle.machine.specs.Memory.{context_bytes}
-use Rattle.machine.specs.Outcome.{Ending, Verdict, Stopped, OutOfSteps, Stray}
+use Rattle.machine.specs.Outcome.{Ending, Verdict, Stopped, OutOfSteps, Stray, fails}
 use Rattle.notes.specs.SourceLines.{LineOfC, AreLines, NoLines, source_text}
 use Rattle.interp.specs.Walks.{memory_as, outcome_as, start_as}
 use Rattle.verifier.specs.declared.unreached.Unreached.{Unreached}
 use Rattle.verifier.specs.Guards.{guarded_slots}
 use Rattle.verifier.specs.Verdicts.{VerifiedValue, IsVerified, RefusedWith}
-use Rattle.report.specs.Line.{fails}
 use Rattle.report.specs.LineText.{ending_text}
 use Rattle.request.specs.declared.trials.Trial.{Trial}
 use Rattle.request.specs.Found.{IsUnreached}

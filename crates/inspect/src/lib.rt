@@ -9,8 +9,8 @@
 //! # Place
 //!
 //! Below `commands`, which performs these commands, and beside `runs`. `request` says what is asked, reads the log and counts its images,
-//! `choices` and `images` find and form an image, `cases` one with any number of losses, `case_runs` says which cuts such a run explores, `report` reads and prints a choice, `crash_text` puts an image into words, `export`
-//! writes all images, `notes` has tables and listings, `raw_log` imports, `bpf_isa`, `bpf_asm` and `verifier` decode, assemble, list and
+//! `choices` and `images` find and form an image, `cases` one with any number of losses, `case_runs` says which cuts such a run explores, `report` reads and prints a choice, `crash_text` puts an image and a log into words, `export`
+//! writes all images, `notes` has listings, `raw_log` imports, `bpf_isa`, `bpf_asm` and `verifier` decode, assemble, list and
 //! verify a program, and `interp` makes the steps of a run.
 //!
 //! Of `looks`:

@@ -22,7 +22,7 @@ mod lost;
 mod names;
 mod risks;
 mod show_command;
-mod verify_command;
+pub(crate) mod verify_command;
 mod which;
 
 pub use any_image_command::any_image;

@@ -10,12 +10,11 @@ use Rattle.std.proofs.lemmas.Bool.Decides.{nat_tests}
 use Rattle.base.specs.Causes.{fault_number}
 use Rattle.base.specs.declared.causes.MachineFault.{MachineFault}
 use Rattle.base.specs.declared.causes.MachineFault.TheVariants as fault
-use Rattle.machine.specs.Outcome.{Ending, Verdict, Stopped, OutOfSteps, Stray}
+use Rattle.machine.specs.Outcome.{Ending, Verdict, Stopped, OutOfSteps, Stray, fails as failing_end}
 use Rattle.report.specs.MarkReading.{lacks}
 use Rattle.report.specs.LineText.{codes_text, ending_text}
 use Rattle.join.specs.Printable.{IsWithin}
 use Rattle.join.specs.Reading.{IsCut, NoCut}
-use Rattle.report.specs.Line.{fails as failing_end}
 use Rattle.join.specs.Endings.{IsPlain, IsNumber, IsAnswer, IsFaultNumber, numbers_text, AreNumbers, AreCodes, IsVerdict, IsFault, IsEnding}
 use Rattle.join.proofs.Texts.{one_cut, has_it, cancel}
 use Rattle.join.proofs.Spans.{number_lacks, blank_lacks}

@@ -3,7 +3,7 @@ use Rattle.std.specs.Prelude.{ℕ, ◌+◌, ◌≡◌, ◌≢◌, ◌<◌, ◌�
 use Rattle.std.specs.Fmt.{decimal}
 use Rattle.base.specs.Causes.{fault_number}
 use Rattle.base.specs.declared.causes.MachineFault.{MachineFault}
-use Rattle.machine.specs.Outcome.{Ending}
+use Rattle.machine.specs.Outcome.{Ending, fails}
 use Rattle.epochs.specs.declared.part.By.{By}
 use Rattle.choices.specs.declared.name.Name.{Name}
 use Rattle.choices.specs.declared.choice.Departure.{Departure}
@@ -11,7 +11,6 @@ use Rattle.choices.specs.Named.{name_of}
 use Rattle.report.specs.ChoiceText.{AreNames, IsName}
 use Rattle.report.specs.MarkReading.{lacks}
 use Rattle.report.specs.LineText.{codes_text, ending_text, choice_text}
-use Rattle.report.specs.Line.{fails}
 use Rattle.report.specs.Report.{HeadValue}
 use Rattle.join.specs.Printable.{IsWithin, are_names_of_run}
 

@@ -1,7 +1,7 @@
 -- Failing lines as a text can have them: each number within its range.
 use Rattle.std.specs.Prelude.{ℕ, ◌<◌, ◌≤◌, ◌^◌, ◌≡◌, ◌==◌, ◌&&◌, ◌||◌, nat_le, nat_lt, Bool, true, false, List, [], ◌∷◌, ◌++◌, length, map, codes}
 use Rattle.std.specs.List.{All}
-use Rattle.machine.specs.Outcome.{Ending, Verdict, Stopped, OutOfSteps, Stray}
+use Rattle.machine.specs.Outcome.{Ending, Verdict, Stopped, OutOfSteps, Stray, fails}
 use Rattle.epochs.specs.declared.part.By.{By}
 use Rattle.epochs.specs.Cuts.{is_after_first, is_before_last}
 use Rattle.choices.specs.declared.choice.Departure.{Departure}
@@ -10,7 +10,7 @@ use Rattle.choices.specs.declared.fate.Fate.TheVariants as fate
 use Rattle.choices.specs.declared.name.Name.{Name}
 use Rattle.choices.specs.Named.{name_of}
 use Rattle.report.specs.ChoiceText.{AreNames}
-use Rattle.report.specs.Line.{FailingLine, fails}
+use Rattle.report.specs.Line.{FailingLine}
 use Rattle.report.specs.LineText.{ending_text, choice_text}
 use Rattle.report.specs.Report.{HeadValue}
 

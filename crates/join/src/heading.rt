@@ -8,9 +8,10 @@ ghost use Rattle.join.specs.Reading.{IsAfterHead, NoHead};
 use crate::line::is_before_last;
 use crate::options::options_said;
 use crate::programs::{MOST_PROGRAMS, programs_said};
-use crate::words::{beyond, cut, parts};
+use crate::words::{beyond, parts};
 use base::limits::Limits;
 use epochs::Cuts;
+use report::printed::cut;
 use report::{Head, ProgramHead, put_options};
 use std::alloc::{AllocError, Global};
 

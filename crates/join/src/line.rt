@@ -1,15 +1,15 @@
 //! One failing line of a text.
 
 ghost use Rattle.std.specs.Prelude.{◌≡◌, ◌<◌, ◌^◌, ◌↔◌, ◌++◌, ◌&&◌, IfOk, IfSome, IsTrue, MatchOption, OnOk, string_bytes, length};
-ghost use Rattle.report.specs.MarkReading.{ReadsField};
 ghost use Rattle.epochs.specs.Cuts.{is_before_last, is_after_first};
 ghost use Rattle.join.specs.Printable.{IsLineOfRun, has_program_and_cut};
 ghost use Rattle.join.specs.Reading.{words_text, ReadsWords, Fit, IsBody, NoBody, IsLine, NoLine, IsCut, NoCut};
 
 use crate::ending::is_end;
-use crate::words::{beyond, cut, number, parts};
+use crate::words::{beyond, parts};
 use report::Head;
 use report::lines::LineMark;
+use report::printed::{field, number};
 use std::alloc::{AllocError, Global};
 
 /// What a line says before its outcome.
@@ -18,14 +18,6 @@ pub struct LineWords {
     pub(crate) image: u64,
     pub(crate) cut: u64,
     pub(crate) program: u64,
-}
-
-/// The word after the first one, and what stands after it.
-fn field(text: &str) -> (&str, &str)
-    ensures { ReadsField text.now result.0.now result.1.now }
-{
-    let (_name, named) = cut(text, ' ');
-    cut(named, ' ')
 }
 
 /// What a line says before its outcome, and something where it is no line.

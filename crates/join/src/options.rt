@@ -6,8 +6,9 @@ ghost use Rattle.epochs.specs.Flushes.{places_of};
 ghost use Rattle.report.specs.Text.{cuts_word, yes_or_no};
 ghost use Rattle.join.specs.Heads.{AreEntries, IsProgramHead, IsSmallGiven, IsSmallHead, IsSmallOption, IsWord, ReadsBy, ReadsChoices, ReadsDevice, ReadsEntries, ReadsFlushes, ReadsGiven, ReadsOption, ReadsOptions};
 
-use crate::words::{byte_number, next_word, number, parts, small_number};
+use crate::words::{next_word, parts};
 use epochs::{By, CutKind, Cuts, Flushes};
+use report::printed::{byte_number, number, small_number};
 use report::{Head, ProgramHead};
 
 /// How many flushes can be added.

@@ -10,7 +10,7 @@ use crate::reading::read_lines;
 use crate::span::read_span;
 use crate::tally::Tally;
 use crate::words::before;
-use report::Span;
+use report::{Span, put_image};
 use std::alloc::{AllocError, Global};
 use std::marker::Model;
 use std::str;
@@ -38,16 +38,6 @@ impl<'t> Model for RunPart<'t> {
     ghost Value = { PartRead };
 
     ghost view = { λ p. record { span = p.span; head = p.head.now; first = p.first; lines = p.lines.now; tally = p.tally; file = p.file } };
-}
-
-/// Appends an image, or that there is none.
-fn put_image(out: &mut String, image: Option<u64>) -> Result<(), AllocError>
-    ensures { OnOk result (string_bytes out.new ≡ string_bytes out.old ++ image_text image) }
-{
-    match image {
-        Some(image) => write!(out, "{image}"),
-        None => write!(out, "none"),
-    }
 }
 
 /// Appends the last line of a part with the first failing image alone.

@@ -4,8 +4,9 @@ ghost use Rattle.std.specs.Prelude.{◌≡◌, Bool, All, IfOk, MatchOption};
 ghost use Rattle.report.specs.Report.{steps_word};
 ghost use Rattle.join.specs.Heads.{IsFewOption, IsProgramHead, IsProgramLine, NoProgramLine, ReadsGuards, ReadsProgram, ReadsPrograms};
 
-use crate::words::{beyond, next_word, number, parts, small_number};
+use crate::words::{beyond, next_word, parts};
 use report::ProgramHead;
+use report::printed::{number, small_number};
 use std::alloc::{AllocError, Global};
 
 /// The most programs of a run.

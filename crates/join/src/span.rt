@@ -4,7 +4,8 @@ ghost use Rattle.std.specs.Prelude.{◌≡◌, ◌++◌, IfOk, MatchOption, stri
 ghost use Rattle.report.specs.Part.{span_text};
 ghost use Rattle.join.specs.Reading.{ReadsSpan, IsSpanOf, NoSpan};
 
-use crate::words::{beyond, cut, number};
+use crate::words::beyond;
+use report::printed::{cut, number};
 use report::{Span, put_span};
 use std::alloc::{AllocError, Global};
 

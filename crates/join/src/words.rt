@@ -1,21 +1,8 @@
 //! Words of a text.
 
-ghost use Rattle.std.specs.Prelude.{ℕ, ◌≡◌, ◌≢◌, ◌-◌, ◌<◌, ◌≤◌, ◌^◌, ◌++◌, List, length, take, MatchOption};
-ghost use Rattle.std.specs.Fmt.{decimal};
-ghost use Rattle.report.specs.MarkReading.{IsCutAt};
+ghost use Rattle.std.specs.Prelude.{ℕ, ◌≡◌, ◌≢◌, ◌<◌, ◌++◌, List, MatchOption};
 ghost use Rattle.join.specs.Heads.{ReadsWord};
 ghost use Rattle.join.specs.Reading.{HasFront, IsCut, NoCut};
-
-/// What stands before and after the first such character.
-pub(crate) fn cut(text: &str, at: char) -> (&str, &str)
-    requires { at < 128 }
-    ensures { IsCutAt at text.now result.0.now result.1.now }
-{
-    match text.split_once(at) {
-        Some(parts) => parts,
-        None => ("", ""),
-    }
-}
 
 /// What stands before and after the first such character, if there is one.
 pub(crate) fn parts(text: &str, at: char) -> Option<(&str, &str)>
@@ -33,36 +20,6 @@ pub(crate) fn next_word(line: &str) -> (&str, &str)
     match parts(line, ' ') {
         Some(found) => found,
         None => (line, ""),
-    }
-}
-
-/// The number that a word says, and some number where it says none.
-pub(crate) fn number(word: &str) -> u64
-    ensures { (n : ℕ) → n < 2 ^ 64 → word.now ≡ decimal n → result ≡ n }
-{
-    match word.parse() {
-        Ok(number) => number,
-        Err(_) => 0,
-    }
-}
-
-/// The number of 32 bits that a word says, and some number where it says none.
-pub(crate) fn small_number(word: &str) -> u32
-    ensures { (n : ℕ) → n < 2 ^ 32 → word.now ≡ decimal n → result ≡ n }
-{
-    match word.parse() {
-        Ok(number) => number,
-        Err(_) => 0,
-    }
-}
-
-/// The number of a byte that a word says, and some number where it says none.
-pub(crate) fn byte_number(word: &str) -> u8
-    ensures { (n : ℕ) → n < 2 ^ 8 → word.now ≡ decimal n → result ≡ n }
-{
-    match word.parse() {
-        Ok(number) => number,
-        Err(_) => 0,
     }
 }
 

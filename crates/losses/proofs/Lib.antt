@@ -20,6 +20,7 @@ pub mod Sames
 pub mod Collected
 pub mod Standing
 pub mod Shown
+pub mod Causes
 -- Lemmas of `outcomes`.
 pub mod Plain
 pub mod Words

@@ -17,7 +17,8 @@ use Rattle.choices.specs.declared.fate.Fate.{Fate}
 use Rattle.choices.specs.declared.fate.Fate.TheVariants as fate
 use Rattle.report.specs.Line.{FailingLine}
 use Rattle.report.specs.MarkReading.{lacks}
-use Rattle.report.specs.LineText.{codes_text, ending_text, fate_text, part_text, departure_text, next_departure_text, choice_text, line_text}
+use Rattle.report.specs.ChoiceText.{fate_text}
+use Rattle.report.specs.LineText.{codes_text, ending_text, part_text, departure_text, next_departure_text, choice_text, line_text}
 
 -- two texts that pass pass together
 pub both : (p : ℕ → Bool) (xs ys : List ℕ) → list_all p xs ≡ true → list_all p ys ≡ true → list_all p (xs ++ ys) ≡ true

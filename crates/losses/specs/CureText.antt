@@ -47,6 +47,10 @@ missing_place m = codes "flush before " ++ decimal m.at ++ codes " from " ++ dec
 unfoldable pub missing_line : MissingFlush → List ℕ
 missing_line m = missing_place m ++ codes " failing " ++ decimal m.failing ++ codes "\n"
 
+-- of each program how many of its failing images no flush takes away, and then the flushes that are missing
+unfoldable pub missing_text : ℕ → List Failure → List MissingFlush → List ℕ
+missing_text programs fs ms = programs_text programs fs ++ flat_map missing_line ms
+
 -- of a round
 unfoldable pub flush_line : ℕ → MissingFlush → List ℕ
 flush_line round m = codes "round " ++ decimal round ++ codes " " ++ missing_line m

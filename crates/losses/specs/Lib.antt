@@ -13,6 +13,7 @@ pub mod CountedGroups
 pub mod Failures
 pub mod GroupLaws
 pub mod WhyText
+pub mod Causes
 -- What programs end in.
 pub mod ProgramOutcomes
 -- What a cure is.

@@ -31,6 +31,6 @@ mod text;
 
 pub use adding::{Added, add_missing};
 pub use failure::Failure;
-pub use failures::{failures_of, windows_of};
+pub use failures::{failures_of, missing_of, windows_of};
 pub use printed::uncured_line;
-pub use text::{put_begin, put_missing, put_programs, put_refused, put_round};
+pub use text::{put_begin, put_flushes, put_programs, put_refused, put_round};

@@ -38,7 +38,7 @@
 //! | Call | Answer |
 //! |---|---|
 //! | `failures(alloc, starts, failing, outcomes)` | for each wanted cut how many images it has, how many of them fail, and the groups |
-//! | `put_cuts(out, by, starts, outcomes, program, cuts)` | appends this as a text |
+//! | `put_causes(alloc, out, by, starts, failing, outcomes, program)` | appends this as a text |
 //!
 //! Of `flushes`:
 //!
@@ -52,13 +52,13 @@
 //! | Call | Answers |
 //! |---|---|
 //! | `failures_of(alloc, by, starts, log, marks)` | of each failing line its program, and its window where it has one |
-//! | `windows_of(alloc, failures)` | the windows that there are |
+//! | `windows_of(alloc, failures)`, `missing_of(alloc, log, failures)` | the windows that there are, and the flushes that are missing for them |
 //! | `add_missing(alloc, log, windows)` | the flushes that are missing for these windows, and the log with them |
 //! | `put_begin(out, head, failures)` | appends title, options, and of each program how many of its failures have no window |
 //! | `uncured_line(alloc, lines, failures)` | the line that names the first failure without a window |
 //! | `put_round(out, number, flushes)` | appends a line for each flush of a round |
 //! | `put_programs(out, programs, failures)` | appends of each program how many of its failures have no window |
-//! | `put_missing(out, flushes)` | appends a line for each flush, without a round |
+//! | `put_flushes(out, programs, failures, flushes)` | appends a line for each program, and for each flush, without a round |
 //! | `put_refused(out, at)` | appends that a run has too many images |
 //!
 //! # What is proved
@@ -84,8 +84,8 @@
 //! lost and the same parts are torn the first; the number of failing images that stand under it; and whether the program ends on
 //! all of these as on the example. Two laws stand above (`specs/GroupLaws.antt`): each failing image of a cut stands under one group,
 //! of a choice that is a part of its own, and the numbers of the groups add up (`each_stands_once`); those of the cuts add up to
-//! that of all failing images (`all_stand`). `put_cuts` appends the text of `specs/WhyText.antt`: a line for each cut at which
-//! something fails, and one for each of its groups.
+//! that of all failing images (`all_stand`). `put_causes` appends the text of `specs/WhyText.antt`: a line for each cut at which
+//! something fails, and one for each of its groups. `specs/Causes.antt` says what is told so of all programs, of a run or of a report.
 //!
 //! ## `flushes`
 //!
@@ -144,13 +144,12 @@
 //!
 //! ```
 //! use epochs::By;
-//! use losses::why::{failures, put_cuts};
+//! use losses::why::put_causes;
 //!
 //! // two_slots of examples/ fails on images 104 to 118 of its cut 4; its first two are enough here
 //! let outcomes = ["answer 1 codes 1", "answer 1 codes 1"];
-//! let cuts = failures(alloc, &starts, &[104, 105], &outcomes)?;
 //! let mut out = String::new(alloc);
-//! put_cuts(&mut out, By::Sector, &starts, &outcomes, 0, cuts.as_slice())?;
+//! put_causes(alloc, &mut out, By::Sector, &starts, &[104, 105], &outcomes, 0)?;
 //! // cut 4 program 0 images 120 failing 2
 //! // group 2.0 lost: 1 image, all answer 1 codes 1, as image 104 choice 2.0:drop
 //! // ..

@@ -10,6 +10,7 @@
 //! counted at its example (`group`), and its outcome is compared with that of the example (`same`).
 #![tactic(auto)]
 
+mod causes;
 mod cut;
 mod cuts;
 mod group;
@@ -17,8 +18,8 @@ mod laws;
 mod same;
 mod text;
 
+pub use causes::put_causes;
 pub use cut::CutFailures;
 pub use cuts::failures;
 pub use group::FailingGroup;
 pub use laws::{all_stand, each_stands_once};
-pub use text::put_cuts;

@@ -1,4 +1,3 @@
 pub mod Devices
-pub mod Lines
 pub mod BlindTexts
 pub mod LinesOfC

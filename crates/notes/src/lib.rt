@@ -1,18 +1,18 @@
-//! What is said of programs and logs beside an answer or a refusal: a listing with its slots, a log as a table, and the
-//! parts of notes (docs/REFUSALS.md, Notes).
+//! What is said of programs and logs beside an answer or a refusal: a listing with its slots, and the parts of notes
+//! (docs/REFUSALS.md, Notes).
 //!
 //! | Module | Has |
 //! |---|---|
 //! | `command_notes` | which notes stand after a refusal of a command, and beside its answer |
-//! | `listing`, `table` | a listing with its slots; a log as a table |
+//! | `listing` | a listing with its slots |
 //! | `sources` | at which line of C each slot of a program comes, and its place after what is said of the slot |
 //! | `known`, `device` | what is known of registers; the least device that holds a log |
-//! | `line`, `cures`, `escaped` | a line of a note, what most likely helps against a refusal, and bytes of a foreign text |
+//! | `line`, `cures` | a line of a note, and what most likely helps against a refusal |
 //!
 //! # Place
 //!
-//! On `logfmt` and `epochs`, whose logs it shows, on `bpf_isa` and `bpf_asm`, whose instructions it writes as the assembler does, and
-//! on `ranges`, whose states it puts into words. `command_notes` chooses which notes are said of a command: of its `Words`
+//! On `logfmt`, whose logs it measures, on `crash_text` for the line of an entry, on `bpf_isa` and `bpf_asm`, whose instructions it
+//! writes as the assembler does, and on `ranges`, whose states it puts into words. `command_notes` chooses which notes are said of a command: of its `Words`
 //! (`command_line`), what its files hold, and what its run knows (`RunFacts` of `request`). For what is said of a log by itself it is read
 //! once more (`log_facts`), and a program that is refused is verified once more (`breach_of`). `commands` hands both calls to the program,
 //! whose status and standard output they don't touch. No rule of a log or a program is known here but in words.
@@ -21,16 +21,12 @@
 //! |---|---|
 //! | `numbered_listing(alloc, program)` | the listing, each line after its slot |
 //! | `put_slot(out, slot, instr)` | a line of it |
-//! | `log_table(alloc, log)` | the entries of a log, one a line, by the numbers that the report names |
 //! | `put_note(out, text)` | one line of a note |
 //! | `put_refused(out, rule, cure)` | what a refusal means, and what helps, if anything is known |
 //! | `put_known(out, instr, state)` | what is known of the registers that an instruction reads, and what an access wants |
-//! | `put_entry(alloc, out, log, number)` | an entry, as in the table |
-//! | `put_entry_line(out, number, epoch, entry)`, `put_what(out, entry)` | a line of the table, what stands in it after the epoch |
 //! | `put_least(out, log)` | the size of the least device that holds a log |
 //! | `source_lines(alloc, bytes)` | the lines of a text that says at which line of C each slot comes; none where it is no such text |
 //! | `put_source(alloc, out, lines, slot)` | the place in C of a slot, as ` # check.c:41` |
-//! | `put_escaped(out, bytes)` | bytes of a foreign text, so that they stay on their line |
 //! | `log_cure`, `code_cure`, `asm_cure`, `verifier_cure`, `guarded_cure` | what most likely helps against a refusal; what it means is the text of its cause |
 //!
 //! Of `command_notes`:
@@ -58,12 +54,10 @@
 //! # Example
 //!
 //! ```
-//! use notes::{log_table, numbered_listing};
+//! use notes::numbered_listing;
 //!
 //! let listing = numbered_listing(alloc, &program)?;
 //! // "0: lddw r1, 7\n2: exit\n"
-//! let table = log_table(alloc, &log)?;
-//! // "entry 0 epoch 0 write sector 3 count 1\nentry 1 epoch 0 mark text \"one\"\n"
 //! ```
 //!
 //! The notes of a command:
@@ -88,18 +82,14 @@
 pub mod command_notes;
 mod cures;
 mod device;
-mod escaped;
 mod known;
 mod line;
 mod listing;
 mod sources;
-mod table;
 
 pub use cures::{asm_cure, code_cure, guarded_cure, log_cure, verifier_cure};
 pub use device::put_least;
-pub use escaped::put_escaped;
 pub use known::put_known;
 pub use line::{put_note, put_refused};
 pub use listing::{numbered_listing, put_slot};
 pub use sources::{SourceLine, put_source, source_lines};
-pub use table::{log_table, put_entry, put_entry_line, put_what};

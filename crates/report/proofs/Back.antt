@@ -13,7 +13,8 @@ use Rattle.choices.specs.declared.fate.Fate.{Fate}
 use Rattle.choices.specs.declared.fate.Fate.TheVariants as fate
 use Rattle.report.specs.Line.{FailingLine}
 use Rattle.report.specs.MarkReading.{lacks}
-use Rattle.report.specs.LineText.{codes_text, ending_text, fate_text, part_text, departure_text, next_departure_text, choice_text, line_text}
+use Rattle.report.specs.ChoiceText.{fate_text}
+use Rattle.report.specs.LineText.{codes_text, ending_text, part_text, departure_text, next_departure_text, choice_text, line_text}
 
 by_test : (t : Bool) (a b : Bool) → (a ≡ true → b ≡ true) → (if t then false else a) ≡ true → (if t then false else b) ≡ true
 by_test true a b go e = e

@@ -1,6 +1,6 @@
 -- A failing line: an image on which a checker does not answer 0 (docs/OUTPUT.md, The report).
-use Rattle.std.specs.Prelude.{ℕ, ◌==◌, Bool, true, not, List, [], ◌∷◌, filter}
-use Rattle.machine.specs.Outcome.{Ending, Verdict, Stopped, OutOfSteps, Stray}
+use Rattle.std.specs.Prelude.{ℕ, ◌==◌, List, [], ◌∷◌, filter}
+use Rattle.machine.specs.Outcome.{Ending}
 use Rattle.epochs.specs.declared.part.By.{By}
 use Rattle.choices.specs.declared.choice.Departure.{Departure}
 
@@ -13,13 +13,6 @@ pub record FailingLine : Type 0 where
   pub ending : Ending
   pub by : By
   pub departures : List Departure
-
--- an image is good for a checker that answers 0
-abbrev pub fails : Ending → Bool
-fails (Verdict answer codes) = not (answer == 0)
-fails (Stopped cause slot) = true
-fails OutOfSteps = true
-fails (Stray slot) = true
 
 -- the lines of the first failing image, of lines by image
 abbrev pub first_lines : List FailingLine → List FailingLine

@@ -8,8 +8,7 @@ use Rattle.epochs.specs.declared.part.By.{By}
 use Rattle.epochs.specs.declared.part.By.TheVariants as by
 use Rattle.epochs.specs.declared.part.Part.{Part}
 use Rattle.choices.specs.declared.choice.Departure.{Departure}
-use Rattle.choices.specs.declared.fate.Fate.{Fate}
-use Rattle.choices.specs.declared.fate.Fate.TheVariants as fate
+use Rattle.report.specs.ChoiceText.{fate_text}
 use Rattle.report.specs.Line.{FailingLine}
 
 -- the codes of a verdict, joined by commas; a hyphen where there is none
@@ -23,12 +22,6 @@ ending_text (Verdict answer numbers) = codes "answer " ++ decimal answer ++ code
 ending_text (Stopped cause slot) = codes "fault " ++ decimal (fault_number cause) ++ codes " slot " ++ decimal slot
 ending_text OutOfSteps = codes "out of steps"
 ending_text (Stray slot) = codes "stray at slot " ++ decimal slot
-
--- what became of a part that is not whole
-abbrev pub fate_text : Fate → List ℕ
-fate_text fate.Drop = codes "drop"
-fate_text (fate.Head eighths) = codes "head" ++ decimal eighths
-fate_text (fate.Tail eighths) = codes "tail" ++ decimal eighths
 
 -- a part: its entry, and by sector its place there too
 unfoldable pub part_text : By → Part → List ℕ

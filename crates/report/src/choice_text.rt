@@ -13,4 +13,4 @@ mod reading;
 
 pub use cuts::put_cuts_words;
 pub use printing::{put_departures, put_fate, put_names, put_part};
-pub use reading::read_names;
+pub use reading::{is_text_of, read_fate, read_names};

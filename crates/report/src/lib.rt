@@ -16,6 +16,7 @@
 //! | `choice_text` | the text of a choice: its departures, as the report prints them, printed and read back |
 //! | `lines` | failing lines: what they say, and their text, in which they are kept; of which image and program each is |
 //! | `head`, `writer` | what stands before the lines, and the bytes of all |
+//! | `printed` | words of a text that was printed, taken apart again |
 //! | `span` | a part of a run: which images of which run a text is of |
 //!
 //! | Type or call | What it is |
@@ -25,6 +26,7 @@
 //! | `write_part(alloc, head, span, lines)` | the bytes of a part of a run |
 //! | `Span`, `put_span(out, span)` | which images of which run a text is of, and the two lines that say so |
 //! | `put_options(out, head)`, `put_totals(out, images, lines)` | append its options and programs, and its last line |
+//! | `put_device`, `put_given`, `put_programs`, `put_image` | append what these are made of, for texts that have it too |
 //! | `put_steps(out, program)` | appends of a program the most steps of a run, and how many slots are guarded |
 //!
 //! Of `choice_text`:
@@ -35,6 +37,8 @@
 //! | `put_names(out, by, names)` | appends the same of their names |
 //! | `put_part`, `put_fate` | append a part, and what became of it |
 //! | `read_names(alloc, by, text)` | the names of which a text is |
+//! | `read_fate(word)` | what became of a part, by its word |
+//! | `is_text_of(alloc, by, names, text)` | whether names are printed to a text |
 //! | `put_cuts_words(out, cuts)` | appends the flushes that were added to a log, and the range of the wanted cuts, as the report prints them |
 //!
 //! Of `lines`:
@@ -161,9 +165,13 @@
 pub mod choice_text;
 mod head;
 pub mod lines;
+pub mod printed;
 mod span;
 mod writer;
 
 pub use head::{Head, ProgramHead};
 pub use span::{Span, put_span};
-pub use writer::{put_options, put_steps, put_totals, write_part, write_report};
+pub use writer::{
+    put_device, put_given, put_image, put_options, put_programs, put_steps, put_totals,
+    word_of_cuts, write_part, write_report, yes_or_no_word,
+};

@@ -16,13 +16,15 @@ use crate::span::{Span, put_span};
 use epochs::{By, CutKind};
 use std::alloc::{AllocError, Global};
 
-fn yes_or_no_word(b: bool) -> &'static str
+/// Whether something is so, in a word.
+pub fn yes_or_no_word(b: bool) -> &'static str
     ensures { result.now ≡ yes_or_no b }
 {
     if b { "yes" } else { "no" }
 }
 
-fn word_of_cuts(kind: CutKind) -> &'static str
+/// What a kind of cuts is called.
+pub fn word_of_cuts(kind: CutKind) -> &'static str
     ensures { result.now ≡ cuts_word kind }
 {
     match kind {
@@ -51,7 +53,7 @@ fn word_of_steps(verified: bool) -> &'static str
 
 /// Appends the device, the length of the log and the cuts.
 #[tactic(auto, unfolding(crate::specs::Report::device_text))]
-fn put_device(out: &mut String, head: &Head) -> Result<(), AllocError>
+pub fn put_device(out: &mut String, head: &Head) -> Result<(), AllocError>
     ensures { OnOk result (string_bytes out.new ≡ string_bytes out.old ++ device_text head.now) }
 {
     let cuts = word_of_cuts(head.cuts.kind);
@@ -85,7 +87,7 @@ fn put_choices(out: &mut String, head: &Head) -> Result<(), AllocError>
 /// Appends what departs as one where it isn't a sector, the flushes that were added, the range of the cuts, and the number of what
 /// the device held before entry 0.
 #[tactic(auto, unfolding(crate::specs::Report::given_text))]
-fn put_given(out: &mut String, head: &Head) -> Result<(), AllocError>
+pub fn put_given(out: &mut String, head: &Head) -> Result<(), AllocError>
     ensures { OnOk result (string_bytes out.new ≡ string_bytes out.old ++ given_text head.now) }
 {
     let by = words_of_by(head.by);
@@ -125,7 +127,7 @@ fn put_program(out: &mut String, number: usize, program: ProgramHead) -> Result<
 }
 
 /// Appends the lines of the programs.
-fn put_programs(out: &mut String, programs: &[ProgramHead]) -> Result<(), AllocError>
+pub fn put_programs(out: &mut String, programs: &[ProgramHead]) -> Result<(), AllocError>
     ensures { OnOk result (string_bytes out.new ≡ string_bytes out.old ++ program_lines 0 programs.now) }
 {
     for (number, program) in programs.iter().enumerate() {
@@ -149,7 +151,7 @@ pub fn put_totals(out: &mut String, images: u64, lines: &Lines) -> Result<(), Al
 }
 
 /// Appends an image, or that there is none.
-fn put_image(out: &mut String, image: Option<u64>) -> Result<(), AllocError>
+pub fn put_image(out: &mut String, image: Option<u64>) -> Result<(), AllocError>
     ensures { OnOk result (string_bytes out.new ≡ string_bytes out.old ++ image_text image) }
 {
     match image {

@@ -1,6 +1,5 @@
 -- What is told of a report, part after part.
 use Rattle.std.proofs.Common.{ℕ, ◌≡◌, ◌+◌, ◌<◌, List, map, flat_map, [], ◌∷◌, ◌++◌, codes, length, length-append, slice_get, Option, None, Some, append_assoc, append-nil, refl, sym, ◌∙◌, ap, subst, inl, inr, arith}
-use Rattle.base.proofs.Lists.{slice_get_of_push}
 use Rattle.epochs.specs.declared.part.By.{By}
 use Rattle.std.specs.Option.{option_map, option_map_or, option_and_then}
 use Rattle.std.proofs.lemmas.Option.{slice_get-map}
@@ -10,74 +9,20 @@ use Rattle.choices.specs.Sums.{StartsValue}
 use Rattle.report.specs.ChoiceText.{departures_text}
 use Rattle.losses.specs.declared.flushes.counted.MissingFlush.{MissingFlush}
 use Rattle.losses.specs.declared.cure.failure.Failure.{Failure}
-use Rattle.losses.specs.declared.why.cut.CutFailures.{CutFailures}
-use Rattle.losses.specs.Failures.{AreCuts}
-use Rattle.losses.specs.WhyText.{cuts_text}
-use Rattle.losses.specs.CureText.{programs_text, flush_line, uncured_at}
+use Rattle.losses.specs.CureText.{programs_text, missing_text, flush_line, uncured_at}
+use Rattle.losses.specs.Causes.{causes_from, TellsPrograms}
 use Rattle.join.specs.declared.given.told.GivenLine.{GivenLine}
 use Rattle.join.specs.Given.{GivenValue, ToldLine, line_told, told_line}
 use Rattle.join.specs.Reading.{words_text}
 use Rattle.join.proofs.ToldLines.{body_is}
-use Rattle.retold.specs.Told.{images_told_of, outcomes_told_of, IsCauseOf, causes_after, opening_told, missing_told, count_of, AreMissingFor, TellsOne, TellsAll, TellsWhy, TellsPlaces, uncured_told, end_told, entries_told, untried_line, AreOfRun}
-
--- the text of one program more
-causes_more : (s : StartsValue) (ts : List ToldLine) (n : ℕ) (causes : List (List CutFailures)) (last : List CutFailures)
-    → causes_after s ts n (causes ++ last ∷ []) ≡ causes_after s ts n causes ++ cuts_text s.plan.by s (outcomes_told_of (n + length causes) ts) (n + length causes) last
-causes_more s ts n [] last =
-    let here : n + 0 ≡ n = omega arith in
-    append-nil (cuts_text s.plan.by s (outcomes_told_of n ts) n last) ∙ sym (ap (λ (k : ℕ). cuts_text s.plan.by s (outcomes_told_of k ts) k last) here)
-causes_more s ts n (c ∷ causes) last =
-    let on : n + 1 + length causes ≡ n + length (c ∷ causes) = omega arith in
-    let own : List ℕ = cuts_text s.plan.by s (outcomes_told_of n ts) n c in
-    ap (λ (bs : List ℕ). own ++ bs)
-    (causes_more s ts (n + 1) causes last ∙ ap (λ (k : ℕ). causes_after s ts (n + 1) causes ++ cuts_text s.plan.by s (outcomes_told_of k ts) k last) on)
-    ∙ sym (append_assoc own (causes_after s ts (n + 1) causes) (cuts_text s.plan.by s (outcomes_told_of (n + length (c ∷ causes)) ts) (n + length (c ∷ causes)) last))
-
-pub tells_none : (s : StartsValue) (ts : List ToldLine) (old : List ℕ) → TellsAll s ts 0 old old
-tells_none s ts old =
-    record { causes = []; all = refl; each = λ program cuts at. absurd (let bad : None ≡ Some cuts = at in cc); text = sym (append-nil old) }
-
-pub tells_more : (s : StartsValue) (ts : List ToldLine) (count : ℕ) (old mid new : List ℕ) → TellsAll s ts count old mid → TellsOne s ts count mid new → TellsAll s ts (count + 1) old new
-tells_more s ts count old mid new was is =
-    let all = was.all in
-    let last : 0 + length was.causes ≡ count = omega (arith, all) in
-    let own : List ℕ = cuts_text s.plan.by s (outcomes_told_of count ts) count is.cuts in
-    record {
-      causes = was.causes ++ is.cuts ∷ [];
-      all = omega (arith, all, length-append was.causes (is.cuts ∷ []));
-      each = λ program cuts at. elim (slice_get_of_push was.causes is.cuts program cuts at) [
-        | inl there ↦ was.each program cuts there
-        | inr here ↦
-            let same : program ≡ count = here.0 ∙ all in
-            subst (λ (p : ℕ). IsCauseOf s ts p cuts) (sym same) (subst (λ (c : List CutFailures). IsCauseOf s ts count c) (sym here.1) is.is)
-      ];
-      text = is.text
-          ∙ ap (λ (bs : List ℕ). bs ++ own) was.text
-          ∙ append_assoc old (causes_after s ts 0 was.causes) own
-          ∙ ap (λ (bs : List ℕ). old ++ bs)
-          (sym (causes_more s ts 0 was.causes is.cuts
-          ∙ ap (λ (k : ℕ). causes_after s ts 0 was.causes ++ cuts_text s.plan.by s (outcomes_told_of k ts) k is.cuts) last));
-    }
-
--- what was appended of the cuts of a program
-pub tells_one : (s : StartsValue) (ts : List ToldLine) (way : By) (program : ℕ) (images : List ℕ) (given outcomes now : List (List ℕ)) (cuts told : List CutFailures) (old new : List ℕ)
-    → way ≡ s.plan.by → images ≡ images_told_of program ts → outcomes ≡ outcomes_told_of program ts → given ≡ outcomes → now ≡ outcomes → told ≡ cuts → AreCuts s images given cuts
-    → new ≡ old ++ cuts_text way s now program told → TellsOne s ts program old new
-tells_one s ts way program images given outcomes now cuts told old new kind own said first second same are is = record {
-  cuts = cuts;
-  is = subst (λ (os : List (List ℕ)). AreCuts s (images_told_of program ts) os cuts) (first ∙ said) (subst (λ (ns : List ℕ). AreCuts s ns given cuts) own are);
-  text = is
-      ∙ ap (λ (w : By). old ++ cuts_text w s now program told) kind
-      ∙ ap (λ (os : List (List ℕ)). old ++ cuts_text s.plan.by s os program told) (second ∙ said)
-      ∙ ap (λ (cs : List CutFailures). old ++ cuts_text s.plan.by s (outcomes_told_of program ts) program cs) same;
-}
+use Rattle.retold.specs.Told.{images_told_of, outcomes_told_of, opening_told, count_of, AreMissingFor, TellsWhy, TellsPlaces, uncured_told, end_told, entries_told, untried_line, AreOfRun}
 
 -- the whole text, part after part
 pub why_told : (s : StartsValue) (g : GivenValue) (ts : List ToldLine) (fs : List Failure) (ms : List MissingFlush) (count : ℕ) (none begun missing all bytes : List ℕ)
-    → AreMissingFor s ts fs ms → none ≡ [] → begun ≡ none ++ opening_told g → missing ≡ begun ++ missing_told count fs ms → TellsAll s ts count missing all
+    → AreMissingFor s ts fs ms → none ≡ [] → begun ≡ none ++ opening_told g → missing ≡ begun ++ missing_text count fs ms → TellsPrograms s (λ program. images_told_of program ts) (λ program. outcomes_told_of program ts) count missing all
     → ts ≡ g.lines → count ≡ count_of g → bytes ≡ all → TellsWhy s g bytes
 why_told s g ts fs ms count none begun missing all bytes are empty begins goes tells lines many is =
-    let own = subst (λ (xs : List ToldLine). TellsAll s xs count missing all) lines tells in
+    let own = subst (λ (xs : List ToldLine). TellsPrograms s (λ program. images_told_of program xs) (λ program. outcomes_told_of program xs) count missing all) lines tells in
     record {
       failures = fs;
       missing = ms;
@@ -86,10 +31,10 @@ why_told s g ts fs ms count none begun missing all bytes are empty begins goes t
       all = own.all ∙ many;
       each = own.each;
       text = is ∙ own.text
-          ∙ ap (λ (bs : List ℕ). bs ++ causes_after s g.lines 0 own.causes)
-          (goes ∙ ap (λ (bs : List ℕ). bs ++ missing_told count fs ms) (begins ∙ ap (λ (bs : List ℕ). bs ++ opening_told g) empty)
-          ∙ ap (λ (n : ℕ). opening_told g ++ missing_told n fs ms) many)
-          ∙ append_assoc (opening_told g) (missing_told (count_of g) fs ms) (causes_after s g.lines 0 own.causes);
+          ∙ ap (λ (bs : List ℕ). bs ++ causes_from s (λ program. outcomes_told_of program g.lines) 0 own.causes)
+          (goes ∙ ap (λ (bs : List ℕ). bs ++ missing_text count fs ms) (begins ∙ ap (λ (bs : List ℕ). bs ++ opening_told g) empty)
+          ∙ ap (λ (n : ℕ). opening_told g ++ missing_text n fs ms) many)
+          ∙ append_assoc (opening_told g) (missing_text (count_of g) fs ms) (causes_from s (λ program. outcomes_told_of program g.lines) 0 own.causes);
     }
 
 pub places_told : (added : List ℕ) (s : StartsValue) (g : GivenValue) (ts : List ToldLine) (fs : List Failure) (ms : List MissingFlush) (count : ℕ) (none a b c d e f bytes : List ℕ)

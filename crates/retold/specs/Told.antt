@@ -11,11 +11,11 @@ use Rattle.report.specs.Words.{next_flush}
 use Rattle.losses.specs.declared.flushes.counted.MissingFlush.{MissingFlush}
 use Rattle.losses.specs.Counted.{AreMissing}
 use Rattle.losses.specs.declared.why.cut.CutFailures.{CutFailures}
-use Rattle.losses.specs.Failures.{AreCuts, AreImages}
-use Rattle.losses.specs.WhyText.{cuts_text}
+use Rattle.losses.specs.Failures.{AreImages}
+use Rattle.losses.specs.Causes.{AreCauses, causes_from}
 use Rattle.losses.specs.declared.cure.failure.Failure.{Failure}
 use Rattle.losses.specs.FailureWindows.{AreFailuresAt, windows_in, places_in}
-use Rattle.losses.specs.CureText.{programs_text, missing_line, flush_line, uncured_at}
+use Rattle.losses.specs.CureText.{programs_text, missing_text, flush_line, uncured_at}
 use Rattle.crash_page.specs.Judges.{checker_text, outside_text}
 use Rattle.crash_page.specs.Failing.{IsPage}
 use Rattle.join.specs.Given.{GivenValue, ToldLine, AreJudges, judge_count, marks_told, told_line}
@@ -41,25 +41,9 @@ pub record AreMissingFor (s : StartsValue) (ts : List ToldLine) (fs : List Failu
   pub failures : AreFailuresAt s (marks_told ts) fs
   pub missing : AreMissing (windows_in fs) ms
 
--- what fails at each wanted cut of a program
-abbrev pub IsCauseOf : StartsValue → List ToldLine → ℕ → List CutFailures → Type 0
-IsCauseOf s ts program cuts = AreCuts s (images_told_of program ts) (outcomes_told_of program ts) cuts
-
-abbrev pub AreCausesOf : StartsValue → List ToldLine → List (List CutFailures) → Type 0
-AreCausesOf s ts causes = (program : ℕ) (cuts : List CutFailures) → slice_get causes program ≡ Some cuts → IsCauseOf s ts program cuts
-
--- the text of the cuts of the programs from that number on
-abbrev pub causes_after : StartsValue → List ToldLine → ℕ → List (List CutFailures) → List ℕ
-causes_after s ts number [] = []
-causes_after s ts number (cuts ∷ causes) = cuts_text s.plan.by s (outcomes_told_of number ts) number cuts ++ causes_after s ts (number + 1) causes
-
 -- title, options and programs, and the totals, as the report has them
 unfoldable pub opening_told : GivenValue → List ℕ
 opening_told g = codes "crash why 2\n" ++ (g.head ++ g.last)
-
--- of each program how many of its failing images no flush takes away, and then the flushes that are missing
-unfoldable pub missing_told : ℕ → List Failure → List MissingFlush → List ℕ
-missing_told programs fs ms = programs_text programs fs ++ flat_map missing_line ms
 
 -- how many programs the report has
 abbrev pub count_of : GivenValue → ℕ
@@ -72,21 +56,8 @@ pub record TellsWhy (s : StartsValue) (g : GivenValue) (bytes : List ℕ) : Type
   pub are_missing : AreMissingFor s g.lines failures missing
   pub causes : List (List CutFailures)
   pub all : length causes ≡ count_of g
-  pub each : AreCausesOf s g.lines causes
-  pub text : bytes ≡ opening_told g ++ (missing_told (count_of g) failures missing ++ causes_after s g.lines 0 causes)
-
--- what was appended says what fails of that program at each cut
-pub record TellsOne (s : StartsValue) (ts : List ToldLine) (program : ℕ) (old new : List ℕ) : Type 0 where
-  pub cuts : List CutFailures
-  pub is : IsCauseOf s ts program cuts
-  pub text : new ≡ old ++ cuts_text s.plan.by s (outcomes_told_of program ts) program cuts
-
--- and of that many programs
-pub record TellsAll (s : StartsValue) (ts : List ToldLine) (count : ℕ) (old new : List ℕ) : Type 0 where
-  pub causes : List (List CutFailures)
-  pub all : length causes ≡ count
-  pub each : AreCausesOf s ts causes
-  pub text : new ≡ old ++ causes_after s ts 0 causes
+  pub each : AreCauses s (λ program. images_told_of program g.lines) (λ program. outcomes_told_of program g.lines) causes
+  pub text : bytes ≡ opening_told g ++ (missing_text (count_of g) failures missing ++ causes_from s (λ program. outcomes_told_of program g.lines) 0 causes)
 
 -- the line of the first failure without a window
 abbrev pub uncured_told : StartsValue → List ToldLine → List Failure → List ℕ

@@ -7,8 +7,8 @@ ghost use Rattle.retold.specs.Told.{AreMissingFor, AreOfRun};
 
 use crate::lines::marks_of;
 use crate::subject::Subject;
-use losses::cure::{Failure, failures_of, windows_of};
-use losses::flushes::{MissingFlush, missing_flushes};
+use losses::cure::{Failure, failures_of, missing_of};
+use losses::flushes::MissingFlush;
 use std::alloc::{AllocError, Global};
 
 /// The failures of a report, and the flushes that are missing for them.
@@ -34,7 +34,7 @@ pub(crate) fn failures_in(alloc: Global, subject: &Subject<'_>) -> Result<Vec<Fa
 }
 
 /// The failures of a report, and the flushes that are missing for them.
-pub(crate) fn missing_of(
+pub(crate) fn missing_in(
     alloc: Global,
     subject: &Subject<'_>,
 ) -> Result<MissingInReport, AllocError>
@@ -42,7 +42,6 @@ pub(crate) fn missing_of(
     ensures { IfOk result (λ m. AreMissingFor subject.now.starts.now (map line_told subject.now.lines.now) m.failures.items m.flushes.items) }
 {
     let failures = failures_in(alloc, subject)?;
-    let windows = windows_of(alloc, failures.as_slice())?;
-    let flushes = missing_flushes(alloc, windows.as_slice(), subject.log.entries().len())?;
+    let flushes = missing_of(alloc, subject.log, failures.as_slice())?;
     Ok(MissingInReport { failures, flushes })
 }

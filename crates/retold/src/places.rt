@@ -12,7 +12,7 @@ ghost use Rattle.join.specs.GivenReading.{given_told};
 ghost use Rattle.join.specs.Reading.{words_text};
 ghost use Rattle.retold.specs.Told.{AreOfRun, TellsPlaces, beyond_line, count_of, end_told, entries_told, next_told, uncured_told, untried_line};
 
-use crate::missing::missing_of;
+use crate::missing::missing_in;
 use crate::subject::Subject;
 use epochs::Cuts;
 use join::{Given, GivenLine};
@@ -189,7 +189,7 @@ pub(crate) fn places_text(
     requires programs { subject.now.programs ≡ count_of (given_told given.now) }
     ensures { IfOk result (λ bytes. TellsPlaces (places_of cuts.now.flushes) subject.now.starts.now (given_told given.now) bytes.items) }
 {
-    let missing = missing_of(alloc, subject)?;
+    let missing = missing_in(alloc, subject)?;
     let (failures, flushes) = (missing.failures.as_slice(), missing.flushes.as_slice());
     let mut out = String::new(alloc);
     out.push_str("crash cure 1\n")?;

@@ -3,51 +3,47 @@
 ghost use Rattle.std.specs.Prelude.{◌≡◌, ◌++◌, IfOk, OnOk, map, string_bytes};
 ghost use Rattle.join.specs.Given.{line_told};
 ghost use Rattle.join.specs.GivenReading.{given_told};
-ghost use Rattle.retold.specs.Told.{AreOfRun, TellsOne, TellsAll, TellsWhy, missing_told, opening_told, count_of};
+ghost use Rattle.losses.specs.Causes.{TellsProgram, TellsPrograms};
+ghost use Rattle.retold.specs.Told.{AreOfRun, TellsWhy, images_told_of, outcomes_told_of, opening_told, count_of};
 
 use crate::lines::{images_of, outcomes_of};
-use crate::missing::{MissingInReport, missing_of};
+use crate::missing::missing_in;
 use crate::subject::Subject;
 use join::Given;
-use losses::cure::{put_missing, put_programs};
-use losses::why::{failures, put_cuts};
+use losses::cure::put_flushes;
+use losses::why::put_causes;
 use std::alloc::{AllocError, Global};
 
 /// Appends what fails of the program of that number at each cut.
-fn put_causes(
+fn put_program(
     alloc: Global,
     out: &mut String,
     subject: &Subject<'_>,
     program: usize,
 ) -> Result<(), AllocError>
     requires { AreOfRun subject.now.starts.now (map line_told subject.now.lines.now) }
-    ensures { OnOk result (TellsOne subject.now.starts.now (map line_told subject.now.lines.now) program (string_bytes out.old) (string_bytes out.new)) }
+    ensures { OnOk result (TellsProgram subject.now.starts.now (images_told_of program (map line_told subject.now.lines.now)) (outcomes_told_of program (map line_told subject.now.lines.now)) program (string_bytes out.old) (string_bytes out.new)) }
 {
     let images = images_of(alloc, subject.lines, program)?;
     let outcomes = outcomes_of(alloc, subject.lines, program)?;
-    let cuts = failures(
+    put_causes(
         alloc,
-        subject.starts,
-        images.as_slice(),
-        outcomes.as_slice(),
-    )?;
-    put_cuts(
         out,
         subject.by,
         subject.starts,
+        images.as_slice(),
         outcomes.as_slice(),
         program,
-        cuts.as_slice(),
     )
 }
 
 /// Appends what fails of each program at each cut.
 fn put_all(alloc: Global, out: &mut String, subject: &Subject<'_>) -> Result<(), AllocError>
     requires { AreOfRun subject.now.starts.now (map line_told subject.now.lines.now) }
-    ensures { OnOk result (TellsAll subject.now.starts.now (map line_told subject.now.lines.now) subject.now.programs (string_bytes out.old) (string_bytes out.new)) }
+    ensures { OnOk result (TellsPrograms subject.now.starts.now (λ program. images_told_of program (map line_told subject.now.lines.now)) (λ program. outcomes_told_of program (map line_told subject.now.lines.now)) subject.now.programs (string_bytes out.old) (string_bytes out.new)) }
 {
     for program in 0..subject.programs {
-        put_causes(alloc, out, subject, program)?;
+        put_program(alloc, out, subject, program)?;
     }
     Ok(())
 }
@@ -62,19 +58,6 @@ fn put_opening(out: &mut String, given: &Given<'_>) -> Result<(), AllocError>
     Ok(())
 }
 
-/// Appends of each program how many of its failing images have no window, and the flushes that are missing.
-#[tactic(auto, unfolding(crate::specs::Told::missing_told))]
-fn put_flushes(
-    out: &mut String,
-    programs: usize,
-    missing: &MissingInReport,
-) -> Result<(), AllocError>
-    ensures { OnOk result (string_bytes out.new ≡ string_bytes out.old ++ missing_told programs missing.now.failures.items missing.now.flushes.items) }
-{
-    put_programs(out, programs, missing.failures.as_slice())?;
-    put_missing(out, missing.flushes.as_slice())
-}
-
 /// Why the programs fail.
 pub(crate) fn why_text(
     alloc: Global,
@@ -86,10 +69,11 @@ pub(crate) fn why_text(
     requires programs { subject.now.programs ≡ count_of (given_told given.now) }
     ensures { IfOk result (λ bytes. TellsWhy subject.now.starts.now (given_told given.now) bytes.items) }
 {
-    let missing = missing_of(alloc, subject)?;
+    let missing = missing_in(alloc, subject)?;
+    let (failures, flushes) = (missing.failures.as_slice(), missing.flushes.as_slice());
     let mut out = String::new(alloc);
     put_opening(&mut out, given)?;
-    put_flushes(&mut out, subject.programs, &missing)?;
+    put_flushes(&mut out, subject.programs, failures, flushes)?;
     put_all(alloc, &mut out, subject)?;
     Ok(out.into_bytes())
 }

@@ -10,8 +10,8 @@ use Rattle.base.proofs.Lists.{range_with_len-more, range_with_len-append}
 use Rattle.epochs.specs.declared.part.By.{By}
 use Rattle.choices.specs.Choices.{ChoiceValue}
 use Rattle.checker.specs.Checker.{CheckerValue}
-use Rattle.machine.specs.Outcome.{Ending}
-use Rattle.report.specs.Line.{FailingLine, fails}
+use Rattle.machine.specs.Outcome.{Ending, fails}
+use Rattle.report.specs.Line.{FailingLine}
 use Rattle.workers.specs.Failing.{Subject, choices_of, judged_count, ending_at, line_if, line_at, line_of, image_lines, lines_from, failing_lines, part}
 use Rattle.workers.specs.Pieces.{block_count}
 use Rattle.explore_core.specs.declared.job.Job.{Job}

@@ -4,7 +4,7 @@ use Rattle.std.specs.Option.{option_and_then}
 use Rattle.std.specs.List.{cons_option, filter_map, range_with_len}
 use Rattle.choices.specs.Choices.{ChoiceValue}
 use Rattle.checker.specs.Checker.{CheckerValue}
-use Rattle.report.specs.Line.{fails}
+use Rattle.machine.specs.Outcome.{fails}
 use Rattle.verdict_cache.specs.Endings.{ending_on}
 use Rattle.verdict_cache.specs.Laws.{OneImageTells}
 use Rattle.workers.specs.Failing.{Subject, choices_of, ending_at}

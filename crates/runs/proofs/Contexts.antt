@@ -22,13 +22,12 @@ use Rattle.images.proofs.Departing.{filter_within}
 use Rattle.images.proofs.Devices.{images_are_devices}
 use Rattle.images.proofs.Rows.{all_units}
 use Rattle.images.proofs.Sectors.{view_there}
-use Rattle.machine.specs.Outcome.{Ending}
+use Rattle.machine.specs.Outcome.{Ending, fails}
 use Rattle.machine.proofs.Footprints.{footprint_tells}
 use Rattle.machine.proofs.Guarded as guarded
 use Rattle.checker.specs.Checker.{CheckerValue, judgement}
 use Rattle.checker.specs.Footprints.{AgreeAt, kept_footprint, footprint_of}
 use Rattle.checker.proofs.Alike.{judged_alike}
-use Rattle.report.specs.Line.{fails}
 use Rattle.runs.specs.Blind.{covers, is_bare, whole_at, ending_on, looks_on, is_blind_at, same_context, IsLastContext}
 use Rattle.runs.proofs.Unseeing.{and_first, and_second, all_at, passes_bare}
 

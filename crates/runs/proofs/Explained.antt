@@ -1,11 +1,9 @@
 -- Why programs fail, by the marks of the failing lines.
-use Rattle.std.proofs.Common.{ℕ, zero, suc, ◌≡◌, ◌+◌, ◌<◌, ◌==◌, Bool, true, false, if◌then◌else◌, List, [], ◌∷◌, ◌++◌, codes, length, length-append, map, filter, slice_get, None, Some, append_assoc, append-nil, refl, sym, ◌∙◌, ap, subst, inl, inr, arith}
+use Rattle.std.proofs.Common.{ℕ, zero, suc, ◌≡◌, ◌+◌, ◌<◌, ◌==◌, Bool, true, false, if◌then◌else◌, List, [], ◌∷◌, ◌++◌, codes, length, map, filter, slice_get, None, Some, append_assoc, refl, sym, ◌∙◌, ap, subst, inl, inr, arith}
 use Rattle.std.specs.List.{flat_map}
 use Rattle.std.proofs.lemmas.Bool.Decides.{eqb_tells}
 use Rattle.std.proofs.lemmas.Option.{slice_get_within}
-use Rattle.base.proofs.Lists.{slice_get_of_push}
 use Rattle.logfmt.specs.Bounds.{LogValue}
-use Rattle.epochs.specs.declared.part.By.{By}
 use Rattle.epochs.specs.Plan.{PlanValue}
 use Rattle.choices.specs.Choices.{ranked_choices}
 use Rattle.choices.specs.Sums.{StartsValue}
@@ -17,56 +15,17 @@ use Rattle.report.specs.Marks.{marks_of}
 use Rattle.losses.specs.ProgramOutcomes.{outcomes_failing, is_marked, AreOutcomes}
 use Rattle.report.specs.Report.{HeadValue, options_text, totals_line}
 use Rattle.losses.specs.declared.cure.failure.Failure.{Failure}
-use Rattle.losses.specs.declared.why.cut.CutFailures.{CutFailures}
-use Rattle.losses.specs.Failures.{AreInOrder, AreImages, AreCuts}
-use Rattle.losses.specs.WhyText.{cuts_text}
+use Rattle.losses.specs.Failures.{AreInOrder, AreImages}
+use Rattle.losses.specs.CureText.{missing_text}
+use Rattle.losses.specs.Causes.{causes_from, TellsProgram, TellsPrograms}
+use Rattle.losses.proofs.Causes.{tells_as}
 use Rattle.workers.specs.Failing.{Subject, failing_lines}
 use Rattle.workers.specs.Laws.{Precedes, LinesAreSet, ListsFailing}
 use Rattle.request.specs.declared.settings.Settings.{Settings}
 use Rattle.request.specs.Source.{plan_of}
 use Rattle.runs.specs.Explore.{subject_of, head_of}
-use Rattle.runs.specs.Why.{images_failing, starts_of, IsMissing, IsCause, causes_from, why_head, missing_text, why_text, TellsCauses, TellsOfLines, with_first}
-use Rattle.runs.specs.Marked.{images_marked, TellsProgram, TellsPrograms}
-
--- the text of one program more
-causes_more : (s : StartsValue) (ls : List FailingLine) (n : ℕ) (causes : List (List CutFailures)) (last : List CutFailures)
-    → causes_from s ls n (causes ++ last ∷ []) ≡ causes_from s ls n causes ++ cuts_text s.plan.by s (outcomes_failing (n + length causes) ls) (n + length causes) last
-causes_more s ls n [] last =
-    let here : n + 0 ≡ n = omega arith in
-    append-nil (cuts_text s.plan.by s (outcomes_failing n ls) n last) ∙ sym (ap (λ (k : ℕ). cuts_text s.plan.by s (outcomes_failing k ls) k last) here)
-causes_more s ls n (c ∷ causes) last =
-    let on : n + 1 + length causes ≡ n + length (c ∷ causes) = omega arith in
-    let own : List ℕ = cuts_text s.plan.by s (outcomes_failing n ls) n c in
-    ap (λ (bs : List ℕ). own ++ bs)
-    (causes_more s ls (n + 1) causes last ∙ ap (λ (k : ℕ). causes_from s ls (n + 1) causes ++ cuts_text s.plan.by s (outcomes_failing k ls) k last) on)
-    ∙ sym (append_assoc own (causes_from s ls (n + 1) causes) (cuts_text s.plan.by s (outcomes_failing (n + length (c ∷ causes)) ls) (n + length (c ∷ causes)) last))
-
-pub tells_none : (s : StartsValue) (ls : List FailingLine) (old : List ℕ) → TellsPrograms s ls 0 old old
-tells_none s ls old =
-    record { causes = []; all = refl; each = λ program cuts at. absurd (let bad : None ≡ Some cuts = at in cc); text = sym (append-nil old) }
-
-pub tells_more : (s : StartsValue) (ls : List FailingLine) (count : ℕ) (old mid new : List ℕ) → TellsPrograms s ls count old mid
-    → TellsProgram s ls count mid new → TellsPrograms s ls (count + 1) old new
-tells_more s ls count old mid new was is =
-    let all = was.all in
-    let last : 0 + length was.causes ≡ count = omega (arith, all) in
-    let own : List ℕ = cuts_text s.plan.by s (outcomes_failing count ls) count is.cuts in
-    record {
-      causes = was.causes ++ is.cuts ∷ [];
-      all = omega (arith, all, length-append was.causes (is.cuts ∷ []));
-      each = λ program cuts at. elim (slice_get_of_push was.causes is.cuts program cuts at) [
-        | inl there ↦ was.each program cuts there
-        | inr here ↦
-            let same : program ≡ count = here.0 ∙ all in
-            subst (λ (p : ℕ). IsCause s ls p cuts) (sym same) (subst (λ (c : List CutFailures). IsCause s ls count c) (sym here.1) is.is)
-      ];
-      text = is.text
-          ∙ ap (λ (bs : List ℕ). bs ++ own) was.text
-          ∙ append_assoc old (causes_from s ls 0 was.causes) own
-          ∙ ap (λ (bs : List ℕ). old ++ bs)
-          (sym (causes_more s ls 0 was.causes is.cuts
-          ∙ ap (λ (k : ℕ). causes_from s ls 0 was.causes ++ cuts_text s.plan.by s (outcomes_failing k ls) k is.cuts) last));
-    }
+use Rattle.runs.specs.Why.{images_failing, starts_of, IsMissing, why_head, why_text, TellsCauses, TellsOfLines, with_first}
+use Rattle.runs.specs.Marked.{images_marked}
 
 -- the marks of a program are of the images of its lines
 pub marked_are_failing : (program : ℕ) (ls : List FailingLine) → images_marked (marks_of ls) program ≡ images_failing program ls
@@ -160,21 +119,13 @@ as_many program (m ∷ ms) = by_test (m.program == program) (as_many program ms)
     by_test false rest = rest
 
 -- what was appended of the cuts of a program, by what it ends in on its images
-pub tells_program : (s : StartsValue) (ls : List FailingLine) (ms : List LineMark) (way : By) (program : ℕ) (text : List ℕ) (images : List ℕ) (given outcomes now : List (List ℕ))
-    (cuts told : List CutFailures) (old new : List ℕ) → way ≡ s.plan.by → text ≡ flat_map Rattle.report.specs.LineText.line_text ls → ms ≡ marks_of ls
-    → images ≡ images_marked ms program → AreOutcomes text ms program outcomes → given ≡ outcomes → now ≡ outcomes → told ≡ cuts → AreCuts s images given cuts
-    → new ≡ old ++ cuts_text way s now program told → TellsProgram s ls program old new
-tells_program s ls ms way program text images given outcomes now cuts told old new kind texts marks own read first second same are is =
+pub tells_program : (s : StartsValue) (ls : List FailingLine) (ms : List LineMark) (program : ℕ) (text images : List ℕ) (outcomes given : List (List ℕ)) (old new : List ℕ)
+    → text ≡ flat_map Rattle.report.specs.LineText.line_text ls → ms ≡ marks_of ls → images ≡ images_marked ms program → AreOutcomes text ms program outcomes → given ≡ outcomes
+    → TellsProgram s images given program old new → TellsProgram s (images_failing program ls) (outcomes_failing program ls) program old new
+tells_program s ls ms program text images outcomes given old new texts marks own read same tells =
     let said : outcomes ≡ outcomes_failing program ls = read.read ls texts marks in
     let mine : images ≡ images_failing program ls = own ∙ ap (λ (ks : List LineMark). images_marked ks program) marks ∙ marked_are_failing program ls in
-    record {
-      cuts = cuts;
-      is = subst (λ (os : List (List ℕ)). AreCuts s (images_failing program ls) os cuts) (first ∙ said) (subst (λ (ns : List ℕ). AreCuts s ns given cuts) mine are);
-      text = is
-          ∙ ap (λ (w : By). old ++ cuts_text w s now program told) kind
-          ∙ ap (λ (os : List (List ℕ)). old ++ cuts_text s.plan.by s os program told) (second ∙ said)
-          ∙ ap (λ (cs : List CutFailures). old ++ cuts_text s.plan.by s (outcomes_failing program ls) program cs) same;
-    }
+    tells_as s images (images_failing program ls) given (outcomes_failing program ls) program old new mine (same ∙ said) tells
 
 -- the text by what a run makes is that by its settings
 pub causes_of_lines : (s : Settings) (value : LogValue) (checkers : List CheckerValue) (head : HeadValue) (starts : StartsValue) (ls : List FailingLine) (bytes : List ℕ)
@@ -202,7 +153,7 @@ head_told h ls images old title options all begins goes same ends =
 
 -- the whole text, part after part
 pub causes_told : (h : HeadValue) (s : StartsValue) (ls : List FailingLine) (fs : List Failure) (ms : List MissingFlush) (count : ℕ) (none begun missing all bytes : List ℕ)
-    → IsMissing s ls fs ms → none ≡ [] → begun ≡ none ++ why_head h ls → missing ≡ begun ++ missing_text count fs ms → TellsPrograms s ls count missing all
+    → IsMissing s ls fs ms → none ≡ [] → begun ≡ none ++ why_head h ls → missing ≡ begun ++ missing_text count fs ms → TellsPrograms s (λ program. images_failing program ls) (λ program. outcomes_failing program ls) count missing all
     → count ≡ length h.programs → bytes ≡ all → TellsCauses h s ls bytes
 unfolding why_text
 causes_told h s ls fs ms count none begun missing all bytes are empty begins goes tells many is =
@@ -214,7 +165,7 @@ causes_told h s ls fs ms count none begun missing all bytes are empty begins goe
       all = tells.all ∙ many;
       each = tells.each;
       text = is ∙ tells.text
-          ∙ ap (λ (bs : List ℕ). bs ++ causes_from s ls 0 tells.causes)
+          ∙ ap (λ (bs : List ℕ). bs ++ causes_from s (λ program. outcomes_failing program ls) 0 tells.causes)
           (goes ∙ ap (λ (bs : List ℕ). bs ++ missing_text count fs ms) (begins ∙ ap (λ (bs : List ℕ). bs ++ why_head h ls) empty)
           ∙ ap (λ (n : ℕ). why_head h ls ++ missing_text n fs ms) many);
     }

@@ -10,9 +10,8 @@ use Rattle.logfmt.specs.declared.entry.Entry.{Entry}
 use Rattle.epochs.specs.declared.part.Part.{Part}
 use Rattle.epochs.specs.declared.cuts.Cuts.{Cuts}
 use Rattle.epochs.specs.Cuts.{cuts_of}
-use Rattle.machine.specs.Outcome.{Ending}
+use Rattle.machine.specs.Outcome.{Ending, fails}
 use Rattle.interp.specs.Ending.{ending_of}
-use Rattle.report.specs.Line.{fails}
 use Rattle.checker.specs.Checker.{CheckerValue}
 use Rattle.cases.specs.Risk.{is_last_cut, parts_at_risk}
 use Rattle.cases.specs.Choices.{Choice, image_at}

@@ -1,7 +1,7 @@
 -- Each image of a failing case that is told fails.
 use Rattle.std.proofs.Common.{ℕ, ◌≡◌, ◌≤◌, Bool, true, List, length, slice_get, Some, sym, subst}
 use Rattle.interp.specs.Ending.{ending_of}
-use Rattle.report.specs.Line.{fails}
+use Rattle.machine.specs.Outcome.{fails}
 use Rattle.cases.specs.Laws.{Includes}
 use Rattle.cases.specs.AtCut.{parts_of, case_of}
 use Rattle.case_runs.specs.Laws.{judged_at}

@@ -24,10 +24,10 @@ use Rattle.images.specs.Table.{AreParts}
 use Rattle.images.specs.Views.{ViewValue, view_of, sectors_of, context_at}
 use Rattle.images.proofs.Members.{member_parts}
 use Rattle.epochs.specs.Touching.{covers as part_covers}
-use Rattle.machine.specs.Outcome.{Ending}
+use Rattle.machine.specs.Outcome.{Ending, fails}
 use Rattle.checker.specs.Checker.{CheckerValue}
 use Rattle.checker.specs.Footprints.{AgreeingAreJudgedAlike, AgreeAt}
-use Rattle.report.specs.Line.{FailingLine, fails}
+use Rattle.report.specs.Line.{FailingLine}
 use Rattle.workers.specs.Failing.{Subject, choices_of, ending_at, failing_lines}
 use Rattle.workers.specs.Laws.{IsFailing, LinesAreSet}
 use Rattle.request.specs.declared.settings.Settings.{Settings}

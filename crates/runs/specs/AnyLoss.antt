@@ -3,7 +3,7 @@ use Rattle.std.specs.Prelude.{ℕ, ◌≡◌, ◌≤◌, Bool, true, List, lengt
 use Rattle.logfmt.specs.Bounds.{LogValue}
 use Rattle.epochs.specs.declared.part.Part.{Part}
 use Rattle.interp.specs.Ending.{ending_of}
-use Rattle.report.specs.Line.{fails}
+use Rattle.machine.specs.Outcome.{fails}
 use Rattle.checker.specs.Checker.{CheckerValue}
 use Rattle.cases.specs.Risk.{parts_at_risk}
 use Rattle.cases.specs.Choices.{Choice, image_at}

@@ -9,10 +9,10 @@ use Rattle.epochs.specs.Units.{epoch_at, marks_at}
 use Rattle.epochs.specs.Plan.{PlanValue}
 use Rattle.choices.specs.Choices.{ChoiceValue}
 use Rattle.images.specs.Views.{ViewValue, sectors_of, context_at}
-use Rattle.machine.specs.Outcome.{Ending}
+use Rattle.machine.specs.Outcome.{Ending, fails}
 use Rattle.checker.specs.Checker.{CheckerValue, judgement}
 use Rattle.checker.specs.Footprints.{kept_footprint}
-use Rattle.report.specs.Line.{FailingLine, fails}
+use Rattle.report.specs.Line.{FailingLine}
 use Rattle.workers.specs.Failing.{Subject, choices_of, ending_at, failing_lines}
 use Rattle.request.specs.declared.settings.Settings.{Settings}
 use Rattle.request.specs.Source.{Recording, HasImages, plan_of}

@@ -1,6 +1,5 @@
 -- Why programs fail on the crash images of a log, and what a run is to tell (docs/OUTPUT.md, The text of `why`).
-use Rattle.std.specs.Prelude.{ℕ, ◌≡◌, ◌+◌, ◌==◌, Bool, false, List, [], ◌∷◌, ◌++◌, codes, length, map, filter, slice_get, Some}
-use Rattle.std.specs.List.{flat_map}
+use Rattle.std.specs.Prelude.{ℕ, ◌≡◌, ◌==◌, Bool, false, List, ◌++◌, codes, length, map, filter}
 use Rattle.logfmt.specs.Bounds.{LogValue}
 use Rattle.choices.specs.Sums.{StartsValue}
 use Rattle.checker.specs.Checker.{CheckerValue}
@@ -9,11 +8,10 @@ use Rattle.losses.specs.declared.flushes.counted.MissingFlush.{MissingFlush}
 use Rattle.losses.specs.Counted.{AreMissing}
 use Rattle.report.specs.Report.{HeadValue, options_text, totals_line}
 use Rattle.losses.specs.declared.why.cut.CutFailures.{CutFailures}
-use Rattle.losses.specs.Failures.{AreCuts}
-use Rattle.losses.specs.WhyText.{cuts_text}
+use Rattle.losses.specs.Causes.{AreCauses, causes_from}
 use Rattle.losses.specs.declared.cure.failure.Failure.{Failure}
 use Rattle.losses.specs.FailureWindows.{AreFailures, windows_in}
-use Rattle.losses.specs.CureText.{programs_text, missing_line}
+use Rattle.losses.specs.CureText.{missing_text}
 use Rattle.losses.specs.ProgramOutcomes.{outcomes_failing}
 use Rattle.workers.specs.Failing.{failing_lines}
 use Rattle.runs.specs.Inputs.{inputs_number}
@@ -37,30 +35,13 @@ pub record IsMissing (s : StartsValue) (ls : List FailingLine) (fs : List Failur
   pub failures : AreFailures s.plan.by s.plan.log.entries ls fs
   pub missing : AreMissing (windows_in fs) ms
 
--- what fails at each wanted cut of a program, by the failing lines
-abbrev pub IsCause : StartsValue → List FailingLine → ℕ → List CutFailures → Type 0
-IsCause s ls program cuts = AreCuts s (images_failing program ls) (outcomes_failing program ls) cuts
-
--- of each program
-abbrev pub AreCauses : StartsValue → List FailingLine → List (List CutFailures) → Type 0
-AreCauses s ls causes = (program : ℕ) (cuts : List CutFailures) → slice_get causes program ≡ Some cuts → IsCause s ls program cuts
-
--- the text of the cuts of the programs from that number on
-abbrev pub causes_from : StartsValue → List FailingLine → ℕ → List (List CutFailures) → List ℕ
-causes_from s ls number [] = []
-causes_from s ls number (cuts ∷ causes) = cuts_text s.plan.by s (outcomes_failing number ls) number cuts ++ causes_from s ls (number + 1) causes
-
 -- how the text begins: the options and the programs as in the report, and the totals of the report
 unfoldable pub why_head : HeadValue → List FailingLine → List ℕ
 why_head h ls = codes "crash why 2\n" ++ options_text h ++ totals_line h.images ls
 
--- of each program how many of its failing images no flush takes away, and then the flushes that are missing
-unfoldable pub missing_text : ℕ → List Failure → List MissingFlush → List ℕ
-missing_text programs fs ms = programs_text programs fs ++ flat_map missing_line ms
-
 -- the whole text
 unfoldable pub why_text : HeadValue → StartsValue → List FailingLine → List Failure → List MissingFlush → List (List CutFailures) → List ℕ
-why_text h s ls fs ms causes = why_head h ls ++ missing_text (length h.programs) fs ms ++ causes_from s ls 0 causes
+why_text h s ls fs ms causes = why_head h ls ++ missing_text (length h.programs) fs ms ++ causes_from s (λ program. outcomes_failing program ls) 0 causes
 
 -- the bytes say which flushes are missing, and of each program what fails at each cut
 pub record TellsCauses (h : HeadValue) (s : StartsValue) (ls : List FailingLine) (bytes : List ℕ) : Type 0 where
@@ -69,7 +50,7 @@ pub record TellsCauses (h : HeadValue) (s : StartsValue) (ls : List FailingLine)
   pub are_missing : IsMissing s ls failures missing
   pub causes : List (List CutFailures)
   pub all : length causes ≡ length h.programs
-  pub each : AreCauses s ls causes
+  pub each : AreCauses s (λ program. images_failing program ls) (λ program. outcomes_failing program ls) causes
   pub text : bytes ≡ why_text h s ls failures missing causes
 
 -- the same settings, with the first failing image alone or all of them

@@ -10,7 +10,7 @@ ghost use Rattle.helpers.specs.Footprint.{lists};
 ghost use Rattle.interp.specs.Ending.{ending_of};
 ghost use Rattle.checker.specs.Checker.{IsFor, AreFor};
 ghost use Rattle.checker.specs.Memory.{IsServed};
-ghost use Rattle.report.specs.Line.{fails};
+ghost use Rattle.machine.specs.Outcome.{fails};
 ghost use Rattle.runs.specs.Blind.{covers, is_bare, ending_on, looks_on, whole_at, is_blind, changes, has_few_contexts, is_noticed, same_context, IsLastContext};
 
 use crate::task::Task;
@@ -20,7 +20,7 @@ use checker::{Checker, RunMemory};
 use choices::{Choice, Starts};
 use epochs::Plan;
 use images::{History, View};
-use interp::{Noted, Outcome};
+use interp::Noted;
 use logfmt::Entry;
 use std::alloc::{AllocError, Global};
 
@@ -91,18 +91,6 @@ fn are_bare(entries: &[Entry], known: &mut ArrayVec<u32, KEPT>, sectors: &[u32])
     true
 }
 
-/// Whether an outcome makes no line of the report.
-fn passes_with(outcome: &Outcome) -> bool
-    ensures { result ≡ not (fails (ending_of outcome.now)) }
-{
-    match outcome {
-        Outcome::Verdict(verdict) => verdict.answer == 0,
-        Outcome::Fault { code: _, slot: _ } => false,
-        Outcome::OutOfSteps => false,
-        Outcome::Stray(_) => false,
-    }
-}
-
 /// What a checker ends in on an image, with the footprint of that run.
 #[tactic(auto, unfolding(crate::specs::Blind::ending_on, crate::specs::Blind::looks_on))]
 fn noted_on(memory: &mut RunMemory, view: &View<'_>, checker: &Checker<'_>) -> Noted<ROOM>
@@ -122,7 +110,7 @@ fn was_blind(entries: &[Entry], known: &mut ArrayVec<u32, KEPT>, run: &Noted<ROO
     ensures value { result ≡ not (fails (ending_of run.now.outcome)) && option_map_or (list_all (is_bare entries.now)) run.now.footprint.sectors false }
     ensures known { list_all (is_bare entries.now) known.new.items ≡ true }
 {
-    if !passes_with(&run.outcome) {
+    if run.outcome.fails() {
         return false;
     }
     match run.footprint.sectors() {

@@ -3,15 +3,17 @@
 ghost use Rattle.std.specs.Prelude.{◌≡◌, ◌++◌, ℕ, map, IfOk, OnOk, string_bytes};
 ghost use Rattle.std.specs.List.Sorted.{IsNonDecreasing};
 ghost use Rattle.losses.specs.Failures.{AreImages};
-ghost use Rattle.runs.specs.Why.{why_head, missing_text, TellsCauses};
-ghost use Rattle.runs.specs.Marked.{own_image, images_marked, TellsProgram, TellsPrograms};
+ghost use Rattle.losses.specs.ProgramOutcomes.{outcomes_failing};
+ghost use Rattle.losses.specs.Causes.{TellsProgram, TellsPrograms};
+ghost use Rattle.runs.specs.Why.{images_failing, why_head, TellsCauses};
+ghost use Rattle.runs.specs.Marked.{own_image, images_marked};
 ghost use Rattle.runs.specs.Tasks.{lines_of};
 
-use crate::missing::{MissingInRun, missing_of};
+use crate::missing::missing_in;
 use crate::task::Findings;
-use losses::cure::{put_missing, put_programs};
+use losses::cure::put_flushes;
 use losses::outcomes::outcomes_of;
-use losses::why::{failures, put_cuts};
+use losses::why::put_causes;
 use report::lines::{LineMark, Lines};
 use report::{Head, put_options, put_totals};
 use std::alloc::{AllocError, Global};
@@ -42,26 +44,26 @@ pub(crate) fn images_of_program(
 }
 
 /// Appends what fails of the program of that number at each cut.
-fn put_causes(
+fn put_program(
     alloc: Global,
     out: &mut String,
     findings: &Findings<'_>,
     program: usize,
 ) -> Result<(), AllocError>
     requires { AreImages findings.now.starts.now (images_marked findings.now.marks.now program) }
-    ensures { OnOk result (TellsProgram findings.now.starts.now findings.now.lines.now program (string_bytes out.old) (string_bytes out.new)) }
+    ensures { OnOk result (TellsProgram findings.now.starts.now (images_failing program findings.now.lines.now) (outcomes_failing program findings.now.lines.now) program (string_bytes out.old) (string_bytes out.new)) }
 {
     let (by, starts) = (findings.task.options.by(), findings.starts);
     let images = images_of_program(alloc, findings.marks, program)?;
     let outcomes = outcomes_of(alloc, findings.text, findings.marks, program)?;
-    let cuts = failures(alloc, starts, images.as_slice(), outcomes.as_slice())?;
-    put_cuts(
+    put_causes(
+        alloc,
         out,
         by,
         starts,
+        images.as_slice(),
         outcomes.as_slice(),
         program,
-        cuts.as_slice(),
     )
 }
 
@@ -73,10 +75,10 @@ fn put_all(
     programs: usize,
 ) -> Result<(), AllocError>
     requires images { (program : ℕ) → AreImages findings.now.starts.now (images_marked findings.now.marks.now program) }
-    ensures { OnOk result (TellsPrograms findings.now.starts.now findings.now.lines.now programs (string_bytes out.old) (string_bytes out.new)) }
+    ensures { OnOk result (TellsPrograms findings.now.starts.now (λ program. images_failing program findings.now.lines.now) (λ program. outcomes_failing program findings.now.lines.now) programs (string_bytes out.old) (string_bytes out.new)) }
 {
     for program in 0..programs {
-        put_causes(alloc, out, findings, program)?;
+        put_program(alloc, out, findings, program)?;
     }
     Ok(())
 }
@@ -92,15 +94,6 @@ fn put_head(out: &mut String, head: &Head, lines: &Lines) -> Result<(), AllocErr
     put_totals(out, head.images, lines)
 }
 
-/// Appends of each program how many of its failing images have no window, and the flushes that are missing.
-#[tactic(auto, unfolding(crate::specs::Why::missing_text))]
-fn put_flushes(out: &mut String, programs: usize, missing: &MissingInRun) -> Result<(), AllocError>
-    ensures { OnOk result (string_bytes out.new ≡ string_bytes out.old ++ missing_text programs missing.now.failures.items missing.now.flushes.items) }
-{
-    put_programs(out, programs, missing.failures.as_slice())?;
-    put_missing(out, missing.flushes.as_slice())
-}
-
 /// Why programs fail, by all failing lines.
 pub(crate) fn causes_text(
     alloc: Global,
@@ -113,10 +106,11 @@ pub(crate) fn causes_text(
     ensures { IfOk result (λ bytes. TellsCauses head.now findings.now.starts.now findings.now.lines.now bytes.items) }
 {
     let programs = head.programs.len();
-    let missing = missing_of(alloc, findings)?;
+    let missing = missing_in(alloc, findings)?;
+    let (failures, flushes) = (missing.failures.as_slice(), missing.flushes.as_slice());
     let mut out = String::new(alloc);
     put_head(&mut out, head, findings.lines)?;
-    put_flushes(&mut out, programs, &missing)?;
+    put_flushes(&mut out, programs, failures, flushes)?;
     put_all(alloc, &mut out, findings, programs)?;
     Ok(out.into_bytes())
 }

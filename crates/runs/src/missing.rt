@@ -8,8 +8,8 @@ ghost use Rattle.runs.specs.Why.{IsMissing};
 ghost use Rattle.runs.specs.Tasks.{lines_of};
 
 use crate::task::Findings;
-use losses::cure::{Failure, failures_of, windows_of};
-use losses::flushes::{MissingFlush, missing_flushes};
+use losses::cure::{Failure, failures_of, missing_of};
+use losses::flushes::MissingFlush;
 use std::alloc::{AllocError, Global};
 use workers::lines_are_set;
 
@@ -42,12 +42,11 @@ pub(crate) fn failures_found(
 }
 
 /// The failures of what was found, by the marks of its failing lines, and the flushes that are missing for them.
-pub(crate) fn missing_of(alloc: Global, findings: &Findings<'_>) -> Result<MissingInRun, AllocError>
+pub(crate) fn missing_in(alloc: Global, findings: &Findings<'_>) -> Result<MissingInRun, AllocError>
     requires lines { findings.now.lines.now ≡ lines_of findings.now.task.now }
     ensures { IfOk result (λ m. IsMissing findings.now.starts.now findings.now.lines.now m.failures.items m.flushes.items) }
 {
     let failures = failures_found(alloc, findings)?;
-    let windows = windows_of(alloc, failures.as_slice())?;
-    let flushes = missing_flushes(alloc, windows.as_slice(), findings.task.log.entries().len())?;
+    let flushes = missing_of(alloc, findings.task.log, failures.as_slice())?;
     Ok(MissingInRun { failures, flushes })
 }

@@ -12,7 +12,6 @@
 //! | `shard.put(key, outcome)` | lists an outcome for a key, and says what became of it (`Kept`) |
 //! | `shard.number()`, `shard.capacity()` | answer which shard it is, and how many entries there may be |
 //! | `shard.hits()` | answers how many looks have found an entry |
-//! | `copy_of(outcome)` | answers the same outcome, for those who put one and keep one |
 //!
 //! # Place
 //!
@@ -64,7 +63,7 @@
 //! use checker::RunMemory;
 //! use images::Changes;
 //! use std::marker::Brand;
-//! use verdict_cache::{copy_of, shards};
+//! use verdict_cache::shards;
 //!
 //! // once a run, whose name a type has
 //! let shards = shards::<Brand>(alloc, &history, checkers, 1_000)?;
@@ -79,7 +78,7 @@
 //!     let kept = shard.lock(rt).look(&key);
 //!     if kept.is_none() {
 //!         let outcome = checkers[0].judge(&mut memory, &view.context(), &view);
-//!         shard.lock(rt).put(key, copy_of(&outcome));     // the next look for that key answers the outcome
+//!         shard.lock(rt).put(key, outcome.copy());     // the next look for that key answers the outcome
 //!     }
 //! }
 //! ```
@@ -95,14 +94,12 @@
 //!   all entries over `Contains entries (key, value)`, of which its caller lemmas speak.
 #![tactic(auto)]
 
-mod copying;
 mod kept;
 mod laws;
 mod making;
 mod run;
 mod shard;
 
-pub use copying::copy_of;
 pub use kept::Kept;
 pub use laws::one_image_tells;
 pub use making::shards;

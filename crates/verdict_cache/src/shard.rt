@@ -9,7 +9,6 @@ ghost use Rattle.verdict_cache.specs.Shard.{listed_outcome, to_front, after_look
 ghost use Rattle.verdict_cache.specs.Puts.{Answers, entries_after, after_put};
 ghost use Rattle.verdict_cache.specs.Sizes.{share_of, empty_shard};
 
-use crate::copying::copy_of;
 use crate::kept::Kept;
 use crate::run::Run;
 use images::Key;
@@ -138,7 +137,7 @@ fn look_up<'a>(cache: &mut LruCache<Key<'a>, Outcome>, key: &Key<'a>) -> Option<
     ensures missing { IfNone result (cache.new ≡ cache.old) }
 {
     let outcome = match cache.peek(key) {
-        Some(outcome) => copy_of(outcome),
+        Some(outcome) => outcome.copy(),
         None => return None,
     };
     cache.promote(key);

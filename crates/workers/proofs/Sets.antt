@@ -8,8 +8,8 @@ use Rattle.std.proofs.lemmas.Option.{slice_get_within}
 use Rattle.base.proofs.Lists.{slice_get-append_left, slice_get-append_right}
 use Rattle.choices.specs.Choices.{ChoiceValue}
 use Rattle.checker.specs.Checker.{CheckerValue}
-use Rattle.machine.specs.Outcome.{Ending}
-use Rattle.report.specs.Line.{FailingLine, fails}
+use Rattle.machine.specs.Outcome.{Ending, fails}
+use Rattle.report.specs.Line.{FailingLine}
 use Rattle.workers.specs.Failing.{Subject, choices_of, ending_at, line_if, line_at, line_of, image_lines, lines_from, failing_lines}
 use Rattle.workers.specs.Laws.{IsFailing, Precedes, ListsFailing}
 use Rattle.workers.proofs.JudgedLines.{line_is}

@@ -16,9 +16,9 @@ use Rattle.choices.specs.Laws.{AreRising}
 use Rattle.choices.specs.Picks.{fates_of}
 use Rattle.choices.specs.Picked.{PickedValue, choice_of_picked, IsRanked, CanPass, pick_after, with_last}
 use Rattle.choices.proofs.Passing.{ranked_is_choice, pass_leads, passed_part}
-use Rattle.machine.specs.Outcome.{Ending}
+use Rattle.machine.specs.Outcome.{Ending, fails}
 use Rattle.checker.specs.Checker.{CheckerValue}
-use Rattle.report.specs.Line.{FailingLine, fails}
+use Rattle.report.specs.Line.{FailingLine}
 use Rattle.workers.specs.declared.entries.KnownEntry.{KnownEntry}
 use Rattle.workers.specs.Failing.{Subject, choices_of, ending_at, line_if, line_of, image_lines, lines_from}
 use Rattle.workers.specs.Reuse.{EntryValue, AreKnown, IsFound, IsNextTold, tells}

@@ -6,10 +6,10 @@ use Rattle.std.specs.List.{filter_map, flat_map, range_with_len}
 use Rattle.epochs.specs.declared.part.By.{By}
 use Rattle.epochs.specs.Plan.{PlanValue}
 use Rattle.choices.specs.Choices.{ChoiceValue, ranked_choices}
-use Rattle.machine.specs.Outcome.{Ending}
+use Rattle.machine.specs.Outcome.{Ending, fails}
 use Rattle.checker.specs.Checker.{CheckerValue, judgement}
 use Rattle.images.specs.Views.{view_of, sectors_of, context_at}
-use Rattle.report.specs.Line.{FailingLine, fails}
+use Rattle.report.specs.Line.{FailingLine}
 
 -- what is judged: images of a plan with at most `bound` departures, torn writes or none, by checkers. They are those from one on to
 -- before another; the whole run is from 0 to the number of its images. And whether the first failing image is all that is asked for.

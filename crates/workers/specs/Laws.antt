@@ -2,7 +2,8 @@
 use Rattle.std.specs.Prelude.{ℕ, ◌≡◌, ◌<◌, ◌≤◌, ◌⊎◌, IsTrue, List, [], ◌∷◌, ◌++◌, slice_get, Some}
 use Rattle.choices.specs.Choices.{ChoiceValue}
 use Rattle.checker.specs.Checker.{CheckerValue}
-use Rattle.report.specs.Line.{FailingLine, fails, first_lines}
+use Rattle.machine.specs.Outcome.{fails}
+use Rattle.report.specs.Line.{FailingLine, first_lines}
 use Rattle.workers.specs.Failing.{Subject, choices_of, ending_at, failing_lines}
 use Rattle.workers.specs.Pieces.{PieceValue, ArePieces, AreFull, AreWhole, block_count, lines_by_block}
 

@@ -8,7 +8,7 @@ ghost use Rattle.checker.specs.Memory.{IsServed, AreServed};
 ghost use Rattle.interp.specs.Ending.{ending_of};
 ghost use Rattle.images.specs.Views.{context_at, sectors_of, view_of};
 ghost use Rattle.images.specs.Keys.{key_of};
-ghost use Rattle.report.specs.Line.{fails};
+ghost use Rattle.machine.specs.Outcome.{fails};
 ghost use Rattle.verdict_cache.specs.Endings.{ending_on};
 ghost use Rattle.workers.specs.Failing.{Subject, choices_of, ending_at, line_if, line_of, image_lines};
 ghost use Rattle.workers.specs.Input.{line_list, IsRunOf};
@@ -30,19 +30,7 @@ use interp::Outcome;
 use report::lines::Line;
 use std::alloc::AllocError;
 use std::sync::Wait;
-use verdict_cache::{Run, copy_of, one_image_tells};
-
-/// Whether an outcome makes a line of the report.
-pub(crate) fn fails_with(outcome: &Outcome) -> bool
-    ensures { result ≡ fails (ending_of outcome.now) }
-{
-    match outcome {
-        Outcome::Verdict(verdict) => verdict.answer != 0,
-        Outcome::Fault { code: _, slot: _ } => true,
-        Outcome::OutOfSteps => true,
-        Outcome::Stray(_slot) => true,
-    }
-}
+use verdict_cache::{Run, one_image_tells};
 
 /// An image of a run: its number, its choice, and its view.
 #[derive(Drop)]
@@ -85,7 +73,7 @@ fn push_failing(
 ) -> Result<(), AllocError>
     ensures { OnOk result (lines.new ≡ lines.old ++ line_list (line_if by seen.now.image seen.now.choice.now number (ending_of outcome))) }
 {
-    if fails_with(&outcome) {
+    if outcome.fails() {
         lines.push(Line {
             image: seen.image,
             cut: seen.choice.cut(),
@@ -154,7 +142,7 @@ fn outcome_of<'a, J: Run, R: Wait>(
     let outcome = outcome_on(memory, seen.view, checker);
     one_image_tells();
     if let Ok(own) = key.copy(shards.alloc()) {
-        shard.put(rt, own, copy_of(&outcome));
+        shard.put(rt, own, outcome.copy());
     }
     outcome
 }

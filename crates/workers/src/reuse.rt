@@ -11,14 +11,12 @@ ghost use Rattle.workers.specs.Local.{IsTrueOf, Reaches, HoldsFrom, Tells, Tells
 
 use crate::entries::{Entries, KnownEntry};
 use crate::input::{Input, stretch};
-use crate::judging::fails_with;
 use crate::look::{EntryLook, Stop};
 use checker::{Checker, RunMemory};
 use choices::{Picked, fates};
 use interp::Outcome;
 use std::alloc::{AllocError, Global};
 use std::marker::Model;
-use verdict_cache::copy_of;
 
 /// The fewest images of a cut of which something is kept.
 const FEWEST_IMAGES: u64 = 64;
@@ -144,10 +142,10 @@ impl Reuse {
             });
         };
         let outcome = own.outcome(&found);
-        if fails_with(outcome) {
+        if outcome.fails() {
             return EntryLook::Stops(Stop {
                 checker: number,
-                outcome: Some(copy_of(outcome)),
+                outcome: Some(outcome.copy()),
             });
         }
         EntryLook::Good(alike(input, own, &found, picked, most))
@@ -205,7 +203,7 @@ impl Reuse {
         let alloc = self.alloc;
         let own = &mut self.entries[number];
         let found = own.find(input, alloc, memory, checker, picked)?;
-        Some(copy_of(own.outcome(&found)))
+        Some(own.outcome(&found).copy())
     }
 
     /// Keeps nothing more of this cut where no entry can tell anything.

@@ -3,8 +3,9 @@
 use crate::calls::borrowing::log_of;
 use crate::calls::refused::OfMemory;
 use crate::calls::texts::{FLUSH, Item, text_of};
+use crash_text::{log_table, put_entry, put_escaped};
 use logfmt::{Log, write};
-use notes::{log_table, put_entry, put_escaped, put_least, put_note, put_refused};
+use notes::{put_least, put_note, put_refused};
 use std::alloc::{AllocError, Global};
 
 const TWO_EPOCHS: [Item; 3] = [(0, 1, 0, 0xaa), (0, 0, FLUSH, 0), (1, 2, 0, 0xbb)];

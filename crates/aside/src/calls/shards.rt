@@ -19,7 +19,7 @@ use interp::Outcome;
 use std::alloc::{AllocError, Global};
 use std::marker::Brand;
 use std::sync::Mutex;
-use verdict_cache::{Kept, Run, Shard, copy_of, one_image_tells, shards};
+use verdict_cache::{Kept, Run, Shard, one_image_tells, shards};
 
 /// Answers 1.
 const ANSWER_1: [u8; 16] = [0xb7, 0, 0, 0, 1, 0, 0, 0, 0x95, 0, 0, 0, 0, 0, 0, 0];
@@ -75,7 +75,7 @@ fn put_is_right<'a, J: Run>(
     requires { IsEndingOf J.plan J.checkers key (ending_of outcome) }
 {
     let again = settled!(key.copy(alloc));
-    let same = copy_of(&outcome);
+    let same = outcome.copy();
     match shard.put(key, outcome) {
         Kept::New => true,
         Kept::NoMemory => shard.look(&again).is_none() && shard.put(again, same) == Kept::New,

@@ -4,7 +4,7 @@ ghost use Rattle.std.specs.Prelude.{IfOk, IfErr};
 ghost use Rattle.inspect.specs.Table.{IsTable, RefusesTable};
 
 use base::refusal::Refusal;
-use notes::log_table;
+use crash_text::log_table;
 use request::Options;
 use request::facts::Recording;
 use std::alloc::Global;

@@ -8,7 +8,7 @@ ghost use Rattle.inspect.specs.AnyNames.{PushesName, ReadsSome, ReadsAny};
 
 use choices::{Fate, Name};
 use epochs::By;
-use report::choice_text::{put_names, read_names};
+use report::choice_text::{is_text_of, read_names};
 use std::alloc::{AllocError, Global};
 
 /// What stands before and after the first comma of a text.
@@ -80,15 +80,6 @@ fn some_said(alloc: Global, by: By, text: &str) -> Result<Option<Vec<Name>>, All
     } else {
         Ok(None)
     }
-}
-
-/// Whether names are printed to this text, to the byte.
-fn is_text_of(alloc: Global, by: By, names: &[Name], text: &str) -> Result<bool, AllocError>
-    ensures { IfOk result (λ same. IsTrue same ↔ (text.now ≡ names_text by names.now)) }
-{
-    let mut printed = String::new(alloc);
-    put_names(&mut printed, by, names)?;
-    Ok(printed.as_str() == text)
 }
 
 /// The names of departures, however many, of which a text is what the report prints; none where it prints no departures so.

@@ -14,6 +14,7 @@ ghost use Rattle.inspect.specs.CutSurvey.{count_in_flight, risk_at, risks_of};
 
 use case_runs::case_cuts;
 use cases::Cut;
+use crash_text::is_in_flight;
 use epochs::{By, Part, Plan};
 use logfmt::{Entry, Log};
 use request::{AnyLosses, Options};
@@ -28,16 +29,6 @@ pub struct CutRisk {
     pub at_risk: u32,
     /// How many of these are in flight.
     pub in_flight: u32,
-}
-
-/// Whether an entry is in flight at a cut: it is the last before it, and forced to the device with its data.
-fn is_in_flight(entries: &[Entry], cut: u32, number: u32) -> bool
-    ensures { result ≡ is_in_flight entries.now cut number }
-{
-    match entries.get(number as usize) {
-        Some(entry) => entry.flags.fua && u64::from(number) + 1 == u64::from(cut),
-        None => false,
-    }
 }
 
 /// A count with one more, where a part is in flight.

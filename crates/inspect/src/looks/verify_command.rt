@@ -20,7 +20,7 @@ pub struct VerifiedReport {
 }
 
 /// The refusal of a program that the verifier does not accept.
-fn unaccepted_refusal_of(fault: Fault) -> Refusal
+pub(crate) fn unaccepted_refusal_of(fault: Fault) -> Refusal
     ensures { result ≡ unaccepted_refusal fault.code fault.slot }
 {
     Refusal {

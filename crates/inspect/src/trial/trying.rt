@@ -2,24 +2,23 @@
 
 ghost use Rattle.std.specs.Prelude.{◌≡◌, ◌⊎◌, ◌≤◌, ◌*◌, ◌++◌, length, IfOk, IfErr, OnOk, None, string_bytes};
 ghost use Rattle.std.specs.Option.{option_map};
-ghost use Rattle.base.specs.declared.refusal.Cause.TheVariants.{Verifier};
 ghost use Rattle.base.specs.Sizes.{most_sectors};
 ghost use Rattle.interp.specs.Ending.{ending_of};
 ghost use Rattle.notes.specs.SourceLines.{values_of, AreLines, NoLines};
 ghost use Rattle.base.specs.Refusals.{memory_refusal};
 ghost use Rattle.request.specs.Refusals.{file_refusal};
-ghost use Rattle.report.specs.Line.{fails};
+ghost use Rattle.machine.specs.Outcome.{fails};
 ghost use Rattle.verifier.specs.Reach.{unreached_slots, count_and_first};
 ghost use Rattle.inspect.specs.TrialImage.{sectors_of};
 ghost use Rattle.inspect.specs.TrialText.{context_of, ending_of_trial, Allows, Bound, bound_of, bound_text, context_text, guarded_count_text, head_text, program_text, ending_source, end_text, trial_text, IsTried, LeavesUnreached, TellsUnreached, RefusesLimit, RefusesTrial};
 
+use crate::looks::verify_command::unaccepted_refusal_of;
 use crate::trial::course::course_of;
 use crate::trial::image::{GivenImage, is_image, sectors_of};
 use crate::trial::trace::put_last;
-use base::refusal::{Cause, Refusal};
+use base::refusal::Refusal;
 use bpf_isa::codec::decode;
 use bpf_isa::program::Program;
-use bpf_shape::Fault;
 use helpers::Context;
 use interp::Outcome;
 use notes::{SourceLine, put_source, source_lines};
@@ -37,17 +36,6 @@ pub struct TrialReport {
     pub failing: bool,
     /// What no run reaches of the program, where the verifier was asked and there is some.
     pub unreached: Option<Unreached>,
-}
-
-/// The refusal of a program that the verifier doesn't accept.
-fn unaccepted_refusal_of(fault: Fault) -> Refusal
-    ensures { result ≡ record { code = Verifier fault.code; at = fault.slot; program = None } }
-{
-    Refusal {
-        code: Cause::Verifier(fault.code),
-        at: fault.slot,
-        program: None,
-    }
 }
 
 /// The most steps of a run, and what the verifier tells of its program, where it was asked: with guards how many slots are guarded, and
@@ -220,16 +208,6 @@ fn put_end(
     write!(out, "\n")
 }
 
-/// Whether a program that ended so rejects the image.
-fn rejects(outcome: &Outcome) -> bool
-    ensures { result ≡ fails (ending_of outcome.now) }
-{
-    match outcome {
-        Outcome::Verdict(verdict) => verdict.answer != 0,
-        Outcome::Fault { .. } | Outcome::OutOfSteps | Outcome::Stray(_) => true,
-    }
-}
-
 /// What is said of a run of a program on an image, and whether the program rejects it.
 #[tactic(auto, unfolding(crate::specs::TrialText::trial_text))]
 fn report_of(
@@ -271,7 +249,7 @@ fn report_of(
     put_end(alloc, &mut out, lines, course.steps, &course.outcome)?;
     Ok(TrialReport {
         bytes: out.into_bytes(),
-        failing: rejects(&course.outcome),
+        failing: course.outcome.fails(),
         unreached: bounds.unreached,
     })
 }

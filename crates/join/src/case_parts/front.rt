@@ -1,10 +1,9 @@
 //! With which words the line of a case begins.
 
 ghost use Rattle.std.specs.Prelude.{◌≡◌};
-ghost use Rattle.report.specs.MarkReading.{ReadsField};
 ghost use Rattle.join.specs.CaseReading.{ReadsFront};
 
-use crate::words::{cut, number};
+use report::printed::{field, number};
 
 /// Where the line of a case stands: its cut, with the epoch and how many marks stand before it, its program, and its number.
 #[derive(Clone, Copy, Drop)]
@@ -14,14 +13,6 @@ pub struct CaseFront {
     pub(crate) marks: u64,
     pub(crate) program: u64,
     pub(crate) number: u64,
-}
-
-/// The word after the first one, and what stands after it.
-fn field(text: &str) -> (&str, &str)
-    ensures { ReadsField text.now result.0.now result.1.now }
-{
-    let (_name, named) = cut(text, ' ');
-    cut(named, ' ')
 }
 
 /// With which words a line begins, and what stands after them; and something where it is no line.

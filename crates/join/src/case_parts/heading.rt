@@ -10,10 +10,11 @@ ghost use Rattle.join.specs.CaseReading.{IsCaseHead, NoCaseHead, ReadsCaseHead, 
 use crate::heading::is_of_run;
 use crate::options::{device_said, given_said, is_yes, option_said};
 use crate::programs::programs_said;
-use crate::words::{beyond, cut, next_word};
+use crate::words::{beyond, next_word};
 use case_runs::Losses;
 use case_text::{put_opening, put_options};
 use epochs::Cuts;
+use report::printed::cut;
 use report::{Head, ProgramHead};
 use std::alloc::{AllocError, Global};
 

@@ -4,8 +4,9 @@ ghost use Rattle.std.specs.Prelude.{◌≡◌};
 ghost use Rattle.join.specs.Heads.{IsWord};
 ghost use Rattle.join.specs.CaseReading.{ReadsKnown, ReadsNamed, ReadsWindow, known_said};
 
-use crate::words::{cut, next_word, small_number};
+use crate::words::next_word;
 use losses::flushes::Window;
+use report::printed::{cut, small_number};
 
 /// The words of a line after `choice`, as far as something is said by them.
 #[derive(Clone, Copy, Drop)]

@@ -4,9 +4,10 @@ ghost use Rattle.std.specs.Prelude.{◌≡◌, ◌++◌, ◌∷◌, [], IfOk, On
 ghost use Rattle.join.specs.CaseReading.{ReadsFates, ReadsMixed, ReadsMixedPart, ReadsNames, ReadsParts, mixed_value};
 
 use crate::case_parts::names::{Mixed, PartName, name_said, part_said, possible_said};
-use crate::words::{cut, parts};
+use crate::words::parts;
 use choices::{Fate, Name};
 use epochs::By;
+use report::printed::cut;
 use std::alloc::{AllocError, Global};
 
 /// Appends a name.

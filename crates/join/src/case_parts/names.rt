@@ -6,9 +6,10 @@ ghost use Rattle.choices.specs.CrashModel.{IsFate};
 ghost use Rattle.report.specs.ChoiceText.{fate_text};
 ghost use Rattle.join.specs.CaseReading.{ReadsOneName, ReadsPartName, ReadsPossible};
 
-use crate::words::{cut, small_number};
-use choices::{Eighths, Fate, Name};
+use choices::{Fate, Name};
 use epochs::By;
+use report::choice_text::read_fate;
+use report::printed::{cut, small_number};
 
 /// A part by its entry and its place there.
 #[derive(Clone, Copy, Drop)]
@@ -24,35 +25,6 @@ pub(crate) struct Mixed {
     pub(crate) fates: Vec<Option<Fate>>,
 }
 
-/// The eighths that a digit says.
-fn eighths_said(digit: u8) -> Option<Eighths>
-    ensures { (n : ℕ) → 1 ≤ n → n < 8 → digit ≡ 48 + n → result ≡ Some n }
-{
-    match digit {
-        b'1'..=b'7' => Some(Eighths::new(digit - b'0')),
-        _ => None,
-    }
-}
-
-/// What became of a part that isn't whole, by the bytes of a word, and perhaps something where they say nothing.
-#[tactic(auto, using(report::proofs::Words::drop_read, report::proofs::Words::no_length, report::proofs::Words::no_eighths, report::proofs::Words::head_read, report::proofs::Words::tail_read))]
-fn fate_said(word: &[u8]) -> Option<Fate>
-    ensures { (f : FateValue) → IsFate true f → word.now ≡ fate_text f → result ≡ Some f }
-{
-    if word == "drop".as_bytes() {
-        return Some(Fate::Drop);
-    }
-    if word.len() != 5 {
-        return None;
-    }
-    let eighths = eighths_said(word[4])?;
-    if word[0] == b'h' {
-        Some(Fate::Head(eighths))
-    } else {
-        Some(Fate::Tail(eighths))
-    }
-}
-
 /// What may become of a part, by a word.
 #[tactic(auto, using(crate::proofs::CaseWords::whole_read, crate::proofs::CaseWords::possible_read))]
 pub(crate) fn possible_said(word: &str) -> Option<Fate>
@@ -61,7 +33,7 @@ pub(crate) fn possible_said(word: &str) -> Option<Fate>
     if word == "whole" {
         return None;
     }
-    fate_said(word.as_bytes())
+    read_fate(word.as_bytes())
 }
 
 /// The part that a word says.
@@ -88,7 +60,7 @@ pub(crate) fn part_said(by: By, word: &str) -> PartName
 fn lost_said(word: &str) -> Fate
     ensures { (f : FateValue) → IsFate true f → word.now ≡ fate_text f → result ≡ f }
 {
-    match fate_said(word.as_bytes()) {
+    match read_fate(word.as_bytes()) {
         Some(fate) => fate,
         None => Fate::Drop,
     }

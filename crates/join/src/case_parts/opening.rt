@@ -6,9 +6,10 @@ ghost use Rattle.join.specs.Heads.{IsSmallOption};
 ghost use Rattle.join.specs.CaseTexts.{are_inputs_of_run};
 ghost use Rattle.join.specs.CaseReading.{IsOpening, NoOpening, ReadsInputs};
 
-use crate::words::{beyond, cut, number};
+use crate::words::beyond;
 use case_text::{has_range, put_opening};
 use report::Head;
+use report::printed::{cut, number};
 use std::alloc::{AllocError, Global};
 
 /// The number of the inputs that the first lines of a text tell, if they tell one.

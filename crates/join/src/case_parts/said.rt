@@ -8,10 +8,10 @@ use crate::case_parts::known::{known_words, window_said};
 use crate::case_parts::lists::{mixed_said, names_said, parts_said};
 use crate::case_parts::names::{Mixed, PartName};
 use crate::ending::at_choice;
-use crate::words::number;
 use choices::Name;
 use epochs::By;
 use losses::flushes::Window;
+use report::printed::number;
 use std::alloc::{AllocError, Global};
 use std::marker::Model;
 

@@ -6,9 +6,10 @@ ghost use Rattle.join.specs.CaseReading.{ReadsSecond, ReadsTotals};
 ghost use Rattle.join.specs.Heads.{IsPrintedHead};
 
 use crate::case_parts::judging::MOST_CASES;
-use crate::words::{cut, next_word, number};
+use crate::words::next_word;
 use case_text::{put_beyond, put_complete, put_counts};
 use report::Head;
+use report::printed::{cut, number};
 use std::alloc::{AllocError, Global};
 
 /// What the cases of a run come to: how many cuts were explored, how many cases they have, how many of these fail, and how many were left

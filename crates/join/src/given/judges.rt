@@ -2,7 +2,7 @@
 
 ghost use Rattle.std.specs.Prelude.{ℕ, ◌≡◌, ◌≢◌, ◌↔◌, ◌<◌, ◌≤◌, ◌++◌, List, true, codes, IfOk, IfSome, IsTrue, MatchOption, OnOk, length, string_bytes};
 ghost use Rattle.std.specs.List.{list_all};
-ghost use Rattle.report.specs.Report.{program_line, program_lines};
+ghost use Rattle.report.specs.Report.{program_lines};
 ghost use Rattle.join.specs.Heads.{are_programs_of_run};
 ghost use Rattle.join.specs.Given.{is_printed, judge_count};
 ghost use Rattle.join.specs.GivenReading.{AreJudgesRead, NoJudges};
@@ -10,7 +10,7 @@ ghost use Rattle.join.specs.GivenReading.{AreJudgesRead, NoJudges};
 use crate::heading::are_programs_of_run;
 use crate::programs::{MOST_PROGRAMS, programs_said};
 use crate::words::{beyond, parts};
-use report::{ProgramHead, put_steps};
+use report::{ProgramHead, put_programs};
 use std::alloc::{AllocError, Global};
 
 /// Of which programs a report is.
@@ -29,32 +29,12 @@ fn are_checkers(programs: &[ProgramHead]) -> bool
     programs.len() >= 1 && programs.len() <= MOST_PROGRAMS && are_programs_of_run(programs)
 }
 
-/// Appends the line of a checker.
-#[tactic(auto, unfolding(report::specs::Report::program_line))]
-fn put_checker(out: &mut String, number: usize, program: ProgramHead) -> Result<(), AllocError>
-    ensures { OnOk result (string_bytes out.new ≡ string_bytes out.old ++ program_line number program) }
-{
-    write!(out, "program {number} slots {} ", program.slots)?;
-    put_steps(out, program)?;
-    write!(out, "\n")
-}
-
-/// Appends the lines of checkers.
-fn put_checkers(out: &mut String, programs: &[ProgramHead]) -> Result<(), AllocError>
-    ensures { OnOk result (string_bytes out.new ≡ string_bytes out.old ++ program_lines 0 programs.now) }
-{
-    for (number, program) in programs.iter().enumerate() {
-        put_checker(out, number, *program)?;
-    }
-    Ok(())
-}
-
 /// The lines of checkers.
 fn checkers_text(alloc: Global, programs: &[ProgramHead]) -> Result<String, AllocError>
     ensures { IfOk result (λ out. string_bytes out ≡ program_lines 0 programs.now) }
 {
     let mut out = String::new(alloc);
-    put_checkers(&mut out, programs)?;
+    put_programs(&mut out, programs)?;
     Ok(out)
 }
 

@@ -4,10 +4,11 @@ ghost use Rattle.std.specs.Prelude.{◌≡◌, ◌<◌, ◌++◌, ℕ, length, s
 ghost use Rattle.report.specs.declared.lines.marks.LineMark.{LineMark as MarkValue};
 ghost use Rattle.choices.specs.Choices.{ranked_choices};
 ghost use Rattle.losses.specs.Places.{AreWindows};
+ghost use Rattle.losses.specs.Counted.{AreMissing};
 ghost use Rattle.losses.specs.FailureWindows.{IsFailureAt, AreFailuresAt, windows_in, own_window, HoldNoFlush};
 
 use crate::cure::failure::Failure;
-use crate::flushes::{Window, window_of};
+use crate::flushes::{MissingFlush, Window, missing_flushes, window_of};
 use choices::{Starts, ranked_is_model};
 use epochs::By;
 use logfmt::Log;
@@ -79,4 +80,21 @@ pub fn windows_of(alloc: Global, failures: &[Failure]) -> Result<Vec<Window>, Al
         push_window(&mut windows, *failure)?;
     }
     Ok(windows)
+}
+
+/// The fewest flushes that take away all failures of a log that have a window, rising.
+///
+/// # Errors
+///
+/// Memory was refused.
+pub fn missing_of(
+    alloc: Global,
+    log: &Log,
+    failures: &[Failure],
+) -> Result<Vec<MissingFlush>, AllocError>
+    requires { AreWindows (length log.now.entries) (windows_in failures.now) }
+    ensures { IfOk result (λ flushes. AreMissing (windows_in failures.now) flushes.items) }
+{
+    let windows = windows_of(alloc, failures)?;
+    missing_flushes(alloc, windows.as_slice(), log.entries().len())
 }

@@ -2,7 +2,7 @@
 
 ghost use Rattle.std.specs.Prelude.{◌≡◌, ◌++◌, ◌≤◌, ◌<◌, ℕ, length, filter, map, OnOk, string_bytes};
 ghost use Rattle.std.specs.List.{flat_map, range_with_len};
-ghost use Rattle.losses.specs.CureText.{is_of, is_uncured, program_line, programs_text, begin_text, missing_place, missing_line, flush_line, refused_line};
+ghost use Rattle.losses.specs.CureText.{is_of, is_uncured, program_line, programs_text, begin_text, missing_place, missing_line, missing_text, flush_line, refused_line};
 
 use crate::cure::failure::Failure;
 use crate::flushes::MissingFlush;
@@ -107,17 +107,31 @@ fn put_missing_flush(out: &mut String, flush: MissingFlush) -> Result<(), AllocE
 }
 
 /// Appends a line for each flush that is missing.
-///
-/// # Errors
-///
-/// Memory was refused.
-pub fn put_missing(out: &mut String, flushes: &[MissingFlush]) -> Result<(), AllocError>
+fn put_missing(out: &mut String, flushes: &[MissingFlush]) -> Result<(), AllocError>
     ensures { OnOk result (string_bytes out.new ≡ string_bytes out.old ++ flat_map missing_line flushes.now) }
 {
     for flush in flushes {
         put_missing_flush(out, *flush)?;
     }
     Ok(())
+}
+
+/// Appends of each of that many programs how many of its failures have no window, and the flushes that are missing.
+///
+/// # Errors
+///
+/// Memory was refused.
+#[tactic(auto, unfolding(crate::specs::CureText::missing_text))]
+pub fn put_flushes(
+    out: &mut String,
+    programs: usize,
+    failures: &[Failure],
+    flushes: &[MissingFlush],
+) -> Result<(), AllocError>
+    ensures { OnOk result (string_bytes out.new ≡ string_bytes out.old ++ missing_text programs failures.now flushes.now) }
+{
+    put_programs(out, programs, failures)?;
+    put_missing(out, flushes)
 }
 
 /// Appends the line of a flush of a round.

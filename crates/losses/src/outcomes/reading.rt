@@ -3,30 +3,11 @@
 //! Of a text that is not that of lines nothing is said.
 
 ghost use Rattle.std.specs.Prelude.{◌≡◌, ◌<◌, ◌++◌, ◌∷◌, [], ◌==◌, if◌then◌else◌, ℕ, List, length, map, filter, IfOk, OnOk};
-ghost use Rattle.report.specs.MarkReading.{IsCutAt, ReadsField};
 ghost use Rattle.losses.specs.ProgramOutcomes.{IsEnding, ReadsOutcome, AreOutcomes, is_marked, if_own};
 
 use report::lines::LineMark;
+use report::printed::{cut, field};
 use std::alloc::{AllocError, Global};
-
-/// What stands before and after the first such character.
-fn cut(text: &str, at: char) -> (&str, &str)
-    requires { at < 128 }
-    ensures { IsCutAt at text.now result.0.now result.1.now }
-{
-    match text.split_once(at) {
-        Some(parts) => parts,
-        None => ("", ""),
-    }
-}
-
-/// The word after the first one, and what stands after it.
-fn field(text: &str) -> (&str, &str)
-    ensures { ReadsField text.now result.0.now result.1.now }
-{
-    let (_name, named) = cut(text, ' ');
-    cut(named, ' ')
-}
 
 /// A text without its last character, where it is this one.
 fn without(text: &str, last: char) -> &str

@@ -187,11 +187,7 @@ fn put_cut(
 }
 
 /// Appends what fails of the program of that number at each cut, as `failures` answers it, with the outcomes that it was given.
-///
-/// # Errors
-///
-/// Memory was refused.
-pub fn put_cuts(
+pub(crate) fn put_cuts(
     out: &mut String,
     by: By,
     starts: &Starts<'_>,

@@ -6,13 +6,13 @@ use crate::command_notes::held::{bytes_of, recording_of};
 use crate::command_notes::refused::breach_in;
 use crate::sources::first_bad_line;
 use crate::{
-    asm_cure, code_cure, guarded_cure, log_cure, put_entry, put_escaped, put_least, put_note,
-    put_refused, verifier_cure,
+    asm_cure, code_cure, guarded_cure, log_cure, put_least, put_note, put_refused, verifier_cure,
 };
 use base::causes::{CodeCause, JoinCause, LogCause, RequestCause, VerifierCause};
 use base::limits::Limits;
 use base::refusal::{Cause, Refusal};
 use command_line::Words;
+use crash_text::{put_entry, put_escaped};
 use epochs::{By, CutKind};
 use logfmt::read;
 use ranges::broken_rule;

@@ -44,7 +44,7 @@ fn eighths(digit: u8) -> Option<Eighths>
 
 /// The fate that the bytes of a word say, and perhaps one where they say none.
 #[tactic(auto, using(crate::proofs::Words::drop_read, crate::proofs::Words::no_length, crate::proofs::Words::no_eighths, crate::proofs::Words::head_read, crate::proofs::Words::tail_read))]
-fn fate(word: &[u8]) -> Option<Fate>
+pub fn read_fate(word: &[u8]) -> Option<Fate>
     ensures { (f : FateValue) → IsFate true f → word.now ≡ fate_text f → result ≡ Some f }
 {
     if word == "drop".as_bytes() {
@@ -85,7 +85,7 @@ fn name(by: By, word: &str) -> Option<Name>
     Some(Name {
         entry,
         place,
-        fate: fate(beyond.as_bytes())?,
+        fate: read_fate(beyond.as_bytes())?,
     })
 }
 
@@ -129,7 +129,7 @@ fn names_said(by: By, text: &str) -> Option<ArrayVec<Name, 3>>
 }
 
 /// Whether names are printed to this text, to the byte.
-fn is_text_of(alloc: Global, by: By, names: &[Name], text: &str) -> Result<bool, AllocError>
+pub fn is_text_of(alloc: Global, by: By, names: &[Name], text: &str) -> Result<bool, AllocError>
     ensures { IfOk result (λ same. IsTrue same ↔ (text.now ≡ names_text by names.now)) }
 {
     let mut printed = String::new(alloc);

@@ -3,10 +3,11 @@
 ghost use Rattle.std.specs.Prelude.{◌≡◌, ◌++◌, OnOk, string_bytes};
 ghost use Rattle.interp.specs.Ending.{ending_of};
 ghost use Rattle.report.specs.LineValues.{line_value};
-ghost use Rattle.report.specs.LineText.{codes_text, ending_text, fate_text, part_text, departure_text, next_departure_text, choice_text, line_text};
+ghost use Rattle.report.specs.LineText.{codes_text, ending_text, part_text, departure_text, next_departure_text, choice_text, line_text};
 
+use crate::choice_text::put_fate;
 use crate::lines::line::Line;
-use choices::{Departure, Fate};
+use choices::Departure;
 use epochs::{By, Part};
 use interp::Outcome;
 use std::alloc::AllocError;
@@ -40,17 +41,6 @@ pub fn put_outcome(out: &mut String, outcome: &Outcome) -> Result<(), AllocError
         Outcome::Fault { code, slot } => write!(out, "fault {} slot {slot}", code.number()),
         Outcome::OutOfSteps => write!(out, "out of steps"),
         Outcome::Stray(slot) => write!(out, "stray at slot {slot}"),
-    }
-}
-
-/// Appends what became of a part that is not whole.
-fn put_fate(out: &mut String, fate: Fate) -> Result<(), AllocError>
-    ensures { OnOk result (string_bytes out.new ≡ string_bytes out.old ++ fate_text fate) }
-{
-    match fate {
-        Fate::Drop => write!(out, "drop"),
-        Fate::Head(eighths) => write!(out, "head{}", eighths.count()),
-        Fate::Tail(eighths) => write!(out, "tail{}", eighths.count()),
     }
 }
 

@@ -8,8 +8,8 @@ use Rattle.case_text.proofs.Failures.{all_inside}
 use Rattle.case_text.proofs.Telling.{why_told}
 use Rattle.case_text.proofs.why.explained.Goals as goal
 
-pub missing_for-requires : goal.missing_for-requires
-missing_for-requires c =
+pub missing_of-requires : goal.missing_of-requires
+missing_of-requires c =
     subst (λ (fs : List Failure). AreWindows (length c.args.log.now.entries) (windows_in fs)) (sym c.requires.failures)
     (all_inside c.args.log.now c.args.head.now.by c.args.asked.tears c.args.found.now c.requires.cuts)
 

@@ -1,5 +1,5 @@
 use Rattle.std.proofs.Common.{◌≡◌, map, take, string_bytes}
-use Rattle.notes.specs.Escaped.{escaped_text}
+use Rattle.crash_text.specs.Escaped.{escaped_text}
 use Rattle.commands.proofs.escaping.escaped_words.Given as goal
 
 abbrev pub invariant-loop-word : goal.invariant-loop-word

@@ -1,5 +1,4 @@
-use Rattle.std.proofs.Common.{List, ◌∙◌, length, filter, sym, ap, subst, rules, ◌≡◌}
-use Rattle.logfmt.specs.declared.entry.Entry.{Entry}
+use Rattle.std.proofs.Common.{List, ◌∙◌, length, filter, sym, ap, subst}
 use Rattle.losses.specs.declared.cure.failure.Failure.{Failure}
 use Rattle.losses.specs.Places.{AreWindows}
 use Rattle.losses.specs.Counted.{AreMissing}
@@ -9,12 +8,10 @@ use Rattle.crash_page.specs.CasePage.{run_of}
 use Rattle.crash_page.proofs.CaseFlushes.{all_inside}
 use Rattle.crash_page.proofs.case_program.case_program.Goals as goal
 
-pub missing_of-requires-clause-inside : goal.missing_of-requires-clause-inside
-missing_of-requires-clause-inside c =
-    let same : c.entries.result.now ≡ c.args.run.now.log.now.entries = search rules in
-    subst (λ (es : List Entry). AreWindows (length es) (windows_in c.as_slice.result.now)) (sym same)
-    (subst (λ (fs : List Failure). AreWindows (length c.args.run.now.log.now.entries) (windows_in fs)) (sym (c.as_slice.ensures.value ∙ c.in_ok-failures.ensures))
-    (all_inside (run_of c.args.run.now) c.args.program c.args.found.now c.requires.cuts))
+pub missing_of-requires : goal.missing_of-requires
+missing_of-requires c =
+    subst (λ (fs : List Failure). AreWindows (length c.args.run.now.log.now.entries) (windows_in fs)) (sym (c.as_slice.ensures.value ∙ c.in_ok-failures.ensures))
+    (all_inside (run_of c.args.run.now) c.args.program c.args.found.now c.requires.cuts)
 
 pub returns : goal.returns
 returns c =

@@ -1,7 +1,4 @@
-use Rattle.std.proofs.Common.{◌≡◌, ◌∙◌, List, ℕ, length, map, sym, ap, subst, refl, rules}
-use Rattle.logfmt.specs.declared.entry.Entry.{Entry}
-use Rattle.losses.specs.Places.{AreWindows}
-use Rattle.losses.specs.FailureWindows.{windows_in}
+use Rattle.std.proofs.Common.{◌∙◌, List, ℕ, length, map, sym, ap, subst, refl}
 use Rattle.losses.specs.Failures.{AreCuts}
 use Rattle.losses.specs.WhyText.{AreAllNumbered}
 use Rattle.crash_page.proofs.failing.program_failures.Goals as goal
@@ -9,10 +6,8 @@ use Rattle.crash_page.proofs.failing.program_failures.Goals as goal
 pub failures-requires-clause-outcomes : goal.failures-requires-clause-outcomes
 failures-requires-clause-outcomes c = ap (λ xs. length xs) c.as_slice.ensures.value ∙ c.requires.outcomes
 
-pub missing_for-requires-clause-inside : goal.missing_for-requires-clause-inside
-missing_for-requires-clause-inside c =
-    let same : c.entries-entries.result.now ≡ c.args.run.now.numbering.log.now.entries = search rules in
-    subst (λ (es : List Entry). AreWindows (length es) (windows_in c.args.failures_of_run.now)) (sym same) c.requires.inside
+pub missing_for-requires : goal.missing_for-requires
+missing_for-requires c = c.requires.inside
 
 pub returns-clause-failing : goal.returns-clause-failing
 returns-clause-failing c =

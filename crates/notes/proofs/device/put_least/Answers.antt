@@ -1,5 +1,10 @@
-use Rattle.notes.proofs.Lines.{on_ok}
+use Rattle.std.proofs.Common.{Result, Ok, Err, OnOk}
 use Rattle.notes.proofs.device.put_least.Goals as goal
+
+-- what a fact of an Ok says
+on_ok : {T E : Type 0} (r : Result T E) (A B : Type 0) → OnOk r A → (A → B) → OnOk r B
+on_ok (Ok x) A B a f = f a
+on_ok (Err e) A B a f = tt
 
 pub returns : goal.returns
 returns c =

@@ -2,7 +2,7 @@ use Rattle.std.proofs.Common.{ℕ, ◌≡◌, ◌++◌, List, length, ◌∙◌,
 use Rattle.std.specs.List.{flat_map, range_with_len}
 use Rattle.bpf_isa.specs.Slots.{at}
 use Rattle.notes.specs.Listing.{numbered_slot}
-use Rattle.notes.proofs.Lines.{one_more_line}
+use Rattle.crash_text.proofs.Lines.{one_more_line}
 use Rattle.notes.proofs.listing.numbered_listing.Goals as goal
 
 pub loop-slot-preserved : goal.loop-slot-preserved

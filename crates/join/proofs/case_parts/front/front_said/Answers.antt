@@ -3,4 +3,4 @@ use Rattle.join.proofs.case_parts.front.front_said.Goals as goal
 
 pub returns : goal.returns
 returns c =
-    front_read _ _ _ _ _ _ _ _ _ _ _ _ _ _ _ _ c.field.ensures c.field-2.ensures c.field-3.ensures c.field-4.ensures c.field-5.ensures c.number.ensures c.number-2.ensures c.number-3.ensures c.number-4.ensures c.number-5.ensures
+    front_read _ _ _ _ _ _ _ _ _ _ _ _ _ _ _ _ c.field.ensures.field c.field-2.ensures.field c.field-3.ensures.field c.field-4.ensures.field c.field-5.ensures.field c.number.ensures c.number-2.ensures c.number-3.ensures c.number-4.ensures c.number-5.ensures

@@ -1,7 +1,7 @@
 use Rattle.std.proofs.Common.{◌∙◌, slice_set, refl, sym, ap}
 use Rattle.interp.specs.Ending.{ending_of}
 use Rattle.std.proofs.lemmas.Option.{slice_get_within}
-use Rattle.report.specs.Line.{fails}
+use Rattle.machine.specs.Outcome.{fails}
 use Rattle.choices.specs.Picked.{choice_of_picked}
 use Rattle.workers.specs.Local.{ReuseValue}
 use Rattle.workers.proofs.Telling.{found_ends}
@@ -23,19 +23,19 @@ returns-in_default-clause-known c =
 pub outcome-outcome-requires : goal.outcome-outcome-requires
 outcome-outcome-requires c = let is = c.in-Some.ensures.found in slice_get_within c.find.new.self c.in-Some.found.entry is.entry is.there
 
-pub returns-then-fails_with-clause-known : goal.returns-then-fails_with-clause-known
-returns-then-fails_with-clause-known c =
+pub returns-then-fails-clause-known : goal.returns-then-fails-clause-known
+returns-then-fails-clause-known c =
     found_true c.args.input.now c.args.self.now _ c.args.picked.now.place c.args.number c.args.checker.now c.find.new.self c.requires.known c.requires.place
     (ap (λ (r : ReuseValue). r.place) c.self.view_is) (ap (λ (r : ReuseValue). r.next) c.self.view_is) (ap (λ (r : ReuseValue). slice_set r.entries c.args.number c.find.new.self) c.self.view_is)
     c.requires.checker c.find.ensures.known
 
-pub returns-then-fails_with-clause-told : goal.returns-then-fails_with-clause-told
-returns-then-fails_with-clause-told c =
+pub returns-then-fails-clause-told : goal.returns-then-fails-clause-told
+returns-then-fails-clause-told c =
     let is = c.in-Some.ensures.found in
     let (n, ranked) = c.requires.member in (
       refl,
       ends_all c.args.input.now (choice_of_picked c.args.input.now.plan c.args.picked.now) c.args.number c.args.checker.now _ c.requires.checker
-          (ap ending_of c.copy_of.ensures ∙ c.outcome-outcome.ensures is.entry is.there
+          (ap ending_of c.copy.ensures ∙ c.outcome-outcome.ensures is.entry is.there
           ∙ sym (found_ends c.args.input.now c.args.checker.now c.find.new.self n c.args.picked.now c.in-Some.found c.find.ensures.known ranked is)),
     )
 
@@ -51,5 +51,5 @@ returns-clause-told c =
       c.alike.ensures.some,
       c.alike.ensures.most,
       found_good c.args.input.now c.args.checker.now c.find.new.self c.args.picked.now c.in-Some.found c.args.number c.args.most c.alike.result c.find.ensures.known is c.requires.checker
-          (ap fails (sym (c.outcome-outcome.ensures is.entry is.there)) ∙ sym c.if-fails_with.ensures) c.requires.reach c.alike.ensures.most (c.alike.ensures.alike is),
+          (ap fails (sym (c.outcome-outcome.ensures is.entry is.there)) ∙ sym c.if-fails.ensures) c.requires.reach c.alike.ensures.most (c.alike.ensures.alike is),
     )

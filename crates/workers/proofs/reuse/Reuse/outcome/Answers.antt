@@ -30,5 +30,5 @@ pub returns-clause-ends : goal.returns-clause-ends
 returns-clause-ends c =
     let is = c.in_ok-found.ensures.found in
     let (n, ranked) = c.requires.member in
-    ap ending_of c.copy_of.ensures ∙ c.outcome.ensures is.entry is.there
+    ap ending_of c.copy.ensures ∙ c.outcome.ensures is.entry is.there
     ∙ sym (found_ends c.args.input.now c.args.checker.now c.find.new.self n c.args.picked.now c.in_ok-found.found c.find.ensures.known ranked is)
