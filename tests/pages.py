@@ -54,6 +54,7 @@ GIVEN = {
     "add": "&bpf_isa::instr::Instr",
     "jump": "&bpf_isa::instr::Instr",
     "choices": "&[arrayvec::ArrayVec<u32, 3>]",
+    "found": "&[losses::found::CutFound]",
     "torn": "&[arrayvec::ArrayVec<u32, 3>]",
     "blocks": "Vec<Vec<explore_core::Job>>",
     "whole": "images::View<'a>",

@@ -14,6 +14,7 @@ promise untrue: these are named there and not followed. Last are all files of de
 With --check it compares the document with the sources, and prints a line for each finding; the status is then 1, else 0.
 tools/check_documents.py does the same.
 """
+import itertools
 import re
 import sys
 import textwrap
@@ -354,6 +355,12 @@ def split(module):
     return crate, name
 
 
+def by_crate(modules):
+    """Returns the names of files of definitions, with the name of their crate before those of each."""
+    groups = itertools.groupby(map(split, modules), lambda it: it[0])
+    return "; ".join(f"{crate} {', '.join(name for _, name in own)}" for crate, own in groups)
+
+
 def listed(names):
     return ", ".join(f"`{it}`" for it in names)
 
@@ -404,7 +411,7 @@ class Page:
             files = {it: own for it, own in files.items() if own}
             if files:
                 count = sum(len(it) for it in files.values())
-                contents += f"| [{title}](#{anchor(title)}) | {', '.join(' '.join(split(it)) for it in files)} | {count} |\n"
+                contents += f"| [{title}](#{anchor(title)}) | {by_crate(files)} | {count} |\n"
                 text += f"\n## {title}\n" + "".join(self.crate(it, files) for it in names)
         return contents, text
 

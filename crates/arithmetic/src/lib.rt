@@ -12,14 +12,17 @@
 //! | `arithmetic_32(operator, first, second)` | the same in 32 bits, of two numbers of 32 bits | 4.1 |
 //! | `sign_extend(extension, word)` | the low 8, 16 or 32 bits as a signed number, in 64 or 32 bits | 4.1, MOVSX |
 //! | `in_order(order, size, word)` | the low 2, 4 or 8 bytes in an order; the machine is little-endian | 4.2 |
-//! | `byte_count(size)`, `plain_size(size)`, `extension_of(size)` | how many bytes a load or a store moves; of a load that extends the sign, its size and how it extends | 5 |
+//! | `holds(width, condition, first, second)` | whether a condition of a jump holds for two words, in a width | 4.3 |
+//! | `byte_count(size)`, `bytes_of(size)` | how many bytes a load or a store moves, as a word and as a byte | 5 |
+//! | `plain_size(size)`, `extension_of(size)` | of a load that extends the sign, its size and how it extends | 5 |
+//! | `look_of(code)` | what the step of a record reads of the device: a load by its size, a call of a helper, or nothing | |
 //!
 //! A value of 32 bits has zeros in the high half of the word.
 //!
 //! # Place
 //!
 //! On `bpf_isa`, whose operators and sizes it takes, and on the definitions of `machine`. Crates
-//! above compute with it: `interp`, whose machine runs an instruction, and `intervals`, which knows what
+//! above compute with it: `interp` and `plain`, whose machines run an instruction, and `intervals`, which knows what
 //! an instruction makes of constants; `ranges` takes the sizes of accesses. So what the verifier says of a constant is what the machine
 //! computes.
 //!
@@ -32,7 +35,7 @@
 //! # How it is written
 //!
 //! - `words`: 64 bits, the choice of a width, sign extensions and byte orders. `halves`: 32 bits.
-//! - `sizes`: those of loads and stores.
+//! - `condition`: the conditions of jumps. `sizes`: those of loads and stores, and what a record's step reads of the device.
 //! - Each function is small and marked to be inlined where it is called, since a run of a checker spends
 //!   its time here.
 //!
@@ -49,10 +52,12 @@
 //! ```
 #![tactic(auto)]
 
+mod condition;
 mod halves;
 mod sizes;
 mod words;
 
+pub use condition::holds;
 pub use halves::arithmetic_32;
-pub use sizes::{byte_count, extension_of, plain_size};
+pub use sizes::{byte_count, bytes_of, extension_of, look_of, plain_size};
 pub use words::{arithmetic, arithmetic_64, in_order, sign_extend};

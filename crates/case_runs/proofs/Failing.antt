@@ -13,7 +13,8 @@ use Rattle.cases.specs.Trees.{Subject, ending_of as ending_at}
 use Rattle.cases.specs.Laws.{Includes, LeavesEndAlike}
 use Rattle.cases.specs.AtCut.{CutValue, parts_of, case_of}
 use Rattle.cases.specs.Search.{LeafValue, leaf_case, EndsSo}
-use Rattle.case_runs.specs.Leaves.{FailingValue, failing_value, failing_from}
+use Rattle.losses.specs.FoundCases.{FailingValue, failing_value}
+use Rattle.case_runs.specs.Leaves.{failing_from}
 use Rattle.case_runs.specs.Laws.{CheckersTell, subject_at}
 use Rattle.case_runs.specs.Found.{IsFoundAt, TheirImagesFail}
 use Rattle.case_runs.proofs.Judged.{length_image}

@@ -14,13 +14,14 @@ use Rattle.cases.specs.Cases.{Case}
 use Rattle.cases.specs.Trees.{Subject, AreLeaves, no_case, is_beyond, is_leaf, is_split}
 use Rattle.cases.specs.AtCut.{CutValue}
 use Rattle.cases.specs.Search.{LeadTo, are_there, past_beyond, past_leaf, past_split}
-use Rattle.case_runs.specs.declared.found.Losses.{Losses}
-use Rattle.case_runs.specs.declared.found.CaseFindings.{CaseFindings}
-use Rattle.case_runs.specs.declared.found.CutFound.{CutFound}
+use Rattle.losses.specs.declared.found.Losses.{Losses}
+use Rattle.losses.specs.declared.found.CaseFindings.{CaseFindings}
+use Rattle.losses.specs.declared.found.CutFound.{CutFound}
 use Rattle.case_runs.specs.Leaves.{IsFit}
 use Rattle.case_runs.specs.declared.found.SearchFault.{SearchFault}
 use Rattle.case_runs.specs.declared.found.SearchFault.TheVariants as fault
-use Rattle.case_runs.specs.Found.{IsFoundAt, IsBegunAt, AreFoundAt, AreFoundIn, AreFirstAt, AreFirstIn, cases_at, cases_in, most_cases, AreTooMany, StopsAtOne, StopsAt, StopsIn}
+use Rattle.losses.specs.FoundCases.{cases_at, cases_in, most_cases}
+use Rattle.case_runs.specs.Found.{IsFoundAt, IsBegunAt, AreFoundAt, AreFoundIn, AreFirstAt, AreFirstIn, AreTooMany, StopsAtOne, StopsAt, StopsIn}
 
 pub found_none : (asked : Losses) (at : CutValue) (checkers : List CheckerValue) → AreFirstAt asked at checkers 0 []
 found_none asked at checkers = record { count = refl; each = λ i c f one two. absurd (let bad : None ≡ Some f = two in cc) }

@@ -10,11 +10,12 @@ use Rattle.cases.specs.AtCut.{CutValue}
 use Rattle.cases.specs.Trees.{Subject, split_of, ending_of}
 use Rattle.cases.specs.Once.{TreeIsOne}
 use Rattle.cases.specs.Search.{LeafValue, leaf_case, LeadTo, are_there, past_beyond, past_leaf, past_split, BegunCases}
-use Rattle.case_runs.specs.declared.found.Losses.{Losses}
-use Rattle.case_runs.specs.declared.found.CaseFindings.{CaseFindings}
-use Rattle.case_runs.specs.declared.leaves.FailingCase.{FailingCase}
+use Rattle.losses.specs.declared.found.Losses.{Losses}
+use Rattle.losses.specs.declared.found.CaseFindings.{CaseFindings}
+use Rattle.losses.specs.declared.found.FailingCase.{FailingCase}
 use Rattle.case_runs.specs.Laws.{subject_at}
-use Rattle.case_runs.specs.Leaves.{FailingValue, failing_if, failing_from}
+use Rattle.losses.specs.FoundCases.{FailingValue}
+use Rattle.case_runs.specs.Leaves.{failing_if, failing_from}
 use Rattle.case_runs.specs.Found.{IsFoundAt, KnownCase, known_case}
 use Rattle.case_runs.specs.First.{FailsFirst, PassesMost, FirstIsOne}
 use Rattle.case_runs.proofs.Finding.{led}

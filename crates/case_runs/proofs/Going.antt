@@ -9,10 +9,11 @@ use Rattle.cases.specs.Cases.{Case}
 use Rattle.cases.specs.AtCut.{CutValue, parts_of, case_of}
 use Rattle.cases.specs.Trees.{Program, Subject}
 use Rattle.cases.specs.Search.{Asked, subject_of, SearchValue, pending, SameSearch, LeadTo, are_there, LeafValue, leaf_case, EndsSo, is_torn_beyond, plus, Ran as Went}
-use Rattle.case_runs.specs.declared.found.Losses.{Losses}
+use Rattle.losses.specs.declared.found.Losses.{Losses}
 use Rattle.case_runs.specs.declared.pieces.Ran.{Ran}
 use Rattle.case_runs.specs.Judges.{program_of}
-use Rattle.case_runs.specs.Leaves.{failing_value, failing_from}
+use Rattle.losses.specs.FoundCases.{failing_value}
+use Rattle.case_runs.specs.Leaves.{failing_from}
 use Rattle.case_runs.specs.Pieces.{subject_in, IsSearchOf, RanFrom}
 
 none_mapped : {A B : Type 0} (f : A → B) (xs : List A) → map f xs ≡ [] → xs ≡ []

@@ -4,14 +4,14 @@ use Rattle.std.specs.List.{All}
 use Rattle.checker.specs.Checker.{CheckerValue}
 use Rattle.cases.specs.Cases.{Case, whole_case}
 use Rattle.cases.specs.AtCut.{CutValue}
-use Rattle.case_runs.specs.declared.found.Losses.{Losses}
-use Rattle.case_runs.specs.declared.found.CaseFindings.{CaseFindings}
+use Rattle.losses.specs.declared.found.Losses.{Losses}
+use Rattle.losses.specs.declared.found.CaseFindings.{CaseFindings}
 use Rattle.case_runs.specs.declared.work.CaseWork.{CaseWork}
 use Rattle.case_runs.specs.declared.pieces.Subtree.{Subtree}
 use Rattle.case_runs.specs.Found.{IsFoundAt, IsPastOne}
 use Rattle.case_runs.specs.Pieces.{subject_in, IsStretch, ArePieces, IsStep, StepsTo, JoinsSo, StartsSo}
 use Rattle.case_runs.specs.Shares.{cut_in, AreAllOf}
-use Rattle.case_runs.specs.declared.leaves.FailingCase.{FailingCase}
+use Rattle.losses.specs.declared.found.FailingCase.{FailingCase}
 use Rattle.case_runs.proofs.Stretching.{numbers_below, stretch_none, stretch_on, found_whole, past_both}
 use Rattle.case_runs.proofs.Piecing.{first_starts}
 

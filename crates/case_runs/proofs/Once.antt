@@ -10,10 +10,11 @@ use Rattle.cases.specs.AtCut.{CutValue, parts_of, case_of}
 use Rattle.cases.specs.Trees.{Subject, ending_of}
 use Rattle.cases.specs.Search.{LeafValue, leaf_case, EndsSo, is_torn_beyond, plus}
 use Rattle.cases.specs.Once.{TreeIsOne}
-use Rattle.case_runs.specs.declared.found.Losses.{Losses}
-use Rattle.case_runs.specs.declared.found.CaseFindings.{CaseFindings}
-use Rattle.case_runs.specs.declared.leaves.FailingCase.{FailingCase}
-use Rattle.case_runs.specs.Leaves.{FailingValue, failing_value, failing_if, failing_from}
+use Rattle.losses.specs.declared.found.Losses.{Losses}
+use Rattle.losses.specs.declared.found.CaseFindings.{CaseFindings}
+use Rattle.losses.specs.declared.found.FailingCase.{FailingCase}
+use Rattle.losses.specs.FoundCases.{FailingValue, failing_value}
+use Rattle.case_runs.specs.Leaves.{failing_if, failing_from}
 use Rattle.case_runs.specs.Laws.{subject_at}
 use Rattle.case_runs.specs.Found.{IsFoundAt, IsBegunAt, KnownCase, known_case, SameFound, FindingIsOne}
 

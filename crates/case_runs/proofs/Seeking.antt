@@ -13,19 +13,20 @@ use Rattle.cases.specs.AtCut.{CutValue}
 use Rattle.cases.specs.Trees.{Program, ending_of}
 use Rattle.cases.specs.Search.{Asked, subject_of, SearchValue, case_in, SameSearch, Went, LeafValue, Ran, FoundCases, BegunCases}
 use Rattle.cases.proofs.Runs.{ran_start, ran_more, ran_end, found_all, begun_all}
-use Rattle.case_runs.specs.declared.found.Losses.{Losses}
-use Rattle.case_runs.specs.declared.found.CaseFindings.{CaseFindings}
-use Rattle.case_runs.specs.declared.found.CutFound.{CutFound}
+use Rattle.losses.specs.declared.found.Losses.{Losses}
+use Rattle.losses.specs.declared.found.CaseFindings.{CaseFindings}
+use Rattle.losses.specs.declared.found.CutFound.{CutFound}
 use Rattle.case_runs.specs.declared.found.SearchFault.{SearchFault}
 use Rattle.case_runs.specs.declared.found.SearchFault.TheVariants as fault
-use Rattle.case_runs.specs.declared.first.FirstCase.{FirstCase}
+use Rattle.losses.specs.declared.found.FirstCase.{FirstCase}
 use Rattle.case_runs.specs.declared.first.Next.{Next}
 use Rattle.case_runs.specs.declared.first.Next.TheVariants as next
 use Rattle.case_runs.specs.declared.first.Met.{Met}
-use Rattle.case_runs.specs.declared.leaves.FailingCase.{FailingCase}
+use Rattle.losses.specs.declared.found.FailingCase.{FailingCase}
 use Rattle.case_runs.specs.Judges.{program_of}
-use Rattle.case_runs.specs.Leaves.{FailingValue, failing_value, failing_if, failing_from}
-use Rattle.case_runs.specs.Found.{IsFoundAt, AreFirstAt, AreFirstIn, cases_at, cases_in, most_cases}
+use Rattle.losses.specs.FoundCases.{FailingValue, failing_value, cases_at, cases_in, most_cases}
+use Rattle.case_runs.specs.Leaves.{failing_if, failing_from}
+use Rattle.case_runs.specs.Found.{IsFoundAt, AreFirstAt, AreFirstIn}
 use Rattle.case_runs.specs.First.{losses_in, BeginsAt, NextLeaf, leaf_at, IsMetAt, GoesTo, IsPassing, EndsWith, MeetsOne, NoneFailsAt, NoneFails, FailsFirst, PassesMost, FailsFirstAt, IsFirstFailing, PassesMostIn, EndsAtOne, EndsAt, EndsIn}
 use Rattle.case_runs.proofs.Telling.{failing_push}
 

@@ -11,10 +11,11 @@ use Rattle.cases.specs.AtCut.{CutValue}
 use Rattle.cases.specs.Trees.{Subject}
 use Rattle.cases.specs.Search.{LeadTo, are_there, past_beyond, past_leaf, past_split, LeafValue, leaf_case, EndsSo, is_torn_beyond, plus}
 use Rattle.cases.proofs.Runs.{leads_all}
-use Rattle.case_runs.specs.declared.found.Losses.{Losses}
-use Rattle.case_runs.specs.declared.found.CaseFindings.{CaseFindings}
-use Rattle.case_runs.specs.declared.leaves.FailingCase.{FailingCase}
-use Rattle.case_runs.specs.Leaves.{FailingValue, failing_value, failing_if, failing_from}
+use Rattle.losses.specs.declared.found.Losses.{Losses}
+use Rattle.losses.specs.declared.found.CaseFindings.{CaseFindings}
+use Rattle.losses.specs.declared.found.FailingCase.{FailingCase}
+use Rattle.losses.specs.FoundCases.{FailingValue, failing_value}
+use Rattle.case_runs.specs.Leaves.{failing_if, failing_from}
 use Rattle.case_runs.specs.Found.{IsFoundAt, IsPastOne}
 use Rattle.case_runs.specs.Pieces.{subject_in, IsStretch, later, IsJoined}
 

@@ -5,7 +5,8 @@ use Rattle.helpers.specs.declared.device.Context.{Context}
 use Rattle.checker.specs.Checker.{CheckerValue}
 use Rattle.cases.specs.Search.{LeafValue}
 use Rattle.case_runs.specs.declared.leaves.ToldLeaf.{ToldLeaf}
-use Rattle.case_runs.specs.Leaves.{FailingValue, leaf_of, failing_if, failing_from, IsJudge}
+use Rattle.losses.specs.FoundCases.{FailingValue}
+use Rattle.case_runs.specs.Leaves.{leaf_of, failing_if, failing_from, IsJudge}
 
 append_none : {A : Type 0} (xs : List A) → xs ++ [] ≡ xs
 append_none [] = refl

@@ -6,7 +6,7 @@ use Rattle.checker.specs.Checker.{CheckerValue}
 use Rattle.cases.specs.Cases.{Case, whole_case}
 use Rattle.cases.specs.AtCut.{CutValue, parts_of, case_of}
 use Rattle.cases.specs.Trees.{Subject}
-use Rattle.case_runs.specs.declared.found.CaseFindings.{CaseFindings}
+use Rattle.losses.specs.declared.found.CaseFindings.{CaseFindings}
 use Rattle.case_runs.specs.declared.work.CaseWork.{CaseWork}
 use Rattle.case_runs.specs.declared.pieces.Start.{Start}
 use Rattle.case_runs.specs.declared.pieces.Subtree.{Subtree}

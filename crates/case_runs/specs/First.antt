@@ -8,12 +8,12 @@ use Rattle.cases.specs.Cases.{whole_case, representative}
 use Rattle.cases.specs.AtCut.{CutValue}
 use Rattle.cases.specs.Trees.{Program, ending_of}
 use Rattle.cases.specs.Search.{SearchValue, LeafValue, BegunCases, SameSearch, Went, pending, case_in, subject_of}
-use Rattle.case_runs.specs.declared.found.Losses.{Losses}
-use Rattle.case_runs.specs.declared.found.CaseFindings.{CaseFindings}
-use Rattle.case_runs.specs.declared.found.CutFound.{CutFound}
+use Rattle.losses.specs.declared.found.Losses.{Losses}
+use Rattle.losses.specs.declared.found.CaseFindings.{CaseFindings}
+use Rattle.losses.specs.declared.found.CutFound.{CutFound}
 use Rattle.case_runs.specs.declared.found.SearchFault.{SearchFault}
 use Rattle.case_runs.specs.declared.found.SearchFault.TheVariants as fault
-use Rattle.case_runs.specs.declared.first.FirstCase.{FirstCase}
+use Rattle.losses.specs.declared.found.FirstCase.{FirstCase}
 use Rattle.case_runs.specs.declared.first.Next.{Next}
 use Rattle.case_runs.specs.declared.first.Next.TheVariants as next
 use Rattle.case_runs.specs.declared.first.Met.{Met}
@@ -22,10 +22,11 @@ use Rattle.case_runs.specs.declared.first.MetAt.{MetAt}
 use Rattle.case_runs.specs.declared.first.MetAt.TheVariants as met_at
 use Rattle.case_runs.specs.declared.first.Sought.{Sought}
 use Rattle.case_runs.specs.declared.first.Sought.TheVariants as sought
-use Rattle.case_runs.specs.declared.leaves.FailingCase.{FailingCase}
-use Rattle.case_runs.specs.Leaves.{failing_value, failing_if, failing_from}
+use Rattle.losses.specs.declared.found.FailingCase.{FailingCase}
+use Rattle.losses.specs.FoundCases.{failing_value, cases_at, cases_in, most_cases}
+use Rattle.case_runs.specs.Leaves.{failing_if, failing_from}
 use Rattle.case_runs.specs.Laws.{subject_at}
-use Rattle.case_runs.specs.Found.{IsFoundAt, AreFoundAt, AreFoundIn, AreFirstAt, AreFirstIn, KnownCase, known_case, cases_at, cases_in, most_cases}
+use Rattle.case_runs.specs.Found.{IsFoundAt, AreFoundAt, AreFoundIn, AreFirstAt, AreFirstIn, KnownCase, known_case}
 
 -- no case fails, of those that were found at a cut, and at some cuts
 abbrev pub NoneFailsAt : List CaseFindings → Type 0

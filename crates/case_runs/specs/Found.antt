@@ -10,13 +10,14 @@ use Rattle.cases.specs.Cases.{Case}
 use Rattle.cases.specs.Laws.{Includes}
 use Rattle.cases.specs.AtCut.{CutValue, parts_of, case_of}
 use Rattle.cases.specs.Search.{LeafValue, FoundCases, BegunCases}
-use Rattle.case_runs.specs.declared.found.Losses.{Losses}
-use Rattle.case_runs.specs.declared.found.CaseFindings.{CaseFindings}
-use Rattle.case_runs.specs.declared.found.CutFound.{CutFound}
+use Rattle.losses.specs.declared.found.Losses.{Losses}
+use Rattle.losses.specs.declared.found.CaseFindings.{CaseFindings}
+use Rattle.losses.specs.declared.found.CutFound.{CutFound}
 use Rattle.case_runs.specs.declared.found.SearchFault.{SearchFault}
 use Rattle.case_runs.specs.declared.found.SearchFault.TheVariants as fault
-use Rattle.case_runs.specs.declared.leaves.FailingCase.{FailingCase}
-use Rattle.case_runs.specs.Leaves.{failing_value, failing_from}
+use Rattle.losses.specs.declared.found.FailingCase.{FailingCase}
+use Rattle.losses.specs.FoundCases.{failing_value}
+use Rattle.case_runs.specs.Leaves.{failing_from}
 use Rattle.case_runs.specs.Laws.{subject_at, judged_at}
 
 -- At a cut with a checker: of exactly its leaves, in the order of the tree, those that fail, by their numbers, and how many leaves there
@@ -43,17 +44,6 @@ pub record AreFoundIn (asked : Losses) (log : LogValue) (way : By) (cuts : List 
   pub cut : (i k : ℕ) (f : CutFound) → slice_get cuts i ≡ Some k → slice_get found i ≡ Some f → f.cut ≡ k
   pub each : (i k : ℕ) (f : CutFound) → slice_get cuts i ≡ Some k → slice_get found i ≡ Some f
       → AreFoundAt asked (record { log = log; way = way; cut = k }) checkers f.programs.items
-
--- how many cases were found at a cut, and at some cuts
-abbrev pub cases_at : List CaseFindings → ℕ
-cases_at found = sum_by (λ (f : CaseFindings). f.cases) found
-
-abbrev pub cases_in : List CutFound → ℕ
-cases_in found = sum_by (λ (c : CutFound). cases_at c.programs.items) found
-
--- how many there are at most
-abbrev pub most_cases : ℕ
-most_cases = 16777216
 
 -- at a cut, with each of the first n of some checkers, in order
 pub record AreFirstAt (asked : Losses) (at : CutValue) (checkers : List CheckerValue) (n : ℕ) (found : List CaseFindings) : Type 0 where

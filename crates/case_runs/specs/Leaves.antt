@@ -7,16 +7,7 @@ use Rattle.checker.specs.Checker.{CheckerValue, IsFor}
 use Rattle.checker.specs.Memory.{IsServed}
 use Rattle.cases.specs.Search.{LeafValue}
 use Rattle.case_runs.specs.declared.leaves.ToldLeaf.{ToldLeaf}
-use Rattle.case_runs.specs.declared.leaves.FailingCase.{FailingCase}
-
--- a leaf that fails: its number among the leaves, what the program ends in there, and a set for each part at risk
-pub record FailingValue : Type 0 where
-  pub number : ℕ
-  pub ending : Ending
-  pub sets : List ℕ
-
-abbrev pub failing_value : FailingCase → FailingValue
-failing_value f = record { number = f.number; ending = ending_of f.outcome; sets = f.sets.items }
+use Rattle.losses.specs.declared.found.FailingCase.{FailingCase}
 
 -- a leaf as it was told
 abbrev pub leaf_of : ToldLeaf → LeafValue

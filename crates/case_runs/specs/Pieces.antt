@@ -6,13 +6,14 @@ use Rattle.cases.specs.Cases.{Case, whole_case}
 use Rattle.cases.specs.AtCut.{CutValue, parts_of, case_of}
 use Rattle.cases.specs.Trees.{Subject}
 use Rattle.cases.specs.Search.{SearchValue, LeadTo, LeafValue, leaf_case, EndsSo, is_torn_beyond, plus}
-use Rattle.case_runs.specs.declared.found.Losses.{Losses}
-use Rattle.case_runs.specs.declared.found.CaseFindings.{CaseFindings}
+use Rattle.losses.specs.declared.found.Losses.{Losses}
+use Rattle.losses.specs.declared.found.CaseFindings.{CaseFindings}
 use Rattle.case_runs.specs.declared.pieces.Start.{Start}
 use Rattle.case_runs.specs.declared.pieces.Subtree.{Subtree}
 use Rattle.case_runs.specs.declared.pieces.Subtree.TheVariants as piece
 use Rattle.case_runs.specs.declared.pieces.Ran.{Ran}
-use Rattle.case_runs.specs.Leaves.{FailingValue, failing_value, failing_from}
+use Rattle.losses.specs.FoundCases.{FailingValue, failing_value}
+use Rattle.case_runs.specs.Leaves.{failing_from}
 use Rattle.case_runs.specs.Laws.{subject_at}
 
 abbrev pub subject_in : Losses → CutValue → CheckerValue → Subject

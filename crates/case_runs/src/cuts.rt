@@ -106,6 +106,10 @@ fn copy_cuts(alloc: Global, cuts: &[u32]) -> Result<Vec<u32>, AllocError>
 }
 
 /// The cuts at which cases are looked for, where no more than `at_most` parts may be lost or torn, or any number.
+///
+/// # Errors
+///
+/// Memory was refused.
 #[tactic(auto, unfolding(crate::specs::Cuts::case_cuts))]
 pub fn case_cuts(
     alloc: Global,

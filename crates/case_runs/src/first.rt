@@ -5,30 +5,22 @@ ghost use Rattle.interp.specs.Ending.{ending_of};
 ghost use Rattle.images.specs.Views.{context_at};
 ghost use Rattle.checker.specs.Checker.{AreFor};
 ghost use Rattle.case_runs.specs.Judges.{program_of};
-ghost use Rattle.case_runs.specs.Leaves.{IsFit, failing_value, failing_if};
+ghost use Rattle.losses.specs.FoundCases.{failing_value};
+ghost use Rattle.case_runs.specs.Leaves.{IsFit, failing_if};
 ghost use Rattle.case_runs.specs.First.{losses_in, BeginsAt, IsMetAt, GoesTo, IsPassing, EndsWith, MeetsOne, TakesOne, MeetsAt, TakesAt, IsSought, EndsAtOne, EndsAt, EndsIn};
 
-use crate::found::{CaseFindings, CutFound, Losses, MOST_CASES, SearchFault};
+use crate::found::SearchFault;
 use crate::gate::{CaseGate, Watched};
 use crate::judge::CaseJudge;
-use crate::leaves::{FailingCase, put_failing};
+use crate::leaves::put_failing;
 use cases::{Cut, Search};
 use checker::Checker;
 use epochs::{By, Plan};
 use helpers::Context;
 use interp::Outcome;
 use logfmt::Log;
+use losses::found::{CaseFindings, CutFound, FailingCase, FirstCase, Losses, MOST_CASES};
 use std::alloc::{AllocError, Global};
-
-/// The first case on which a checker fails: by cut, by checker, and in the order of the tree.
-#[derive(Drop)]
-pub struct FirstCase {
-    pub cut: u32,
-    /// The number of the checker.
-    pub program: usize,
-    /// The case, with its number among the leaves of its cut.
-    pub case: FailingCase,
-}
 
 /// What is found where the first failing case is looked for.
 #[derive(Drop)]

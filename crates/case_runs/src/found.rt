@@ -4,12 +4,12 @@ ghost use Rattle.std.specs.Prelude.{◌≡◌, ◌+◌, ◌≤◌, length, All, 
 ghost use Rattle.images.specs.Views.{context_at};
 ghost use Rattle.checker.specs.Checker.{AreFor};
 ghost use Rattle.case_runs.specs.Leaves.{IsFit};
-ghost use Rattle.case_runs.specs.Found.{IsFoundAt, IsBegunAt, AreFoundAt, AreFoundIn, cases_at, cases_in, most_cases, StopsAtOne, StopsAt, StopsIn};
+ghost use Rattle.losses.specs.FoundCases.{cases_at, cases_in, most_cases};
+ghost use Rattle.case_runs.specs.Found.{IsFoundAt, IsBegunAt, AreFoundAt, AreFoundIn, StopsAtOne, StopsAt, StopsIn};
 
 use crate::gate::{CaseGate, Watched};
 use crate::joining::joined;
 use crate::judge::CaseJudge;
-use crate::leaves::FailingCase;
 use crate::rounds::explored;
 use crate::work::CaseWork;
 use cases::{Cut, find_cases};
@@ -17,39 +17,9 @@ use checker::Checker;
 use epochs::{By, Plan};
 use helpers::Context;
 use logfmt::Log;
+use losses::found::{CaseFindings, CutFound, FailingCase, Losses, MOST_CASES};
 use std::alloc::{AllocError, AllocFailed, Global};
 use std::thread::Threads;
-
-/// How many cases are met at most, of all cuts and checkers together.
-pub const MOST_CASES: u32 = 16_777_216;
-
-/// What is asked: whether parts may be torn, how many at most, and, if that is bounded, how many may not be whole.
-#[derive(Clone, Copy)]
-pub struct Losses {
-    pub tears: bool,
-    pub torn: u32,
-    pub lost: Option<u32>,
-}
-
-/// What was found at a cut with a checker.
-#[derive(Drop)]
-pub struct CaseFindings {
-    /// How many leaves there are.
-    pub cases: usize,
-    /// How many cases were left out, since more parts are torn than is asked.
-    pub torn_beyond: u64,
-    /// How many others were, since more are lost.
-    pub lost_beyond: u64,
-    /// The leaves that fail, in the order of the tree.
-    pub failing: Vec<FailingCase>,
-}
-
-/// What was found at a cut, with each checker in order.
-#[derive(Drop)]
-pub struct CutFound {
-    pub cut: u32,
-    pub programs: Vec<CaseFindings>,
-}
 
 /// Why the cases weren't found.
 #[derive(Clone, Copy, Debug)]

@@ -1,11 +1,12 @@
 //! Who is told how far a search for cases is.
 
 ghost use Rattle.std.specs.Prelude.{◌≡◌, [], map};
-ghost use Rattle.case_runs.specs.Leaves.{failing_value, failing_from};
+ghost use Rattle.losses.specs.FoundCases.{failing_value};
+ghost use Rattle.case_runs.specs.Leaves.{failing_from};
 
 use crate::judge::CaseJudge;
-use crate::leaves::FailingCase;
 use cases::{Cut, Judge, KnownRows, Parted};
+use losses::found::FailingCase;
 use std::alloc::AllocError;
 use std::marker::Model;
 

@@ -2,19 +2,19 @@
 
 ghost use Rattle.std.specs.Prelude.{◌≡◌, ◌≤◌, ◌<◌, ◌+◌, ◌^◌, ◌++◌, ◌∷◌, [], length, map, slice_get, Some, All, IfOk, IfErr, OnOk};
 ghost use Rattle.checker.specs.Checker.{AreFor};
-ghost use Rattle.case_runs.specs.Leaves.{failing_value};
-ghost use Rattle.case_runs.specs.Found.{IsFoundAt, AreFoundAt, AreFoundIn, cases_at, cases_in, most_cases, StopsAtOne, StopsAt, StopsIn};
+ghost use Rattle.losses.specs.FoundCases.{failing_value, cases_at, cases_in, most_cases};
+ghost use Rattle.case_runs.specs.Found.{IsFoundAt, AreFoundAt, AreFoundIn, StopsAtOne, StopsAt, StopsIn};
 ghost use Rattle.case_runs.specs.Pieces.{subject_in, start_case, IsStart, StartsSo, IsStep, RanFrom, later, JoinsSo};
 ghost use Rattle.case_runs.specs.Shares.{cut_in, AreAllOf, IsBegun};
 
-use crate::found::{CaseFindings, CutFound, MOST_CASES, SearchFault};
+use crate::found::SearchFault;
 use crate::gate::CaseGate;
-use crate::leaves::FailingCase;
 use crate::pieces::{Begun, Ran, Start, Subtree, run_start};
 use crate::rounds::whole_piece;
 use crate::work::CaseWork;
 use cases::{Cut, Search};
 use checker::Checker;
+use losses::found::{CaseFindings, CutFound, FailingCase, MOST_CASES};
 use std::alloc::{AllocError, Global};
 
 /// Nothing was found yet.

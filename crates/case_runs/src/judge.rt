@@ -2,15 +2,17 @@
 
 ghost use Rattle.std.specs.Prelude.{◌≡◌, [], map, length, IfOk};
 ghost use Rattle.interp.specs.Ending.{ending_of};
-ghost use Rattle.case_runs.specs.Leaves.{failing_value, failing_from, IsFit};
+ghost use Rattle.losses.specs.FoundCases.{failing_value};
+ghost use Rattle.case_runs.specs.Leaves.{failing_from, IsFit};
 
 use crate::image::Formed;
-use crate::leaves::{FailingCase, ToldLeaf, put_leaf};
+use crate::leaves::{ToldLeaf, put_leaf};
 use crate::runs::{Looked, run_on, split_looked};
 use cases::{Cut, Judge, KnownRows, Parted};
 use checker::{Checker, RunMemory};
 use helpers::Context;
 use interp::Outcome;
+use losses::found::FailingCase;
 use std::alloc::{AllocError, Global};
 use std::marker::Model;
 
@@ -37,7 +39,8 @@ pub struct CaseJudge<'c, 'p> {
 impl<'c, 'p> Model for CaseJudge<'c, 'p> {
     ghost use Rattle.std.specs.Prelude.{map};
     ghost use Rattle.interp.specs.Ending.{ending_of};
-    ghost use Rattle.case_runs.specs.Leaves.{JudgeValue, IsJudge, leaf_of, failing_value};
+    ghost use Rattle.losses.specs.FoundCases.{failing_value};
+    ghost use Rattle.case_runs.specs.Leaves.{JudgeValue, IsJudge, leaf_of};
     ghost use Rattle.case_runs.specs.Judges.{looked_in};
 
     ghost Value = { JudgeValue };
@@ -56,6 +59,10 @@ impl<'c, 'p> Model for CaseJudge<'c, 'p> {
 
 impl<'c, 'p> CaseJudge<'c, 'p> {
     /// A judge that was told of no leaf. It takes memory where the checker has guards.
+    ///
+    /// # Errors
+    ///
+    /// Memory was refused.
     pub fn new(
         alloc: Global,
         checker: &'c Checker<'p>,

@@ -3,22 +3,13 @@
 ghost use Rattle.std.specs.Prelude.{◌≡◌, ◌++◌, ◌∷◌, [], map, length, IfOk, OnOk};
 ghost use Rattle.interp.specs.Ending.{ending_of};
 ghost use Rattle.machine.specs.Outcome.{fails};
-ghost use Rattle.case_runs.specs.Leaves.{failing_value, leaf_of, failing_if};
+ghost use Rattle.losses.specs.FoundCases.{failing_value};
+ghost use Rattle.case_runs.specs.Leaves.{leaf_of, failing_if};
 
 use interp::Outcome;
+use losses::found::FailingCase;
 use std::alloc::{AllocError, Global};
 use std::snapshot::Snapshot;
-
-/// A leaf on whose images a checker fails.
-#[derive(Drop)]
-pub struct FailingCase {
-    /// Its number among the leaves of its cut, from 0.
-    pub number: usize,
-    /// What the checker ends in on each of its images.
-    pub outcome: Outcome,
-    /// What may become of each part at risk.
-    pub sets: Vec<u16>,
-}
 
 /// A leaf of which a judge was told, for contracts alone: it takes no room.
 #[derive(Drop)]

@@ -6,8 +6,9 @@
 //!
 //! # Place
 //!
-//! On `cases`, whose search it drives, on `checker`, which runs a program with every check or without any, and on `epochs`, whose plan
-//! tells of the context of a cut. `case_text` and `runs` stand above it.
+//! On `cases`, whose search it drives, on `checker`, which runs a program with every check or without any, on `epochs`, whose plan
+//! tells of the context of a cut, and on `losses` for the types of what is found. `runs` stands above it. `case_text` and `crash_page`
+//! tell what is found by these types alone.
 //!
 //! # The calls
 //!
@@ -74,8 +75,9 @@
 //! # Example
 //!
 //! ```
-//! use case_runs::{Losses, case_cuts, find_failing};
+//! use case_runs::{case_cuts, find_failing};
 //! use epochs::{By, Cuts};
+//! use losses::found::Losses;
 //!
 //! let asked = Losses { tears: false, torn: 0, lost: None };
 //! let cuts = case_cuts(alloc, &plan, &log, &Cuts::ALL, None)?;
@@ -100,10 +102,9 @@ mod sharing;
 mod work;
 
 pub use cuts::{case_cuts, first_wanted, last_wanted};
-pub use first::{FirstCase, Sought, find_first};
-pub use found::{CaseFindings, CutFound, Losses, MOST_CASES, SearchFault, find_failing};
+pub use first::{Sought, find_first};
+pub use found::{SearchFault, find_failing};
 pub use gate::CaseGate;
 pub use image::CaseImage;
 pub use judge::CaseJudge;
 pub use laws::{checkers_tell, finding_is_one, first_is_one, losses_are_judged, their_images_fail};
-pub use leaves::FailingCase;

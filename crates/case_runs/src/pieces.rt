@@ -6,13 +6,13 @@ ghost use Rattle.cases.specs.Search.{pending};
 ghost use Rattle.case_runs.specs.Leaves.{IsFit};
 ghost use Rattle.case_runs.specs.Pieces.{IsSearchOf, IsStart, start_case, RanFrom, told_as, open_at};
 
-use crate::found::{CaseFindings, Losses};
 use crate::gate::{CaseGate, Watched};
 use crate::judge::CaseJudge;
 use crate::leaves::copy_sets;
 use cases::{Cut, Search};
 use checker::Checker;
 use helpers::Context;
+use losses::found::{CaseFindings, Losses};
 use std::alloc::{AllocError, Global};
 
 /// Where a search begins: at all choices of a cut, or at a case.

@@ -6,11 +6,11 @@ ghost use Rattle.case_runs.specs.declared.pieces.Subtree.{Subtree as PieceValue}
 ghost use Rattle.case_runs.specs.Pieces.{told_as, open_as};
 ghost use Rattle.case_runs.specs.Shares.{IsAnswer, AreAnswers, IsBegun, AreAllOf, AreBelow, HaveSame};
 
-use crate::found::{CaseFindings, MOST_CASES};
 use crate::gate::CaseGate;
 use crate::pieces::{Begun, Start, Subtree, SubtreeAnswer, all_choices, are_same};
 use crate::sharing::answers;
 use crate::work::CaseWork;
+use losses::found::{CaseFindings, MOST_CASES};
 use std::alloc::{AllocError, Global};
 use std::thread::Threads;
 

@@ -3,11 +3,11 @@
 ghost use Rattle.std.specs.Prelude.{◌≡◌, ◌≤◌, length};
 ghost use Rattle.images.specs.Views.{context_at};
 
-use crate::found::Losses;
 use checker::Checker;
 use epochs::{By, Plan};
 use helpers::Context;
 use logfmt::Log;
+use losses::found::Losses;
 
 /// A log with its plan, the checkers, and what is asked.
 #[derive(Clone, Copy)]

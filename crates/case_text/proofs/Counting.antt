@@ -5,8 +5,8 @@ use Rattle.std.proofs.lemmas.Grind.{flat_map-append}
 use Rattle.std.proofs.lemmas.Int.{clamps}
 use Rattle.std.proofs.lemmas.List.{take_all}
 use Rattle.std.proofs.lemmas.List.Sums.{sum_by_push}
-use Rattle.case_runs.specs.declared.found.CaseFindings.{CaseFindings}
-use Rattle.case_runs.specs.declared.found.CutFound.{CutFound}
+use Rattle.losses.specs.declared.found.CaseFindings.{CaseFindings}
+use Rattle.losses.specs.declared.found.CutFound.{CutFound}
 use Rattle.case_text.specs.declared.totals.Totals.{Totals}
 use Rattle.case_text.specs.Text.{in_word, all_found, count_cases, count_failing, count_torn_beyond, count_lost_beyond, complete_word, counts_text, beyond_text, totals_text}
 use Rattle.case_text.proofs.Lining.{joined}

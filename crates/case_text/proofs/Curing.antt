@@ -19,11 +19,11 @@ use Rattle.losses.specs.FailureWindows.{if_window, own_window, windows_in, HoldN
 use Rattle.cases.specs.Risk.{is_at_risk}
 use Rattle.cases.specs.AtCut.{CutValue, parts_of, case_of}
 use Rattle.cases.specs.Cases.{Case}
-use Rattle.case_runs.specs.declared.leaves.FailingCase.{FailingCase}
-use Rattle.case_runs.specs.declared.found.Losses.{Losses}
-use Rattle.case_runs.specs.declared.found.CaseFindings.{CaseFindings}
-use Rattle.case_runs.specs.declared.found.CutFound.{CutFound}
-use Rattle.case_runs.specs.Leaves.{failing_value}
+use Rattle.losses.specs.declared.found.FailingCase.{FailingCase}
+use Rattle.losses.specs.declared.found.Losses.{Losses}
+use Rattle.losses.specs.declared.found.CaseFindings.{CaseFindings}
+use Rattle.losses.specs.declared.found.CutFound.{CutFound}
+use Rattle.losses.specs.FoundCases.{failing_value}
 use Rattle.case_text.specs.Known.{KnownValue, known_of}
 use Rattle.case_text.specs.Window.{last_staying, later, between, case_window}
 use Rattle.case_text.specs.Laws.{IsWindow, HasNoWindow}

@@ -1,13 +1,13 @@
 -- The lines of cases, one program after the other.
 use Rattle.std.proofs.Common.{ℕ, suc, ◌≡◌, ◌+◌, Bool, List, [], ◌∷◌, ◌++◌, length, take, codes, Option, sym, ◌∙◌, ap, arith, append_assoc, append-nil}
-use Rattle.case_runs.specs.declared.found.CaseFindings.{CaseFindings}
+use Rattle.losses.specs.declared.found.CaseFindings.{CaseFindings}
 use Rattle.epochs.specs.declared.part.Part.{Part}
 use Rattle.epochs.specs.declared.part.By.{By}
 use Rattle.epochs.specs.Units.{epoch_at, marks_at}
 use Rattle.cases.specs.AtCut.{CutValue, parts_of, case_of}
 use Rattle.report.specs.LineText.{ending_text}
 use Rattle.losses.specs.declared.flushes.window.Window.{Window}
-use Rattle.case_runs.specs.Leaves.{FailingValue}
+use Rattle.losses.specs.FoundCases.{FailingValue}
 use Rattle.case_text.specs.Known.{KnownValue, known_of}
 use Rattle.case_text.specs.Window.{last_staying, later, between, case_window}
 use Rattle.case_text.specs.Text.{place_text, number_text, known_text, window_text, case_line, program_cases, programs_cases}

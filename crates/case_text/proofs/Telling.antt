@@ -18,10 +18,10 @@ use Rattle.losses.specs.Counted.{AreMissing}
 use Rattle.losses.specs.FailureWindows.{windows_in}
 use Rattle.losses.specs.declared.cure.failure.Failure.{Failure}
 use Rattle.cases.specs.AtCut.{CutValue, parts_of, case_of}
-use Rattle.case_runs.specs.declared.leaves.FailingCase.{FailingCase}
-use Rattle.case_runs.specs.declared.found.Losses.{Losses}
-use Rattle.case_runs.specs.declared.found.CutFound.{CutFound}
-use Rattle.case_runs.specs.Leaves.{FailingValue, failing_value}
+use Rattle.losses.specs.declared.found.FailingCase.{FailingCase}
+use Rattle.losses.specs.declared.found.Losses.{Losses}
+use Rattle.losses.specs.declared.found.CutFound.{CutFound}
+use Rattle.losses.specs.FoundCases.{FailingValue, failing_value}
 use Rattle.case_text.specs.Known.{KnownValue, known_of}
 use Rattle.case_text.specs.Window.{last_staying, later, between, case_window}
 use Rattle.case_text.specs.declared.told.ToldFailing.{ToldFailing}

@@ -1,6 +1,6 @@
 -- How the totals are counted, program by program.
 use Rattle.std.specs.Prelude.{◌+◌, List, [], ◌∷◌, length}
-use Rattle.case_runs.specs.declared.found.CaseFindings.{CaseFindings}
+use Rattle.losses.specs.declared.found.CaseFindings.{CaseFindings}
 use Rattle.case_text.specs.declared.totals.Totals.{Totals}
 use Rattle.case_text.specs.Text.{in_word}
 

@@ -8,11 +8,11 @@ use Rattle.losses.specs.declared.flushes.window.Window.{Window}
 use Rattle.losses.specs.declared.cure.failure.Failure.{Failure}
 use Rattle.losses.specs.CureText.{programs_text}
 use Rattle.cases.specs.AtCut.{CutValue, parts_of, case_of}
-use Rattle.case_runs.specs.declared.leaves.FailingCase.{FailingCase}
-use Rattle.case_runs.specs.declared.found.Losses.{Losses}
-use Rattle.case_runs.specs.declared.found.CaseFindings.{CaseFindings}
-use Rattle.case_runs.specs.declared.found.CutFound.{CutFound}
-use Rattle.case_runs.specs.Leaves.{FailingValue, failing_value}
+use Rattle.losses.specs.declared.found.FailingCase.{FailingCase}
+use Rattle.losses.specs.declared.found.Losses.{Losses}
+use Rattle.losses.specs.declared.found.CaseFindings.{CaseFindings}
+use Rattle.losses.specs.declared.found.CutFound.{CutFound}
+use Rattle.losses.specs.FoundCases.{FailingValue, failing_value}
 use Rattle.case_text.specs.Window.{case_window}
 use Rattle.case_text.specs.Text.{options_text, case_line}
 use Rattle.case_text.specs.Why.{by_program, all_failures}

@@ -4,9 +4,9 @@ use Rattle.std.specs.Prelude.{ℕ, List, ◌++◌, codes}
 use Rattle.std.specs.Fmt.{decimal}
 use Rattle.logfmt.specs.Bounds.{LogValue}
 use Rattle.report.specs.Report.{HeadValue}
-use Rattle.case_runs.specs.declared.first.FirstCase.{FirstCase}
-use Rattle.case_runs.specs.declared.found.Losses.{Losses}
-use Rattle.case_runs.specs.Leaves.{failing_value}
+use Rattle.losses.specs.declared.found.FirstCase.{FirstCase}
+use Rattle.losses.specs.declared.found.Losses.{Losses}
+use Rattle.losses.specs.FoundCases.{failing_value}
 use Rattle.case_text.specs.Text.{head_text, case_line}
 
 -- the last line

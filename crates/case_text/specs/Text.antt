@@ -14,11 +14,11 @@ use Rattle.report.specs.ChoiceText.{fate_text, part_text, departures_text}
 use Rattle.report.specs.Report.{HeadValue, device_text, given_text, program_lines}
 use Rattle.losses.specs.declared.flushes.window.Window.{Window}
 use Rattle.cases.specs.AtCut.{CutValue, parts_of, case_of}
-use Rattle.case_runs.specs.declared.leaves.FailingCase.{FailingCase}
-use Rattle.case_runs.specs.declared.found.Losses.{Losses}
-use Rattle.case_runs.specs.declared.found.CaseFindings.{CaseFindings}
-use Rattle.case_runs.specs.declared.found.CutFound.{CutFound}
-use Rattle.case_runs.specs.Leaves.{FailingValue, failing_value}
+use Rattle.losses.specs.declared.found.FailingCase.{FailingCase}
+use Rattle.losses.specs.declared.found.Losses.{Losses}
+use Rattle.losses.specs.declared.found.CaseFindings.{CaseFindings}
+use Rattle.losses.specs.declared.found.CutFound.{CutFound}
+use Rattle.losses.specs.FoundCases.{FailingValue, failing_value}
 use Rattle.case_text.specs.Known.{PartFates, KnownValue, known_of}
 use Rattle.case_text.specs.Window.{case_window}
 

@@ -15,11 +15,11 @@ use Rattle.losses.specs.Counted.{AreMissing}
 use Rattle.losses.specs.CureText.{missing_text}
 use Rattle.losses.specs.FailureWindows.{windows_in}
 use Rattle.cases.specs.AtCut.{CutValue, parts_of, case_of}
-use Rattle.case_runs.specs.declared.leaves.FailingCase.{FailingCase}
-use Rattle.case_runs.specs.declared.found.Losses.{Losses}
-use Rattle.case_runs.specs.declared.found.CaseFindings.{CaseFindings}
-use Rattle.case_runs.specs.declared.found.CutFound.{CutFound}
-use Rattle.case_runs.specs.Leaves.{FailingValue, failing_value}
+use Rattle.losses.specs.declared.found.FailingCase.{FailingCase}
+use Rattle.losses.specs.declared.found.Losses.{Losses}
+use Rattle.losses.specs.declared.found.CaseFindings.{CaseFindings}
+use Rattle.losses.specs.declared.found.CutFound.{CutFound}
+use Rattle.losses.specs.FoundCases.{FailingValue, failing_value}
 use Rattle.case_text.specs.Known.{KnownValue, known_of}
 use Rattle.case_text.specs.Window.{case_window}
 use Rattle.case_text.specs.Text.{window_text, options_text, totals_text}

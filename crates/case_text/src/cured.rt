@@ -6,7 +6,7 @@ ghost use Rattle.std.specs.Option.{option_map, option_or};
 ghost use Rattle.losses.specs.Places.{AreWindows};
 ghost use Rattle.losses.specs.FailureWindows.{windows_in, HoldNoFlush};
 ghost use Rattle.cases.specs.AtCut.{parts_of, case_of};
-ghost use Rattle.case_runs.specs.Leaves.{failing_value};
+ghost use Rattle.losses.specs.FoundCases.{failing_value};
 ghost use Rattle.case_text.specs.Text.{case_line, totals_text};
 ghost use Rattle.case_text.specs.Window.{case_window};
 ghost use Rattle.case_text.specs.Why.{by_program, failure_of, told_of, program_failures, found_failures, cut_failures, all_failures};
@@ -17,11 +17,11 @@ use crate::known::KnownParts;
 use crate::lines::put_case;
 use crate::site::Site;
 use crate::totals::put_totals;
-use case_runs::{CaseFindings, CutFound, FailingCase, Losses};
 use epochs::{By, Plan};
 use logfmt::Log;
 use losses::cure::{Failure, put_programs};
 use losses::flushes::Window;
+use losses::found::{CaseFindings, CutFound, FailingCase, Losses};
 use report::Head;
 use std::alloc::{AllocError, Global};
 
@@ -51,6 +51,10 @@ fn line_of(
 }
 
 /// The window of a failing case.
+///
+/// # Errors
+///
+/// Memory was refused.
 pub fn window_of(
     known: &mut KnownParts,
     site: &Site<'_>,
@@ -289,6 +293,10 @@ fn last_of(alloc: Global, found: &[CutFound]) -> Result<String, AllocError>
 /// What a run of cases says of its cure (docs/OUTPUT.md, The text of `cure`): its failing cases as failures, of which each window lies in
 /// the log and holds no flush entry, and how the text of a cure begins with this run and ends with it. The plan is that of the log; of the
 /// head's bound, tears, `first` and number of images nothing is printed.
+///
+/// # Errors
+///
+/// Memory was refused.
 pub fn cure_of_cases(
     alloc: Global,
     head: &Head,

@@ -7,9 +7,9 @@ use crate::head::put_head;
 use crate::known::KnownParts;
 use crate::lines::put_case;
 use crate::site::Site;
-use case_runs::{FirstCase, Losses};
 use epochs::Plan;
 use logfmt::Log;
+use losses::found::{FirstCase, Losses};
 use report::Head;
 use std::alloc::{AllocError, Global};
 
@@ -23,6 +23,10 @@ fn put_first(out: &mut String, cut: u32, program: usize, number: usize) -> Resul
 
 /// The text of the first failing case of a run (docs/OUTPUT.md, The text of cases): title, options and programs, the line of that case,
 /// and a last line that names it again. The plan is that of the log.
+///
+/// # Errors
+///
+/// Memory was refused.
 #[tactic(auto, unfolding(crate::specs::First::first_bytes))]
 pub fn write_first(
     alloc: Global,

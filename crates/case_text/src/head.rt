@@ -3,8 +3,8 @@
 ghost use Rattle.std.specs.Prelude.{◌≡◌, ◌++◌, OnOk, string_bytes};
 ghost use Rattle.case_text.specs.Text.{torn_words, at_most_words, losses_text, options_text, head_text, has_range, inputs_told, inputs_text, opening_text, cases_head};
 
-use case_runs::Losses;
 use epochs::Cuts;
+use losses::found::Losses;
 use report::{Head, put_device, put_given, put_programs, yes_or_no_word};
 use std::alloc::AllocError;
 
@@ -39,6 +39,10 @@ fn put_losses(out: &mut String, asked: Losses) -> Result<(), AllocError>
 }
 
 /// Appends the options and the programs.
+///
+/// # Errors
+///
+/// Memory was refused.
 #[tactic(auto, unfolding(crate::specs::Text::options_text))]
 pub fn put_options(out: &mut String, head: &Head, asked: Losses) -> Result<(), AllocError>
     ensures { OnOk result (string_bytes out.new ≡ string_bytes out.old ++ options_text head.now asked) }
@@ -74,6 +78,10 @@ fn put_inputs(out: &mut String, inputs: Option<u64>) -> Result<(), AllocError>
 }
 
 /// Appends the first line, and that of the number of the run's inputs, where it is told.
+///
+/// # Errors
+///
+/// Memory was refused.
 pub fn put_opening(out: &mut String, inputs: Option<u64>) -> Result<(), AllocError>
     ensures { OnOk result (string_bytes out.new ≡ string_bytes out.old ++ opening_text inputs) }
 {

@@ -145,6 +145,10 @@ impl KnownParts {
     }
 
     /// Takes what a case says of the parts at risk, and forgets what was there.
+    ///
+    /// # Errors
+    ///
+    /// Memory was refused.
     pub fn read(&mut self, tears: bool, parts: &[Part], sets: &[u16]) -> Result<(), AllocError>
         requires { Apart parts.now }
         ensures { OnOk result (self.new ≡ known_of tears (case_of tears parts.now sets.now) parts.now) }

@@ -33,9 +33,9 @@
 //!
 //! # Place
 //!
-//! On `cases`, whose sets of fates it reads, on `case_runs`, whose findings it prints, and on `report`, whose words it takes for the head,
-//! what a program ends in, and what departs. A window is that of `losses`, which also picks the flushes that are missing for some windows.
-//! It judges nothing.
+//! On `cases`, whose sets of fates it reads, and on `report`, whose words it takes for the head, what a program ends in, and what departs.
+//! A failing case is a type of `losses` (`found`), and a window is one of `losses` too, which also picks the flushes that are missing for
+//! some windows. It judges nothing: `case_runs` finds the cases, and neither of the two stands on the other.
 //!
 //! # The calls
 //!
@@ -90,15 +90,13 @@
 //! # Example
 //!
 //! ```
-//! use case_runs::{Losses, case_cuts, find_failing};
 //! use case_text::{is_any_failing, write_cases};
-//! use epochs::{By, Cuts};
+//! use losses::found::Losses;
 //!
+//! // `found` is what `find_failing` of `case_runs` answers
 //! let asked = Losses { tears: false, torn: 0, lost: None };
-//! let cuts = case_cuts(alloc, &plan, &log, &Cuts::ALL, None)?;
-//! let found = find_failing(rt, alloc, &gate, &plan, &log, By::Write, cuts.as_slice(), checkers, asked, 4)?;
-//! let bytes = write_cases(alloc, 0, &head, &log, &plan, asked, found.as_slice())?;
-//! let failing = is_any_failing(found.as_slice());
+//! let bytes = write_cases(alloc, 0, &head, &log, &plan, asked, found)?;
+//! let failing = is_any_failing(found);
 //! ```
 #![tactic(auto)]
 

@@ -1,19 +1,23 @@
 //! The lines of failing cases.
 
 ghost use Rattle.std.specs.Prelude.{◌≡◌, ◌≤◌, ◌++◌, length, OnOk, string_bytes};
-ghost use Rattle.case_runs.specs.Leaves.{failing_value};
+ghost use Rattle.losses.specs.FoundCases.{failing_value};
 ghost use Rattle.case_text.specs.Text.{place_text, number_text, case_line, program_cases, programs_cases, cut_cases};
 
 use crate::known::KnownParts;
 use crate::said::{put_known, put_window};
 use crate::site::Site;
-use case_runs::{CaseFindings, CutFound, FailingCase};
 use epochs::{By, Plan};
 use logfmt::Log;
+use losses::found::{CaseFindings, CutFound, FailingCase};
 use report::lines::put_outcome;
 use std::alloc::{AllocError, Global};
 
 /// Appends a cut, with the epoch and how many marks stand before it.
+///
+/// # Errors
+///
+/// Memory was refused.
 #[tactic(auto, unfolding(crate::specs::Text::place_text))]
 pub fn put_place(out: &mut String, cut: u64, epoch: u64, marks: u64) -> Result<(), AllocError>
     ensures { OnOk result (string_bytes out.new ≡ string_bytes out.old ++ place_text cut epoch marks) }
@@ -22,6 +26,10 @@ pub fn put_place(out: &mut String, cut: u64, epoch: u64, marks: u64) -> Result<(
 }
 
 /// Appends a program, and a case by its number.
+///
+/// # Errors
+///
+/// Memory was refused.
 #[tactic(auto, unfolding(crate::specs::Text::number_text))]
 pub fn put_number(out: &mut String, program: u64, number: u64) -> Result<(), AllocError>
     ensures { OnOk result (string_bytes out.new ≡ string_bytes out.old ++ number_text program number) }

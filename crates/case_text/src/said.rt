@@ -32,6 +32,10 @@ fn put_next_word(out: &mut String, fate: Option<Fate>) -> Result<(), AllocError>
 }
 
 /// Appends some fates, joined by plus signs.
+///
+/// # Errors
+///
+/// Memory was refused.
 #[tactic(auto, unfolding(crate::specs::Text::fates_text))]
 pub fn put_fates(out: &mut String, fates: &[Option<Fate>]) -> Result<(), AllocError>
     ensures { OnOk result (string_bytes out.new ≡ string_bytes out.old ++ fates_text fates.now) }
@@ -124,6 +128,10 @@ pub(crate) fn put_known(out: &mut String, by: By, known: &KnownParts) -> Result<
 }
 
 /// Appends the window of a case.
+///
+/// # Errors
+///
+/// Memory was refused.
 pub fn put_window(out: &mut String, window: Option<Window>) -> Result<(), AllocError>
     ensures { OnOk result (string_bytes out.new ≡ string_bytes out.old ++ window_text window) }
 {

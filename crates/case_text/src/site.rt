@@ -94,6 +94,10 @@ fn between(first: Option<u32>, last: Option<u32>) -> Option<Window>
 
 impl<'a> Site<'a> {
     /// A cut of a log.
+    ///
+    /// # Errors
+    ///
+    /// Memory was refused.
     pub fn new(
         alloc: Global,
         plan: &Plan<'_>,

@@ -3,7 +3,7 @@
 ghost use Rattle.std.specs.Prelude.{◌≡◌, ◌++◌, ◌<◌, ℕ, map, IfOk, OnOk, string_bytes};
 ghost use Rattle.interp.specs.Ending.{ending_of};
 ghost use Rattle.report.specs.LineText.{ending_text};
-ghost use Rattle.case_runs.specs.Leaves.{failing_value};
+ghost use Rattle.losses.specs.FoundCases.{failing_value};
 ghost use Rattle.case_text.specs.Collected.{told_value};
 ghost use Rattle.case_text.specs.Causes.{cause_text};
 ghost use Rattle.case_text.specs.Why.{tail_text, told_of, all_told, failure_of};
@@ -12,11 +12,11 @@ use crate::causes::put_cause;
 use crate::known::KnownParts;
 use crate::said::put_window;
 use crate::site::Site;
-use case_runs::FailingCase;
 use epochs::By;
 use interp::Outcome;
 use losses::cure::Failure;
 use losses::flushes::Window;
+use losses::found::FailingCase;
 use report::lines::put_outcome;
 use std::alloc::{AllocError, Global};
 

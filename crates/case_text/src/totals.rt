@@ -4,7 +4,7 @@ ghost use Rattle.std.specs.Prelude.{◌≡◌, ◌++◌, OnOk, string_bytes};
 ghost use Rattle.case_text.specs.Text.{count_cases, count_failing, count_torn_beyond, count_lost_beyond, fails_at, is_any_failing, complete_word, counts_text, beyond_text, totals_text};
 ghost use Rattle.case_text.specs.Counts.{with_found, with_all};
 
-use case_runs::{CaseFindings, CutFound};
+use losses::found::{CaseFindings, CutFound};
 use std::alloc::AllocError;
 
 /// How many cases there are, how many of them fail, and how many were left out; each at most 2^64 - 1.
@@ -59,6 +59,10 @@ fn totals_of(found: &[CutFound]) -> Totals
 }
 
 /// Appends a word, where no case was left out.
+///
+/// # Errors
+///
+/// Memory was refused.
 pub fn put_complete(out: &mut String, torn: u64, lost: u64) -> Result<(), AllocError>
     ensures { OnOk result (string_bytes out.new ≡ string_bytes out.old ++ complete_word torn lost) }
 {
@@ -69,6 +73,10 @@ pub fn put_complete(out: &mut String, torn: u64, lost: u64) -> Result<(), AllocE
 }
 
 /// Appends how many cuts and cases there are, and how many cases fail.
+///
+/// # Errors
+///
+/// Memory was refused.
 #[tactic(auto, unfolding(crate::specs::Text::counts_text))]
 pub fn put_counts(out: &mut String, cuts: u64, cases: u64, failing: u64) -> Result<(), AllocError>
     ensures { OnOk result (string_bytes out.new ≡ string_bytes out.old ++ counts_text cuts cases failing) }
@@ -77,6 +85,10 @@ pub fn put_counts(out: &mut String, cuts: u64, cases: u64, failing: u64) -> Resu
 }
 
 /// Appends how many cases were left out.
+///
+/// # Errors
+///
+/// Memory was refused.
 #[tactic(auto, unfolding(crate::specs::Text::beyond_text))]
 pub fn put_beyond(out: &mut String, torn: u64, lost: u64) -> Result<(), AllocError>
     ensures { OnOk result (string_bytes out.new ≡ string_bytes out.old ++ beyond_text torn lost) }

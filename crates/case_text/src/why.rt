@@ -15,11 +15,11 @@ use crate::known::KnownParts;
 use crate::site::Site;
 use crate::told::{ToldFailing, all_told, push_failures};
 use crate::totals::put_totals;
-use case_runs::{CaseFindings, CutFound, FailingCase, Losses};
 use epochs::{By, Plan};
 use logfmt::Log;
 use losses::cure::{Failure, missing_of, put_flushes};
 use losses::flushes::MissingFlush;
+use losses::found::{CaseFindings, CutFound, FailingCase, Losses};
 use report::Head;
 use std::alloc::{AllocError, Global};
 
@@ -203,6 +203,10 @@ fn explained(
 /// The text of why the cases of a run fail (docs/OUTPUT.md, The text of `why`): options, programs and totals, where flushes are missing,
 /// and cut by cut the failing cases, each with its cause. The plan is that of the log; of the head's bound, tears, `first` and number of
 /// images nothing is printed.
+///
+/// # Errors
+///
+/// Memory was refused.
 pub fn write_why(
     alloc: Global,
     head: &Head,

@@ -8,9 +8,9 @@ use crate::head::put_cases_head;
 use crate::known::KnownParts;
 use crate::lines::put_cut;
 use crate::totals::put_totals;
-use case_runs::{CutFound, Losses};
 use epochs::{By, Plan};
 use logfmt::Log;
+use losses::found::{CutFound, Losses};
 use report::Head;
 use std::alloc::{AllocError, Global};
 
@@ -39,6 +39,10 @@ fn put_cuts(
 /// its inputs after the title. The plan is that of the log; of the head's bound, tears, `first` and number of images nothing is printed.
 ///
 /// Beside the text it takes room for what is said of one case, and for the parts at risk at one cut.
+///
+/// # Errors
+///
+/// Memory was refused.
 #[tactic(auto, unfolding(crate::specs::Text::cases_bytes))]
 pub fn write_cases(
     alloc: Global,

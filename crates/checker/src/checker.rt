@@ -6,7 +6,7 @@ ghost use Rattle.helpers.specs.Footprint.{footprint_after, unread};
 ghost use Rattle.machine.specs.Footprint.{footprint};
 ghost use Rattle.machine.specs.Guards.{guarded_footprint, guarded_outcome};
 ghost use Rattle.machine.specs.Outcome.{outcome};
-ghost use Rattle.plain.specs.Guards.{IsGuardedEnd};
+ghost use Rattle.plain.specs.Guards.{IsGuardedEnd, guarded_ending};
 ghost use Rattle.plain.specs.Runs.{IsVerdict};
 ghost use Rattle.checker.specs.Checker.{Suits, checker_of, guarded_count, guarded_of, guards_of, judgement};
 ghost use Rattle.checker.specs.Footprints.{kept_footprint};
@@ -15,8 +15,8 @@ ghost use Rattle.checker.specs.Memory.{IsServed};
 use crate::memory::RunMemory;
 use bpf_isa::program::Program;
 use helpers::{Context, Device};
-use interp::{Noted, Outcome, Verdict, run_noted, run_with_guards};
-use plain::{Ended, Guarded, run};
+use interp::{Noted, Outcome, Verdict, run_noted};
+use plain::{Ended, Guarded, GuardedEnd, OwnMemory, run, run_guarded};
 use soundness::{accepted_runs_safely, guarded_runs_safely};
 use std::alloc::{AllocError, Global};
 use std::marker::Model;
@@ -43,6 +43,32 @@ fn run_plain<D: Device, const ROOM: usize>(
         outcome: Outcome::Verdict(Verdict { answer, codes }),
         footprint,
     }
+}
+
+/// Runs a program with guards, which is known to end within that many steps in a verdict, or to stray at a guarded slot.
+#[inline(always)]
+fn run_with_guards<D: Device, const ROOM: usize>(
+    guarded: &Guarded,
+    memory: &mut OwnMemory,
+    context: &Context,
+    device: &D,
+    budget: u64,
+) -> Noted<ROOM>
+    requires ends { IsGuardedEnd guarded.now.guarded (guarded_outcome guarded.now.program (D.content device.now) context.now budget) }
+    ensures ends { ending_of result.outcome ≡ guarded_outcome guarded.now.program (D.content device.now) context.now budget }
+    ensures reads { result.footprint ≡ footprint_after (unread ROOM) (guarded_footprint guarded.now.program (D.content device.now) context.now budget) }
+{
+    let GuardedEnd {
+        stray,
+        answer,
+        codes,
+        footprint,
+    } = run_guarded(guarded, memory, context, device, budget);
+    let outcome = match stray {
+        Some(slot) => Outcome::Stray(slot),
+        None => Outcome::Verdict(Verdict { answer, codes }),
+    };
+    Noted { outcome, footprint }
 }
 
 /// Runs a program with guards, with the memory that is there for it.
@@ -145,6 +171,10 @@ impl<'p> Checker<'p> {
 
     /// A program that the verifier accepted, for at most as many steps as its budget says. It keeps the program and which of
     /// its slots are guarded, and not the table. It takes memory where the program is accepted with guards.
+    ///
+    /// # Errors
+    ///
+    /// Memory was refused.
     pub fn verified(alloc: Global, verified: &Verified<'p>) -> Result<Checker<'p>, AllocError>
         ensures { IfOk result (λ c. c ≡ checker_of verified.now) }
     {

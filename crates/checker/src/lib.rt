@@ -8,8 +8,8 @@
 //!
 //! Above both ways of running a program, `interp` with every check and `plain` without any, above `verifier`, whose
 //! accepted programs it runs, and above `soundness`, which proves that they meet no fault, stray at guarded slots alone, and
-//! end within their budgets. Below `verdict_cache` and `workers`, which judge images. Nothing else stands on both the machines and
-//! the verifier, so neither has to wait for the other.
+//! end within their budgets. Below `verdict_cache` and `workers`, which judge images. Nothing else stands on `plain`, or on both the
+//! machines and the verifier, so none of them has to wait for another.
 //!
 //! # What is proved
 //!

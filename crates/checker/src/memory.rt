@@ -44,6 +44,10 @@ fn memory_if(alloc: Global, wanted: bool) -> Result<RunMemory, AllocError>
 
 impl RunMemory {
     /// For runs of those checkers: memory is taken where one of them has guards.
+    ///
+    /// # Errors
+    ///
+    /// Memory was refused.
     pub fn new(alloc: Global, checkers: &[Checker<'_>]) -> Result<RunMemory, AllocError>
         ensures { IfOk result (λ memory. AreServed memory checkers.now) }
     {
@@ -51,6 +55,10 @@ impl RunMemory {
     }
 
     /// For runs of one checker.
+    ///
+    /// # Errors
+    ///
+    /// Memory was refused.
     pub fn of(alloc: Global, checker: &Checker<'_>) -> Result<RunMemory, AllocError>
         ensures { IfOk result (λ memory. IsServed memory checker.now.guards) }
     {

@@ -11,7 +11,8 @@ use Rattle.cases.specs.Laws.{IsAmong, AreCases}
 use Rattle.cases.specs.Trees.{Subject, split_of, AreLeaves, no_case, is_beyond, is_leaf, is_split}
 use Rattle.cases.specs.Search.{LeafValue}
 use Rattle.cases.proofs.Cases.{AreKinds, IsSplit, first_is, shown_kinds, kept_among, among_kept}
-use Rattle.case_runs.specs.Leaves.{FailingValue, failing_from}
+use Rattle.losses.specs.FoundCases.{FailingValue}
+use Rattle.case_runs.specs.Leaves.{failing_from}
 use Rattle.join.specs.CaseTexts.{fate_number, is_above, fates_rise, is_possible, is_fate_of_run}
 use Rattle.join.specs.CaseReading.{Each}
 

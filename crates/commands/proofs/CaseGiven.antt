@@ -23,13 +23,14 @@ use Rattle.cases.specs.Cases.{representative}
 use Rattle.cases.specs.Trees.{ending_of}
 use Rattle.cases.specs.AtCut.{CutValue}
 use Rattle.cases.specs.Search.{LeafValue, leaf_case, EndsSo}
-use Rattle.case_runs.specs.declared.found.Losses.{Losses}
-use Rattle.case_runs.specs.declared.found.CaseFindings.{CaseFindings}
-use Rattle.case_runs.specs.declared.found.CutFound.{CutFound}
+use Rattle.losses.specs.declared.found.Losses.{Losses}
+use Rattle.losses.specs.declared.found.CaseFindings.{CaseFindings}
+use Rattle.losses.specs.declared.found.CutFound.{CutFound}
 use Rattle.case_runs.specs.Cuts.{is_explored, are_last_enough, first_wanted, last_wanted, case_cuts}
-use Rattle.case_runs.specs.Found.{IsFoundAt, AreFoundAt, AreFoundIn, most_cases, cases_at, cases_in}
+use Rattle.losses.specs.FoundCases.{most_cases, cases_at, cases_in, FailingValue, failing_value}
+use Rattle.case_runs.specs.Found.{IsFoundAt, AreFoundAt, AreFoundIn}
 use Rattle.case_runs.specs.Laws.{subject_at}
-use Rattle.case_runs.specs.Leaves.{FailingValue, failing_value, failing_from}
+use Rattle.case_runs.specs.Leaves.{failing_from}
 use Rattle.case_text.specs.Text.{cases_bytes, is_any_failing}
 use Rattle.join.specs.Heads.{IsPrintedHead}
 use Rattle.join.specs.Printable.{IsWithin}

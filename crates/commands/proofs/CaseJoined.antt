@@ -14,10 +14,11 @@ use Rattle.epochs.specs.Flushes.{places_of}
 use Rattle.checker.specs.Checker.{CheckerValue}
 use Rattle.report.specs.Report.{HeadValue, device_text, given_text}
 use Rattle.report.specs.Words.{cuts_words}
-use Rattle.case_runs.specs.declared.found.Losses.{Losses}
-use Rattle.case_runs.specs.declared.found.CutFound.{CutFound}
+use Rattle.losses.specs.declared.found.Losses.{Losses}
+use Rattle.losses.specs.declared.found.CutFound.{CutFound}
 use Rattle.case_runs.specs.Cuts.{are_last_enough, case_cuts, explored_cuts, first_wanted, last_wanted}
-use Rattle.case_runs.specs.Found.{AreFoundAt, AreFoundIn, most_cases, cases_in}
+use Rattle.losses.specs.FoundCases.{most_cases, cases_in}
+use Rattle.case_runs.specs.Found.{AreFoundAt, AreFoundIn}
 use Rattle.case_text.specs.Text.{options_text, cases_bytes, all_found, is_any_failing}
 use Rattle.join.specs.Heads.{IsPrintedHead}
 use Rattle.join.specs.CaseTexts.{CasesValue, IsCasesText, AreLosses, told_text}

@@ -14,8 +14,7 @@ use Rattle.report.specs.ChoiceText.{part_text}
 use Rattle.losses.specs.declared.flushes.window.Window.{Window}
 use Rattle.cases.specs.Cases.{Case}
 use Rattle.cases.specs.AtCut.{CutValue, parts_of, case_of}
-use Rattle.case_runs.specs.Found.{most_cases}
-use Rattle.case_runs.specs.Leaves.{FailingValue}
+use Rattle.losses.specs.FoundCases.{most_cases, FailingValue}
 use Rattle.case_text.specs.Known.{PartFates, is_kept, mixed_parts}
 use Rattle.case_text.specs.Laws.{HasNoWindow, IsWindow}
 use Rattle.case_text.specs.Window.{case_window}

@@ -17,7 +17,7 @@ use Rattle.report.specs.Text.{yes_or_no}
 use Rattle.report.specs.Report.{HeadValue, device_text, given_text, program_lines}
 use Rattle.losses.specs.declared.flushes.window.Window.{Window}
 use Rattle.losses.proofs.Plain.{both, number, is_plain, digit_plain, ascii}
-use Rattle.case_runs.specs.declared.found.Losses.{Losses}
+use Rattle.losses.specs.declared.found.Losses.{Losses}
 use Rattle.case_text.specs.Text.{torn_words, at_most_words, losses_text, opening_text, options_text, cases_head, fate_word, next_fate, fates_text, place_text, number_text, window_text, counts_text, beyond_text, complete_word}
 use Rattle.join.specs.declared.case_parts.names.PartName.{PartName}
 use Rattle.join.specs.declared.case_parts.front.CaseFront.{CaseFront}

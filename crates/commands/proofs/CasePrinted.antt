@@ -11,12 +11,11 @@ use Rattle.epochs.specs.declared.part.By.{By}
 use Rattle.epochs.specs.Cuts.{is_after_first, is_before_last}
 use Rattle.report.specs.Report.{HeadValue}
 use Rattle.cases.specs.AtCut.{CutValue}
-use Rattle.case_runs.specs.declared.leaves.FailingCase.{FailingCase}
-use Rattle.case_runs.specs.declared.found.Losses.{Losses}
-use Rattle.case_runs.specs.declared.found.CaseFindings.{CaseFindings}
-use Rattle.case_runs.specs.declared.found.CutFound.{CutFound}
-use Rattle.case_runs.specs.Found.{most_cases, cases_at, cases_in}
-use Rattle.case_runs.specs.Leaves.{failing_value}
+use Rattle.losses.specs.declared.found.FailingCase.{FailingCase}
+use Rattle.losses.specs.declared.found.Losses.{Losses}
+use Rattle.losses.specs.declared.found.CaseFindings.{CaseFindings}
+use Rattle.losses.specs.declared.found.CutFound.{CutFound}
+use Rattle.losses.specs.FoundCases.{most_cases, cases_at, cases_in, failing_value}
 use Rattle.case_text.specs.Text.{in_word, has_range, inputs_told, cases_head, case_line, program_cases, programs_cases, cut_cases, all_found, count_cases, count_failing, count_torn_beyond, count_lost_beyond, totals_text, cases_bytes}
 use Rattle.join.specs.declared.case_parts.totals.CaseTotals.{CaseTotals}
 use Rattle.join.specs.Heads.{IsPrintedHead}

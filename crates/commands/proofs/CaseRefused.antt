@@ -4,7 +4,7 @@ use Rattle.std.proofs.lemmas.List.Sorted.{IsPermutation-refl}
 use Rattle.epochs.specs.Flushes.{places_of}
 use Rattle.report.specs.Words.{cuts_words}
 use Rattle.report.specs.Report.{HeadValue, device_text, given_text}
-use Rattle.case_runs.specs.declared.found.Losses.{Losses}
+use Rattle.losses.specs.declared.found.Losses.{Losses}
 use Rattle.case_text.specs.Text.{cases_head, opening_text, options_text}
 use Rattle.join.specs.declared.case_parts.fault.CasesFault.{CasesFault}
 use Rattle.join.specs.CaseTexts.{IsCasesText, NoCasesText, first_of, last_of}

@@ -8,10 +8,10 @@ use Rattle.std.proofs.lemmas.List.Sums.{sum_by-cons, sum_by-append}
 use Rattle.logfmt.specs.Bounds.{LogValue}
 use Rattle.report.specs.Report.{HeadValue}
 use Rattle.cases.specs.Laws.{IsAmong}
-use Rattle.case_runs.specs.declared.found.Losses.{Losses}
-use Rattle.case_runs.specs.declared.found.CaseFindings.{CaseFindings}
-use Rattle.case_runs.specs.declared.found.CutFound.{CutFound}
-use Rattle.case_runs.specs.Found.{most_cases, cases_at, cases_in}
+use Rattle.losses.specs.declared.found.Losses.{Losses}
+use Rattle.losses.specs.declared.found.CaseFindings.{CaseFindings}
+use Rattle.losses.specs.declared.found.CutFound.{CutFound}
+use Rattle.losses.specs.FoundCases.{most_cases, cases_at, cases_in}
 use Rattle.case_text.specs.Text.{in_word, inputs_told, all_found, count_cases, count_failing, fails_in, fails_at, is_any_failing}
 use Rattle.join.specs.declared.case_parts.totals.CaseTotals.{CaseTotals}
 use Rattle.join.specs.CaseTexts.{ToldCase, CasesValue, IsCasesText, told_text}

@@ -10,11 +10,11 @@ use Rattle.losses.specs.FailureWindows.{windows_in}
 use Rattle.losses.specs.Counted.{AreMissing}
 use Rattle.losses.specs.CureText.{is_uncured}
 use Rattle.cases.specs.AtCut.{CutValue, parts_of}
-use Rattle.case_runs.specs.declared.found.Losses.{Losses}
-use Rattle.case_runs.specs.declared.found.CaseFindings.{CaseFindings}
-use Rattle.case_runs.specs.declared.found.CutFound.{CutFound}
-use Rattle.case_runs.specs.declared.leaves.FailingCase.{FailingCase}
-use Rattle.case_runs.specs.Leaves.{failing_value}
+use Rattle.losses.specs.declared.found.Losses.{Losses}
+use Rattle.losses.specs.declared.found.CaseFindings.{CaseFindings}
+use Rattle.losses.specs.declared.found.CutFound.{CutFound}
+use Rattle.losses.specs.declared.found.FailingCase.{FailingCase}
+use Rattle.losses.specs.FoundCases.{failing_value}
 use Rattle.case_runs.specs.Found.{KnownCase, known_case, SameFound}
 use Rattle.crash_page.specs.Counts.{failing_of, cases_of, case_count, count_fails, has_all_at, has_all}
 use Rattle.crash_page.specs.Blocks.{most_cells}

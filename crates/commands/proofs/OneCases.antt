@@ -11,12 +11,12 @@ use Rattle.epochs.specs.declared.part.By.{By}
 use Rattle.checker.specs.Checker.{CheckerValue}
 use Rattle.report.specs.LineText.{ending_text}
 use Rattle.cases.specs.AtCut.{CutValue, parts_of}
-use Rattle.case_runs.specs.declared.found.Losses.{Losses}
-use Rattle.case_runs.specs.declared.found.CaseFindings.{CaseFindings}
-use Rattle.case_runs.specs.declared.found.CutFound.{CutFound}
-use Rattle.case_runs.specs.declared.leaves.FailingCase.{FailingCase}
-use Rattle.case_runs.specs.Leaves.{failing_value}
-use Rattle.case_runs.specs.Found.{IsFoundAt, AreFoundAt, AreFoundIn, AreFirstAt, AreFirstIn, cases_at, cases_in, most_cases, IsPastAt, AreTooMany, KnownCase, known_case, SameFound, FindingIsOne}
+use Rattle.losses.specs.declared.found.Losses.{Losses}
+use Rattle.losses.specs.declared.found.CaseFindings.{CaseFindings}
+use Rattle.losses.specs.declared.found.CutFound.{CutFound}
+use Rattle.losses.specs.declared.found.FailingCase.{FailingCase}
+use Rattle.losses.specs.FoundCases.{failing_value, cases_at, cases_in, most_cases}
+use Rattle.case_runs.specs.Found.{IsFoundAt, AreFoundAt, AreFoundIn, AreFirstAt, AreFirstIn, IsPastAt, AreTooMany, KnownCase, known_case, SameFound, FindingIsOne}
 use Rattle.epochs.specs.Units.{epoch_at, marks_at}
 use Rattle.case_text.specs.Known.{known_of}
 use Rattle.case_text.specs.Window.{case_window}

@@ -15,7 +15,7 @@ use Rattle.report.specs.Line.{FailingLine}
 use Rattle.report.specs.Part.{span_text, span_report}
 use Rattle.report.specs.Report.{HeadValue, device_text, given_text, findings_text, report_bytes}
 use Rattle.report.specs.Report.{options_text as report_options}
-use Rattle.case_runs.specs.declared.found.Losses.{Losses}
+use Rattle.losses.specs.declared.found.Losses.{Losses}
 use Rattle.case_text.specs.Text.{in_word, cases_head, opening_text, options_text}
 use Rattle.join.specs.declared.case_parts.fault.CasesFault.{CasesFault}
 use Rattle.join.specs.declared.case_parts.fault.CasesFault.TheVariants as refused

@@ -15,12 +15,13 @@ use Rattle.verifier.specs.Laws.{OneVerdict}
 use Rattle.checker.specs.Checker.{CheckerValue}
 use Rattle.report.specs.Report.{HeadValue}
 use Rattle.cases.specs.AtCut.{CutValue}
-use Rattle.case_runs.specs.declared.found.Losses.{Losses}
-use Rattle.case_runs.specs.declared.found.CaseFindings.{CaseFindings}
-use Rattle.case_runs.specs.declared.found.CutFound.{CutFound}
-use Rattle.case_runs.specs.declared.first.FirstCase.{FirstCase}
-use Rattle.case_runs.specs.declared.leaves.FailingCase.{FailingCase}
-use Rattle.case_runs.specs.Found.{IsFoundAt, AreFoundAt, AreFoundIn, AreFirstAt, AreFirstIn, cases_at, cases_in, most_cases, IsBegunAt, IsPastAt, AreTooMany, KnownCase, known_case, FindingIsOne}
+use Rattle.losses.specs.declared.found.Losses.{Losses}
+use Rattle.losses.specs.declared.found.CaseFindings.{CaseFindings}
+use Rattle.losses.specs.declared.found.CutFound.{CutFound}
+use Rattle.losses.specs.declared.found.FirstCase.{FirstCase}
+use Rattle.losses.specs.declared.found.FailingCase.{FailingCase}
+use Rattle.losses.specs.FoundCases.{cases_at, cases_in, most_cases}
+use Rattle.case_runs.specs.Found.{IsFoundAt, AreFoundAt, AreFoundIn, AreFirstAt, AreFirstIn, IsBegunAt, IsPastAt, AreTooMany, KnownCase, known_case, FindingIsOne}
 use Rattle.case_runs.specs.First.{NoneFailsAt, NoneFails, FailsFirst, PassesMost, FailsFirstAt, PassesMostAt, IsFirstFailing, PassesMostIn, FirstIsOne}
 use Rattle.case_text.specs.Text.{head_text, case_line, fails_in, fails_at, is_any_failing}
 use Rattle.case_text.specs.First.{first_text, first_bytes}

@@ -11,9 +11,9 @@ use Rattle.cases.specs.Choices.{all_fates}
 use Rattle.cases.specs.Cases.{Case}
 use Rattle.cases.specs.Sets.{fates_in}
 use Rattle.cases.specs.AtCut.{CutValue, Apart, parts_of, case_of}
-use Rattle.case_runs.specs.declared.leaves.FailingCase.{FailingCase}
-use Rattle.case_runs.specs.Leaves.{FailingValue, failing_value}
-use Rattle.case_runs.specs.declared.found.CutFound.{CutFound}
+use Rattle.losses.specs.declared.found.FailingCase.{FailingCase}
+use Rattle.losses.specs.FoundCases.{FailingValue, failing_value}
+use Rattle.losses.specs.declared.found.CutFound.{CutFound}
 use Rattle.case_text.specs.Window.{case_window}
 use Rattle.case_text.proofs.Collecting.{case_at}
 use Rattle.crash_page.specs.declared.counts.CutCount.{CutCount}

@@ -8,8 +8,8 @@ use Rattle.losses.specs.declared.cure.failure.Failure.{Failure}
 use Rattle.losses.specs.FailureWindows.{windows_in}
 use Rattle.losses.specs.Counted.{AreMissing}
 use Rattle.losses.specs.CureText.{is_uncured}
-use Rattle.case_runs.specs.declared.found.Losses.{Losses}
-use Rattle.case_runs.specs.declared.found.CutFound.{CutFound}
+use Rattle.losses.specs.declared.found.Losses.{Losses}
+use Rattle.losses.specs.declared.found.CutFound.{CutFound}
 use Rattle.case_text.specs.Why.{program_failures}
 use Rattle.crash_page.specs.declared.case_program.CaseProgram.{CaseProgram}
 use Rattle.crash_page.specs.Counts.{failing_of}

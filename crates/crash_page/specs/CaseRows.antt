@@ -8,7 +8,7 @@ use Rattle.crash_text.specs.LogTable.{word_text}
 use Rattle.losses.specs.declared.flushes.window.Window.{Window}
 use Rattle.cases.specs.AtCut.{CutValue, parts_of, case_of}
 use Rattle.cases.specs.Cases.{Case}
-use Rattle.case_runs.specs.Leaves.{FailingValue}
+use Rattle.losses.specs.FoundCases.{FailingValue}
 use Rattle.case_text.specs.Known.{is_kept, is_free, is_never_whole}
 use Rattle.case_text.specs.Text.{fates_text, part_name}
 use Rattle.case_text.specs.Window.{case_window}

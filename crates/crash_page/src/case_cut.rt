@@ -1,7 +1,7 @@
 //! The cuts at which cases fail, each with its first cases.
 
 ghost use Rattle.std.specs.Prelude.{◌≡◌, ◌≤◌, ◌++◌, ◌-◌, All, length, take, OnOk, string_bytes};
-ghost use Rattle.case_runs.specs.declared.found.CutFound.{CutFound as FoundValue};
+ghost use Rattle.losses.specs.declared.found.CutFound.{CutFound as FoundValue};
 ghost use Rattle.crash_page.specs.Counts.{failing_of};
 ghost use Rattle.crash_page.specs.Blocks.{most_cells};
 ghost use Rattle.crash_page.specs.CasePage.{run_of, cut_at, case_rows, rest_text, case_head, cut_shown, cut_text, listed_text, cuts_text};
@@ -13,8 +13,8 @@ use crate::cut::{Showing, put_begin, put_body, shown_of};
 use crate::pieces::{PagePart, put, put_number};
 use crate::program::one_failing;
 use crate::run::CaseRun;
-use case_runs::{CutFound, FailingCase};
 use case_text::{KnownParts, Site};
+use losses::found::{CutFound, FailingCase};
 use std::alloc::{AllocError, Global};
 
 /// Appends failing cases of a cut.

@@ -1,8 +1,8 @@
 //! What a page of cases has of a program: the flushes that are missing for its failing cases.
 
 ghost use Rattle.std.specs.Prelude.{◌≡◌, ◌≤◌, ◌++◌, ◌∷◌, [], All, length, slice_get, Some, IfOk, OnOk};
-ghost use Rattle.case_runs.specs.declared.found.CutFound.{CutFound as FoundValue};
-ghost use Rattle.case_runs.specs.Leaves.{failing_value};
+ghost use Rattle.losses.specs.declared.found.CutFound.{CutFound as FoundValue};
+ghost use Rattle.losses.specs.FoundCases.{failing_value};
 ghost use Rattle.case_text.specs.Why.{failure_of, told_of, program_failures};
 ghost use Rattle.crash_page.specs.CasePage.{run_of};
 ghost use Rattle.crash_page.specs.CaseFlushes.{failures_at, failures_of, IsLacking, AreLacking};
@@ -10,10 +10,10 @@ ghost use Rattle.crash_page.specs.CaseFlushes.{failures_at, failures_of, IsLacki
 use crate::counts::failing_of;
 use crate::failing::uncured_of;
 use crate::run::CaseRun;
-use case_runs::{CutFound, FailingCase};
 use case_text::{KnownParts, Site, window_of};
 use losses::cure::{Failure, missing_of};
 use losses::flushes::MissingFlush;
+use losses::found::{CutFound, FailingCase};
 use report::ProgramHead;
 use std::alloc::{AllocError, Global};
 

@@ -3,15 +3,15 @@
 ghost use Rattle.std.specs.Prelude.{◌≡◌, ◌++◌, OnOk, string_bytes};
 ghost use Rattle.report.specs.LineText.{ending_text};
 ghost use Rattle.cases.specs.AtCut.{Apart, case_of};
-ghost use Rattle.case_runs.specs.Leaves.{failing_value};
+ghost use Rattle.losses.specs.FoundCases.{failing_value};
 ghost use Rattle.crash_page.specs.CaseRows.{window_words, helps_text, case_said, row_text, case_row};
 
 use crate::parts::{CaseRow, put_parts};
 use crate::pieces::{PagePart, put, put_number};
-use case_runs::FailingCase;
 use case_text::{KnownParts, Site, window_of};
 use epochs::Part;
 use losses::flushes::Window;
+use losses::found::FailingCase;
 use report::lines::put_outcome;
 use std::alloc::AllocError;
 

@@ -1,7 +1,7 @@
 //! The page of a run of any number of losses.
 
 ghost use Rattle.std.specs.Prelude.{◌≡◌, ◌≤◌, ◌<◌, ◌==◌, ◌++◌, if◌then◌else◌, All, length, map, IfOk, OnOk, string_bytes};
-ghost use Rattle.case_runs.specs.declared.found.CutFound.{CutFound as FoundValue};
+ghost use Rattle.losses.specs.declared.found.CutFound.{CutFound as FoundValue};
 ghost use Rattle.case_text.specs.Text.{options_text, count_torn_beyond, count_lost_beyond};
 ghost use Rattle.crash_page.specs.declared.counts.CutCount.{CutCount as CountValue};
 ghost use Rattle.crash_page.specs.declared.counts.JudgedKind.TheVariants as kind;
@@ -22,10 +22,10 @@ use crate::pieces::{PagePart, put, put_number};
 use crate::program::{most_of_program, put_row, put_title, put_unlisted};
 use crate::run::{CaseRun, Logged};
 use crate::share::put_legend;
-use case_runs::{CutFound, Losses};
 use case_text::{left_out, put_options};
 use epochs::Plan;
 use logfmt::Log;
+use losses::found::{CutFound, Losses};
 use report::Head;
 use std::alloc::{AllocError, Global};
 

@@ -3,7 +3,7 @@
 ghost use Rattle.std.specs.Prelude.{◌≡◌, ◌≤◌, ◌++◌, ◌∷◌, [], length, map, filter, IfOk, OnOk, string_bytes};
 ghost use Rattle.crash_page.specs.Counts.{kind_word, single_word, fails, count_fails, all_in, failing_in, image_count, failing_of, cases_of, case_count, has_all_at, has_all};
 
-use case_runs::{CutFound, FailingCase};
+use losses::found::{CutFound, FailingCase};
 use losses::why::CutFailures;
 use std::alloc::{AllocError, Global};
 

@@ -8,8 +8,8 @@
 //!
 //! On `losses`, whose groups (`why`) it shows and whose missing flushes (`flushes`) it draws, on `crash_text` for the text of an
 //! image and the lines of entries, on `images`, which forms the two images that this text compares, and on `report` for what it
-//! says of a program at its head. What is known of a case it has of `case_text`, of what `case_runs` found. It judges
-//! nothing: `runs` hands it what fails of checkers, and `retold` what a report says.
+//! says of a program at its head. What is known of a case it has of `case_text`. It judges nothing: `runs` hands it what fails of
+//! checkers, and `retold` what a report says.
 //!
 //! | Call | Does |
 //! |---|---|

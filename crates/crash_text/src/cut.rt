@@ -314,6 +314,10 @@ fn put_before(out: &mut String, numbering: &Numbering<'_>, cut: u32) -> Result<(
 }
 
 /// Appends what stands at a cut: what is volatile, the last entries before it, its last flush and its last mark.
+///
+/// # Errors
+///
+/// Memory was refused.
 #[tactic(auto, unfolding(crate::specs::Shown::cut_shown))]
 pub fn put_cut(out: &mut String, numbering: &Numbering<'_>, cut: u32) -> Result<(), AllocError>
     requires cut { cut ≤ length numbering.now.plan.now.log.entries }

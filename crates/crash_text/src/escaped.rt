@@ -25,6 +25,10 @@ fn put_byte(out: &mut String, byte: u8) -> Result<(), AllocError>
 }
 
 /// Appends bytes, each printable ASCII character but `"` and `\` as it is, any other as `\x{0}` to `\x{ff}`.
+///
+/// # Errors
+///
+/// Memory was refused.
 pub fn put_escaped(out: &mut String, bytes: &[u8]) -> Result<(), AllocError>
     ensures { OnOk result (string_bytes out.new ≡ string_bytes out.old ++ escaped_text bytes.now) }
 {

@@ -122,6 +122,10 @@ fn put_head(
 
 /// Appends a sector of two devices, where it differs: how many bytes, the first of them, and the first rows that differ, those of the
 /// first device after `<`.
+///
+/// # Errors
+///
+/// Memory was refused.
 #[tactic(auto, unfolding(crate::specs::Sectors::sector_difference))]
 pub fn put_sector(
     out: &mut String,
@@ -163,6 +167,10 @@ fn put_sector_of<W: Device, I: Device>(
 
 /// Appends each sector in which an image differs from the one where nothing departs: how many bytes, the first of them,
 /// and the first rows that differ, those of the first device after `<`.
+///
+/// # Errors
+///
+/// Memory was refused.
 #[tactic(auto, using(crate::proofs::Steps::text_next), unfolding(crate::specs::Sectors::difference_text))]
 pub fn put_differences<W: Device, I: Device>(
     out: &mut String,

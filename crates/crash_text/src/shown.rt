@@ -99,6 +99,10 @@ fn put_departed_lines(out: &mut String, choice: &Choice) -> Result<(), AllocErro
 }
 
 /// Appends a choice: its cut and its text in a line, and a line for each departure.
+///
+/// # Errors
+///
+/// Memory was refused.
 #[tactic(auto, unfolding(crate::specs::Shown::choice_shown))]
 pub fn put_choice(
     out: &mut String,
@@ -114,6 +118,10 @@ pub fn put_choice(
 
 /// Appends a crash image in words: what images are numbered by, the choice, what stands at its cut, and what in the image
 /// differs from that of the cut where nothing departs.
+///
+/// # Errors
+///
+/// Memory was refused.
 #[tactic(auto, unfolding(crate::specs::Shown::shown_text))]
 pub fn put_shown<W: Device, I: Device>(
     out: &mut String,
@@ -184,6 +192,10 @@ fn put_any_departed_lines(
 
 /// Appends what is said of a crash image in which any number of parts may be lost, before what in it differs: what images are numbered
 /// by, the choice, and what stands at its cut. `put_sector` appends what differs, sector by sector.
+///
+/// # Errors
+///
+/// Memory was refused.
 #[tactic(auto, unfolding(crate::specs::AnyShown::any_head_text))]
 pub fn put_any_head(
     out: &mut String,

@@ -16,6 +16,10 @@ pub fn is_write(entry: &Entry) -> bool
 }
 
 /// Appends a word where something is so.
+///
+/// # Errors
+///
+/// Memory was refused.
 pub fn put_word(out: &mut String, is_so: bool, word: &str) -> Result<(), AllocError>
     ensures { OnOk result (string_bytes out.new ≡ string_bytes out.old ++ word_text is_so word.now) }
 {
@@ -68,6 +72,10 @@ fn put_head(out: &mut String, number: usize, epoch: u32) -> Result<(), AllocErro
 }
 
 /// Appends what an entry asks of the device, as in the table.
+///
+/// # Errors
+///
+/// Memory was refused.
 #[tactic(auto, unfolding(crate::specs::LogTable::what_text))]
 pub fn put_what(out: &mut String, entry: &Entry) -> Result<(), AllocError>
     ensures { OnOk result (string_bytes out.new ≡ string_bytes out.old ++ what_text entry.now) }
@@ -79,6 +87,10 @@ pub fn put_what(out: &mut String, entry: &Entry) -> Result<(), AllocError>
 }
 
 /// Appends the line of an entry of that number and epoch, as in the table.
+///
+/// # Errors
+///
+/// Memory was refused.
 #[tactic(auto, unfolding(crate::specs::LogTable::entry_line))]
 pub fn put_entry_line(
     out: &mut String,
@@ -95,6 +107,10 @@ pub fn put_entry_line(
 
 /// The entries of a log, one a line: the number by which the report names it, its epoch, what it asks of the device, the
 /// sectors of the device that it covers, and the text of a mark.
+///
+/// # Errors
+///
+/// Memory was refused.
 pub fn log_table(alloc: Global, log: &Log) -> Result<String, AllocError>
     ensures { IfOk result (λ text. string_bytes text ≡ log_table log.now.entries) }
 {
@@ -115,6 +131,10 @@ fn put_noted(out: &mut String, number: usize, epoch: u32, entry: &Entry) -> Resu
 }
 
 /// Appends a note with the entry of that number, where the log has one.
+///
+/// # Errors
+///
+/// Memory was refused.
 pub fn put_entry(
     alloc: Global,
     out: &mut String,

@@ -1,13 +1,13 @@
 //! The footprint of a run.
 
 ghost use Rattle.std.specs.Prelude.{◌≡◌, ◌<◌, ◌≤◌, ◌∷◌, [], IsFalse, MatchOption, None};
-ghost use Rattle.helpers.specs.Footprint.{lists, footprint_with, footprint_after, on_device, sector_at, sectors_at, sectors_of, unread};
+ghost use Rattle.helpers.specs.Footprint.{lists, footprint_with, footprint_after, on_device, sector_at, sectors_at, sectors_of, helper_sectors, unread};
 ghost use Rattle.helpers.specs.Queries.{query_sectors};
 ghost use Rattle.helpers.specs.Sums.{summed_sectors};
 
 use crate::answers::SECTOR_START;
 use crate::device::Device;
-use crate::helper::Query;
+use crate::helper::{Helper, Query};
 use crate::sums::taken;
 use arrayvec::ArrayVec;
 use std::marker::Model;
@@ -133,6 +133,26 @@ impl<const ROOM: usize> Footprint<ROOM> {
             Query::Crc32c => note_summed(self, device, second, taken(third)),
             Query::Crc32 => note_summed(self, device, second, taken(third)),
             _ => self.look(device, first),
+        }
+    }
+
+    /// It looks at what a call of a helper asks for, by the words of registers 1 to 3.
+    #[tactic(auto, unfolding(crate::specs::Footprint::helper_sectors))]
+    pub fn look_with<D: Device>(
+        &mut self,
+        device: &D,
+        helper: Helper,
+        first: u64,
+        second: u64,
+        third: u64,
+    )
+        ensures { self.new ≡ footprint_after self.old (on_device (D.content device.now) (helper_sectors helper first second third)) }
+    {
+        match helper {
+            Helper::Copy => self.look_over(device, first, third),
+            Helper::Query(query) => self.look_for(device, query, first, second, third),
+            Helper::Again => {}
+            Helper::Report => {}
         }
     }
 

@@ -5,9 +5,10 @@ ghost use Rattle.helpers.specs.Footprint.{footprint_after};
 ghost use Rattle.interp.specs.Looks.{reads_by};
 
 use crate::state::CheckedMachine;
+use arithmetic::{bytes_of, look_of};
 use bpf_isa::ready::Ready;
 use helpers::{Device, Footprint, Helper};
-use plain::{Look, bytes_of, look_of, note_call};
+use machine::Look;
 
 impl<const COUNTS: usize, const FRAMES: usize> CheckedMachine<COUNTS, FRAMES> {
     /// Notes at which sectors the step of a record looks. Without room it does nothing.
@@ -28,7 +29,7 @@ impl<const COUNTS: usize, const FRAMES: usize> CheckedMachine<COUNTS, FRAMES> {
 
     /// Notes what the instruction of a record reads.
     #[inline(never)]
-    #[tactic(auto, unfolding(plain::specs::Reads::machine_looks))]
+    #[tactic(auto, unfolding(machine::specs::Looks::machine_looks))]
     fn note_record<D: Device, const ROOM: usize>(
         &self,
         looked: &mut Footprint<ROOM>,
@@ -46,7 +47,7 @@ impl<const COUNTS: usize, const FRAMES: usize> CheckedMachine<COUNTS, FRAMES> {
             Look::Call => {
                 if let Some(helper) = Helper::of((ready.immediate % 0x1_0000_0000) as u32) {
                     let (first, second, third) = (self.word(1), self.word(2), self.word(3));
-                    note_call(looked, device, helper, first, second, third);
+                    looked.look_with(device, helper, first, second, third);
                 }
             }
         }

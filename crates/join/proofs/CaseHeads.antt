@@ -13,7 +13,7 @@ use Rattle.report.specs.Words.{cuts_words}
 use Rattle.report.specs.Text.{yes_or_no, cuts_word, by_words}
 use Rattle.report.specs.Report.{HeadValue, base_words, device_text, given_text, program_lines}
 use Rattle.report.proofs.Back.{lacks_both}
-use Rattle.case_runs.specs.declared.found.Losses.{Losses}
+use Rattle.losses.specs.declared.found.Losses.{Losses}
 use Rattle.case_text.specs.Text.{torn_words, at_most_words, losses_text, options_text}
 use Rattle.join.specs.declared.options.GivenOptions.{GivenOptions}
 use Rattle.join.specs.Heads.{join_words, option_words, by_list, flush_list, device_words, given_words, AreWords, IsFewOption, IsOtherFirst, IsPrintedHead, IsSmallHead, IsSmallOption, HaveSameOptions, NoProgram, ReadsWord, ReadsOption, ReadsDevice, ReadsGiven, ReadsPrograms, are_cuts_of_run, are_options_of_run}

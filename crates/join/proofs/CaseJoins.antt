@@ -14,7 +14,7 @@ use Rattle.join.specs.declared.case_parts.fault.CasesFault.{CasesFault}
 use Rattle.join.specs.declared.case_parts.fault.CasesFault.TheVariants as refused
 use Rattle.join.specs.declared.case_parts.totals.CaseTotals.{CaseTotals}
 use Rattle.join.specs.declared.joining.JoinedText.{JoinedText}
-use Rattle.case_runs.specs.Found.{most_cases}
+use Rattle.losses.specs.FoundCases.{most_cases}
 use Rattle.case_text.specs.Text.{in_word, cases_head}
 use Rattle.join.specs.CaseTexts.{NoCasesText, totals_line, first_of, last_of}
 use Rattle.join.specs.CaseReading.{CasesRead, IsCasesPart}

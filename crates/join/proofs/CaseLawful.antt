@@ -10,7 +10,7 @@ use Rattle.std.proofs.lemmas.List.Sorted.{All-permutation, IsPermutation-sym}
 use Rattle.epochs.specs.Flushes.{places_of}
 use Rattle.report.specs.Words.{cuts_words}
 use Rattle.report.specs.Report.{HeadValue, device_text, given_text}
-use Rattle.case_runs.specs.declared.found.Losses.{Losses}
+use Rattle.losses.specs.declared.found.Losses.{Losses}
 use Rattle.case_text.specs.Text.{in_word, cases_head, opening_text, options_text}
 use Rattle.join.specs.declared.case_parts.totals.CaseTotals.{CaseTotals}
 use Rattle.join.specs.CaseTexts.{ToldCase, IsCasesText, first_of, last_of, told_line, told_text, totals_line}

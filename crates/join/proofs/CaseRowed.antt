@@ -4,7 +4,7 @@ use Rattle.std.proofs.lemmas.Bool.{cases_lt}
 use Rattle.std.specs.List.{sum_by}
 use Rattle.std.proofs.lemmas.List.Sums.{sum_by-cons, sum_by-append}
 use Rattle.join.specs.declared.fault.JoinFault.{JoinFault}
-use Rattle.case_runs.specs.Found.{most_cases}
+use Rattle.losses.specs.FoundCases.{most_cases}
 use Rattle.join.specs.CaseTexts.{first_of, last_of}
 use Rattle.join.specs.CaseReading.{CasesRead}
 use Rattle.join.specs.CaseJoining.{IsOfCaseRun, Adjoins, FollowInRow, all_cases}

@@ -6,7 +6,7 @@ use Rattle.std.specs.Str.{IsUtf8}
 use Rattle.std.proofs.lemmas.Bool.Decides.{nat_tests}
 use Rattle.epochs.specs.declared.part.By.{By}
 use Rattle.report.specs.Report.{HeadValue, device_text}
-use Rattle.case_runs.specs.declared.found.Losses.{Losses}
+use Rattle.losses.specs.declared.found.Losses.{Losses}
 use Rattle.case_text.specs.Text.{opening_text, options_text, place_text, counts_text}
 use Rattle.join.specs.declared.case_parts.front.CaseFront.{CaseFront}
 use Rattle.join.specs.declared.case_parts.line.CaseTally.{CaseTally}

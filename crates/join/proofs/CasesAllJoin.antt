@@ -8,8 +8,8 @@ use Rattle.std.proofs.lemmas.Bool.Decides.{nat_tests, eqb_tells}
 use Rattle.std.proofs.lemmas.List.Sums.{sum_by-cons, sum_by-append}
 use Rattle.std.proofs.lemmas.List.Sorted.{sum_by-IsPermutation}
 use Rattle.base.specs.declared.causes.JoinCause.TheVariants as cause
-use Rattle.case_runs.specs.declared.found.Losses.{Losses}
-use Rattle.case_runs.specs.Found.{most_cases}
+use Rattle.losses.specs.declared.found.Losses.{Losses}
+use Rattle.losses.specs.FoundCases.{most_cases}
 use Rattle.case_text.specs.Text.{in_word, cases_head, opening_text, options_text}
 use Rattle.join.specs.declared.case_parts.fault.CasesFault.{CasesFault}
 use Rattle.join.specs.declared.case_parts.fault.CasesFault.TheVariants as refused

@@ -6,7 +6,7 @@ use Rattle.std.specs.Ordering.{nat_cmp}
 use Rattle.base.specs.declared.causes.JoinCause.TheVariants as cause
 use Rattle.epochs.specs.declared.cuts.Cuts.{Cuts}
 use Rattle.report.specs.Report.{HeadValue}
-use Rattle.case_runs.specs.Found.{most_cases}
+use Rattle.losses.specs.FoundCases.{most_cases}
 use Rattle.case_text.specs.Text.{in_word, cases_head}
 use Rattle.join.specs.declared.fault.JoinFault.{JoinFault}
 use Rattle.join.specs.declared.case_parts.fault.CasesFault.{CasesFault}

@@ -4,8 +4,8 @@ use Rattle.std.specs.Prelude.{ℕ, ◌+◌, ◌≡◌, ◌<◌, ◌⊎◌, ◌==
 use Rattle.std.specs.List.{All, flat_map, sum_by}
 use Rattle.base.specs.declared.causes.JoinCause.TheVariants as cause
 use Rattle.report.specs.Report.{HeadValue}
-use Rattle.case_runs.specs.Found.{most_cases}
-use Rattle.case_runs.specs.declared.found.Losses.{Losses}
+use Rattle.losses.specs.FoundCases.{most_cases}
+use Rattle.losses.specs.declared.found.Losses.{Losses}
 use Rattle.case_text.specs.Text.{in_word, inputs_told}
 use Rattle.join.specs.declared.case_parts.fault.CasesFault.{CasesFault}
 use Rattle.join.specs.declared.case_parts.fault.CasesFault.TheVariants as refused

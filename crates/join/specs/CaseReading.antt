@@ -11,7 +11,7 @@ use Rattle.report.specs.MarkReading.{lacks}
 use Rattle.report.specs.Report.{HeadValue}
 use Rattle.report.specs.Text.{yes_or_no}
 use Rattle.losses.specs.declared.flushes.window.Window.{Window}
-use Rattle.case_runs.specs.declared.found.Losses.{Losses}
+use Rattle.losses.specs.declared.found.Losses.{Losses}
 use Rattle.case_text.specs.Text.{opening_text, options_text, fate_word, fates_text}
 use Rattle.join.specs.declared.case_parts.names.PartName.{PartName}
 use Rattle.join.specs.declared.case_parts.names.Mixed.{Mixed}

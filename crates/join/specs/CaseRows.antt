@@ -8,7 +8,7 @@ use Rattle.base.specs.declared.causes.JoinCause.TheVariants as cause
 use Rattle.join.specs.declared.fault.JoinFault.{JoinFault}
 use Rattle.join.specs.declared.case_parts.fault.CasesFault.{CasesFault}
 use Rattle.join.specs.declared.case_parts.fault.CasesFault.TheVariants as refused
-use Rattle.case_runs.specs.Found.{most_cases}
+use Rattle.losses.specs.FoundCases.{most_cases}
 use Rattle.join.specs.CaseTexts.{first_of, last_of}
 use Rattle.join.specs.CaseReading.{CasesRead}
 use Rattle.join.specs.CaseJoining.{IsOfCaseRun, Adjoins, HaveAllCuts, LackCuts, all_cases, all_totals, joined_cases}

@@ -13,8 +13,8 @@ use Rattle.choices.specs.declared.name.Name.{Name}
 use Rattle.report.specs.ChoiceText.{part_text, names_text}
 use Rattle.report.specs.Report.{HeadValue}
 use Rattle.losses.specs.declared.flushes.window.Window.{Window}
-use Rattle.case_runs.specs.declared.found.Losses.{Losses}
-use Rattle.case_runs.specs.Found.{most_cases}
+use Rattle.losses.specs.declared.found.Losses.{Losses}
+use Rattle.losses.specs.FoundCases.{most_cases}
 use Rattle.case_text.specs.Text.{has_range, cases_head, place_text, number_text, fates_text, window_text, counts_text, beyond_text, complete_word}
 use Rattle.join.specs.declared.case_parts.names.PartName.{PartName}
 use Rattle.join.specs.declared.case_parts.front.CaseFront.{CaseFront}

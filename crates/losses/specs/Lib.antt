@@ -20,3 +20,5 @@ pub mod ProgramOutcomes
 pub mod FailureWindows
 pub mod Printed
 pub mod CureText
+-- The failing cases of any number of losses.
+pub mod FoundCases

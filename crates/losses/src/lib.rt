@@ -9,6 +9,7 @@
 //! | `groups` | under which smallest failing choice of a cut each of its failing choices stands |
 //! | `outcomes` | what programs end in, read back from failing lines |
 //! | `why` | how many images of each cut a program fails on, and in which groups they stand, also as a text |
+//! | `found` | the failing cases of any number of losses, as `case_runs` finds them |
 //! | `flushes` | where a flush takes a failing image away, and the fewest flushes that take away all against which a flush helps |
 //! | `cure` | the failures of a run with their windows, the flushes that are missing for them, and what is said of them |
 //!
@@ -189,6 +190,7 @@
 
 pub mod cure;
 pub mod flushes;
+pub mod found;
 pub mod groups;
 pub mod outcomes;
 pub mod why;

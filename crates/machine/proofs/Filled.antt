@@ -1,8 +1,9 @@
 -- Runs with guards have no unset byte: they stop at no fault of their memory, and keep a verdict.
-use Rattle.std.proofs.Common.{ℕ, zero, suc, ◌≡◌, ◌+◌, ◌-◌, ◌*◌, ◌/◌, ◌%◌, ◌^◌, nat_lt, nat_le, not, ◌&&◌, ◌||◌, Bool, true, false, if◌then◌else◌, ℤ, List, [], ◌∷◌, ◌++◌, length, map, take, Option, None, Some, unwrap_or, slice_get, slice_set, refl, sym, ap, ◌∙◌, arith, is_some, subst}
+use Rattle.std.proofs.Common.{ℕ, zero, suc, ◌≡◌, ◌+◌, ◌-◌, ◌*◌, ◌/◌, ◌%◌, ◌^◌, nat_lt, nat_le, not, ◌&&◌, ◌||◌, Bool, true, false, if◌then◌else◌, ℤ, List, [], ◌∷◌, ◌++◌, length, map, take, drop, Option, None, Some, unwrap_or, slice_get, slice_set, refl, sym, ap, ◌∙◌, arith, is_some, subst}
 use Rattle.std.specs.Option.{option_map, option_map_or, option_and_then, option_or}
 use Rattle.std.specs.Int.{cast_unsigned, w32, w64}
 use Rattle.std.specs.List.{list_all, list_any}
+use Rattle.std.proofs.lemmas.List.{length-map, take-map, drop-map}
 use Rattle.base.specs.Check.{Check, check, first_failing}
 use Rattle.base.specs.declared.causes.MachineFault.{MachineFault}
 use Rattle.base.specs.declared.causes.MachineFault.TheVariants as fault
@@ -25,7 +26,7 @@ use Rattle.machine.specs.Step.{Stepped, Next, Done, Fault, address, memory, chec
 use Rattle.machine.specs.Outcome.{Ending, Verdict, Stopped, OutOfSteps, Stray, after}
 use Rattle.base.specs.Numbers.{number_at, number_bytes}
 use Rattle.machine.specs.Arithmetic.{sign_extension}
-use Rattle.machine.specs.OwnMemory.{memory_start, zero_memory, is_in_memory, overwritten}
+use Rattle.machine.specs.OwnMemory.{memory_start, zero_memory, is_in_memory, overwritten, bytes_in, bytes_within}
 use Rattle.machine.specs.Guards.{filled_frame, filled, writes_own_here, is_place, guarded, stack_step, Made, goes_next, memory_call, memory_step, own_bytes, answers_step, sum_step, checksum_asked, with_memory, made_of, guarded_step, guarded_after, guarded_end, guarded_outcome, IsOfMemory, NoMemoryFault}
 
 abbrev pub fill : Option ℕ → Option ℕ
@@ -389,3 +390,26 @@ no_fault_from program context device cause place of (suc n) m s is =
 pub no_fault : NoMemoryFault
 unfolding guarded_outcome
 no_fault program device context limit slot cause of is = no_fault_from program (context_bytes context) device cause slot of limit zero_memory start is
+
+-- bytes of a stack, where unset ones are set to 0
+
+abbrev pub filled_cells : List (Option ℕ) → List (Option ℕ)
+filled_cells cells = map (λ (c : Option ℕ). Some (unwrap_or c 0)) cells
+
+abbrev pub numbers_of : List (Option ℕ) → List ℕ
+numbers_of cells = map (λ (c : Option ℕ). unwrap_or c 0) cells
+
+filled_numbers : (cells : List (Option ℕ)) → numbers_of (filled_cells cells) ≡ numbers_of cells
+filled_numbers [] = refl
+filled_numbers (c ∷ cells) = ap (λ (xs : List ℕ). unwrap_or c 0 ∷ xs) (filled_numbers cells)
+
+pub within_filled : (place n : ℕ) (cells : List (Option ℕ)) → bytes_within place n (numbers_of cells) ≡ bytes_in place n (filled_cells cells)
+within_filled place n cells =
+    let left : length (numbers_of cells) ≡ length cells = length-map cells (λ (c : Option ℕ). unwrap_or c 0) in
+    let right : length (filled_cells cells) ≡ length cells = length-map cells (λ (c : Option ℕ). Some (unwrap_or c 0)) in
+    let bytes : take n (drop place (numbers_of cells)) ≡ numbers_of (take n (drop place (filled_cells cells))) =
+    ap (λ (xs : List ℕ). take n (drop place xs)) (sym (filled_numbers cells))
+    ∙ ap (take n) (drop-map (λ (c : Option ℕ). unwrap_or c 0) place (filled_cells cells))
+    ∙ take-map (λ (c : Option ℕ). unwrap_or c 0) n (drop place (filled_cells cells)) in
+    ap (λ (k : ℕ). if nat_le (place + n) k then Some (take n (drop place (numbers_of cells))) else None) (left ∙ sym right)
+    ∙ ap (λ (xs : List ℕ). if nat_le (place + n) (length (filled_cells cells)) then Some xs else None) bytes

@@ -1,11 +1,11 @@
 -- What a run comes to hangs on no sector but those of its footprint.
-use Rattle.std.proofs.Common.{ℕ, zero, suc, ◌≡◌, ◌+◌, ◌-◌, ◌*◌, ◌/◌, ◌%◌, ◌^◌, ◌<◌, ◌≤◌, ◌⊎◌, nat_lt, nat_le, Bool, true, false, if◌then◌else◌, ℤ, List, [], ◌∷◌, ◌++◌, length, map, filter, Option, None, Some, slice_get, slice_index, refl, sym, ap, ◌∙◌, subst, inl, inr, arith}
+use Rattle.std.proofs.Common.{ℕ, zero, suc, ◌≡◌, ◌+◌, ◌-◌, ◌*◌, ◌/◌, ◌%◌, ◌^◌, ◌<◌, ◌≤◌, ◌⊎◌, nat_lt, nat_le, Bool, true, false, if◌then◌else◌, List, [], ◌∷◌, ◌++◌, length, map, filter, Option, None, Some, slice_get, slice_index, refl, sym, ap, ◌∙◌, subst, inl, inr, arith}
 use Rattle.std.specs.Option.{option_map_or, option_and_then}
 use Rattle.std.specs.Int.{cast_unsigned, w32}
-use Rattle.std.specs.List.{list_all, range_with_len}
+use Rattle.std.specs.List.{range_with_len}
 use Rattle.std.proofs.Math.Path.{fun_ext}
 use Rattle.std.proofs.lemmas.Bool.{cases_lt}
-use Rattle.std.proofs.lemmas.Option.{slice_get_within, slice_get_past}
+use Rattle.std.proofs.lemmas.Option.{slice_get_past}
 use Rattle.base.specs.Check.{Check, check, first_failing}
 use Rattle.base.specs.Numbers.{number_at}
 use Rattle.base.specs.declared.causes.MachineFault.TheVariants as fault
@@ -23,14 +23,14 @@ use Rattle.helpers.specs.Answers.{sector_start, device_byte, device_bytes, copy_
 use Rattle.helpers.specs.Queries.{query_sectors}
 use Rattle.helpers.proofs.Queries.{query_same}
 use Rattle.machine.specs.declared.ByteAt.{ByteAt}
-use Rattle.machine.specs.declared.ByteAt.TheVariants.{Unmapped, Unset, Holds}
+use Rattle.machine.specs.declared.ByteAt.TheVariants.{Unmapped}
 use Rattle.machine.specs.State.{State, Frame, context_start, stack_start, word, start}
 use Rattle.machine.specs.Arithmetic.{sign_extension}
 use Rattle.machine.specs.Memory.{addresses, all_at, all_mapped, all_set, is_mapped, is_set, value, number_from, byte_at_place, in_blocks, byte_at, byte_count, plain_size, extension_of, all_in_stacks, frames_with, context_bytes}
 use Rattle.machine.specs.Step.{Stepped, Next, Done, Fault, address, memory, may_write, reads, goes_on, is_length, load_tests, store_tests, checks, call_checks, effect, call_effect, answer_step, set_and_go, after_checks, step, step_of}
-use Rattle.machine.specs.Outcome.{Ending, after, steps_end, outcome}
-use Rattle.helpers.specs.Footprint.{on_device, sectors_of, sector_at, sectors_at}
-use Rattle.machine.specs.Footprint.{call_reads, reads_of, read_here, read_after, read_from, footprint, AreSectors, HaveSame, AreAlike, TellsNoMore, FootprintTells}
+use Rattle.machine.specs.Outcome.{after, steps_end, outcome}
+use Rattle.helpers.specs.Footprint.{on_device, sectors_of, sector_at, sectors_at, helper_sectors}
+use Rattle.machine.specs.Footprint.{call_reads, reads_of, read_here, read_after, read_from, footprint, HaveSame, AreAlike, FootprintTells}
 
 -- a sector's bytes are mapped by its length alone
 
@@ -300,7 +300,7 @@ MayCopy s helper.Copy = is_length (word s 3) ≡ true
 MayCopy s _ = Unit {0}
 
 call_effect_same : (a b : List (List ℕ)) (s : State) (h : Helper) → length a ≡ length b → MayCopy s h → HaveSame a b (call_reads a s h) → call_effect a s h ≡ call_effect b s h
-unfolding call_effect call_reads
+unfolding call_effect helper_sectors
 call_effect_same a b s helper.Copy e may same =
     two (λ (bytes : List ℕ) (answer : ℕ). answer_step (record s { frames = frames_with s.frames (word s 2) bytes }) answer)
     (copied_same a b (word s 1) (word s 3) may (all_same a b (sectors_of (word s 1) (word s 3)) e same))
@@ -412,11 +412,7 @@ found_same program context a b s (Some i) alike same = instr_same program contex
 -- what a step reads doesn't hang on the device but for its size
 
 call_reads_alike : (a b : List (List ℕ)) (s : State) → length a ≡ length b → (h : Helper) → call_reads b s h ≡ call_reads a s h
-unfolding call_reads
-call_reads_alike a b s e helper.Copy = ap (λ (count : ℕ). filter (λ n. nat_lt n count) (sectors_of (word s 1) (word s 3))) (sym e)
-call_reads_alike a b s e (helper.Query q) = ap (λ (count : ℕ). filter (λ n. nat_lt n count) (query_sectors q (word s 1) (word s 2) (word s 3))) (sym e)
-call_reads_alike a b s e helper.Again = refl
-call_reads_alike a b s e helper.Report = refl
+call_reads_alike a b s e h = ap (λ (count : ℕ). filter (λ n. nat_lt n count) (helper_sectors h (word s 1) (word s 2) (word s 3))) (sym e)
 
 pub reads_of_alike : (a b : List (List ℕ)) (s : State) → length a ≡ length b → (i : Instr) → reads_of b s i ≡ reads_of a s i
 unfolding reads_of

@@ -1,9 +1,8 @@
 -- Runs with guards: they have one end, and look at no other sector than those of their footprint.
-use Rattle.std.proofs.Common.{ℕ, zero, suc, ◌≡◌, ◌+◌, ◌-◌, nat_le, nat_lt, ◌&&◌, Bool, true, false, if◌then◌else◌, List, [], ◌∷◌, ◌++◌, length, map, filter, Option, None, Some, slice_get, refl, sym, ap, ◌∙◌, subst, arith}
-use Rattle.std.specs.Option.{option_map, option_map_or, option_and_then, option_or}
+use Rattle.std.proofs.Common.{ℕ, zero, suc, ◌≡◌, ◌+◌, ◌-◌, nat_le, nat_lt, ◌&&◌, Bool, true, false, if◌then◌else◌, List, [], ◌∷◌, ◌++◌, length, filter, Option, None, Some, refl, sym, ap, ◌∙◌, subst, arith}
+use Rattle.std.specs.Option.{option_map, option_map_or, option_or}
 use Rattle.std.specs.Int.{cast_unsigned, w32}
-use Rattle.base.specs.Check.{Check, check, first_failing}
-use Rattle.base.specs.declared.causes.MachineFault.{MachineFault}
+use Rattle.base.specs.Check.{first_failing}
 use Rattle.base.specs.declared.causes.MachineFault.TheVariants as fault
 use Rattle.bpf_isa.specs.declared.instr.Instr.{Instr}
 use Rattle.bpf_isa.specs.declared.instr.Instr.TheVariants as instr
@@ -14,7 +13,7 @@ use Rattle.helpers.specs.declared.sums.Checksum.{Checksum}
 use Rattle.helpers.specs.declared.sums.Checksum.TheVariants as of
 use Rattle.helpers.specs.Helper.{helper_of}
 use Rattle.helpers.specs.Answers.{device_bytes, copy_answer}
-use Rattle.helpers.specs.Footprint.{on_device, sectors_of}
+use Rattle.helpers.specs.Footprint.{sectors_of, helper_sectors}
 use Rattle.helpers.specs.declared.helper.Query.{Query}
 use Rattle.helpers.specs.Sums.{taken, sum_answer}
 use Rattle.helpers.specs.Queries.{query_for, query_arguments, query_sectors}
@@ -23,9 +22,9 @@ use Rattle.machine.specs.Memory.{byte_count, plain_size, context_bytes}
 use Rattle.machine.specs.OwnMemory.{memory_start, memory_size, most_beside, zero_memory, is_in_memory, overwritten}
 use Rattle.machine.specs.State.{State, start, word}
 use Rattle.machine.specs.Step.{Stepped, Next, Done, Fault, address, step, is_length, reads, answer_step}
-use Rattle.machine.specs.Outcome.{Ending, OutOfSteps, after}
+use Rattle.machine.specs.Outcome.{Ending, after}
 use Rattle.machine.specs.Footprint.{read_here, read_after, reads_of, call_reads, AreAlike, HaveSame}
-use Rattle.machine.specs.Guards.{filled, writes_own_here, guarded, stack_step, Made, goes_next, memory_load, memory_write, memory_call, memory_step, bytes_of_stack, own_bytes, answers_step, sum_step, checksum_asked, with_memory, made_of, guarded_step, guarded_after, guarded_end, guarded_outcome, sum_reads, guarded_reads_of, guarded_read_here, guarded_reads_after, guarded_reads, guarded_footprint, IsEnd, OneGuardedEnd, GuardsTellNoMore, GuardedFootprintTells}
+use Rattle.machine.specs.Guards.{filled, writes_own_here, guarded, stack_step, Made, goes_next, memory_call, memory_step, bytes_of_stack, answers_step, sum_step, checksum_asked, with_memory, made_of, guarded_step, guarded_after, guarded_end, guarded_outcome, sum_reads, guarded_reads_of, guarded_read_here, guarded_reads_after, guarded_reads, guarded_footprint, IsEnd, OneGuardedEnd, GuardedFootprintTells}
 use Rattle.machine.proofs.Footprints.{two, found_alike, all_same, copied_same, copy_answer_same, reads_of_alike, same_split, found_same}
 
 -- what follows a step is the same, where what follows its state is
@@ -69,7 +68,7 @@ by_count a b place n x y e = ap (λ (count : ℕ). if nat_le count most_beside &
 
 memory_call_same : (program : List (Option Instr)) (a b : List (List ℕ)) (m : List ℕ) (s : State) (h : Helper) → length a ≡ length b → HaveSame a b (call_reads a s h)
     → memory_call program b m s h ≡ memory_call program a m s h
-unfolding call_reads
+unfolding helper_sectors
 memory_call_same program a b m s helper.Copy e same = by (is_length (word s 3)) refl
   where
     made : List ℕ → ℕ → Option Made

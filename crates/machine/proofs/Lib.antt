@@ -6,3 +6,6 @@ pub mod Guarded
 pub mod Filled
 pub mod Verdicts
 pub mod Sums
+pub mod Records
+pub mod Calls
+pub mod Looks

@@ -8,3 +8,5 @@ pub mod Laws
 pub mod Footprint
 pub mod OwnMemory
 pub mod Guards
+pub mod Operations
+pub mod Looks

@@ -23,6 +23,9 @@
 //! - `Footprint`: `footprint` is the list of the sectors at which the helpers and the loads of a run look.
 //! - `Guards`: the machine with guards. `guarded_outcome` is what a number of its steps end in, and `guarded_footprint`
 //!   where they look.
+//! - `Operations` and `Looks`: for each slot `bpf_isa` makes a record, by which both machines run. They say which operation
+//!   its code names, what its step is, and what that reads of the device. `proofs/Records.antt` has that its step is that of
+//!   its instruction (`record_step_is`), and `proofs/Looks.antt` that it looks at the same sectors (`made_reads`).
 //!
 //! # What is proved
 //!
@@ -67,10 +70,21 @@
 
 mod laws;
 
+use bpf_isa::instr::Size;
 pub use laws::{
     checks_in_order, footprint_tells, guarded_footprint_tells, guards_keep_verdicts,
     no_memory_fault, one_guarded_end, one_judgement, worked_arithmetic, worked_bytes,
 };
+
+/// What a step reads of the device (docs/MACHINE.md, Footprint).
+pub enum Look {
+    /// Nothing.
+    Nothing,
+    /// The number that a load of this size finds at its address.
+    Load(Size),
+    /// What a call of a helper asks for.
+    Call,
+}
 
 /// What stands at an address of a program's memory (docs/MACHINE.md, Address space).
 #[derive(Clone, Copy)]

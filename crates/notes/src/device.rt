@@ -49,6 +49,10 @@ fn put_size(out: &mut String, sectors: u64) -> Result<(), AllocError>
 }
 
 /// Appends a note with the size of the least device that holds a log.
+///
+/// # Errors
+///
+/// Memory was refused.
 pub fn put_least(out: &mut String, log: &Log) -> Result<(), AllocError>
     ensures { OnOk result (SaysLeast log.now.entries (string_bytes out.old) (string_bytes out.new)) }
 {

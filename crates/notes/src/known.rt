@@ -252,6 +252,10 @@ fn put_arguments(out: &mut String, state: &State, helper: Helper) -> Result<(), 
 }
 
 /// Appends notes with what is known of the registers that an instruction reads, and what an access wants of its address.
+///
+/// # Errors
+///
+/// Memory was refused.
 #[tactic(auto, unfolding(crate::specs::Known::known_notes))]
 pub fn put_known(out: &mut String, instr: &Instr, state: &State) -> Result<(), AllocError>
     ensures { OnOk result (string_bytes out.new ≡ string_bytes out.old ++ known_notes (state_of state.now) instr.now) }

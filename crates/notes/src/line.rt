@@ -6,6 +6,10 @@ ghost use Rattle.notes.specs.Line.{note_line, refused_notes};
 use std::alloc::AllocError;
 
 /// Appends a note with that text.
+///
+/// # Errors
+///
+/// Memory was refused.
 pub fn put_note(out: &mut String, text: &str) -> Result<(), AllocError>
     ensures { OnOk result (string_bytes out.new ≡ string_bytes out.old ++ note_line text.now) }
 {
@@ -13,6 +17,10 @@ pub fn put_note(out: &mut String, text: &str) -> Result<(), AllocError>
 }
 
 /// Appends notes with what is wrong, and with what helps, where that isn't empty.
+///
+/// # Errors
+///
+/// Memory was refused.
 pub fn put_refused(out: &mut String, rule: &str, cure: &str) -> Result<(), AllocError>
     ensures { OnOk result (string_bytes out.new ≡ string_bytes out.old ++ refused_notes rule.now cure.now) }
 {

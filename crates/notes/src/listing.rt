@@ -18,6 +18,10 @@ fn put_numbered(out: &mut String, slot: usize, instr: &Instr) -> Result<(), Allo
 }
 
 /// Appends the line of a slot in which an instruction begins, as the listing has it.
+///
+/// # Errors
+///
+/// Memory was refused.
 pub fn put_slot(out: &mut String, slot: usize, instr: Option<Instr>) -> Result<(), AllocError>
     ensures { OnOk result (string_bytes out.new ≡ string_bytes out.old ++ numbered_slot slot instr) }
 {
@@ -28,6 +32,10 @@ pub fn put_slot(out: &mut String, slot: usize, instr: Option<Instr>) -> Result<(
 }
 
 /// The listing of a program, each line after the number of its slot. A 64-bit immediate takes two slots.
+///
+/// # Errors
+///
+/// Memory was refused.
 pub fn numbered_listing(alloc: Global, program: &Program) -> Result<String, AllocError>
     ensures { IfOk result (λ text. string_bytes text ≡ numbered_listing program.now) }
 {

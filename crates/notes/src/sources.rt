@@ -129,6 +129,10 @@ fn front_of(alloc: Global, text: &str) -> Result<(Vec<SourceLine<'_>>, &str), Al
 }
 
 /// The lines of a text, if bytes are one that says at which line of C each slot comes.
+///
+/// # Errors
+///
+/// Memory was refused.
 pub fn source_lines(alloc: Global, bytes: &[u8]) -> Result<Option<Vec<SourceLine<'_>>>, AllocError>
     ensures { IfOk result (λ found. MatchOption found (NoLines bytes.now) (λ lines. AreLines bytes.now (values_of lines.items))) }
 {
@@ -174,6 +178,10 @@ fn line_at<'t, 'x>(lines: &'t [SourceLine<'x>], slot: &str) -> Option<&'t Source
 }
 
 /// Appends the place in C of a slot, where a line says it.
+///
+/// # Errors
+///
+/// Memory was refused.
 #[tactic(auto, unfolding(crate::specs::SourceLines::source_text))]
 pub fn put_source(
     alloc: Global,

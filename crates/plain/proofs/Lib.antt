@@ -1,6 +1,5 @@
 pub mod Clean
 pub mod Counts
-pub mod Records
 pub mod Reaching
 pub mod Storing
 pub mod Kept

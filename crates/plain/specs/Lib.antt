@@ -1,5 +1,4 @@
 -- The plain machine, how it agrees with the machine, and its runs.
-pub mod Operations
 pub mod Machine
 pub mod Clean
 pub mod Callers

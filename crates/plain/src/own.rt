@@ -4,7 +4,8 @@ ghost use Rattle.std.specs.Prelude.{◌≡◌, ◌≤◌, ◌<◌, ◌+◌, ◌-
 ghost use Rattle.base.specs.Numbers.{number_bytes};
 ghost use Rattle.machine.specs.Memory.{byte_count};
 ghost use Rattle.machine.specs.OwnMemory.{memory_start, zero_memory};
-ghost use Rattle.plain.specs.Blocks.{is_in_own, overwritten};
+ghost use Rattle.machine.specs.OwnMemory.{overwritten};
+ghost use Rattle.plain.specs.Blocks.{is_in_own};
 ghost use Rattle.plain.specs.Kept.{AreZeros, IsKept};
 
 use crate::called::write_at;

@@ -6,56 +6,16 @@ ghost use Rattle.std.specs.Option.{option_map_or};
 ghost use Rattle.helpers.specs.Footprint.{footprint_after, footprint_with, on_device, sectors_at};
 ghost use Rattle.machine.specs.Memory.{byte_count};
 ghost use Rattle.helpers.specs.Sums.{checksum_of};
-ghost use Rattle.plain.specs.Reads.{helper_sectors, look_of, plain_number_reads, plain_sum_reads, record_reads};
+ghost use Rattle.machine.specs.Looks.{look_of};
+ghost use Rattle.plain.specs.Reads.{plain_number_reads, plain_sum_reads, record_reads};
 ghost use Rattle.plain.specs.Steps.{plain_address};
 
 use crate::state::Machine;
+use arithmetic::{bytes_of, look_of};
 use bpf_isa::instr::Size;
-use bpf_isa::ready::Code::*;
-use bpf_isa::ready::{Code, Ready};
+use bpf_isa::ready::Ready;
 use helpers::{Checksum, Device, Footprint, Helper, Query};
-
-/// What a step reads of the device.
-pub enum Look {
-    Nothing,
-    /// The number that a load of this size finds at its address.
-    Load(Size),
-    /// What a call of a helper asks for.
-    Call,
-}
-
-/// What the step of a code reads of the device.
-#[inline(always)]
-pub fn look_of(code: Code) -> Look
-    ensures { result ≡ look_of code }
-{
-    match code {
-        CallHelper => Look::Call,
-        LoadByte => Look::Load(Size::Byte),
-        LoadHalf => Look::Load(Size::Half),
-        LoadWord => Look::Load(Size::Word),
-        LoadDouble => Look::Load(Size::Double),
-        LoadSignedByte => Look::Load(Size::Byte),
-        LoadSignedHalf => Look::Load(Size::Half),
-        LoadSignedWord => Look::Load(Size::Word),
-        _ => Look::Nothing,
-    }
-}
-
-/// The number of bytes of an access.
-#[inline(always)]
-pub fn bytes_of(size: Size) -> u8
-    ensures count { result ≡ byte_count size }
-    ensures some { 0 < result }
-    ensures few { result ≤ 8 }
-{
-    match size {
-        Size::Byte => 1,
-        Size::Half => 2,
-        Size::Word => 4,
-        Size::Double => 8,
-    }
-}
+use machine::Look;
 
 /// Notes a sector, as a function of its own.
 #[inline(never)]
@@ -128,26 +88,6 @@ pub(crate) fn note_from<D: Device, const ROOM: usize>(
     }
 }
 
-/// Notes at which sectors a call of a helper looks, by the words of registers 1 to 3.
-#[tactic(auto, unfolding(crate::specs::Reads::helper_sectors))]
-pub fn note_call<D: Device, const ROOM: usize>(
-    footprint: &mut Footprint<ROOM>,
-    device: &D,
-    helper: Helper,
-    first: u64,
-    second: u64,
-    third: u64,
-)
-    ensures { footprint.new ≡ footprint_after footprint.old (on_device (D.content device.now) (helper_sectors helper first second third)) }
-{
-    match helper {
-        Helper::Copy => footprint.look_over(device, first, third),
-        Helper::Query(query) => footprint.look_for(device, query, first, second, third),
-        Helper::Again => {}
-        Helper::Report => {}
-    }
-}
-
 impl<const COUNTS: usize, const CALLED: usize, const PIECES: usize> Machine<
     COUNTS,
     CALLED,
@@ -198,7 +138,7 @@ impl<const COUNTS: usize, const CALLED: usize, const PIECES: usize> Machine<
     {
         let [_, first, second, third, ..] = self.registers;
         match Helper::of(number) {
-            Some(helper) => note_call(footprint, device, helper, first, second, third),
+            Some(helper) => footprint.look_with(device, helper, first, second, third),
             None => self.note_checksum(footprint, device, number),
         }
     }

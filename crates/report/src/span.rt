@@ -19,6 +19,10 @@ pub struct Span {
 }
 
 /// Appends the two lines with which the text of a part begins.
+///
+/// # Errors
+///
+/// Memory was refused.
 #[tactic(auto, unfolding(crate::specs::Part::span_text))]
 pub fn put_span(out: &mut String, span: Span) -> Result<(), AllocError>
     ensures { OnOk result (string_bytes out.new ≡ string_bytes out.old ++ span_text span) }

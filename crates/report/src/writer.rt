@@ -52,6 +52,10 @@ fn word_of_steps(verified: bool) -> &'static str
 }
 
 /// Appends the device, the length of the log and the cuts.
+///
+/// # Errors
+///
+/// Memory was refused.
 #[tactic(auto, unfolding(crate::specs::Report::device_text))]
 pub fn put_device(out: &mut String, head: &Head) -> Result<(), AllocError>
     ensures { OnOk result (string_bytes out.new ≡ string_bytes out.old ++ device_text head.now) }
@@ -86,6 +90,10 @@ fn put_choices(out: &mut String, head: &Head) -> Result<(), AllocError>
 
 /// Appends what departs as one where it isn't a sector, the flushes that were added, the range of the cuts, and the number of what
 /// the device held before entry 0.
+///
+/// # Errors
+///
+/// Memory was refused.
 #[tactic(auto, unfolding(crate::specs::Report::given_text))]
 pub fn put_given(out: &mut String, head: &Head) -> Result<(), AllocError>
     ensures { OnOk result (string_bytes out.new ≡ string_bytes out.old ++ given_text head.now) }
@@ -108,6 +116,10 @@ fn put_guards(out: &mut String, guards: Option<u32>) -> Result<(), AllocError>
 }
 
 /// Appends the most steps of a run of a program, and how many of its slots are guarded where it was accepted with guards.
+///
+/// # Errors
+///
+/// Memory was refused.
 pub fn put_steps(out: &mut String, program: ProgramHead) -> Result<(), AllocError>
     ensures { OnOk result (string_bytes out.new ≡ string_bytes out.old ++ steps_text program) }
 {
@@ -127,6 +139,10 @@ fn put_program(out: &mut String, number: usize, program: ProgramHead) -> Result<
 }
 
 /// Appends the lines of the programs.
+///
+/// # Errors
+///
+/// Memory was refused.
 pub fn put_programs(out: &mut String, programs: &[ProgramHead]) -> Result<(), AllocError>
     ensures { OnOk result (string_bytes out.new ≡ string_bytes out.old ++ program_lines 0 programs.now) }
 {
@@ -137,6 +153,10 @@ pub fn put_programs(out: &mut String, programs: &[ProgramHead]) -> Result<(), Al
 }
 
 /// Appends the totals.
+///
+/// # Errors
+///
+/// Memory was refused.
 #[tactic(auto, unfolding(crate::specs::Report::totals_line))]
 pub fn put_totals(out: &mut String, images: u64, lines: &Lines) -> Result<(), AllocError>
     requires { IsNonDecreasing (map (λ l. l.image) lines.now) }
@@ -151,6 +171,10 @@ pub fn put_totals(out: &mut String, images: u64, lines: &Lines) -> Result<(), Al
 }
 
 /// Appends an image, or that there is none.
+///
+/// # Errors
+///
+/// Memory was refused.
 pub fn put_image(out: &mut String, image: Option<u64>) -> Result<(), AllocError>
     ensures { OnOk result (string_bytes out.new ≡ string_bytes out.old ++ image_text image) }
 {
@@ -231,6 +255,10 @@ fn findings_len(first: bool, lines: &Lines, last: &str) -> usize
 }
 
 /// Appends the options and the programs.
+///
+/// # Errors
+///
+/// Memory was refused.
 pub fn put_options(out: &mut String, head: &Head) -> Result<(), AllocError>
     ensures { OnOk result (string_bytes out.new ≡ string_bytes out.old ++ options_text head.now) }
 {
@@ -273,6 +301,10 @@ fn with_findings(
 /// failing image alone was asked for, lines of other images are left out.
 ///
 /// It takes room for the report once, beside the lines.
+///
+/// # Errors
+///
+/// Memory was refused.
 #[tactic(auto, unfolding(crate::specs::Report::report_bytes))]
 pub fn write_report(alloc: Global, head: &Head, lines: &Lines) -> Result<Vec<u8>, AllocError>
     requires { IsNonDecreasing (map (λ l. l.image) lines.now) }
@@ -294,6 +326,10 @@ fn part_head_text(alloc: Global, head: &Head, span: Span) -> Result<String, Allo
 
 /// The bytes of a part of a run (docs/OUTPUT.md, The text of a part): of the images of the span. The lines are theirs, in their
 /// order. The totals are those of the part; of the head's number of images nothing is printed.
+///
+/// # Errors
+///
+/// Memory was refused.
 pub fn write_part(
     alloc: Global,
     head: &Head,

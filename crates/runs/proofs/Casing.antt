@@ -13,15 +13,16 @@ use Rattle.epochs.specs.Cuts.{cuts_of}
 use Rattle.epochs.specs.Plan.{PlanValue}
 use Rattle.checker.specs.Checker.{CheckerValue, AreFor}
 use Rattle.report.specs.Report.{HeadValue}
-use Rattle.case_runs.specs.declared.found.Losses.{Losses}
-use Rattle.case_runs.specs.declared.found.CutFound.{CutFound}
+use Rattle.losses.specs.declared.found.Losses.{Losses}
+use Rattle.losses.specs.declared.found.CutFound.{CutFound}
 use Rattle.case_runs.specs.declared.found.SearchFault.{SearchFault}
 use Rattle.case_runs.specs.declared.found.SearchFault.TheVariants as fault
-use Rattle.case_runs.specs.Found.{AreFoundIn, cases_in, most_cases, AreTooMany, StopsIn}
-use Rattle.case_runs.specs.declared.found.CaseFindings.{CaseFindings}
-use Rattle.case_runs.specs.declared.first.FirstCase.{FirstCase}
+use Rattle.losses.specs.FoundCases.{cases_in, most_cases}
+use Rattle.case_runs.specs.Found.{AreFoundIn, AreTooMany, StopsIn}
+use Rattle.losses.specs.declared.found.CaseFindings.{CaseFindings}
+use Rattle.losses.specs.declared.found.FirstCase.{FirstCase}
 use Rattle.case_runs.specs.declared.first.Sought.{Sought}
-use Rattle.case_runs.specs.declared.leaves.FailingCase.{FailingCase}
+use Rattle.losses.specs.declared.found.FailingCase.{FailingCase}
 use Rattle.case_runs.specs.First.{NoneFailsAt, NoneFails, IsFirstFailing, PassesMostIn, IsSought, EndsIn}
 use Rattle.case_text.specs.Text.{cases_bytes, cases_head, cut_cases, fails_at, has_range, inputs_told, is_any_failing, totals_text}
 use Rattle.case_text.specs.First.{first_bytes}

@@ -21,12 +21,13 @@ use Rattle.cases.specs.Trees.{Subject, is_torn}
 use Rattle.cases.specs.Laws.{Includes, IsChoice, AreCases}
 use Rattle.cases.specs.AtCut.{CutValue, parts_of, case_of}
 use Rattle.cases.specs.Search.{LeafValue, leaf_case, EndsSo}
-use Rattle.case_runs.specs.declared.found.Losses.{Losses}
-use Rattle.case_runs.specs.declared.found.CaseFindings.{CaseFindings}
-use Rattle.case_runs.specs.declared.found.CutFound.{CutFound}
-use Rattle.case_runs.specs.declared.leaves.FailingCase.{FailingCase}
+use Rattle.losses.specs.declared.found.Losses.{Losses}
+use Rattle.losses.specs.declared.found.CaseFindings.{CaseFindings}
+use Rattle.losses.specs.declared.found.CutFound.{CutFound}
+use Rattle.losses.specs.declared.found.FailingCase.{FailingCase}
 use Rattle.case_runs.specs.Cuts.{is_explored, explored_cuts}
-use Rattle.case_runs.specs.Leaves.{FailingValue, failing_value, failing_if, failing_from}
+use Rattle.losses.specs.FoundCases.{FailingValue, failing_value}
+use Rattle.case_runs.specs.Leaves.{failing_if, failing_from}
 use Rattle.case_runs.specs.Laws.{subject_at, judged_at, IsInLeaf, IsJudged, LossesAreJudged}
 use Rattle.case_runs.specs.Found.{IsFoundAt, AreFoundAt}
 use Rattle.request.specs.declared.any_losses.AnyLosses.{AnyLosses}

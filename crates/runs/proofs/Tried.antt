@@ -17,9 +17,10 @@ use Rattle.losses.specs.declared.cure.failure.Failure.{Failure}
 use Rattle.losses.specs.FailureWindows.{AreFailuresAt, windows_in, HoldNoFlush}
 use Rattle.losses.specs.CureText.{begin_text, uncured_text}
 use Rattle.losses.specs.Places.{AreWindows}
-use Rattle.case_runs.specs.declared.found.Losses.{Losses}
-use Rattle.case_runs.specs.declared.found.CutFound.{CutFound}
-use Rattle.case_runs.specs.Found.{AreFoundIn, cases_in, most_cases}
+use Rattle.losses.specs.declared.found.Losses.{Losses}
+use Rattle.losses.specs.declared.found.CutFound.{CutFound}
+use Rattle.losses.specs.FoundCases.{cases_in, most_cases}
+use Rattle.case_runs.specs.Found.{AreFoundIn}
 use Rattle.case_text.specs.Text.{totals_text}
 use Rattle.case_text.specs.Why.{all_failures}
 use Rattle.case_text.specs.Cured.{cure_begin}

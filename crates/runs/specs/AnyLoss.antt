@@ -10,9 +10,9 @@ use Rattle.cases.specs.Choices.{Choice, image_at}
 use Rattle.cases.specs.Trees.{is_torn}
 use Rattle.cases.specs.Laws.{Includes, IsChoice}
 use Rattle.cases.specs.AtCut.{parts_of, case_of}
-use Rattle.case_runs.specs.declared.found.CaseFindings.{CaseFindings}
-use Rattle.case_runs.specs.declared.found.CutFound.{CutFound}
-use Rattle.case_runs.specs.declared.leaves.FailingCase.{FailingCase}
+use Rattle.losses.specs.declared.found.CaseFindings.{CaseFindings}
+use Rattle.losses.specs.declared.found.CutFound.{CutFound}
+use Rattle.losses.specs.declared.found.FailingCase.{FailingCase}
 use Rattle.case_runs.specs.Laws.{judged_at}
 use Rattle.request.specs.declared.any_losses.AnyLosses.{AnyLosses}
 use Rattle.request.specs.declared.settings.Settings.{Settings}

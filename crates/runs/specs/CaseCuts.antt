@@ -4,11 +4,11 @@ use Rattle.std.specs.Prelude.{ℕ, Bool, true, false, if◌then◌else◌, List,
 use Rattle.logfmt.specs.Bounds.{LogValue}
 use Rattle.epochs.specs.declared.part.By.{By}
 use Rattle.checker.specs.Checker.{CheckerValue}
-use Rattle.case_runs.specs.declared.found.Losses.{Losses}
+use Rattle.losses.specs.declared.found.Losses.{Losses}
 use Rattle.case_runs.specs.Cuts.{case_cuts}
 use Rattle.case_runs.specs.Found.{AreTooMany}
 use Rattle.case_runs.specs.First.{PassesMostIn}
-use Rattle.case_runs.specs.declared.found.CutFound.{CutFound}
+use Rattle.losses.specs.declared.found.CutFound.{CutFound}
 use Rattle.case_text.specs.Text.{count_torn_beyond, count_lost_beyond, is_any_failing}
 use Rattle.request.specs.declared.any_losses.AnyLosses.{AnyLosses}
 use Rattle.request.specs.declared.facts.left_out.LeftOut.{LeftOut}

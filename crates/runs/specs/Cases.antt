@@ -3,10 +3,11 @@ use Rattle.std.specs.Prelude.{ℕ, ◌≡◌, ◌≤◌, Bool, true, false, List
 use Rattle.logfmt.specs.Bounds.{LogValue}
 use Rattle.checker.specs.Checker.{CheckerValue}
 use Rattle.report.specs.Report.{HeadValue}
-use Rattle.case_runs.specs.declared.found.Losses.{Losses}
-use Rattle.case_runs.specs.declared.found.CutFound.{CutFound}
-use Rattle.case_runs.specs.declared.first.FirstCase.{FirstCase}
-use Rattle.case_runs.specs.Found.{AreFoundIn, cases_in, most_cases}
+use Rattle.losses.specs.declared.found.Losses.{Losses}
+use Rattle.losses.specs.declared.found.CutFound.{CutFound}
+use Rattle.losses.specs.declared.found.FirstCase.{FirstCase}
+use Rattle.losses.specs.FoundCases.{cases_in, most_cases}
+use Rattle.case_runs.specs.Found.{AreFoundIn}
 use Rattle.case_runs.specs.First.{IsFirstFailing}
 use Rattle.case_text.specs.First.{first_bytes}
 use Rattle.case_text.specs.Text.{cases_bytes, is_any_failing}

@@ -13,8 +13,9 @@ use Rattle.losses.specs.declared.cure.failure.Failure.{Failure}
 use Rattle.losses.specs.FailureWindows.{AreFailures, windows_in, places_in}
 use Rattle.losses.specs.CureText.{begin_text, uncured_text, rounds_text, refused_line}
 use Rattle.workers.specs.Failing.{failing_lines}
-use Rattle.case_runs.specs.declared.found.CutFound.{CutFound}
-use Rattle.case_runs.specs.Found.{AreFoundIn, cases_in, most_cases}
+use Rattle.losses.specs.declared.found.CutFound.{CutFound}
+use Rattle.losses.specs.FoundCases.{cases_in, most_cases}
+use Rattle.case_runs.specs.Found.{AreFoundIn}
 use Rattle.case_text.specs.Text.{totals_text}
 use Rattle.case_text.specs.Why.{all_failures}
 use Rattle.case_text.specs.Cured.{cure_begin}

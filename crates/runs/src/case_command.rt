@@ -2,7 +2,8 @@
 
 ghost use Rattle.std.specs.Prelude.{◌≡◌, ◌≤◌, length, map, true, false, All, IfOk, IfErr};
 ghost use Rattle.checker.specs.Checker.{AreFor};
-ghost use Rattle.case_runs.specs.Found.{AreFoundIn, cases_in, most_cases};
+ghost use Rattle.losses.specs.FoundCases.{cases_in, most_cases};
+ghost use Rattle.case_runs.specs.Found.{AreFoundIn};
 ghost use Rattle.case_runs.specs.First.{AllPass, IsSought, IsFirstFailing};
 ghost use Rattle.case_text.specs.Text.{is_any_failing};
 ghost use Rattle.case_runs.specs.Cuts.{case_cuts};
@@ -18,14 +19,13 @@ use crate::explore_command::{Explored, Told, head_of_run};
 use crate::task::Task;
 use base::causes::RequestCause;
 use base::refusal::{Cause, Refusal};
-use case_runs::{
-    CaseGate, CutFound, FirstCase, Losses, SearchFault, Sought, case_cuts, find_failing, find_first,
-};
+use case_runs::{CaseGate, SearchFault, Sought, case_cuts, find_failing, find_first};
 use case_text::{is_any_failing, left_out, write_cases, write_first, write_why};
 use checker::Checker;
 use crash_page::case_page;
 use epochs::Plan;
 use logfmt::Log;
+use losses::found::{CutFound, FirstCase, Losses};
 use report::{Head, Span};
 use request::facts::LeftOut;
 use request::{AnyLosses, CaseTelling, Options};

@@ -11,7 +11,8 @@ ghost use Rattle.losses.specs.Places.{AreWindows};
 ghost use Rattle.losses.specs.Counted.{AreMissing};
 ghost use Rattle.losses.specs.FailureWindows.{windows_in, places_in, calm_entries, HoldNoFlush};
 ghost use Rattle.losses.specs.CureText.{begin_text, uncured_text, flush_line, refused_line};
-ghost use Rattle.case_runs.specs.Found.{AreFoundIn, cases_in, most_cases};
+ghost use Rattle.losses.specs.FoundCases.{cases_in, most_cases};
+ghost use Rattle.case_runs.specs.Found.{AreFoundIn};
 ghost use Rattle.request.specs.declared.extent.Extent.TheVariants as extent;
 ghost use Rattle.request.specs.Extents.{most_images};
 ghost use Rattle.request.specs.Source.{RefusesPlan, images_of, images_refusal, plan_of};
@@ -31,7 +32,6 @@ use crate::explore_command::{Explored, Question, WantedAnswer, explored_by, head
 use crate::task::{Task, input_of};
 use base::causes::RequestCause;
 use base::refusal::{Cause, Refusal};
-use case_runs::CutFound;
 use case_text::cure_of_cases;
 use checker::Checker;
 use choices::Starts;
@@ -43,6 +43,7 @@ use losses::cure::{
     windows_of,
 };
 use losses::flushes::Window;
+use losses::found::CutFound;
 use report::lines::Lines;
 use report::{Head, Span, put_totals};
 use request::{AnyLosses, Options, plan_of};

@@ -51,6 +51,10 @@ impl<'a, J: Run> Model for Shard<'a, J> {
 impl<'a, J: Run> Shard<'a, J> {
     /// The shard of that number, without entries, in a cache of at most that many entries. Memory for
     /// entries is taken as they come.
+    ///
+    /// # Errors
+    ///
+    /// Memory was refused.
     pub fn new(alloc: Global, size: u32, number: u32) -> Result<Shard<'a, J>, AllocError>
         requires { size ≡ J.size }
         ensures { IfOk result (λ shard. shard ≡ empty_shard size number) }

@@ -243,6 +243,10 @@ impl<'b, 'a, J: Run, G: Gate> Worker<'b, 'a, J, G> {
 /// Without a cache it takes memory for the lines, and for what is known by footprints: where that is refused, images are
 /// judged by themselves. With one it takes memory for the lines and for keys. Where a checker has guards, it takes memory for its program.
 /// An image borrows its sectors from the log.
+///
+/// # Errors
+///
+/// Memory was refused.
 pub fn judge_block<'a, J: Run, R: Wait>(
     rt: &R,
     alloc: Global,

@@ -10,7 +10,7 @@ use crate::case_parts::line::read_lines;
 use crate::case_parts::opening::{are_inputs_of_run, read_opening};
 use crate::case_parts::totals::{CaseTotals, are_totals_of_run, is_totals, totals_said};
 use crate::words::before;
-use case_runs::Losses;
+use losses::found::Losses;
 use report::Head;
 use std::alloc::{AllocError, Global};
 use std::marker::Model;

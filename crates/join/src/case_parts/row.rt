@@ -6,7 +6,7 @@ ghost use Rattle.std.specs.Ordering.{nat_cmp};
 ghost use Rattle.join.specs.CaseTexts.{first_of, last_of};
 ghost use Rattle.join.specs.CaseJoining.{IsOfCaseRun, all_cases, run_text};
 ghost use Rattle.join.specs.CaseRows.{IsApart, IsApartAt, IsCasesRow, IsForeignAt, IsManyAt, IsSmallPart, NoneIsApart, NoneIsForeign, RowHasAllCuts, RowLacksCuts, WhyNoCasesRow};
-ghost use Rattle.case_runs.specs.Found.{most_cases};
+ghost use Rattle.losses.specs.FoundCases.{most_cases};
 
 use crate::case_parts::fault::CasesFault;
 use crate::case_parts::heading::{head_between, head_text};

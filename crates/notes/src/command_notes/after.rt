@@ -771,6 +771,10 @@ fn put_work_notes(out: &mut String, words: &Words) -> Result<(), AllocError> {
 /// meant, and what most likely helps, where that is known; of a program that the verifier refuses also what it knew there. Each
 /// line begins with `note: ` (docs/REFUSALS.md, Notes). A program that is refused is verified once more for them, and images are counted
 /// once more where there are too many; where there is no memory for that, it isn't said.
+///
+/// # Errors
+///
+/// Memory was refused.
 pub fn notes_after(
     alloc: Global,
     words: &Words,

@@ -182,6 +182,10 @@ fn put_left_notes(
 /// each write may be dropped, and one with FUA torn while it is in flight), and that an image loses at most one part (`explore` of a whole
 /// run). Each line begins with `note: `; mostly there is none. The log is read once more for them, and where there is no memory for that
 /// nothing is said of it.
+///
+/// # Errors
+///
+/// Memory was refused.
 pub fn notes_beside(
     alloc: Global,
     words: &Words,

@@ -53,6 +53,10 @@ fn put_to(out: &mut String, last: Option<u64>) -> Result<(), AllocError>
 
 /// Appends what is told of the wanted cuts after their kind: the flushes that were added to the log, and the first and the last
 /// cut, each where it was given (docs/OUTPUT.md, The report). Mostly that is nothing.
+///
+/// # Errors
+///
+/// Memory was refused.
 #[tactic(auto, unfolding(crate::specs::Words::cuts_words))]
 pub fn put_cuts_words(out: &mut String, cuts: &Cuts) -> Result<(), AllocError>
     ensures { OnOk result (string_bytes out.new ≡ string_bytes out.old ++ cuts_words cuts.now) }

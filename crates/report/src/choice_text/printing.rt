@@ -9,6 +9,10 @@ use epochs::By;
 use std::alloc::AllocError;
 
 /// Appends what became of a part that is not whole.
+///
+/// # Errors
+///
+/// Memory was refused.
 pub fn put_fate(out: &mut String, fate: Fate) -> Result<(), AllocError>
     ensures { OnOk result (string_bytes out.new ≡ string_bytes out.old ++ fate_text fate) }
 {
@@ -20,6 +24,10 @@ pub fn put_fate(out: &mut String, fate: Fate) -> Result<(), AllocError>
 }
 
 /// Appends a part, by the number of its entry and its place there.
+///
+/// # Errors
+///
+/// Memory was refused.
 #[tactic(auto, unfolding(crate::specs::ChoiceText::part_text))]
 pub fn put_part(out: &mut String, by: By, entry: u32, place: u32) -> Result<(), AllocError>
     ensures { OnOk result (string_bytes out.new ≡ string_bytes out.old ++ part_text by entry place) }
@@ -52,6 +60,10 @@ fn put_next_name(out: &mut String, by: By, name: Name) -> Result<(), AllocError>
 }
 
 /// Appends the names of a choice's departures, joined by commas; a hyphen where there is none.
+///
+/// # Errors
+///
+/// Memory was refused.
 #[tactic(auto, unfolding(crate::specs::ChoiceText::names_text))]
 pub fn put_names(out: &mut String, by: By, names: &[Name]) -> Result<(), AllocError>
     ensures { OnOk result (string_bytes out.new ≡ string_bytes out.old ++ names_text by names.now) }
@@ -80,6 +92,10 @@ fn name_of(departure: Departure) -> Name
 }
 
 /// Appends the departures of a choice, as the report prints them; a hyphen where there is none.
+///
+/// # Errors
+///
+/// Memory was refused.
 #[tactic(auto, unfolding(crate::specs::ChoiceText::names_text))]
 pub fn put_departures(out: &mut String, by: By, departures: &[Departure]) -> Result<(), AllocError>
     ensures { OnOk result (string_bytes out.new ≡ string_bytes out.old ++ departures_text by departures.now) }

@@ -129,6 +129,10 @@ fn names_said(by: By, text: &str) -> Option<ArrayVec<Name, 3>>
 }
 
 /// Whether names are printed to this text, to the byte.
+///
+/// # Errors
+///
+/// Memory was refused.
 pub fn is_text_of(alloc: Global, by: By, names: &[Name], text: &str) -> Result<bool, AllocError>
     ensures { IfOk result (λ same. IsTrue same ↔ (text.now ≡ names_text by names.now)) }
 {

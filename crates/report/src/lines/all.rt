@@ -58,6 +58,10 @@ impl Lines {
     }
 
     /// These lines, and then those of the part.
+    ///
+    /// # Errors
+    ///
+    /// Memory was refused.
     pub fn followed_by(self, part: LinesPart) -> Result<Lines, AllocError>
         ensures { IfOk result (λ lines. lines ≡ self ++ part) }
     {
@@ -91,6 +95,10 @@ impl Lines {
     }
 
     /// Appends the lines as they are printed.
+    ///
+    /// # Errors
+    ///
+    /// Memory was refused.
     pub fn put(&self, out: &mut Vec<u8>) -> Result<(), AllocError>
         ensures { OnOk result (out.new.items ≡ out.old.items ++ flat_map line_text self.now) }
     {
@@ -98,6 +106,10 @@ impl Lines {
     }
 
     /// Appends the lines of the first image as they are printed. The lines are in the order of their images.
+    ///
+    /// # Errors
+    ///
+    /// Memory was refused.
     pub fn put_first(&self, out: &mut Vec<u8>) -> Result<(), AllocError>
         requires { IsNonDecreasing (images_of self.now) }
         ensures { OnOk result (out.new.items ≡ out.old.items ++ flat_map line_text (first_lines self.now)) }

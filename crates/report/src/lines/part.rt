@@ -79,6 +79,10 @@ impl LinesPart {
     }
 
     /// Adds a line at the end. Where memory is wanting, the lines stay as they were.
+    ///
+    /// # Errors
+    ///
+    /// Memory was refused.
     pub fn push(&mut self, line: Line) -> Result<(), AllocError>
         ensures added { OnOk result (self.new ≡ self.old ++ line_value line ∷ []) }
         ensures kept { OnErr result (self.new ≡ self.old) }

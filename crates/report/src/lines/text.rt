@@ -30,6 +30,10 @@ fn put_codes(out: &mut String, codes: &[u64]) -> Result<(), AllocError>
 }
 
 /// Appends what a program ended in.
+///
+/// # Errors
+///
+/// Memory was refused.
 pub fn put_outcome(out: &mut String, outcome: &Outcome) -> Result<(), AllocError>
     ensures { OnOk result (string_bytes out.new ≡ string_bytes out.old ++ ending_text (ending_of outcome.now)) }
 {

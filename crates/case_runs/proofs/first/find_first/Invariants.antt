@@ -1,5 +1,6 @@
 use Rattle.std.proofs.Common.{◌≡◌, ◌+◌}
-use Rattle.case_runs.specs.Found.{AreFirstIn, cases_in, most_cases}
+use Rattle.losses.specs.FoundCases.{cases_in, most_cases}
+use Rattle.case_runs.specs.Found.{AreFirstIn}
 use Rattle.case_runs.specs.First.{NoneFails}
 use Rattle.case_runs.proofs.first.find_first.Given as goal
 

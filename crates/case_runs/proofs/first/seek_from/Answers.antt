@@ -2,7 +2,7 @@ use Rattle.std.proofs.Common.{◌≡◌, ◌∙◌, refl, subst, ap, Option, ari
 use Rattle.cases.specs.AtCut.{CutValue}
 use Rattle.cases.specs.Search.{Asked}
 use Rattle.case_runs.specs.declared.first.Next.{Next}
-use Rattle.case_runs.specs.declared.found.CaseFindings.{CaseFindings}
+use Rattle.losses.specs.declared.found.CaseFindings.{CaseFindings}
 use Rattle.case_runs.specs.Judges.{program_of}
 use Rattle.case_runs.specs.First.{GoesTo, EndsWith}
 use Rattle.case_runs.proofs.Seeking.{PassedSo, passed_none, passes_on, meets_failing, passes_most, all_pass}

@@ -1,5 +1,6 @@
 use Rattle.std.proofs.Common.{◌≡◌, ◌+◌}
-use Rattle.case_runs.specs.Found.{AreFirstAt, cases_at}
+use Rattle.losses.specs.FoundCases.{cases_at}
+use Rattle.case_runs.specs.Found.{AreFirstAt}
 use Rattle.case_runs.proofs.found.find_each.Given as goal
 
 abbrev pub invariant-loop-checker : goal.invariant-loop-checker

@@ -1,5 +1,5 @@
 use Rattle.std.proofs.Common.{◌+◌, Option, MatchOption, subst}
-use Rattle.case_runs.specs.declared.found.CaseFindings.{CaseFindings}
+use Rattle.losses.specs.declared.found.CaseFindings.{CaseFindings}
 use Rattle.case_runs.specs.Found.{IsFoundAt, IsBegunAt}
 use Rattle.case_runs.proofs.Finding.{begun_of}
 use Rattle.case_runs.proofs.found.find_within.Goals as goal

@@ -1,5 +1,6 @@
 use Rattle.std.proofs.Common.{◌≡◌, ◌+◌, All}
-use Rattle.case_runs.specs.Found.{AreFirstIn, cases_in, most_cases}
+use Rattle.losses.specs.FoundCases.{cases_in, most_cases}
+use Rattle.case_runs.specs.Found.{AreFirstIn}
 use Rattle.case_runs.specs.Shares.{IsBegun}
 use Rattle.case_runs.proofs.joining.joined.Given as goal
 

@@ -1,5 +1,6 @@
 use Rattle.std.proofs.Common.{◌≡◌, ◌+◌, All}
-use Rattle.case_runs.specs.Found.{AreFirstAt, cases_at}
+use Rattle.losses.specs.FoundCases.{cases_at}
+use Rattle.case_runs.specs.Found.{AreFirstAt}
 use Rattle.case_runs.specs.Shares.{cut_in, IsBegun}
 use Rattle.case_runs.proofs.joining.joined_each.Given as goal
 

@@ -1,6 +1,6 @@
 use Rattle.std.proofs.Common.{◌≡◌, ◌++◌, length, map}
 use Rattle.std.specs.Vec.Iter.{into_iter_items, into_iter_len}
-use Rattle.case_runs.specs.Leaves.{failing_value}
+use Rattle.losses.specs.FoundCases.{failing_value}
 use Rattle.case_runs.specs.Pieces.{later}
 use Rattle.case_runs.proofs.joining.put_after.Given as goal
 

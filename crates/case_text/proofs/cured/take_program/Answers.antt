@@ -1,7 +1,7 @@
 use Rattle.std.proofs.Common.{◌∙◌, ap, ◌++◌, ◌∷◌, [], get_or, sym, map, take, append_assoc}
 use Rattle.std.proofs.lemmas.List.{take_more}
-use Rattle.case_runs.specs.declared.leaves.FailingCase.{FailingCase}
-use Rattle.case_runs.specs.Leaves.{failing_value}
+use Rattle.losses.specs.declared.found.FailingCase.{FailingCase}
+use Rattle.losses.specs.FoundCases.{failing_value}
 use Rattle.case_text.specs.Cured.{uncured_line}
 use Rattle.case_text.proofs.Curing.{kept_next, failures_next}
 use Rattle.case_text.proofs.cured.take_program.Goals as goal

@@ -1,5 +1,5 @@
 use Rattle.std.proofs.Common.{◌∙◌}
-use Rattle.case_runs.specs.Leaves.{failing_value}
+use Rattle.losses.specs.FoundCases.{failing_value}
 use Rattle.case_text.proofs.Lining.{line_told}
 use Rattle.case_text.proofs.lines.put_case.Goals as goal
 

@@ -1,4 +1,4 @@
-use Rattle.case_runs.specs.Leaves.{failing_value}
+use Rattle.losses.specs.FoundCases.{failing_value}
 use Rattle.case_text.proofs.Telling.{told_is}
 use Rattle.case_text.proofs.told.told_of.Goals as goal
 

@@ -1,4 +1,4 @@
-use Rattle.case_runs.specs.Leaves.{failing_value}
+use Rattle.losses.specs.FoundCases.{failing_value}
 use Rattle.crash_page.proofs.CaseTexts.{case_told}
 use Rattle.crash_page.proofs.case_row.put_case.Goals as goal
 

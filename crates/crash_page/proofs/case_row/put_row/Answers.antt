@@ -1,5 +1,5 @@
 use Rattle.std.proofs.lemmas.Result.{on_ok_weaker}
-use Rattle.case_runs.specs.Leaves.{failing_value}
+use Rattle.losses.specs.FoundCases.{failing_value}
 use Rattle.crash_page.proofs.CaseTexts.{row_written}
 use Rattle.crash_page.proofs.case_row.put_row.Goals as goal
 

@@ -1,5 +1,5 @@
 use Rattle.std.proofs.Common.{ℕ, ◌≡◌, ◌+◌, ◌*◌, List, length, replicate, subst, sym, refl, ◌∙◌, ap, arith}
-use Rattle.plain.specs.Blocks.{overwritten}
+use Rattle.machine.specs.OwnMemory.{overwritten}
 use Rattle.plain.specs.Clean.{IsClean}
 use Rattle.plain.proofs.Clean.{piece_cleared, all_clean}
 use Rattle.plain.proofs.Storing.{length_over}

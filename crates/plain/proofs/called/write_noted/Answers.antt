@@ -1,5 +1,5 @@
 use Rattle.std.proofs.Common.{ℕ, ◌≡◌, ◌+◌, ◌/◌, ◌≤◌, min, List, [], length, get_or, subst, sym, arith}
-use Rattle.plain.specs.Blocks.{overwritten}
+use Rattle.machine.specs.OwnMemory.{overwritten}
 use Rattle.plain.specs.Clean.{IsClean}
 use Rattle.plain.proofs.Clean.{clean_long, clean_at, clean_set, written_clean}
 use Rattle.plain.proofs.Loading.{fits_there}

@@ -1,6 +1,7 @@
 use Rattle.std.proofs.Common.{map}
 use Rattle.interp.specs.Ending.{ending_of}
-use Rattle.case_runs.specs.Leaves.{failing_value, leaf_of}
+use Rattle.losses.specs.FoundCases.{failing_value}
+use Rattle.case_runs.specs.Leaves.{leaf_of}
 use Rattle.case_runs.proofs.Telling.{told_one}
 use Rattle.case_runs.proofs.judge.CaseJudgeJudge.tell.Goals as goal
 

@@ -1,5 +1,5 @@
 use Rattle.std.proofs.Common.{◌≡◌, ◌≤◌, take}
-use Rattle.case_runs.specs.Found.{most_cases}
+use Rattle.losses.specs.FoundCases.{most_cases}
 use Rattle.join.specs.CaseJoining.{all_cases}
 use Rattle.join.proofs.case_parts.row.first_many.Given as goal
 
