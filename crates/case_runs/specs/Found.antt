@@ -1,5 +1,5 @@
 -- What is found at some cuts with some checkers.
-use Rattle.std.specs.Prelude.{ℕ, ◌≡◌, ◌+◌, ◌<◌, ◌≤◌, Bool, true, List, [], length, map, sum_by, slice_get, Some}
+use Rattle.std.specs.Prelude.{ℕ, ◌≡◌, ◌+◌, ◌<◌, ◌≤◌, Bool, true, List, [], length, map, slice_get, Some}
 use Rattle.logfmt.specs.Bounds.{LogValue, IsLog}
 use Rattle.epochs.specs.declared.part.By.{By}
 use Rattle.machine.specs.Outcome.{Ending, fails}
@@ -16,7 +16,7 @@ use Rattle.losses.specs.declared.found.CutFound.{CutFound}
 use Rattle.case_runs.specs.declared.found.SearchFault.{SearchFault}
 use Rattle.case_runs.specs.declared.found.SearchFault.TheVariants as fault
 use Rattle.losses.specs.declared.found.FailingCase.{FailingCase}
-use Rattle.losses.specs.FoundCases.{failing_value}
+use Rattle.losses.specs.FoundCases.{failing_value, most_cases, cases_at, cases_in}
 use Rattle.case_runs.specs.Leaves.{failing_from}
 use Rattle.case_runs.specs.Laws.{subject_at, judged_at}
 

@@ -6,8 +6,8 @@ use Rattle.interp.specs.Ending.{ending_of}
 use Rattle.checker.specs.Checker.{CheckerValue, IsFor}
 use Rattle.checker.specs.Memory.{IsServed}
 use Rattle.cases.specs.Search.{LeafValue}
+use Rattle.losses.specs.FoundCases.{FailingValue}
 use Rattle.case_runs.specs.declared.leaves.ToldLeaf.{ToldLeaf}
-use Rattle.losses.specs.declared.found.FailingCase.{FailingCase}
 
 -- a leaf as it was told
 abbrev pub leaf_of : ToldLeaf → LeafValue
