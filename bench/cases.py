@@ -24,12 +24,15 @@ import time
 from pathlib import Path
 
 sys.dont_write_bytecode = True
+
+import rooms
+
+rooms.enter()
+
+from model import mix
+from notation import F, S, W, log
+
 TOP = Path(__file__).resolve().parent.parent
-sys.path.insert(0, str(TOP / "tests"))
-
-from model import mix  # noqa: E402
-from notation import F, S, W, log  # noqa: E402
-
 # Steps of a checker, how many epochs its log has, and how often a case may cost an image.
 CHECKERS = {20: (4000, 2.0), 1000: (400, 1.3), 20000: (100, 1.3)}
 
@@ -129,7 +132,7 @@ def prepare(program, folder):
     Path(folder, "base").write_bytes(base)
     Path(folder, "pages").write_bytes(log(entries))
     environment = {**os.environ, "PATH": f"{folder}:{os.environ['PATH']}"}
-    words = [TOP / "examples/cc/crashbpf-cc", TOP / "bench/cases.c", "check", "pages.bpf", "--sectors", str(SECTORS)]
+    words = [TOP / "commands/cc/crashbpf-cc", TOP / "bench/cases.c", "check", "pages.bpf", "--sectors", str(SECTORS)]
     subprocess.run(words, cwd=folder, env=environment, check=True, stdout=subprocess.DEVNULL)
 
 

@@ -69,7 +69,7 @@ def measure(built, name, run, folder):
     Path(folder, "trace").write_text("\n".join(trace) + "\n")
     Path(folder, "checker.s").write_text(checker)
     log, checker = f"{folder}/log", f"{folder}/checker"
-    subprocess.run([sys.executable, TOP / "tools/trace_log.py", f"{folder}/trace", log], check=True)
+    subprocess.run([sys.executable, TOP / "commands/record/trace_log.py", f"{folder}/trace", log], check=True)
     Path(checker).write_bytes(subprocess.run([built, "asm", f"{folder}/checker.s"], capture_output=True, check=True).stdout)
 
     def of(command, *more):

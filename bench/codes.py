@@ -28,12 +28,13 @@ from math import exp, log
 from pathlib import Path
 
 sys.dont_write_bytecode = True
-TOP = Path(__file__).resolve().parent.parent
-sys.path.insert(0, str(TOP / "tests"))
-sys.path.insert(0, str(TOP / "tests/rows"))
 
-from checkers import DEVICES, EXAMPLES, device  # noqa: E402
-from machine_model import Ended, Machine  # noqa: E402
+import rooms
+
+rooms.enter()
+
+from rows.checkers import DEVICES, EXAMPLES, device
+from machine_model import Ended, Machine
 
 # Where it may, a program that is timed has a processor of its own.
 ALONE = ["chrt", "-f", "10", "taskset", "-c", "3"]

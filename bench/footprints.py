@@ -23,10 +23,12 @@ import time
 from pathlib import Path
 
 sys.dont_write_bytecode = True
-TOP = Path(__file__).resolve().parent.parent
-sys.path.insert(0, str(TOP / "tests"))
 
-from notation import F, W, log  # noqa: E402
+import rooms
+
+rooms.enter()
+
+from notation import F, W, log
 
 
 def reading(sectors):

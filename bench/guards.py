@@ -16,10 +16,12 @@ import tempfile
 from pathlib import Path
 
 sys.dont_write_bytecode = True
-TOP = Path(__file__).resolve().parent.parent
-sys.path.insert(0, str(TOP / "tests"))
 
-from notation import F, W, log  # noqa: E402
+import rooms
+
+rooms.enter()
+
+from notation import F, W, log
 
 OPTIONS = "--sectors 8 --workers 1"
 LOG = [entry for turn in range(4) for entry in [*(W(turn + at, 1, 1 + 3 * turn + at) for at in range(3)), F]]

@@ -16,10 +16,12 @@ import tempfile
 from pathlib import Path
 
 sys.dont_write_bytecode = True
-TOP = Path(__file__).resolve().parent.parent
-sys.path.insert(0, str(TOP / "tests"))
 
-from notation import SECTOR, F, S, super_block  # noqa: E402
+import rooms
+
+rooms.enter()
+
+from notation import SECTOR, F, S, super_block
 
 MOST, WIDE, PAIRS = 1 << 25, 249, 8000
 CHECKER = """mov64 r1, 0

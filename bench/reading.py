@@ -73,7 +73,7 @@ def write_log(folder):
         made.free += old
     (folder / "bytes").write_bytes(made.bytes)
     (folder / "trace").write_text("\n".join(made.lines) + "\n")
-    subprocess.run([TOP / "tools/trace_log.py", "trace", "log", "--sectors", "512"], cwd=folder, check=True)
+    subprocess.run([TOP / "commands/record/trace_log.py", "trace", "log", "--sectors", "512"], cwd=folder, check=True)
 
 
 def seconds(program, folder):
@@ -96,7 +96,7 @@ def main(words):
         write_log(folder)
         (folder / "crashbpf").symlink_to(programs[0])
         path = {**os.environ, "PATH": f"{folder}:{os.environ['PATH']}"}
-        making = [TOP / "examples/cc/crashbpf-cc", TOP / "bench/pages.c", "check", "pages.bpf", "--sectors", "512"]
+        making = [TOP / "commands/cc/crashbpf-cc", TOP / "bench/pages.c", "check", "pages.bpf", "--sectors", "512"]
         subprocess.run(making, cwd=folder, check=True, capture_output=True, env=path)
         least = [1e9 for _ in programs]
         for _ in range(asked.rounds):

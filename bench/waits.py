@@ -32,10 +32,10 @@ from pathlib import Path
 TOP = Path(__file__).resolve().parent.parent
 EXAMPLES = TOP / "examples"
 CHECKERS = EXAMPLES / "checkers"
-RECORD = EXAMPLES / "record/crashbpf-record"
-FILES = EXAMPLES / "record/crashbpf-files"
-EACH = EXAMPLES / "each/crashbpf-each"
-TRACE_LOG = TOP / "tools/trace_log.py"
+RECORD = TOP / "commands/record/crashbpf-record"
+FILES = TOP / "commands/record/crashbpf-files"
+EACH = TOP / "commands/each/crashbpf-each"
+TRACE_LOG = TOP / "commands/record/trace_log.py"
 SYSTEM = "/usr/bin/python3"
 TURNS = 3
 INTEGRITY = """\

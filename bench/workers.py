@@ -27,11 +27,14 @@ import time
 from pathlib import Path
 
 sys.dont_write_bytecode = True
+
+import rooms
+
+rooms.enter()
+
+from notation import F, W, log
+
 TOP = Path(__file__).resolve().parent.parent
-sys.path.insert(0, str(TOP / "tests"))
-
-from notation import F, W, log  # noqa: E402
-
 ROUNDS = 3
 # Looks at sector 0, which all writes of the logs of lost and torn sectors touch. So no image is told by footprints.
 FIVE_STEPS = "mov64 r1, 0\ncall 5\nmov64 r2, 0\nmov64 r0, 0\nexit\n"

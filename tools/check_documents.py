@@ -48,10 +48,10 @@ new opcode, a new helper and a new fate name each file of code, definitions and 
 apart, in a row of its crate. Tests are left out. They, and those for a new cause and a new option, name each file in which such a
 thing's neighbour is named (tools/plant_dummy.py).
 
-tests/gate_edits.txt names edits of crates/*/wrong/. These and those of must-fail/ are at most EDITS, and no crate has more than
+tests/gate/edits.txt names edits of crates/*/wrong/. These and those of must-fail/ are at most EDITS, and no crate has more than
 OF_CRATE in must-fail/.
 
-The files in docs/completions/ are what tools/completions.py writes of docs/crashbpf.1, which tests/run.py compares with what
+The files in docs/completions/ are what tools/completions.py writes of docs/crashbpf.1, which tests/gate/run.py compares with what
 the program's help says.
 
 Blocks of code, fenced or indented by four spaces, aren't looked at.
@@ -69,6 +69,8 @@ import ledger
 import plant_dummy
 import statement
 
+# The folders of scripts, C sources and examples.
+SCRIPTS = ("commands", "include", "tests", "tools", "bench", "examples")
 # The most lines of README.md, the most characters of each, and its most words.
 LINES, CHARACTERS, WORDS = 130, 100, 1300
 # The most edits that the gate tries, and the most of them in one crate's must-fail/.
@@ -108,8 +110,8 @@ def sources(top):
 
 
 def scripts(top):
-    """Returns the scripts and C sources of tests/, tools/, bench/ and examples/."""
-    for folder in ("tests", "tools", "bench", "examples"):
+    """Returns the scripts and C sources of commands/, include/, tests/, tools/, bench/ and examples/."""
+    for folder in SCRIPTS:
         yield from (it for it in sorted((top / folder).rglob("*")) if it.suffix in (".py", ".sh", ".c", ".h") and "out" not in it.parts)
 
 
@@ -237,7 +239,7 @@ class Repository:
     def words(self):
         """The words of code, proofs, scripts, examples, file names and blocks of code."""
         texts = [*self.texts, *self.texts.values(), (self.top / "crates.txt").read_text(), (self.top / "docs/crashbpf.1").read_text()]
-        for folder in ("tools", "tests", "bench", "examples"):
+        for folder in SCRIPTS:
             for path in (self.top / folder).rglob("*"):
                 texts.append(path.name)
                 if path.suffix in (".py", ".sh", ".c", ".h", ".rs", ".s", ".txt") and "out" not in path.parts:
@@ -335,7 +337,7 @@ def unlisted(repository, page):
 
 def wrong_edits(top):
     """Returns what is wrong with the edits that the gate tries."""
-    lines = [line.partition("#")[0].strip() for line in (top / "tests/gate_edits.txt").read_text().splitlines()]
+    lines = [line.partition("#")[0].strip() for line in (top / "tests/gate/edits.txt").read_text().splitlines()]
     listed = [line for line in lines if line]
     yield from (f"no edit {it} in wrong/" for it in listed if not (top / "crates" / it.replace("/", "/wrong/")).with_suffix(".edit").exists())
     own = {crate: len(list((top / "crates" / crate / "must-fail").glob("*.edit"))) for crate in ledger.crates(top)}
@@ -421,7 +423,7 @@ def findings(top):
             yield from ((file, number, it) for it in [*unknown_documents(top, line), *unknown_sections(top, line)])
     for path in [*files, *scripts(top)]:
         yield from ((path, number, it) for number, it in unknown_places(top, path.read_text(errors="replace")))
-    yield from ((top / "tests/gate_edits.txt", 1, it) for it in wrong_edits(top))
+    yield from ((top / "tests/gate/edits.txt", 1, it) for it in wrong_edits(top))
     repository = Repository(top)
     page = (top / "docs/MAP.md").read_text()
     yield from ((top / "docs/MAP.md", 1, it) for it in [*unlisted(repository, page), *plant_dummy.findings(top, page)])

@@ -3,7 +3,7 @@
 
     tools/completions.py [FOLDER]
 
-takes the helps from docs/crashbpf.1, which tests/run.py compares with the program's own, and writes the files crashbpf.bash,
+takes the helps from docs/crashbpf.1, which tests/gate/run.py compares with the program's own, and writes the files crashbpf.bash,
 _crashbpf (zsh) and crashbpf.fish to FOLDER, docs/completions where it isn't given. tools/check_documents.py compares what
 stands there with what is written here. So a new command or option is completed once the page has it.
 

@@ -4,9 +4,9 @@
     tools/document_tables.py [--check]
 
 writes what stands in the documents of TABLES between each two marks `<!-- made: NAME -->` and `<!-- end: NAME -->`. The options are taken from the
-helps in docs/crashbpf.1, which tests/run.py compares with the program's own. The refusals and the places of refused options are
+helps in docs/crashbpf.1, which tests/gate/run.py compares with the program's own. The refusals and the places of refused options are
 taken from the crates' sources: a number, and the sentence that its note says, or else that of its docstring. With --check nothing is written: each table that isn't as it would be written is named, and the status is then
-1. tests/run.py looks at the same.
+1. tests/gate/run.py looks at the same.
 """
 import re
 import sys

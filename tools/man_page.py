@@ -5,7 +5,7 @@
 
 runs PROGRAM (crates/crashbpf/out/crashbpf where it isn't given) with `--help`, and with each command's `--help`, and prints
 the page: each list of a help with its items in bold, each paragraph filled to the reader's width. docs/crashbpf.1 holds it;
-`man -l docs/crashbpf.1` shows it. tests/run.py compares the two, so help and page stay the same words. tools/completions.py makes of the page what shells complete, and tools/document_tables.py the
+`man -l docs/crashbpf.1` shows it. tests/gate/run.py compares the two, so help and page stay the same words. tools/completions.py makes of the page what shells complete, and tools/document_tables.py the
 tables of docs/.
 """
 import re

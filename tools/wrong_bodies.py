@@ -37,7 +37,7 @@ What isn't refused so is tried once more with what else is left, and then by its
 alone are asked for is tried with the whole crate, to tell whether that is refused elsewhere.
 
 It prints a line for each edit: refused and where, refused elsewhere, not refused, bad edit, or not tried. The last line is
-`N refused, M not`. The status is 0 where M is 0. tests/wrong_bodies.py tests it.
+`N refused, M not`. The status is 0 where M is 0. tests/by_hand/wrong_bodies.py tests it.
 """
 import contextlib
 import os

@@ -1,5 +1,5 @@
 /* The last sector of the device is a copy of the first. */
-#include "../checker.h"
+#include "checker.h"
 
 u64 check(const struct context *context)
 {

@@ -1,5 +1,5 @@
 /* A super block in big-endian order: magic, number of sectors, version, time of the last mount. */
-#include "../checker.h"
+#include "checker.h"
 
 u64 check(const struct context *context)
 {

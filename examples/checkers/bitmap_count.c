@@ -2,7 +2,7 @@
  * As many bits are set in the bitmap of sector 1 as the super block says are in use. The
  * inner loop makes a turn for each set bit, over the whole run at most 4,096.
  */
-#include "../checker.h"
+#include "checker.h"
 
 u64 check(const struct context *context)
 {

@@ -1,5 +1,5 @@
 /* The bitmap of bitmap_count.c, counted by what the compiler has for it. */
-#include "../checker.h"
+#include "checker.h"
 
 u64 check(const struct context *context)
 {

@@ -1,5 +1,5 @@
 /* Each sector begins with its type, and each type has a rule of its own. */
-#include "../checker.h"
+#include "checker.h"
 
 struct header {
 	u8 type, flags;

@@ -3,7 +3,7 @@
  * in place. The data area begins where reserved sectors, tables and root directory
  * end, and the tables have to have room for each of its clusters.
  */
-#include "../checker.h"
+#include "checker.h"
 
 struct __attribute__((packed)) boot_sector {
 	u8 jump[3];

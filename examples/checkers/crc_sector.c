@@ -1,5 +1,5 @@
 /* The last four bytes of sector 0 are the CRC-32C of those before. */
-#include "../checker.h"
+#include "checker.h"
 
 u64 check(const struct context *context)
 {

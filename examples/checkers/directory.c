@@ -2,7 +2,7 @@
  * A block of directory entries as ext2 has them, in sector 3: number of the inode, length of
  * the entry, length of the name, type. The entries fill the block, each holds its name.
  */
-#include "../checker.h"
+#include "checker.h"
 
 struct entry {
 	u32 inode;

@@ -1,5 +1,5 @@
 /* Two names of 16 bytes, whose positions in sector 0 its first words give, are equal. */
-#include "../checker.h"
+#include "checker.h"
 
 INLINED u64 names_equal(u64 one, u64 other)
 {

@@ -63,7 +63,7 @@
  * What a program of clang 14 and of gcc 12 answers is what the native build answers, on 300 of the damaged images; of clang on the
  * 1,800 images of logs too.
  */
-#include "../checker.h"
+#include "checker.h"
 
 #define BLOCKS 8192
 #define INODES 2048

@@ -2,7 +2,7 @@
  * Sector 1 has 64 extents: a start of 48 bits and a length of 16. An extent with a length lies
  * on the device. A function with a pointer is fine where it is INLINED.
  */
-#include "../checker.h"
+#include "checker.h"
 
 INLINED u64 start_of(const u8 *extent)
 {

@@ -56,7 +56,7 @@
  * What programs of clang 14 and of gcc 12 answer, with AS_FSCK and without, is what the native builds answer, on 300 of the damaged
  * images; those of clang on the 2,100 images of logs too.
  */
-#include "../checker.h"
+#include "checker.h"
 
 #define CLUSTERS 131072
 #define DIRECTORIES 2048

@@ -2,7 +2,7 @@
  * A list of free blocks: the super block has the number of the first one and how many
  * there are, each block has a magic and the number of the next one, 0 ends it.
  */
-#include "../checker.h"
+#include "checker.h"
 
 u64 check(const struct context *context)
 {

@@ -1,5 +1,5 @@
 /* Sectors 2 to 9 have four inodes each. One that is in use has links, and data if it has a size. */
-#include "../checker.h"
+#include "checker.h"
 
 struct inode {
 	u16 mode, links;

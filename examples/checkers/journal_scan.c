@@ -2,7 +2,7 @@
  * Records from sector 1 on, one a sector, with rising numbers from that of the super block
  * on; the first sector without the magic ends them. There are as many as marks were passed.
  */
-#include "../checker.h"
+#include "checker.h"
 
 u64 check(const struct context *context)
 {

@@ -28,7 +28,7 @@
  * that is free and in use (15), or a lost commit (17). With --tears the right log has failing images too: LMDB trusts
  * that a meta page arrives whole or not at all, and it has no checksum.
  */
-#include "../checker.h"
+#include "checker.h"
 
 #define MAGIC 0xbeefc0de
 #define VERSION 1

@@ -2,7 +2,7 @@
  * Two commit blocks in the middle of the device, of which recovery takes the valid one with
  * the greater generation. It trusts what that one says. Each rule has an answer of its own.
  */
-#include "../checker.h"
+#include "checker.h"
 
 struct commit {
 	u32 magic, sum;

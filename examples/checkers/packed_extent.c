@@ -2,7 +2,7 @@
  * An extent in one word: 40 bits of start, 16 of length, 8 of flags. The length is a power of two,
  * the start is aligned to it, the top flag isn't set, and the number of set bits is even.
  */
-#include "../checker.h"
+#include "checker.h"
 
 u64 check(const struct context *context)
 {

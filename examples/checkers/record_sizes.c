@@ -1,5 +1,5 @@
 /* A sector of records of one type: that many of the type's size have to fit after the header. */
-#include "../checker.h"
+#include "checker.h"
 
 INLINED u64 size_of_type(u64 type)
 {

@@ -2,7 +2,7 @@
  * Records of 24 bytes from sector 1 on, one after the other, also over the end of a sector:
  * number, length, kind, and the three xored. The first with number 0 ends them.
  */
-#include "../checker.h"
+#include "checker.h"
 
 struct record {
 	u64 number;

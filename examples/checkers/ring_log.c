@@ -2,7 +2,7 @@
  * A log in a ring of blocks, from tail to head, with consecutive sequence numbers: the
  * super block has where the ring begins, its length, head, tail, and the number at the tail.
  */
-#include "../checker.h"
+#include "checker.h"
 
 struct super_block {
 	u32 magic, first, length, head, tail, sequence;

@@ -30,7 +30,7 @@
  * The ten others lack a commit, which integrity_check doesn't know. Of the five that it passes three have an index with other
  * rows than its table, and as many, and two a partial index with too few or too many.
  */
-#include "../checker.h"
+#include "checker.h"
 
 /* Where the two files lie on the device, as files.h of the recording has it, and their lengths in bytes. */
 #define DATABASE (512 * 0ull)

@@ -1,5 +1,5 @@
 /* The first four words of sector 0 add up to the fifth. Four turns need no TURN. */
-#include "../checker.h"
+#include "checker.h"
 
 u64 check(const struct context *context)
 {

@@ -1,5 +1,5 @@
 /* A binary search over the 64 keys of sector 1 finds the key of the super block. */
-#include "../checker.h"
+#include "checker.h"
 
 u64 check(const struct context *context)
 {

@@ -2,7 +2,7 @@
  * A super block at the start of the device: magic, version, size of a sector as a
  * power of two, number of sectors. Little-endian fields of four sizes.
  */
-#include "../checker.h"
+#include "checker.h"
 
 u64 check(const struct context *context)
 {

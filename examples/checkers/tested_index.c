@@ -1,5 +1,5 @@
 /* An index from the disk has to be below 128, and the word of sector 1 at it isn't 0. */
-#include "../checker.h"
+#include "checker.h"
 
 u64 check(const struct context *context)
 {

@@ -2,7 +2,7 @@
  * The way from the root of a B-tree to the leaf that has the key of the super block. A node has
  * its level, the number of its entries, its own sector, and up to 31 entries: a key and a child.
  */
-#include "../checker.h"
+#include "checker.h"
 
 struct node {
 	u16 level, count;

@@ -1,5 +1,5 @@
 /* Two copies of a header that may differ in their first word alone, compared word by word. */
-#include "../checker.h"
+#include "checker.h"
 
 u64 check(const struct context *context)
 {

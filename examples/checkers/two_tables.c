@@ -2,7 +2,7 @@
  * Two tables, in sectors 1 and 2, each of 63 words and their sum. One function goes over both. It is
  * LOCAL, so it stands in the program once; what it is given and what it answers are numbers.
  */
-#include "../checker.h"
+#include "checker.h"
 
 LOCAL(check) u64 fault_of(u64 table, u64 answer)
 {

@@ -2,7 +2,7 @@
  * Sector 1 has the type of each of 512 blocks, 0 to 7; bytes 64 to 79 of sector 0 have how
  * many there are of each. A pass for each type, in place of eight counters in an array.
  */
-#include "../checker.h"
+#include "checker.h"
 
 u64 check(const struct context *context)
 {

@@ -1,5 +1,5 @@
 /* The label at byte 120 is printable, and zeros from its end to byte 135, with at least one. */
-#include "../checker.h"
+#include "checker.h"
 
 u64 check(const struct context *context)
 {

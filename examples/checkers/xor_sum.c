@@ -1,5 +1,5 @@
 /* The words of sector 0, xored, are 0. */
-#include "../checker.h"
+#include "checker.h"
 
 u64 check(const struct context *context)
 {

@@ -2,7 +2,7 @@
  * The checker of checker.s, in C: pages with a double-write buffer, as their
  * recovery reads them.
  */
-#include "../checker.h"
+#include "checker.h"
 
 struct page {
 	u64 version;	/* from 1 on; 0: it was never written */

@@ -3,9 +3,9 @@
  * entry, so the first read of it is refused 50. It is cured by INLINED, or by a position in place of the
  * pointer: u64 number_at(u64 position).
  *
- *     examples/cc/crashbpf-cc examples/refused/not_inlined.c not_inlined not_inlined.bpf
+ *     commands/cc/crashbpf-cc examples/refused/not_inlined.c not_inlined not_inlined.bpf
  */
-#include "../checker.h"
+#include "checker.h"
 
 LOCAL(not_inlined) u64 number_at(const u8 *bytes)
 {

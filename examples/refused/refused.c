@@ -2,11 +2,11 @@
  * Pieces of C as people write them first, each with the number by which it is refused,
  * and its cure after it. What each is about stands in docs/CHECKERS.md, 'Refusals'.
  *
- *     examples/cc/crashbpf-cc examples/refused/refused.c NAME NAME.bpf --turns 0
+ *     commands/cc/crashbpf-cc examples/refused/refused.c NAME NAME.bpf --turns 0
  *
  * NAME.bpf beside this file is what clang 14.0.6 made of the function NAME.
  */
-#include "../checker.h"
+#include "checker.h"
 
 /* 40: the compiler was told that turns are never spent, so nothing stands where that leads. */
 u64 nowhere(const struct context *context)

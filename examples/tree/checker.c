@@ -1,7 +1,7 @@
 /*
  * The checker of checker.s, in C: a copy-on-write tree, as its recovery reads it.
  */
-#include "../checker.h"
+#include "checker.h"
 
 struct header {
 	u64 commit;	/* the last one */

@@ -2,7 +2,7 @@
  * The checker of README.md: the root node that the header names is there.
  * checker.c looks at the leaves too, and at what was acknowledged.
  */
-#include "../checker.h"
+#include "checker.h"
 
 u64 check(const struct context *context)
 {

@@ -2,7 +2,7 @@
  * The checker of checker.s, in C: a device of two commit slots, as its recovery
  * reads it.
  */
-#include "../checker.h"
+#include "checker.h"
 
 struct slot {
 	u64 number;	/* of the commit, from 1 on */

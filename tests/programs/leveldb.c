@@ -1,4 +1,4 @@
-/* A LevelDB of tests/real_programs.py: `write FOLDER sync|loose COUNT..` makes commits of these numbers, each of two keys and
+/* A LevelDB of tests/by_hand/real_programs.py: `write FOLDER sync|loose COUNT..` makes commits of these numbers, each of two keys and
  * acknowledged by a mark; `read FOLDER` says which is the last. */
 #include <leveldb/c.h>
 #include <stdio.h>

@@ -1,4 +1,4 @@
-/* An LMDB of tests/real_programs.py: `write FOLDER FLAGS COUNT` makes commits, each acknowledged by a mark; `read FOLDER` says
+/* An LMDB of tests/by_hand/real_programs.py: `write FOLDER FLAGS COUNT` makes commits, each acknowledged by a mark; `read FOLDER` says
  * what is there. */
 #include <lmdb.h>
 #include <stdio.h>

@@ -1,4 +1,4 @@
-/* Makes the calls on files that its lines say, in a folder: a program of tests/names_in_guest.py.
+/* Makes the calls on files that its lines say, in a folder: a program of tests/by_hand/names_in_guest.py.
  *
  *     names FOLDER <LINES
  *     names list FOLDER

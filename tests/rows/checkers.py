@@ -1,7 +1,7 @@
 """The checkers in C of examples/checkers and examples/refused: what the verifier says of their stored bytes, and what
 those of examples/checkers answer on devices that are good and on devices that aren't.
 
-The bytes are what clang 14.0.6 made of the sources by examples/cc; no compiler is needed here. Budgets are held to the
+The bytes are what clang 14.0.6 made of the sources by commands/cc; no compiler is needed here. Budgets are held to the
 rule of docs/VERIFIER.md ('Budget'), which stands here once more (`by_rule`). The slots of refused programs were read from
 their listings: each is the instruction that breaks the rule.
 """

@@ -1,5 +1,5 @@
 """Each option of each command: two runs that differ in it alone, and where what they print differs. So no option is ignored in
-silence. The commands and their options are those of the program's own help: one without a pair here is told by tests/run.py."""
+silence. The commands and their options are those of the program's own help: one without a pair here is told by tests/gate/run.py."""
 # Seen to fail for planted bugs: `--from` and `--to` without a parser, `--list` without `--guards`, an option of another name.
 import re
 

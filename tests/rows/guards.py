@@ -283,7 +283,7 @@ NOTED = [
         notes=[
             "slot 0: call 12",
             "there is no helper of that number, with --guards only 1 to 11 (docs/MACHINE.md, Helpers)",
-            "take those of examples/checker.h, not Linux's",
+            "take those of include/checker.h, not Linux's",
         ],
     ),
 ]

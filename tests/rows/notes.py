@@ -463,7 +463,7 @@ RULES = [
         "58 at 0",
         "slot 0: call 8",
         "there is no helper of that number, only 1 to 7, and with --guards 8 to 11 (docs/MACHINE.md, Helpers)",
-        "take those of examples/checker.h, not Linux's; its checksums take --guards",
+        "take those of include/checker.h, not Linux's; its checksums take --guards",
     ),
 ]
 

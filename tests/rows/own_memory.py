@@ -526,7 +526,7 @@ def lacking(helper, name):
 
 NO_HELPER = [
     "there is no helper of that number, with --guards only 1 to 11 (docs/MACHINE.md, Helpers)",
-    "take those of examples/checker.h, not Linux's",
+    "take those of include/checker.h, not Linux's",
 ]
 OF_FEWER = [
     "there is no helper of that number, only 1 to 7, and with --guards 8 to 11 (docs/MACHINE.md, Helpers)",

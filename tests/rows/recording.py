@@ -1,10 +1,9 @@
-"""Logs that tools/trace_log.py makes of traces, and the ext4 that was recorded: examples/recording/mkfs.trace, the same with
+"""Logs that commands/record/trace_log.py makes of traces, and the ext4 that was recorded: examples/recording/mkfs.trace, the same with
 its mark too early, and the checker of its super block.
 
-What the tool makes of a trace byte by byte is tested by tests/trace_log.py, which needs no program.
+What the tool makes of a trace byte by byte is tested by tests/gate/trace_log.py, which needs no program.
 """
 import struct
-import sys
 
 import model
 from model import Checker, Run, explored
@@ -12,8 +11,7 @@ from notation import DISCARD, MARK, SECTOR, TOP, D, Entry, F, Long, M, Row, S, W
 from rows.checkers import accepted, crc32c, judged, u16, u32
 from rows.worked import torn
 
-sys.path.insert(0, str(TOP / "tools"))
-import trace_log
+from commands.record import trace_log
 
 FOLDER = TOP / "examples/recording"
 LARGEST = 16384

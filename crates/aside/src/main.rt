@@ -9,7 +9,7 @@
 //! | `aside all` | the last two, one after the other |
 //! | `aside` | prints the names of the logs |
 //!
-//! The gate runs it with the words of `args`, on the files of examples/, which lie in `data`. `tests/memory.py`
+//! The gate runs it with the words of `args`, on the files of examples/, which lie in `data`. `tests/gate/memory.py`
 //! refuses each allocation of `aside calls` in turn, up to the last one.
 //!
 //! # Place

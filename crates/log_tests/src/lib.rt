@@ -1,6 +1,6 @@
 //! Tests of the public calls that a run goes through, from a log to its failing lines: what no run of the
 //! program shows, and each call that takes memory once on its happy path. What the program shows is tested by
-//! tests/run.py.
+//! tests/gate/run.py.
 //!
 //! A crate with tests of its own is proved twice, so they stand here, over the finished work of the
 //! others. Each file has the tests of one crate; `log_text` builds the texts of logs that several of them

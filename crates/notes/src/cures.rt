@@ -73,7 +73,7 @@ pub fn verifier_cure(cause: VerifierCause) -> &'static str {
         }
         VerifierCause::FramePointer => "leave r10 to the compiler",
         VerifierCause::UnknownHelper => {
-            "take those of examples/checker.h, not Linux's; its checksums take --guards"
+            "take those of include/checker.h, not Linux's; its checksums take --guards"
         }
         _ => "",
     }
@@ -86,7 +86,7 @@ pub fn guarded_cure(cause: VerifierCause) -> &'static str {
             "give each variable a value, in C on each path; a checker has one parameter, the context"
         }
         VerifierCause::HelperArgument => "copy takes a constant length from 1 to 512",
-        VerifierCause::UnknownHelper => "take those of examples/checker.h, not Linux's",
+        VerifierCause::UnknownHelper => "take those of include/checker.h, not Linux's",
         _ => verifier_cure(cause),
     }
 }

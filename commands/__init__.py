@@ -1,0 +1,9 @@
+"""What is installed beside the program. Each command has a folder, with its script and the modules of it alone:
+
+    cc/        crashbpf-cc compiles a checker written in C
+    each/      crashbpf-each gives each image of a log to a program
+    record/    crashbpf-record records what a program writes, crashbpf-files runs a program on the files of an image
+
+A script finds modules in one way. It puts the folder above this one in front of Python's path, and names each module from
+there, as `commands.each.stream`. In a package that folder is share/crashbpf.
+"""

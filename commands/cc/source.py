@@ -1,0 +1,318 @@
+"""A C file after the preprocessor: its functions and loops, and the same text with other attributes and with turns.
+
+Nothing is known of types: a function is told by its shape, a loop by its word. The line markers of the preprocessor
+(`# 12 "checker.c"`) stay where they are, so each place keeps its file and line.
+"""
+import re
+from dataclasses import dataclass
+
+from commands.cc.program import Refusal
+
+TOKEN = re.compile(
+    r"""(?P<marker>^\#[^\n]*)|(?P<space>\s+)|(?P<word>[A-Za-z_$][\w$]*)|(?P<number>\.?\d(?:[eEpP][+-]|[\w.])*)"""
+    r"""|(?P<text>"(?:\\.|[^"\\\n])*"|'(?:\\.|[^'\\\n])*')|(?P<sign>.)""",
+    re.M | re.S,
+)
+MARKER = re.compile(r'#\s*(?:line\s+)?(\d+)(?:\s+"((?:\\.|[^"\\])*)")?')
+CLOSES = {"(": ")", "[": "]", "{": "}"}
+# Words in front of parentheses that are no parameters.
+NO_NAMES = {"__attribute__", "__attribute", "asm", "__asm__", "__asm", "_Alignas", "typeof", "__typeof__", "__typeof", "_Static_assert"}
+LOOPS = {"for", "while", "do"}
+# From here on a compiler knows of a number only what its type says, and has it in a whole register where it is unsigned.
+KEEP = (
+    "if (sizeof(NAME) < 8 && (__typeof__(NAME))-1 > 0) { "
+    "unsigned long long kept_ = (unsigned long long)(NAME); __asm__ volatile(\"\" : \"+r\"(kept_)); "
+    "if (kept_ > (__typeof__(NAME))-1) __builtin_unreachable(); NAME = (__typeof__(NAME))kept_; "
+    "} else __asm__ volatile(\"\" : \"+r\"(NAME));"
+)
+
+
+class Unread(Refusal):
+    """A place that the parser makes nothing of."""
+
+
+@dataclass
+class Token:
+    text: str
+    start: int
+    end: int
+    file: str
+    line: int
+
+
+@dataclass
+class Function:
+    name: str
+    declared: int  # tokens: where its declaration begins, its body, and where that ends
+    body: int
+    end: int
+
+
+@dataclass
+class Loop:
+    word: str
+    file: str
+    line: int
+    last_line: int
+    body: int  # the token with which the body begins
+    condition: tuple  # the tokens of the condition: first, and the one after
+    tokens: tuple
+    function: str
+
+    def place(self):
+        return (self.file, self.line)
+
+    def has(self, file, line):
+        return self.file == file and self.line <= line <= self.last_line
+
+
+def tokens_of(text):
+    found, file, line = [], "", 1
+    for it in TOKEN.finditer(text):
+        if it.lastgroup == "marker":
+            marker = MARKER.match(it[0])
+            if marker:
+                line, file = int(marker[1]) - 1, file if marker[2] is None else marker[2]
+            continue
+        if it.lastgroup != "space":
+            found.append(Token(it[0], it.start(), it.end(), file, line))
+        line += it[0].count("\n")
+    return found
+
+
+class Source:
+    """The text, its functions, and the loops in them, outer ones in front of inner ones."""
+
+    def __init__(self, text):
+        self.text = text
+        self.tokens = tokens_of(text)
+        self.functions, self.loops = [], []
+        try:
+            self.outside()
+        except RecursionError:
+            raise Unread("its brackets stand too deep within each other") from None
+
+    def word(self, at):
+        return self.tokens[at].text if at < len(self.tokens) else ""
+
+    def closed(self, at):
+        """The token after the bracket that closes the one at this place."""
+        opened = []
+        while at < len(self.tokens):
+            word = self.word(at)
+            if word in CLOSES:
+                opened.append(CLOSES[word])
+            elif opened and word == opened[-1]:
+                opened.pop()
+                if not opened:
+                    return at + 1
+            at += 1
+        raise Unread("a bracket isn't closed")
+
+    def outside(self):
+        """What stands outside of functions."""
+        start = at = 0
+        name = None
+        while at < len(self.tokens):
+            word = self.word(at)
+            if word in ("(", "["):
+                before = self.tokens[at - 1].text if at > start else ""
+                if word == "(" and name is None and re.match(r"[A-Za-z_]", before) and before not in NO_NAMES:
+                    name = before
+                at = self.closed(at)
+            elif word == "{":
+                end = self.closed(at)
+                if name is not None and not any(it.text == "=" for it in self.tokens[start:at]):
+                    self.function(Function(name, start, at, end))
+                    start, name = end, None
+                at = end
+            else:
+                at += 1
+                if word == ";":
+                    start, name = at, None
+
+    def function(self, found):
+        self.functions.append(found)
+        at = found.body + 1
+        while at < found.end - 1:
+            at = self.statement(at)
+
+    def block(self, at):
+        """The statements of a block, which begins at this token; the token after it."""
+        end = self.closed(at)
+        at += 1
+        while at < end - 1:
+            at = self.statement(at)
+        return end
+
+    def statement(self, at):
+        """Goes over a statement, and answers the token after it."""
+        word = self.word(at)
+        if word == "{":
+            return self.block(at)
+        if word in LOOPS:
+            return self.loop(at)
+        if word in ("if", "switch"):
+            at = self.statement(self.expression(at + 1))
+            return self.statement(at + 1) if word == "if" and self.word(at) == "else" else at
+        if word in ("case", "default"):
+            while self.word(at) != ":":
+                at = self.closed(at) if self.word(at) in CLOSES else at + 1
+            return self.statement(at + 1) if self.word(at + 1) != "}" else at + 1
+        if self.word(at + 1) == ":" and re.match(r"[A-Za-z_]", word):
+            return self.statement(at + 2) if self.word(at + 2) != "}" else at + 2
+        while self.word(at) != ";":
+            if at >= len(self.tokens):
+                raise Unread("a statement has no end")
+            at = self.expression(at) if self.word(at) in CLOSES else at + 1
+        return at + 1
+
+    def expression(self, at):
+        """Goes over what stands in brackets, blocks in parentheses too."""
+        end = self.closed(at)
+        at += 1
+        while at < end - 1:
+            if self.word(at) == "{" and self.word(at - 1) == "(":
+                at = self.block(at)
+            elif self.word(at) in CLOSES:
+                at = self.expression(at)
+            else:
+                at += 1
+        return end
+
+    def loop(self, at):
+        """A loop; it stands in the list in front of those within it."""
+        first, place = at, len(self.loops)
+        self.loops.append(None)
+        word = self.word(at)
+        if word == "do":
+            body = at + 1
+            after = self.statement(body)
+            if self.word(after) != "while":
+                raise Unread("a do has no while")
+            condition = (after + 2, self.closed(after + 1) - 1)
+            end = self.closed(after + 1) + 1
+        else:
+            body = self.expression(at + 1)
+            condition = (at + 2, body - 1) if word == "while" else self.middle(at + 2, body - 1)
+            end = self.statement(body)
+        line, last = self.tokens[first].line, self.tokens[end - 1].line
+        name = self.functions[-1].name
+        self.loops[place] = Loop(word, self.tokens[first].file, line, last, body, condition, (first, end), name)
+        return end
+
+    def middle(self, at, end):
+        """The condition of a for: what stands between its semicolons."""
+        found = []
+        start = at
+        while at < end:
+            if self.word(at) == ";":
+                found.append((start, at))
+                start = at + 1
+            at = self.closed(at) if self.word(at) in CLOSES else at + 1
+        if len(found) != 2:
+            raise Unread("a for has no two semicolons")
+        return found[1]
+
+    def is_local(self, function):
+        """Whether it stays a function: LOCAL gives it a section."""
+        return any(it.text in ("section", "__section__") for it in self.tokens[function.declared : function.body])
+
+    def is_hidden(self, function):
+        """Whether the compiler leaves it out where nobody calls it."""
+        words = {it.text for it in self.tokens[function.declared : function.body]}
+        return bool(words & {"static", "inline", "__inline", "__inline__"})
+
+    def inlined(self, checker):
+        """Edits that inline each function but the checker and the LOCAL ones: a place, how much goes, what comes."""
+        for it in self.functions:
+            if it.name == checker or self.is_local(it):
+                continue
+            inner = self.tokens[it.declared : it.body]
+            for token in inner:
+                if token.text in ("noinline", "__noinline__"):
+                    yield token.start, token.end, "__unused__"
+            words = {token.text for token in inner}
+            attributes = ["__attribute__((__always_inline__))"] if not words & {"always_inline", "__always_inline__"} else []
+            inline = ["inline"] if not words & {"inline", "__inline", "__inline__"} else []
+            static = ["static"] if "static" not in words else []
+            if "extern" not in words:
+                yield inner[0].start, inner[0].start, " ".join([*attributes, *static, *inline, ""])
+
+    def turned(self, loop, text):
+        """An edit that puts the statement `text` in front of the body of a loop."""
+        at = self.tokens[loop.body].start
+        return at, at, f"if (({{ {text} 0; }})) ; else "
+
+    def kept(self, loop):
+        """Edits after which the compiler knows nothing of the variables of a loop's condition where that is tested."""
+        first, end = loop.condition
+        names = self.variables(loop)
+        if not names or first == end:
+            return
+        keep = " ".join(KEEP.replace("NAME", it) for it in names)
+        yield self.tokens[first].start, self.tokens[first].start, f"(({{ {keep} 1; }}) && ("
+        yield self.tokens[end].start, self.tokens[end].start, "))"
+
+    def words(self, tokens):
+        """The words of these tokens, and of the functions that they name, and these name."""
+        found = {it.text for it in self.tokens[slice(*tokens)]}
+        left = list(self.functions)
+        while named := [it for it in left if it.name in found]:
+            left = [it for it in left if it.name not in found]
+            found |= {token.text for it in named for token in self.tokens[it.body : it.end]}
+        return found
+
+    def apart(self, loops):
+        """The loops in groups in which none stands in another, nor in a function that another calls."""
+        words = [self.words(it.tokens) for it in loops]
+        groups = []
+        for at, loop in enumerate(loops):
+            for group in groups:
+                if not any(self.has(loops[it], words[it], loop) or self.has(loop, words[at], loops[it]) for it in group):
+                    group.append(at)
+                    break
+            else:
+                groups.append([at])
+        return [[loops[at] for at in group] for group in groups]
+
+    def has(self, outer, words, inner):
+        """Whether a loop, of these words, has another one."""
+        return inner.function in words or (outer.tokens[0] < inner.tokens[0] and inner.tokens[1] <= outer.tokens[1])
+
+    def variables(self, loop):
+        """The names in the condition that the loop changes."""
+        inside = [it.text for it in self.tokens[loop.tokens[0] : loop.tokens[1]]]
+        found = []
+        for at in range(*loop.condition):
+            name = self.word(at)
+            alone = self.word(at - 1) not in (".", ">") and self.word(at + 1) not in ("(", "[", ".")
+            arrow = self.word(at + 1) == "-" and self.word(at + 2) == ">"
+            if re.match(r"[A-Za-z_]", name) and alone and not arrow and name not in found and is_changed(inside, name):
+                found.append(name)
+        return found
+
+    def edited(self, edits):
+        """The text after edits, which don't overlap."""
+        out, at = [], 0
+        for start, end, text in sorted(edits, key=lambda it: it[:2]):
+            out += [self.text[at:start], text]
+            at = end
+        return "".join(out) + self.text[at:]
+
+
+def is_changed(words, name):
+    """Whether these words give the variable another value."""
+    for at, word in enumerate(words):
+        if word != name:
+            continue
+        after, before = words[at + 1 : at + 4], words[max(0, at - 2) : at]
+        if before in (["+", "+"], ["-", "-"]) or after[:2] in (["+", "+"], ["-", "-"]):
+            return True
+        if after[:1] == ["="] and after[1:2] != ["="]:
+            return True
+        if after[1:2] == ["="] and after[0] in "+-*/%&|^":
+            return True
+        if after[:2] in (["<", "<"], [">", ">"]) and after[2:3] == ["="]:
+            return True
+    return False

@@ -1,0 +1,99 @@
+"""What is asked of crashbpf: the head of the report and how many images there are, the texts of the marks, and the images."""
+import os
+import re
+import shutil
+import subprocess
+import tempfile
+from pathlib import Path
+
+from commands.each.faults import Refusal
+from commands.each.words import OF_LOG
+
+# A program of one instruction, `exit`: with `--checked 0` it takes no step, so that crashbpf tells what a run is without one.
+EXIT = b"\x95" + bytes(7)
+PART = re.compile(r"part 0\.\.[01] of (0|[1-9]\d*) inputs \d+", re.A)
+MARK = re.compile(rb'entry \d+ .*\bmark\b.* text "(.*)"')
+NO_IMAGE = "refused 13 at 17"
+
+
+def found():
+    """Returns the path of crashbpf: the one of $CRASHBPF, that beside this program, or that on the path."""
+    named = os.environ.get("CRASHBPF") or "crashbpf"
+    path = shutil.which(named)
+    if path is None:
+        raise Refusal(f"there is no program {named} on the path")
+    return path
+
+
+def first_line(said):
+    """Returns the first line of what crashbpf said on standard error, or that it said nothing."""
+    lines = [it for it in said.decode(errors="replace").splitlines() if it and not it.startswith("note: ")]
+    return lines[0] if lines else "it says nothing"
+
+
+def asked(program, words):
+    """Runs crashbpf, and returns its status and what it printed on both outputs."""
+    try:
+        done = subprocess.run([program, *words], stdin=subprocess.DEVNULL, capture_output=True)
+    except (OSError, ValueError) as error:
+        raise Refusal(f"{program} can't be run: {error}") from None
+    return done.returncode, done.stdout, done.stderr
+
+
+def head(program, given, folder):
+    """Returns the line of the options, as the report has it, and the number of all images. A file is made in the folder, and taken away."""
+    path = Path(folder, "exit")
+    path.write_bytes(EXIT)
+    first = ["--first"] if given.first else []
+    for images in ("0..1", "0..0"):
+        words = ["explore", *given.of_images(), str(path), "--checked", "0", "--images", images, *first]
+        status, printed, said = asked(program, words)
+        if status != 2 or first_line(said) != NO_IMAGE:
+            break
+    path.unlink()
+    lines = printed.decode(errors="replace").split("\n")
+    part = PART.fullmatch(lines[1]) if status in (0, 1) and len(lines) > 3 else None
+    if not part or lines[0] != "crash part 1" or not lines[2].startswith("sectors "):
+        raise Refusal(f"crashbpf refuses the log {given.log}, or its options: {first_line(said)}")
+    return lines[2], int(part[1])
+
+
+def marks(program, given):
+    """Returns the text of each mark of the log, in order, as `crashbpf log` prints it."""
+    status, printed, said = asked(program, ["log", *given.of_images(OF_LOG)])
+    if status != 0:
+        raise Refusal(f"crashbpf refuses the log {given.log}: {first_line(said)}")
+    return [it[1] for it in map(MARK.fullmatch, printed.split(b"\n")) if it]
+
+
+class Export:
+    """The process of `crashbpf export`, and its output as a file."""
+
+    def __init__(self, program, given):
+        self.said = tempfile.TemporaryFile()
+        words = [program, "export", *given.of_images()]
+        self.process = subprocess.Popen(words, stdin=subprocess.DEVNULL, stdout=subprocess.PIPE, stderr=self.said, bufsize=1 << 20, start_new_session=True)
+        self.file = self.process.stdout
+
+    def end_in_order(self):
+        """Waits for the end of the process, whose status has to be 0."""
+        status = self.process.wait()
+        if status != 0:
+            raise Refusal(f"crashbpf export ended with {status}: {self.first_line()}")
+
+    def status_now(self):
+        """Returns the status of the process where it has ended, or is about to, and None where it goes on."""
+        try:
+            return self.process.wait(1)
+        except subprocess.TimeoutExpired:
+            return None
+
+    def first_line(self):
+        self.said.seek(0)
+        return first_line(self.said.read(65536))
+
+    def close(self):
+        self.process.kill()
+        self.process.wait()
+        self.file.close()
+        self.said.close()

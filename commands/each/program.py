@@ -1,0 +1,144 @@
+"""One run of the program that judges: what it ended in, and what it printed. Nothing that it started is left running."""
+import contextlib
+import os
+import select
+import signal
+import time
+from typing import NamedTuple
+
+from commands.each.faults import Refusal
+from commands.each.verdicts import TIMED_OUT, Verdict
+
+# How much of what a program prints is kept, and how long the end of what it left running may take.
+MOST_SAID = 1 << 16
+PATIENCE = 10.0
+# These are at their default in a program, though this one, or what started it, has them otherwise.
+RESET = (signal.SIGINT, signal.SIGTERM, signal.SIGHUP, signal.SIGQUIT, signal.SIGPIPE, signal.SIGXFSZ)
+
+
+class Ended(NamedTuple):
+    """The verdict, the beginning of what was printed, how many bytes more it was, and whether processes were left."""
+
+    verdict: Verdict
+    said: bytes
+    more: int
+    left: bool
+
+
+class Gone(Exception):
+    """Nobody waits for the verdict any more."""
+
+
+def start(words, surroundings, output, nothing):
+    """Starts the program in a session of its own, and returns its number."""
+    actions = [(os.POSIX_SPAWN_DUP2, nothing, 0), (os.POSIX_SPAWN_DUP2, output, 1), (os.POSIX_SPAWN_DUP2, output, 2)]
+    try:
+        return os.posix_spawnp(words[0], words, surroundings, file_actions=actions, setsid=True, setsigmask=[], setsigdef=RESET)
+    except (OSError, ValueError) as error:
+        raise Refusal(f"the program can't be run: {error}") from None
+
+
+class Said:
+    """What is printed, as far as it is kept."""
+
+    def __init__(self, file):
+        self.file, self.kept, self.more = file, b"", 0
+
+    def read(self):
+        """Takes what is there, and returns whether more may come."""
+        try:
+            data = os.read(self.file, MOST_SAID)
+        except BlockingIOError:
+            return False
+        room = MOST_SAID - len(self.kept)
+        self.kept += data[:room]
+        self.more += len(data[room:])
+        return bool(data)
+
+    def read_rest(self):
+        """Takes what was printed until now, though another may hold the pipe open; no more than a pipe can hold."""
+        os.set_blocking(self.file, False)
+        for _ in range(64):
+            if not self.read():
+                break
+
+
+def watch(process, said, hang_up, seconds):
+    """Waits until the process has ended, and returns whether it did in time. What it prints is read meanwhile."""
+    ends = os.pidfd_open(process)
+    poller = select.poll()
+    for file in (ends, said.file, hang_up):
+        poller.register(file, select.POLLIN)
+    deadline = time.monotonic() + seconds
+    try:
+        while True:
+            wait = deadline - time.monotonic()
+            ready = {file for file, _event in poller.poll(max(0, 1000 * wait))}
+            if hang_up in ready:
+                raise Gone
+            if ends in ready:
+                return True
+            if wait <= 0:
+                return False
+            if said.file in ready and not said.read():
+                poller.unregister(said.file)
+    finally:
+        os.close(ends)
+
+
+def children():
+    """Returns the processes of which this one is the parent."""
+    found, own = [], str(os.getpid())
+    for name in os.listdir("/proc"):
+        if name.isdigit():
+            try:
+                with open(f"/proc/{name}/stat", "rb") as file:
+                    fields = file.read().rpartition(b")")[2].split()
+            except OSError:
+                continue
+            if fields and fields[1].decode() == own:
+                found.append(int(name))
+    return found
+
+
+def end_all(process):
+    """Ends the process, its session and what else it left, and returns its status and whether something was left."""
+    with contextlib.suppress(ProcessLookupError, PermissionError):
+        os.killpg(process, signal.SIGKILL)
+    status = os.waitpid(process, 0)[1]
+    left, deadline = False, time.monotonic() + PATIENCE
+    while True:
+        try:
+            found = os.waitpid(-1, os.WNOHANG)[0]
+        except ChildProcessError:
+            return status, left
+        left = True
+        if found:
+            continue
+        for it in children():
+            with contextlib.suppress(OSError):
+                os.kill(it, signal.SIGKILL)
+        if time.monotonic() > deadline:
+            raise Refusal("a process that the program left can't be ended")
+        time.sleep(0.001)
+
+
+def run(words, surroundings, seconds, hang_up, nothing):
+    """Runs the program, for at most that many seconds. Where `hang_up` can be read it is ended at once."""
+    reading, writing = os.pipe2(os.O_CLOEXEC)
+    try:
+        try:
+            process = start(words, surroundings, writing, nothing)
+        finally:
+            os.close(writing)
+        said, in_time = Said(reading), None
+        try:
+            in_time = watch(process, said, hang_up, seconds)
+            # (it is a zombie now, so that its number stands for nobody else)
+        finally:
+            status, left = end_all(process)
+        said.read_rest()
+        verdict = Verdict.of_status(status) if in_time else TIMED_OUT
+        return Ended(verdict, said.kept, said.more, left and in_time)
+    finally:
+        os.close(reading)

@@ -1,0 +1,132 @@
+"""The words of the command line: options of this program, LOG with the options of its images, and the program that judges."""
+import os
+import re
+import stat
+
+from commands.each.faults import Refusal
+
+USAGE = "usage: crashbpf-each [-j N] [--first] [--keep DIR] [--timeout S] [--resume] [--read-only] LOG --sectors N .. -- PROGRAM {} .."
+# The options of `crashbpf images` that say which images there are, with a value and without one.
+VALUED = ("--sectors", "--flush", "--base", "--cuts", "--from", "--to", "--bound", "--by")
+FLAGS = ("--large", "--tears")
+# Those of `log`, which takes the same log.
+OF_LOG = ("--sectors", "--flush", "--large")
+# The options of this program.
+OWN_VALUED = {"-j": "runners", "--keep": "keep", "--timeout": "seconds"}
+OWN_FLAGS = {"--first": "first", "--resume": "resume", "--read-only": "read_only"}
+MOST_RUNNERS, MOST_SECONDS, MOST_SECTORS = 64, 86400, 33554432
+SECTOR = 512
+NUMBER, DECIMAL = re.compile(r"0|[1-9]\d{0,18}", re.A), re.compile(r"\d{1,9}(\.\d{1,9})?", re.A)
+
+
+class Words:
+    """What is asked for. `options` are those of the images, a pair of each name and its value, as they were given."""
+
+    first = resume = read_only = False
+    keep, seconds = None, 60.0
+
+    def __init__(self, log, options, program):
+        self.log, self.options, self.program = log, options, program
+        self.runners = min(len(os.sched_getaffinity(0)), MOST_RUNNERS)
+
+    def value(self, name):
+        return dict(self.options).get(name)
+
+    def sectors(self):
+        return int(self.value("--sectors"))
+
+    def of_images(self, names=VALUED + FLAGS):
+        """The log and those of its options that have these names, as words of crashbpf."""
+        return [self.log, *(word for name, value in self.options if name in names for word in (name, value) if word is not None)]
+
+    def told(self):
+        """All that a verdict, or which of them are asked for, hangs on beside the log, the base and the program."""
+        own = [f"first {self.first}", f"read only {self.read_only}", f"seconds {self.seconds}"]
+        return [*own, *(f"{name} {value}" for name, value in self.options)]
+
+
+def number(name, value, most):
+    """Returns the number after an option, which is 1 to `most`."""
+    if not NUMBER.fullmatch(value) or not 1 <= int(value) <= most:
+        raise Refusal(f"{name} is 1 to {most}")
+    return int(value)
+
+
+def sized(options):
+    """Returns the options with a number of sectors in place of `base`: as many as the file of --base has."""
+    named = dict(options)
+    if named["--sectors"] != "base":
+        return options
+    if "--base" not in named:
+        raise Refusal("--sectors base takes the size from the file of --base, and there is none")
+    try:
+        found = os.stat(named["--base"])
+    except (OSError, ValueError) as fault:
+        raise Refusal(f"{named['--base']!r}: {fault}") from None
+    if not stat.S_ISREG(found.st_mode) or not found.st_size or found.st_size % SECTOR:
+        raise Refusal(f"--sectors base wants a file of whole sectors of {SECTOR} bytes after --base")
+    return [(name, str(found.st_size // SECTOR) if name == "--sectors" else value) for name, value in options]
+
+
+def seconds(value):
+    if not DECIMAL.fullmatch(value) or not 0 < float(value) <= MOST_SECONDS:
+        raise Refusal(f"--timeout is a number of seconds, at most {MOST_SECONDS}")
+    return float(value)
+
+
+def halves(words):
+    """Returns the words before the first `--`, and those after it."""
+    if "--" not in words:
+        raise Refusal(USAGE)
+    at = words.index("--")
+    if not words[at + 1 :] or "" == words[at + 1]:
+        raise Refusal(USAGE)
+    return words[:at], words[at + 1 :]
+
+
+def split(words):
+    """Returns the words as a list of pairs: an option with its value, or with none; a file has the name ''."""
+    found, rest = [], list(words)
+    while rest:
+        word = rest.pop(0)
+        name, equal, value = word.partition("=") if word.startswith("--") else (word, "", "")
+        if re.fullmatch(r"-j.+", word):
+            name, equal, value = "-j", "=", word[2:]
+        if name in VALUED or name in OWN_VALUED:
+            if not equal and not rest:
+                raise Refusal(f"{name} wants a value")
+            found.append((name, value if equal else rest.pop(0)))
+        elif word in FLAGS or word in OWN_FLAGS:
+            found.append((word, None))
+        elif word.startswith("-"):
+            raise Refusal(f"there is no option {word!r}; {USAGE}")
+        else:
+            found.append(("", word))
+    return found
+
+
+def parse(words):
+    """Returns what the words ask for."""
+    before, program = halves(words)
+    pairs = split(before)
+    logs = [value for name, value in pairs if name == ""]
+    names = [name for name, _value in pairs if name]
+    if len(logs) != 1 or "--sectors" not in names:
+        raise Refusal(USAGE)
+    twice = next((it for it in names if names.count(it) > 1), None)
+    if twice:
+        raise Refusal(f"{twice} stands there twice")
+    given = Words(logs[0], sized([it for it in pairs if it[0] in VALUED + FLAGS]), program)
+    number("--sectors", given.value("--sectors"), MOST_SECTORS)
+    if given.value("--bound") == "any":
+        raise Refusal("--bound is 0 to 3 here: a program of yours is given images, and with any number of losses there are cases in their place")
+    for name, value in pairs:
+        if name == "-j":
+            given.runners = number(name, value, MOST_RUNNERS)
+        elif name == "--timeout":
+            given.seconds = seconds(value)
+        elif name == "--keep":
+            given.keep = value
+        elif name in OWN_FLAGS:
+            setattr(given, OWN_FLAGS[name], True)
+    return given

@@ -1,0 +1,73 @@
+"""Which calls of Linux are followed, which can do no harm, and which may do it unseen.
+
+A call that stands nowhere here is refused where it names a recorded file.
+"""
+from commands.record.calls import MAKES
+
+# Calls that write no file, make no descriptor of one, and change no name.
+HARMLESS = set(
+    "access alarm arch_prctl bind chmod chown connect epoll_ctl eventfd2 execveat exit exit_group faccessat faccessat2 fadvise64 "
+    "fchmod fchmodat fchown fchownat fgetxattr flistxattr flock fremovexattr fsetxattr fstat fstat64 fstatfs futimesat "
+    "getcwd getdents getdents64 getpeername getsockname getsockopt getxattr inotify_add_watch ioprio_set kcmp lchown lgetxattr "
+    "listen listxattr llistxattr lremovexattr lsetxattr lstat msync name_to_handle_at newfstatat pidfd_open pidfd_send_signal "
+    "pipe pipe2 poll ppoll prctl pread64 preadv readahead readlink readlinkat recvfrom recvmmsg recvmsg removexattr select "
+    "pselect6 sendmmsg sendmsg sendto setxattr shutdown signalfd4 socket socketpair stat stat64 statfs statx sync_file_range "
+    "sync_file_range2 timerfd_settime umask utime utimensat utimes wait4 waitid accept accept4 epoll_create epoll_create1 "
+    "memfd_create timerfd_create inotify_init inotify_init1".split()
+)
+# Calls that may do it unseen, whichever descriptor they name.
+UNSEEN = {
+    "io_uring_setup": "what a ring writes isn't seen",
+    "io_submit": "what it writes isn't followed",
+    "chroot": "paths mean something else after it",
+    "pivot_root": "paths mean something else after it",
+    "mount": "paths mean something else after it",
+    "move_mount": "paths mean something else after it",
+    "umount2": "paths mean something else after it",
+    "setns": "paths mean something else after it",
+    "ptrace": "it may change the memory of others",
+    "acct": "it may write a file unseen",
+    "swapon": "it may write a file unseen",
+}
+MADE_APART = {"CLONE_UNTRACED": "strace doesn't follow it", "CLONE_NEWNS": "paths mean something else after it"}
+# What may be asked of a recorded file by ioctl; FIOCLEX and FIONCLEX besides.
+ASKED = {"TCGETS", "FIONREAD", "FIGETBSZ", "FS_IOC_GETFLAGS", "FS_IOC_FSGETXATTR", "FS_IOC_FIEMAP", "FS_IOC_GETVERSION"}
+OPENS = ("open", "openat", "openat2", "creat")
+WRITES = ("write", "writev", "pwrite64", "pwritev", "pwritev2")
+READS = ("read", "readv")
+SYNCS = ("fsync", "fdatasync", "sync", "syncfs")
+# Errors of a write after which nothing was written.
+NOT_BEGUN = {"EAGAIN", "EINTR", "EBADF", "EINVAL", "EFBIG", "EOPNOTSUPP", "EFAULT", "ESPIPE", "EPERM", "ENOSPC", "EDQUOT", "EPIPE"}
+# Flags of pwritev2 that are known.
+RWF = {"RWF_HIPRI", "RWF_NOWAIT", "RWF_DSYNC", "RWF_SYNC", "RWF_APPEND"}
+THROUGH = {"O_DSYNC", "O_SYNC", "__O_SYNC", "RWF_DSYNC", "RWF_SYNC"}
+# Calls on a descriptor that change a file or its place.
+MOVES = ("lseek", "ftruncate", "ftruncate64", "fallocate")
+# The calls that are followed, by what is done with them.
+KINDS = {
+    "open": OPENS,
+    "write": WRITES,
+    "read": READS,
+    "preadv2": ("preadv2",),
+    "sync": SYNCS,
+    "dup": ("dup", "dup2", "dup3"),
+    "fcntl": ("fcntl", "fcntl64"),
+    "ioctl": ("ioctl",),
+    "close": ("close",),
+    "close_range": ("close_range",),
+    "execve": ("execve", "execveat"),
+    "chdir": ("chdir", "fchdir"),
+    "unshare": ("unshare",),
+    "make": MAKES,
+    "mmap": ("mmap", "mmap2", "old_mmap"),
+    "munmap": ("munmap",),
+    "mprotect": ("mprotect", "pkey_mprotect"),
+    "mremap": ("mremap",),
+    "lseek": ("lseek",),
+    "truncate": ("truncate", "truncate64", "ftruncate", "ftruncate64"),
+    "fallocate": ("fallocate",),
+    "unlink": ("unlink", "unlinkat"),
+    "rename": ("rename", "renameat", "renameat2"),
+    "link": ("link", "linkat", "symlink", "symlinkat"),
+    "mkdir": ("mkdir", "mkdirat"),
+}

@@ -1,0 +1,597 @@
+"""Follows the calls of a program: which descriptor is of which file, what was written where, and what was synced.
+
+Recorded are the files below one folder, but for those that are skipped. Whatever may write one of them in a way that strace
+doesn't show, or changes what can't be said in a log, is refused with its line: a log without it would promise too much. Refused
+too is what doesn't fit: a descriptor of a recorded file that no call opened, or one that strace says is of another file.
+
+Two things are left out of a log, the sizes of files and their names: a file is taken to have the largest size that it gets, and
+its name, from the start. So where a file is unlinked or gets shorter the log ends, and where anything is written after that it
+is refused.
+"""
+import os
+import re
+
+from commands.record.calls import NAMED, Refused, child_of, happened, hexed, named, shown, unhexed
+from commands.record.disk import SECTOR
+from commands.record.files import MARKS, File, Flight, Opened, Process, Space, flags_of, skips
+from commands.record.known import ASKED, HARMLESS, KINDS, MADE_APART, MOVES, NOT_BEGUN, READS, RWF, SYNCS, THROUGH, UNSEEN, WRITES
+
+
+class Tracing:
+    """A program that is followed. `before` has the files of the folder, by their names in it."""
+
+    def __init__(self, folder, before, skipped, disk, made, at, marks=None):
+        self.folder, self.skipped, self.disk, self.made, self.at = os.fsencode(folder), skipped, disk, made, os.fsencode(at)
+        self.prefix, self.marks = self.folder + b"/", None if marks is None else os.fsencode(marks)
+        self.files = {name: File(name, content) for name, content in before.items()}
+        self.folders = {b""} | {b"/".join(it.split(b"/")[:end]) for it in before for end in range(1, it.count(b"/") + 1)}
+        self.found, self.flights, self.ended, self.notes = {}, {}, None, []
+        self.first, self.gone, self.written_outside = None, set(), {}
+        # what a line has that names the folder
+        self.mentioned = hexed(self.folder)
+        self.handled = {name: getattr(self, f"end_{it}") for it, names in KINDS.items() for name in names}
+
+    # What is known of names
+
+    def name(self, path):
+        """The name of a recorded file that has this path, or nothing."""
+        if path is None or not path.startswith(self.prefix):
+            return None
+        name = path[len(self.prefix) :]
+        return None if skips(name, self.skipped) else name
+
+    def path(self, call, folder, at):
+        """The path that a word of a call names, as the folder of a descriptor or of the process has it."""
+        given = call.data(at)
+        if folder is None:
+            base = self.process(call).folder[0]
+        else:
+            found = NAMED.match(call.word(folder))
+            base = unhexed(found[2]) if found else None
+        if not given.startswith(b"/"):
+            if base is None:
+                raise Refused(f"{call}: the folder that it means isn't known")
+            given = os.path.join(base, given)
+        head, tail = os.path.split(given.rstrip(b"/") or b"/")
+        return os.path.join(os.path.realpath(head), tail)
+
+    # Processes
+
+    def process(self, call):
+        """What is known of the process of a call."""
+        number = call.process
+        if number not in self.found:
+            makers = self.made.get(number)
+            if self.first is None:
+                self.first = number
+                self.found[number] = Process({}, [self.at], Space())
+            elif not makers:
+                raise Refused(f"{call}: no call was seen that made process {number}")
+            else:
+                self.found[number] = self.child(makers.popleft())
+        return self.found[number]
+
+    def child(self, maker):
+        """What a new process has of the one that made it."""
+        parent = self.found.get(maker.parent)
+        if parent is None:
+            raise Refused(f"calls:{maker.line}: process {maker.parent}, which makes another, isn't known")
+        flags = flags_of(maker.flags)
+        return Process(
+            parent.table if "CLONE_FILES" in flags else dict(parent.table),
+            parent.folder if "CLONE_FS" in flags else list(parent.folder),
+            parent.space if "CLONE_VM" in flags or maker.flags == "vfork" else parent.space.copy(),
+        )
+
+    def follow(self, stream):
+        """Follows all that happened."""
+        for kind, it in happened(stream, self.handled):
+            if kind == "begin":
+                self.begin(it)
+            elif kind == "end":
+                self.end(it)
+            elif kind == "over":
+                self.over(it)
+            elif kind == "moved":
+                self.found[it[1]] = self.found.pop(it[0], None) or self.found.get(it[1])
+                self.flights[it[1]] = self.flights.pop(it[0], None) or Flight()
+            else:
+                self.gone.add(it)
+                self.found.pop(it, None)
+        if self.first is None:
+            raise Refused("calls: no process was seen")
+        if self.found:
+            raise Refused(f"calls: the text ends before process {min(self.found)} did")
+
+    # Calls
+
+    def begin(self, call):
+        """A call begins."""
+        process = self.process(call)
+        if self.mentioned in call.text:
+            self.agree(call, process, call.text)
+        flight = self.flights[call.process] = Flight()
+        if call.name in SYNCS:
+            self.begin_sync(call, process, flight)
+        elif call.name in ("truncate", "truncate64"):
+            flight.all_changes = {it: (len(it.changed), it.grown) for it in self.files.values()}
+        elif call.name in (*WRITES, *READS, *MOVES, "preadv2"):
+            flight.opened = process.table.get(call.number(0), (None, False))[0]
+            flight.file = flight.opened and flight.opened.file
+        if flight.opened is not None:
+            flight.moved = flight.opened.moved
+        if isinstance(flight.file, File):
+            flight.grown, flight.changes = flight.file.grown, len(flight.file.changed)
+
+    def end(self, call):
+        """A call has ended."""
+        process = self.process(call)
+        flight = self.flights.pop(call.process, None) or Flight()
+        handler = self.handled.get(call.name)
+        if handler is not None:
+            handler(call, process, flight)
+        elif call.name in UNSEEN:
+            if not re.search(r"= (-1 E|\?|0x0$)", call.text) and not (call.name == "io_submit" and call.text.endswith("= 0")):
+                raise Refused(f"{call}: {UNSEEN[call.name]}")
+        elif call.name.startswith("syscall_"):
+            if not call.text.endswith(")") or " = -1 ENOSYS " not in call.text:
+                raise Refused(f"{call}: this strace doesn't know the call")
+        elif call.name in HARMLESS:
+            if self.mentioned in call.text:
+                self.agree_at_end(call, process)
+        elif self.mentioned in call.text and " = -1 E" not in call.text:
+            self.refuse_unless_skipped(call)
+
+    def over(self, call):
+        """The process of a call ended within it."""
+        flight = self.flights.pop(call.process, None)
+        if call.name in WRITES + MOVES and flight and flight.file is not None and flight.opened and call.name not in ("lseek",):
+            raise Refused(f"{call}: the process ended within the call, so what it wrote isn't known")
+        if call.name in UNSEEN:
+            raise Refused(f"{call}: {UNSEEN[call.name]}")
+        if call.name not in self.handled and call.name not in HARMLESS and self.mentioned in call.text:
+            self.refuse_unless_skipped(call)
+
+    def agree(self, call, process, text):
+        """Compares the files of descriptors that a line names with what the calls before it say."""
+        for number, path, gone in named(re.split(r"\) += ", text)[0]):
+            self.agrees(call, process, number, path, gone)
+
+    def agrees(self, call, process, number, path, gone):
+        name = self.name(path)
+        if name is None or number == "AT_FDCWD" or name in self.folders:
+            return
+        known = process.table.get(int(number), (None, False))[0]
+        if known is None or known.file is MARKS or known.file.name != name:
+            if known is None and os.path.isdir(path):
+                return
+            raise Refused(f"{call}: no call was seen that made descriptor {number} one of {shown(os.fsdecode(name))}")
+        if gone and not known.file.unlinked:
+            raise Refused(f"{call}: no call was seen that unlinked {shown(os.fsdecode(name))}")
+
+    def agree_at_end(self, call, process):
+        """Compares the descriptors that a call answered with those that are known. A call that answers one of a recorded file isn't followed."""
+        answer = call.text.rpartition(") = ")[2]
+        if self.mentioned in answer or re.search(r"cmsg_data=\[[^\]]*" + re.escape(f"<{self.mentioned}"), call.text) and "recv" in call.name:
+            for number, path, _ in named(answer) + named(call.text):
+                name = self.name(path)
+                if name and name not in self.folders and process.table.get(int(number) if number.isdigit() else -1) is None:
+                    raise Refused(f"{call}: a descriptor of {shown(os.fsdecode(name))} comes by a call that isn't followed")
+
+    def refuse_unless_skipped(self, call):
+        """Refuses a call that isn't followed, where it names a recorded file."""
+        paths = [path for _, path, _ in named(call.text)] + [unhexed(it) for it in re.findall(r'"((?:\\x[0-9a-f]{2})*)"', call.text)]
+        for path in paths:
+            name = self.name(path)
+            if name is not None and name not in self.folders:
+                raise Refused(f"{call}: this call isn't followed, and may write {shown(os.fsdecode(name))}")
+
+    def close_log(self, call, what):
+        """The log ends here."""
+        if self.ended is None:
+            self.ended = call
+            self.notes.append(f"the log ends at {call}: {what}, and names and sizes are left out")
+
+    def still(self, call, what):
+        """Refuses what comes after the end of the log."""
+        if self.ended is not None:
+            raise Refused(f"{call}: {what} after a name or a size was changed, which is left out: {self.ended}")
+
+    # Descriptors
+
+    def end_open(self, call, process, flight):
+        if call.failed() or call.result is None:
+            return
+        if call.path is None:
+            raise Refused(f"{call}: strace doesn't say which file it opened")
+        flags = flags_of(call.text) | ({"O_WRONLY", "O_CREAT", "O_TRUNC"} if call.name == "creat" else set())
+        process.table.pop(call.result, None)
+        writable = bool(flags & {"O_WRONLY", "O_RDWR"})
+        if self.marks is not None and call.path == self.marks:
+            process.table[call.result] = (Opened(MARKS, False, False, writable), "O_CLOEXEC" in flags)
+            return
+        name = self.name(call.path)
+        if name is None:
+            if writable and not call.path.startswith((self.prefix, b"/dev/", b"/proc/", b"pipe:", b"socket:")):
+                self.written_outside.setdefault(call.path, call)
+            if writable and re.fullmatch(rb"/proc/\d+/(task/\d+/)?mem", call.path):
+                raise Refused(f"{call}: what is written to memory isn't followed")
+            return
+        if name in self.folders or "O_DIRECTORY" in flags or "O_PATH" in flags:
+            if "O_TMPFILE" in flags:
+                raise Refused(f"{call}: a file without a name isn't followed")
+            if name not in self.files:
+                return
+        file = self.files.get(name)
+        if file is None or file.unlinked:
+            if "O_CREAT" not in flags:
+                if os.path.isdir(call.path):
+                    return
+                raise Refused(f"{call}: no call was seen that made {shown(os.fsdecode(name))}")
+            file = self.make(call, name, flight)
+        if "O_TRUNC" in flags and writable:
+            self.resize(call, file, 0, Flight(grown=file.grown, changes=len(file.changed)))
+        through = bool(flags & THROUGH)
+        process.table[call.result] = (Opened(file, "O_APPEND" in flags, through, writable), "O_CLOEXEC" in flags)
+
+    def make(self, call, name, _flight):
+        """A file is made."""
+        self.still(call, f"{shown(os.fsdecode(name))} is made")
+        self.files[name] = File(name)
+        return self.files[name]
+
+    def end_dup(self, call, process, _flight):
+        if call.failed() or call.result is None:
+            return
+        from_ = process.table.get(call.number(0))
+        if call.name == "dup2" and call.number(0) == call.number(1):
+            return
+        process.table.pop(call.result, None)
+        if from_ is not None:
+            process.table[call.result] = (from_[0], "O_CLOEXEC" in call.text)
+
+    def end_fcntl(self, call, process, _flight):
+        if call.failed() or call.result is None:
+            return
+        known, command = process.table.get(call.number(0)), call.word(1)
+        if command in ("F_DUPFD", "F_DUPFD_CLOEXEC"):
+            process.table.pop(call.result, None)
+            if known is not None:
+                process.table[call.result] = (known[0], command == "F_DUPFD_CLOEXEC")
+        elif known is not None and command == "F_SETFD":
+            process.table[call.number(0)] = (known[0], "FD_CLOEXEC" in call.word(2))
+        elif known is not None and command == "F_SETFL":
+            known[0].append = "O_APPEND" in call.word(2)
+            known[0].moved += 1
+
+    def end_ioctl(self, call, process, _flight):
+        known = process.table.get(call.number(0))
+        if call.failed() or call.result is None or known is None or known[0].file is MARKS:
+            return
+        asked = call.word(1)
+        if asked in ("FIOCLEX", "FIONCLEX"):
+            process.table[call.number(0)] = (known[0], asked == "FIOCLEX")
+        elif asked not in ASKED:
+            raise Refused(f"{call}: this ioctl isn't followed, and may write {shown(os.fsdecode(known[0].file.name))}")
+
+    def end_close(self, call, process, _flight):
+        # (Linux closes it, whatever the error but EBADF)
+        process.table.pop(call.number(0), None)
+
+    def end_close_range(self, call, process, _flight):
+        if call.failed():
+            return
+        first, last = call.number(0), call.number(1)
+        if "CLOSE_RANGE_UNSHARE" in call.text:
+            process.table = dict(process.table)
+        for number in [it for it in process.table if first <= it <= last]:
+            if "CLOSE_RANGE_CLOEXEC" in call.text:
+                process.table[number] = (process.table[number][0], True)
+            else:
+                del process.table[number]
+
+    def end_execve(self, call, process, _flight):
+        if call.failed():
+            return
+        process.table = {number: it for number, it in process.table.items() if not it[1]}
+        process.space = Space()
+        process.folder = list(process.folder)
+
+    def end_chdir(self, call, process, _flight):
+        if call.failed():
+            return
+        if call.name == "fchdir":
+            found = NAMED.match(call.word(0))
+            if not found:
+                raise Refused(f"{call}: strace doesn't say which folder it is")
+            process.folder[0] = unhexed(found[2])
+        else:
+            process.folder[0] = os.path.realpath(os.path.join(process.folder[0], call.data(0)))
+
+    def end_unshare(self, call, process, _flight):
+        if call.failed():
+            return
+        if "CLONE_NEWNS" in call.text:
+            raise Refused(f"{call}: {MADE_APART['CLONE_NEWNS']}")
+        if "CLONE_FILES" in call.text:
+            process.table = dict(process.table)
+        if "CLONE_FS" in call.text:
+            process.folder = list(process.folder)
+
+    def end_make(self, call, _process, _flight):
+        if call.failed() or not call.result:
+            return
+        for flag, why in MADE_APART.items():
+            if flag in call.text:
+                raise Refused(f"{call}: {why}")
+        # (the new process may have made calls already, or have ended)
+        child = child_of(call)
+        makers = self.made.get(child)
+        if makers and makers[0].line == call.line:
+            self.found[child] = self.child(makers.popleft())
+
+    # Memory
+
+    def end_mmap(self, call, process, _flight):
+        if call.failed() or call.result is None:
+            return
+        length = call.number(1)
+        process.space.take(call.result, length)
+        if "MAP_ANONYMOUS" in call.word(3) or call.word(4).startswith("-1"):
+            return
+        known = process.table.get(call.number(4), (None, False))[0]
+        if known is None or known.file is MARKS or "MAP_PRIVATE" in call.word(3):
+            return
+        if "PROT_WRITE" in call.word(2):
+            raise Refused(f"{call}: a shared mapping can be written unseen; --skip takes a file that recovery doesn't need")
+        if known.writable:
+            process.space.ranges.append((call.result, call.result + length))
+
+    def end_munmap(self, call, process, _flight):
+        if not call.failed():
+            process.space.take(call.number(0), call.number(1))
+
+    def end_mprotect(self, call, process, _flight):
+        if not call.failed() and "PROT_WRITE" in call.word(2) and process.space.has(call.number(0), call.number(1)):
+            raise Refused(f"{call}: a shared mapping of a recorded file can be written unseen")
+
+    def end_mremap(self, call, process, _flight):
+        if not call.failed() and call.result is not None and process.space.has(call.number(0), max(call.number(1), 1)):
+            process.space.ranges.append((call.result, call.result + call.number(2)))
+
+    # Writes
+
+    def landed(self, call, flight, file, start, end):
+        """Refuses a change of a file where another one, of the same sectors, was made while it was in flight."""
+        first, last = start // SECTOR, -(-end // SECTOR)
+        for other, until in file.changed[flight.changes :]:
+            if other < last and first < until:
+                raise Refused(f"{call}: another call wrote the same sectors at once, and which was first isn't known")
+
+    def end_write(self, call, process, flight):
+        opened = flight.opened
+        if opened is None:
+            return
+        if call.result is None and not (call.error or "").startswith("ERESTART"):
+            raise Refused(f"{call}: what it wrote isn't known")
+        if call.failed():
+            if call.error not in NOT_BEGUN and not call.error.startswith("ERESTART"):
+                raise Refused(f"{call}: a write that fails so leaves nothing that is known")
+            return
+        self.agrees_for(call, opened)
+        data = call.data(1) if call.name in ("write", "pwrite64") else call.pieces(1)
+        if call.result > len(data):
+            raise Refused(f"{call}: it wrote more than it was given")
+        data = data[: call.result]
+        if opened.file is MARKS:
+            return self.mark(call, data)
+        flags = self.write_flags(call)
+        start = self.place(call, flight, opened, flags)
+        if data:
+            self.put(call, flight, opened, start, data, opened.through or bool(flags & THROUGH))
+        return None
+
+    def agrees_for(self, call, opened):
+        """Wants that strace names the file of the call's first word."""
+        found = NAMED.match(call.word(0))
+        wanted = self.marks if opened.file is MARKS else self.prefix + opened.file.name
+        if not found or unhexed(found[2]) != wanted:
+            raise Refused(f"{call}: strace doesn't say that it is of {shown(os.fsdecode(wanted))}")
+
+    def write_flags(self, call):
+        """The flags of pwritev2, and of pwritev none."""
+        if call.name != "pwritev2":
+            return set()
+        text = call.word(4)
+        flags = flags_of(text)
+        if text != "0" and (flags - RWF or not re.fullmatch(r"[A-Z_|]+", text)):
+            raise Refused(f"{call}: its flags aren't known")
+        return flags
+
+    def place(self, call, flight, opened, flags):
+        """Where a write begins, and where the next one does."""
+        file = opened.file
+        offset = call.number(3) if call.name.startswith("pwrite") else -1
+        if offset < -1 or offset == -1 and call.name in ("pwrite64", "pwritev"):
+            raise Refused(f"{call}: its place can't be read")
+        append = opened.append or "RWF_APPEND" in flags
+        if append and flight.grown != file.grown or offset == -1 and flight.moved != opened.moved:
+            raise Refused(f"{call}: another call moved the end or the place at once, so where it wrote isn't known")
+        start = file.size if append else opened.at if offset == -1 else offset
+        if offset == -1:
+            opened.at, opened.moved = start + call.result, opened.moved + 1
+        return start
+
+    def put(self, call, flight, opened, start, data, through):
+        file = opened.file
+        self.still(call, f"{shown(os.fsdecode(file.name))} is written")
+        if file.unlinked:
+            raise Refused(f"{call}: it is unlinked")
+        self.landed(call, flight, file, start, start + len(data))
+        first, sectors = file.put(start, data)
+        self.disk.write(file, first, sectors)
+        if through:
+            self.disk.force(file, first, sectors)
+
+    def mark(self, call, data):
+        """A text for the marks: lines of a number, which isn't looked at, and a name."""
+        if not data.endswith(b"\n"):
+            raise Refused(f"{call}: a mark is one whole line")
+        for line in data[:-1].split(b"\n"):
+            found = re.fullmatch(rb"\d{1,20} (.{0,480})", line)
+            if not found:
+                raise Refused(f"{call}: a mark is a number, a space, and a text of at most 480 bytes")
+            if found[1]:
+                self.still(call, "a mark is made")
+                self.disk.mark(found[1])
+
+    def end_read(self, call, process, flight):
+        if flight.opened is None or call.failed() or not call.result:
+            return
+        if flight.moved != flight.opened.moved:
+            raise Refused(f"{call}: another call moved the place at once, so where it stands isn't known")
+        flight.opened.at += call.result
+        flight.opened.moved += 1
+
+    def end_preadv2(self, call, process, flight):
+        if call.word(3) == "-1":
+            self.end_read(call, process, flight)
+
+    def end_lseek(self, call, process, flight):
+        if flight.opened is None or call.failed() or call.result is None or flight.opened.file is MARKS:
+            return
+        if flight.opened.at != call.result:
+            flight.opened.at = call.result
+            flight.opened.moved += 1
+
+    def resize(self, call, file, size, flight):
+        """A file has this size now."""
+        if size == file.size:
+            return
+        self.landed(call, flight, file, min(size, file.size), max(size, file.size))
+        if flight.grown != file.grown:
+            raise Refused(f"{call}: another call moved the end at once, and which was first isn't known")
+        if size > file.size:
+            self.still(call, f"{shown(os.fsdecode(file.name))} grows")
+            file.grow(size)
+            return
+        self.close_log(call, f"{shown(os.fsdecode(file.name))} gets shorter")
+        file.changed.append((size // SECTOR, -(-file.size // SECTOR)))
+        file.size = size
+
+    def end_truncate(self, call, process, flight):
+        if call.failed():
+            return
+        file = flight.file
+        if not call.name.startswith("f"):
+            name = self.name(os.path.realpath(self.path(call, None, 0)))
+            file = self.files.get(name)
+            if name is not None and file is None:
+                raise Refused(f"{call}: no call was seen that made {shown(os.fsdecode(name))}")
+            flight.changes, flight.grown = flight.all_changes.get(file, (0, 0))
+        if file is MARKS or file is None:
+            return
+        if call.result is None:
+            raise Refused(f"{call}: what it did isn't known")
+        self.resize(call, file, call.number(1), flight)
+
+    def end_fallocate(self, call, process, flight):
+        file = flight.file
+        if file is None or file is MARKS or call.failed():
+            return
+        if call.result is None:
+            raise Refused(f"{call}: what it did isn't known")
+        text, start, length = call.word(1), call.number(2), call.number(3)
+        flags = set() if text == "0" else set(text.split("|"))
+        if flags - {"FALLOC_FL_KEEP_SIZE", "FALLOC_FL_PUNCH_HOLE", "FALLOC_FL_ZERO_RANGE", "FALLOC_FL_UNSHARE_RANGE"}:
+            raise Refused(f"{call}: what it moves isn't followed")
+        if "FALLOC_FL_KEEP_SIZE" not in flags and start + length > file.size:
+            self.resize(call, file, start + length, flight)
+        if flags & {"FALLOC_FL_PUNCH_HOLE", "FALLOC_FL_ZERO_RANGE"}:
+            end = min(start + length, file.size)
+            if end > start:
+                self.put(call, flight, Opened(file, False, False, True), start, bytes(end - start), flight.opened.through)
+
+    # Syncs
+
+    def begin_sync(self, call, process, flight):
+        if call.name == "sync":
+            flight.sync = self.disk.begin_sync(list(self.files.values()))
+            return
+        flight.opened = process.table.get(call.number(0), (None, False))[0]
+        flight.file = flight.opened and flight.opened.file
+        if call.name == "syncfs":
+            found = NAMED.match(call.word(0))
+            path = unhexed(found[2]) if found else b""
+            if path == self.folder or path.startswith(self.prefix):
+                flight.sync = self.disk.begin_sync(list(self.files.values()))
+        elif isinstance(flight.file, File):
+            flight.sync = self.disk.begin_sync([flight.file])
+
+    def end_sync(self, call, process, flight):
+        if flight.sync is None or (call.error or "").startswith("ERESTART") or call.result is None:
+            return
+        if call.failed():
+            raise Refused(f"{call}: a sync that fails leaves nothing that is known")
+        if flight.opened is not None and call.name != "syncfs":
+            self.agrees_for(call, flight.opened)
+        self.end_synced(flight)
+
+    def end_synced(self, flight):
+        """A sync has ended."""
+        if self.ended is None:
+            self.disk.end_sync(flight.sync)
+
+    # Names
+
+    def own_path(self, call, from_folder):
+        """The path of a call on one name. The one named `from_folder` takes the descriptor of a folder before it."""
+        return self.path(call, 0, 1) if call.name == from_folder else self.path(call, None, 0)
+
+    def end_unlink(self, call, _process, _flight):
+        if call.failed():
+            return
+        name = self.name(self.own_path(call, "unlinkat"))
+        file = self.files.get(name)
+        if file is not None and not file.unlinked:
+            file.unlinked = True
+            if file.most:
+                self.close_log(call, f"{shown(os.fsdecode(name))} is unlinked")
+
+    def end_rename(self, call, _process, _flight):
+        if call.failed():
+            return
+        self.refuse_names(call, self.both_paths(call, "rename"), "is renamed")
+
+    def both_paths(self, call, plain):
+        """The two paths of a call that ties a name to another. The one named `plain` takes no descriptors of folders."""
+        return [self.path(call, *it) for it in (((None, 0), (None, 1)) if call.name == plain else ((0, 1), (2, 3)))]
+
+    def end_link(self, call, _process, _flight):
+        if call.failed():
+            return
+        if call.name in ("link", "linkat"):
+            paths = self.both_paths(call, "link")
+        else:
+            at = call.name == "symlinkat"
+            made = self.path(call, 1 if at else None, 2 if at else 1)
+            paths = [made, os.path.realpath(os.path.join(os.path.dirname(made), call.data(0)))]
+        self.refuse_names(call, paths, "gets another name")
+
+    def refuse_names(self, call, paths, what):
+        for path in paths:
+            name = self.name(path)
+            inner = [] if name is None else [it for it in self.files if it == name or it.startswith(name + b"/")]
+            if inner or name is not None and name not in self.folders or path == self.folder:
+                raise Refused(f"{call}: {shown(os.fsdecode(name or path))} {what}, and names are left out; record it in a guest")
+
+    def end_mkdir(self, call, _process, flight):
+        if call.failed():
+            return
+        name = self.name(self.own_path(call, "mkdirat"))
+        if name is not None:
+            self.made_folder(call, name, flight)
+
+    def made_folder(self, _call, name, _flight):
+        """A folder was made."""
+        self.folders.add(name)

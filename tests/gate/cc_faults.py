@@ -1,0 +1,572 @@
+#!/usr/bin/env python3
+"""Tests what commands/cc/crashbpf-cc says, leaves and writes, without a compiler.
+
+    python3 tests/gate/cc_faults.py [PROGRAM]
+
+PROGRAM is as in run.py. In place of clang and llvm-objdump stand scripts, which hand out an object file and a listing that are
+made here. So is each object file cut off or changed at random, which has to be read, or refused with a line.
+
+Prints a line for each row that failed, and last `N passed, M failed`. It takes some ten seconds.
+"""
+import os
+import random
+import shutil
+import signal
+import struct
+import subprocess
+import sys
+import tempfile
+import time
+from pathlib import Path
+
+sys.dont_write_bytecode = True
+
+import rooms
+
+rooms.enter()
+
+from machine_model import MEMORY, judged
+from notation import TOP, program
+
+
+from commands.cc.calls import MADE, copy_code, expanded, set_code
+from commands.cc.data import ROOM, Memory, with_data
+from commands.cc.program import SLOT, NoProgram, Object, slots_of
+
+CC = TOP / "commands/cc/crashbpf-cc"
+CHANGED = 3000
+# How long a row waits for what has to come at once.
+SECONDS = 30
+
+# By the last way of compiling it hands out another object file, where there is one.
+CLANG = """\
+#!/bin/sh
+object=object
+for it; do last=$it; case $it in -E | -fsyntax-only | -c) what=$it ;; -disable-lsr) [ ! -e other ] || object=other ;; esac; done
+case $what in
+-E) echo "# 1 \\"$last\\""; cat "$last" ;;
+-c) if [ -e hang ]; then sleep 1000 & echo $! > sleeping; mv sleeping asleep; wait; fi
+    cat > /dev/null; echo >> compiled; cp $object "$last" ;;
+esac
+"""
+LISTING = '#!/bin/sh\ncat listing\n'
+HANGS = "#!/bin/sh\nsleep 1000\n"
+NOTES = "#!/bin/sh\necho accepted budget 9\necho 'note: instructions that no run reaches: 1' >&2\n"
+
+# Object files
+
+COMMON, FUNCTION, OBJECT, GLOBAL = 0xFFF2, 2, 1, 16
+
+
+def elf(functions, needs=(), machine=247, data=()):
+    """An object file. A function is a name, its code, and whether it is static; of each the code has a section of its own. Then each
+    piece of data has one. A need is a slot of the first function, the name of a symbol, and its section."""
+    names, heads, body = b"\0", [(0,) * 10], b""
+
+    def section(name, kind, content, link=0, info=0):
+        nonlocal names, body
+        heads.append((len(names), kind, 0, 0, 64 + len(body), len(content), link, info, 8, 0))
+        names, body = names + name.encode() + b"\0", body + content
+
+    texts, symbols = b"\0", [struct.pack("<IBBHQQ", 0, 0, 0, 0, 0, 0)]
+    for number, (name, code, static) in enumerate(functions, 1):
+        section(f".text.{name}", 1, code)
+        symbols.append(struct.pack("<IBBHQQ", len(texts), FUNCTION + GLOBAL * (not static), 0, number, 0, len(code)))
+        texts += name.encode() + b"\0"
+    for name, content in data:
+        section(f".data.{name}", 1, content)
+    for _slot, name, place in needs:
+        symbols.append(struct.pack("<IBBHQQ", len(texts), OBJECT + GLOBAL, 0, place, 0, 8))
+        texts += name.encode() + b"\0"
+    first = len(functions) + 1
+    rows = b"".join(struct.pack("<QQ", 8 * slot, first + i << 32 | 1) for i, (slot, *_) in enumerate(needs))
+    section(".strtab", 3, texts)
+    section(".symtab", 2, b"".join(symbols), link=len(heads) - 1)
+    section(".rel", 9, rows, link=len(heads) - 1, info=1)
+    section(".names", 3, b".names\0")
+    names, body = names, body + names
+    number = len(heads) - 1
+    heads[number] = (*heads[number][:4], 64 + len(body) - len(names), len(names), *heads[number][6:])
+    head = b"\x7fELF\2\1\1".ljust(16, b"\0") + struct.pack("<HHIQQQIHHHHHH", 1, machine, 1, 0, 0, 64 + len(body), 0, 64, 0, 0, 64, len(heads), number)
+    return head + body + b"".join(struct.pack("<IIQQQQIIQQ", *it) for it in heads)
+
+
+def looked_at(bytes_):
+    """What is read of an object file, or the refusal."""
+    try:
+        object_ = Object(bytes_)
+        function = object_.function("check")
+        if function is None:
+            return None
+        needs = list(object_.needs(function))
+        moved = object_.moved(function)
+        memory = Memory(object_, function)
+        calls = {moved[it.slot]: it.name for it in needs if it.kind == "absent" and it.name in MADE and it.slot in moved}
+        code, _places = expanded(object_.code(function, moved, memory), calls)
+        return with_data(code, memory.beginning())
+    except NoProgram as it:
+        return it
+
+
+def changed(bytes_, rng):
+    """An object file with a few bytes, or numbers of 2, 4 or 8, that are others."""
+    out = bytearray(bytes_)
+    for _ in range(rng.choice([1, 1, 2, 4])):
+        size = rng.choice([1, 1, 2, 4, 8])
+        at = rng.randrange(len(out) - size)
+        number = rng.choice([0, 1, 4, 7, (1 << 8 * size) - 1, 1 << 8 * size - 1, rng.getrandbits(8 * size), len(out)])
+        out[at : at + size] = (number & (1 << 8 * size) - 1).to_bytes(size, "little")
+    return bytes(out)
+
+
+def odd_objects(code):
+    """What isn't read or refused, of object files that are cut off or changed."""
+    call = bytes.fromhex("8510000002000000") + code
+    local = [("check", call, False), ("sum", code, True)]
+    address = bytes.fromhex("18010000000000000000000000000000")
+    called = bytes.fromhex("b7030000180000008510000000000000") + code
+    wholes = [
+        elf([("check", code, False)], [(0, "counter", COMMON)]),
+        elf(local),
+        elf([("check", address + address + code, False)], [(0, "a", 2), (2, "b", 3)], data=[("a", bytes(range(40))), ("b", bytes(16))]),
+        elf([("check", called, False)], [(1, "memcpy", 0)]),
+    ]
+    for number, whole in enumerate(wholes):
+        rng = random.Random(f"object {number}")
+        some = [whole[:length] for length in range(len(whole))] + [changed(whole, rng) for _ in range(CHANGED)]
+        found = {}
+        for it in some:
+            try:
+                looked_at(it)
+            except Exception as error:
+                found[repr(error)] = it.hex()
+        yield f"odd objects {number}", [f"{error} of {text[:400]}" for error, text in list(found.items())[:3]]
+
+
+# The whole tool
+
+
+class Place:
+    """A folder with a source, an object file, and the programs that stand in for a compiler."""
+
+    def __init__(self, folder, crashbpf):
+        self.folder = folder
+        for name in ("bin", "tmp"):
+            (folder / name).mkdir()
+        self.tool("clang", CLANG)
+        self.tool("llvm-objdump", LISTING)
+        (folder / "bin/crashbpf").symlink_to(crashbpf)
+        self.holds("u64 check(const struct context *c)\n{\n\treturn 0;\n}\n", elf([]))
+
+    def tool(self, name, text):
+        path = self.folder / "bin" / name
+        path.unlink(missing_ok=True)
+        path.write_text(text)
+        path.chmod(0o755)
+
+    def holds(self, source, object_, listing="", name="source.c"):
+        (self.folder / name).write_text(source)
+        (self.folder / "object").write_bytes(object_)
+        (self.folder / "listing").write_text(listing)
+
+    def start(self, *words):
+        environment = {**os.environ, "PATH": f"{self.folder}/bin:/usr/bin:/bin", "TMPDIR": str(self.folder / "tmp")}
+        given = {"cwd": self.folder, "env": environment, "stdin": subprocess.DEVNULL, "stdout": subprocess.PIPE, "stderr": subprocess.PIPE}
+        return subprocess.Popen([CC, *words], text=True, start_new_session=True, **given)
+
+    def run(self, *words):
+        """The status, and what is printed on both outputs."""
+        for it in ("out.bpf", "out.lines"):
+            (self.folder / it).unlink(missing_ok=True)
+        child = self.start(*(words or ("source.c", "check", "out.bpf")))
+        out, said = ended(child, SECONDS)
+        return child.returncode, out, said
+
+    def written(self, name):
+        """The bytes of a file that was written, or none."""
+        path = self.folder / name
+        return path.read_bytes() if path.exists() else None
+
+    def left(self):
+        return sorted(it.name for it in (self.folder / "tmp").iterdir())
+
+
+def ended(child, seconds):
+    """What a tool prints until it ends, at the latest after some seconds."""
+    try:
+        return child.communicate(timeout=seconds)
+    except subprocess.TimeoutExpired:
+        os.killpg(child.pid, signal.SIGKILL)
+        return child.communicate()[0], "it went on"
+
+
+def assembled(crashbpf, folder, text):
+    (folder / "text.s").write_text(program(text))
+    return subprocess.run([crashbpf, "asm", folder / "text.s"], capture_output=True, check=True).stdout
+
+
+def listing_of(code, file="source.c"):
+    """A listing in which the slot N stands at line 10 and N."""
+    return "".join(f"; {file}:{10 + at}\n{at:8}:       word\n" for at in range(len(code) // 8))
+
+
+def refused(place, line, *words):
+    """What is wrong with a refusal, which has status 2 and this first line, and leaves nothing."""
+    status, out, said = place.run(*words)
+    first = said.split("\n")[0]
+    wrong = [] if (status, out) == (2, "") and line in first and "Traceback" not in said else [f"status {status}, '{said[-300:]}', wanted '{line}'"]
+    return wrong + [f"{it} was left" for it in place.left()] + ["out.bpf was written"] * (place.folder / "out.bpf").exists()
+
+
+# A source, the object file of it, and the line that refuses it.
+UNNAMED = "cc: source.c has no function check"
+SOURCES = {
+    "a mistyped name": ("u64 chekc(void)\n{\n\treturn 0;\n}\nu64 root(void)\n{\n\treturn 1;\n}\n", f"{UNNAMED}; it has: chekc root"),
+    "static functions alone": ("static u64 sum(void)\n{\n\treturn 0;\n}\n", f"{UNNAMED}; all that it has are static or inline: sum"),
+    "no function": ("", f"{UNNAMED}, and no other"),
+    "a declaration": ("u64 check(void);\n", f"{UNNAMED}, and no other"),
+    "a static checker": ("static u64 check(void)\n{\n\treturn 0;\n}\n", "cc: the function check of source.c isn't compiled by itself: it is static or inline"),
+    "brackets within brackets": ("u64 check(void)\n{" + "{" * 3000 + "}" * 3000 + "}\n", "cc: its brackets stand too deep"),
+}
+
+
+def sources(place):
+    for name, (source, line) in SOURCES.items():
+        place.holds(source, elf([]))
+        yield name, refused(place, line)
+
+
+def objects(place, code):
+    """Object files that a compiler makes of odd sources."""
+    source = "u64 check(void)\n{\n\treturn 0;\n}\n"
+    several = [("check", code, False)]
+    for name, object_, line in (
+        ("instructions of which the last isn't whole", elf([("check", code + b"\x95\0\0\0", False)]), "cc: the object file can't be read: "),
+        ("half of a constant of 64 bits", elf([("check", bytes.fromhex("1800000000000000"), False)]), "cc: the object file can't be read: "),
+        ("a call out of the section", elf([("check", bytes.fromhex("8510000063000000") + code, False)]), "cc: the object file can't be read: "),
+        ("a common variable", elf(several, [(0, "counter", COMMON)]), "cc: source.c:10 (slot 0) needs counter, which"),
+        ("a symbol that isn't there", elf(several, [(0, "counter", 77)]), "cc: source.c:10 (slot 0) needs counter, which"),
+        ("an object file of another machine", elf(several, machine=62), "cc: the object file can't be read: it is no "),
+        ("no object file", b"BC\xc0\xde" * 20, "cc: the object file can't be read: it is no "),
+        ("an empty object file", b"", "cc: the object file can't be read: it is no "),
+        ("too many slots", elf([("check", code * 2100, False)]), "cc: the function check has "),
+    ):
+        place.holds(source, object_, listing_of(code))
+        yield name, refused(place, line)
+
+
+def gone(pid):
+    """Whether a process ends, of which somebody else may have to be told."""
+    for _ in range(100):
+        try:
+            if Path(f"/proc/{pid}/stat").read_text().rsplit(")", 1)[1].split()[0] == "Z":
+                return True
+        except OSError:
+            return True
+        time.sleep(0.05)
+    return False
+
+
+def hanging(place, name, stop):
+    """What is wrong with the end of the tool while its compiler hangs; `stop` answers the words, and what to do then."""
+    (place.folder / "hang").touch()
+    asleep = place.folder / "asleep"
+    asleep.unlink(missing_ok=True)
+    words, end, wanted = stop
+    child = place.start("source.c", "check", "out.bpf", *words)
+    begun = time.monotonic()
+    while not asleep.exists() and child.poll() is None and time.monotonic() < begun + SECONDS:
+        time.sleep(0.01)
+    end(child)
+    said = ended(child, SECONDS)[1]
+    found = [] if (child.returncode, said) == wanted else [f"status {child.returncode}, '{said[-300:]}'"]
+    found += [f"{it} was left" for it in place.left()]
+    pid = int(asleep.read_text()) if asleep.exists() else None
+    if pid and not gone(pid):
+        os.kill(pid, signal.SIGKILL)
+        found.append("the compiler's child goes on")
+    for it in (place.folder / "tmp").iterdir():
+        shutil.rmtree(it)
+    (place.folder / "hang").unlink()
+    return name, found
+
+
+def stopped(place, code):
+    """Signals, and programs that take too long."""
+    place.holds("u64 check(void)\n{\n\treturn 0;\n}\n", elf([("check", code, False)]), listing_of(code))
+    for it in (signal.SIGHUP, signal.SIGINT, signal.SIGTERM):
+        yield hanging(place, f"{it.name} at a compiler", ((), lambda child, it=it: child.send_signal(it), (-it, "")))
+    said = "cc: clang took more than 1 seconds\n    --timeout SECONDS allows more\n"
+    yield hanging(place, "a compiler that takes too long", (("--timeout", "1"), lambda _: None, (2, said)))
+    crashbpf = os.readlink(place.folder / "bin/crashbpf")
+    place.tool("crashbpf", HANGS)
+    yield "a verifier that takes too long", refused(place, "cc: crashbpf took more than 1 seconds", "source.c", "check", "out.bpf", "--sectors", "4", "--timeout", "1")
+    looped = bytes.fromhex("b700000000000000" "5500ffff01000000" "9500000000000000")
+    place.holds("u64 check(void)\n{" + "\n" * 8 + "for (;;)\n;\n}\n", elf([("check", looped, False)]), listing_of(looped))
+    place.tool("crashbpf", NOTES)
+    found = place.run("source.c", "check", "out.bpf", "--sectors", "4")
+    bound = "cc: source.c:10: at most 65536 turns in a run; then answer 1000000, code 10\n"
+    yield "a note on what the tool made", [] if found == (0, "accepted budget 9\n", bound) else [str(found)]
+    place.tool("crashbpf", "#!/bin/sh\nexit 101\n")
+    yield "a verifier that breaks off", refused(place, "cc: crashbpf verify ended with status 101", "source.c", "check", "out.bpf", "--sectors", "4")
+    (place.folder / "bin/crashbpf").unlink()
+    (place.folder / "bin/crashbpf").symlink_to(crashbpf)
+    for word in ("0", "-1", "x", "1e3", "86401"):
+        wrong = place.run("source.c", "check", "out.bpf", "--timeout", word)
+        yield f"--timeout {word}", [] if wrong[0] == 2 and "argument --timeout" in wrong[2] else [str(wrong)]
+
+
+# A program in which calls of memcpy and memset stand before jumps, after them, and between; and what it answers.
+BYTES = 40
+CALLING = f"""
+lddw r6, {MEMORY}
+lddw r1, 506097522914230528
+stxdw [r6+0], r1
+stxdw [r6+13], r1
+mov64 r7, 2
+ja +1
+ja +6
+mov64 r1, r6
+add64 r1, 100
+mov64 r2, r6
+mov64 r3, 21
+call 500
+jne r7, 2, -7
+mov64 r8, r0
+mov64 r1, r6
+add64 r1, 200
+mov64 r2, 775
+mov64 r4, {BYTES - 1}
+mov64 r3, r4
+call 501
+callf +3
+ldxdw r1, [r8+13]
+add64 r0, r1
+exit
+lddw r1, {MEMORY + 200}
+ldxdw r0, [r1+{BYTES - 9}]
+exit
+"""
+SEVENS, COUNTED = 0x0707070707070707, 506097522914230528
+
+
+def calls(crashbpf, folder):
+    """What is wrong with calls that are written out: where jumps lead, and what the program answers; and which are refused."""
+    code = assembled(crashbpf, folder, CALLING.strip().replace("\n", "; "))
+    made = {it.immediate: at for at, it in slots_of(code).items() if it.opcode == 0x85 and it.source == 0}
+    names = {made[500]: "memcpy", made[501]: "sets_"}
+    out, places = expanded(code, names)
+    end = judged(out, Zeros(), 1000, True).text
+    wanted = f"answer {(SEVENS + COUNTED) % 2**64} codes -"
+    yield "calls that are written out", [] if end == wanted else [f"{end}, wanted {wanted}"]
+    grown = len(copy_code(21) + set_code(BYTES - 1)) - 2 * SLOT
+    last = places[max(places)] * SLOT
+    yield "how much longer it is", [] if len(out) == len(code) + grown and last == len(out) - SLOT else [f"{len(out)} of {len(code)}"]
+    outside = assembled(crashbpf, folder, "ja +900; ja -900; exit")
+    yield "jumps that lead nowhere", [] if expanded(outside, {}) == (outside, {0: 0, 1: 1, 2: 2}) else ["they have moved"]
+    ending = assembled(crashbpf, folder, "jeq r1, 0, +3; mov64 r3, 8; call 500; ja +0")
+    wanted = assembled(crashbpf, folder, "jeq r1, 0, +5; mov64 r3, 8; ldxdw r0, [r2+0]; stxdw [r1+0], r0; mov64 r0, r1; ja +0")
+    yield "jumps to the end", [] if expanded(ending, {2: "memcpy"})[0] == wanted else [expanded(ending, {2: "memcpy"})[0].hex()]
+    for text in UNKNOWN_LENGTHS:
+        some = assembled(crashbpf, folder, text + "; exit")
+        try:
+            expanded(some, {len(some) // SLOT - 2: "memset"})
+            yield f"a length that isn't known: {text}", ["it is written out"]
+        except NoProgram as it:
+            yield f"a length that isn't known: {text}", [] if "for a length that isn't a constant there" in str(it) or "at most 16384 are written out" in str(it) else [str(it)]
+
+
+class Zeros:
+    """A device of one sector that is zeros."""
+
+    class run:
+        sectors = 1
+
+    def sector(self, _number):
+        return bytes(512)
+
+    def epoch(self):
+        return 0
+
+    def marks(self):
+        return 0
+
+
+def memory(place, crashbpf):
+    """Programs with data: where it lies, and what is refused."""
+    address = "lddw r1, 4; ldxdw r0, [r1+0]; exit"
+    code = assembled(crashbpf, place.folder, address)
+    for name, data, needs, wanted in [
+        ("a number", [("a", bytes(4) + b"\7" + bytes(7))], [(0, "a", 2)], 7),
+        ("past a number that isn't needed", [("a", bytes(12)), ("b", bytes(4) + b"\x88" * 8 + bytes(4))], [(0, "b", 3)], 0x8888888888888888),
+        ("as much as there is", [("a", bytes(4) + b"\5" + bytes(ROOM - 5))], [(0, "a", 2)], 5),
+        ("a byte too much", [("a", bytes(ROOM + 1))], [(0, "a", 2)], f"cc: its variables, tables and strings take {ROOM + 1} bytes, and a program has {ROOM}"),
+        ("too many first bytes", [("a", b"\1" * 8 * 2100)], [(0, "a", 2)], "cc: the first bytes of its data take 4202 slots, and with them it has 4206: at most 4096"),
+        ("a function", [("a", bytes(16))], [(0, "check", 1)], "cc: source.c:10 (slot 0) needs check, which lies outside"),
+        ("another place than an address", [("a", bytes(16))], [(2, "a", 2)], "cc: the object file can't be read: a place of its code is filled with a"),
+        ("something that is nowhere", [], [(0, "a", 0)], "cc: source.c:10 (slot 0) needs a, which lies outside"),
+    ]:
+        place.holds("u64 check(void)\n{\n\treturn 0;\n}\n", elf([("check", code, False)], needs, data=data), listing_of(code))
+        if isinstance(wanted, str):
+            yield f"data: {name}", refused(place, wanted)
+            continue
+        status, _, said = place.run()
+        end = judged(place.written("out.bpf"), Zeros(), 10_000, True).text if status == 0 else said
+        size = sum(len(content) for label, content in data if label == needs[0][1])
+        told = "cc: it has what programs have with guards alone: explore needs --guards\n" f"cc: its variables, tables and strings take {size} of {ROOM} bytes of memory\n"
+        yield f"data: {name}", [] if end == f"answer {wanted} codes -" and said.startswith(told) else [f"{end}, {said}"]
+        yield f"data: {name}, without guards", refused(place, "which lies outside of the function check", "source.c", "check", "out.bpf", "--no-guards")
+
+
+# What stands in front of a call whose length isn't a constant on each way to it.
+UNKNOWN_LENGTHS = [
+    "ja +0; mov64 r3, 5; jeq r0, 0, -1; call 500",
+    "jeq r0, 0, +1; mov64 r3, 5; call 500",
+    "jeq r0, 0, +1; mov64 r3, 5; mov64 r2, 0; call 500",
+    "ldxdw r3, [r10-8]; call 500",
+    "mov64 r3, r4; call 500",
+    "call 4; call 500",
+    "mov64 r3, 5; call 4; call 500",
+    "mov64 r3, -1; call 500",
+    "mov64 r3, 5; add64 r3, 1; call 500",
+    "mov64 r3, 5; jeq r0, 0, +0; call 500",
+    "mov64 r3, 16385; call 500",
+]
+
+
+# A call in the midst of others, and of what is written out for it the slots at which an instruction begins.
+MIDST = "mov64 r1, r10; add64 r1, -64; mov64 r2, r10; add64 r2, -32; mov64 r3, 24; call 500; mov64 r0, 0; exit"
+BEGUN = {"memcpy": range(5, 12), "memset": (5, 6, 8, 9, 10, 11, 12)}
+
+
+def lines_of_calls(place, crashbpf):
+    """Which lines the slots have of a call that is written out, and those around it."""
+    code = assembled(crashbpf, place.folder, MIDST)
+    for name, begun in BEGUN.items():
+        place.holds("u64 check(void)\n{\n\treturn 0;\n}\n", elf([("check", code, False)], [(5, name, 0)]), listing_of(code))
+        status, _, said = place.run("source.c", "check", "out.bpf", "--sectors", "4")
+        numbers = [*range(5), *begun, begun[-1] + 1, begun[-1] + 2]
+        lines = [*range(10, 15), *[15] * len(begun), 16, 17]
+        wanted = "".join(f"{at} source.c {line}\n" for at, line in zip(numbers, lines))
+        found = (place.written("out.lines") or b"").decode()
+        yield f"the lines of {name}", [] if (status, found) == (0, wanted) else [f"{status} {said} {found}"]
+    place.holds("u64 check(void)\n{\n\treturn 0;\n}\n", elf([("check", code, False)], [(5, "memmove", 0)]), listing_of(code))
+    yield "a call of memmove", refused(place, "cc: source.c:15 (slot 5) needs memmove, which lies outside of the function check")
+
+
+NULL_POINTER = "mov64 r1, 0; call 1; ldxb r0, [r0+0]; exit"
+GUARDED = "cc: accepted with guards: explore needs --guards\ncc: source.c:12: slot 2 is guarded: ldxb r0, [r0+0]\n"
+LINES = "0 source.c 10\n1 source.c 11\n2 source.c 12\n3 source.c 13\n"
+REFUSED = "refused 52 at 2\n"
+
+# A program, words of the tool; the status, the output, how the errors begin, and the lines of slots.
+ACCEPTED = [
+    ("mov64 r0, 0; exit", "", 0, "accepted budget 2\n", "", "0 source.c 10\n1 source.c 11\n"),
+    (NULL_POINTER, "", 0, "accepted budget 4 guards 1\n", GUARDED, LINES),
+    (NULL_POINTER, "--guards", 0, "accepted budget 4 guards 1\n", GUARDED, LINES),
+    (NULL_POINTER, "--no-guards", 2, "", REFUSED, None),
+    ("mov64 r0, r1; exit", "", 0, "accepted budget 2 guards 0\n", "cc: accepted with guards: explore needs --guards\n", "0 source.c 10\n1 source.c 11\n"),
+    ("ldxb r0, [r3+0]; mov64 r0, 0; jne r0, 1, -2; exit", "", 2, "", "refused 42 at 1\n", None),
+    ("mov64 r1, 1; mov64 r2, r10; ldxdw r3, [r10-8]; call 2; exit", "", 2, "", "refused 56 at 3\n", None),
+    ("mov64 r0, 0; exit; exit", "", 0, "accepted budget 2\n", "note: instructions that no run reaches: 1", "0 source.c 10\n1 source.c 11\n2 source.c 12\n"),
+]
+
+
+def accepted(place, crashbpf):
+    """Programs that are accepted with guards or without, and what is said and written of them."""
+    source = "u64 check(void)\n{\n\treturn 0;\n}\n"
+    for text, words, status, printed, errors, lines in ACCEPTED:
+        code = assembled(crashbpf, place.folder, text)
+        place.holds(source, elf([("check", code, False)]), listing_of(code))
+        found = place.run("source.c", "check", "out.bpf", "--sectors", "4", *words.split())
+        written = {it: place.written(it) for it in ("out.bpf", "out.lines")}
+        wanted = {"out.bpf": code if status == 0 else None, "out.lines": lines.encode() if lines else None}
+        good = found[:2] == (status, printed) and found[2].startswith(errors) and bool(found[2]) == bool(errors)
+        yield f"{text} {words}", [] if good and written == wanted and not place.left() else [f"{found}, {written}"]
+
+
+def ways(place, crashbpf):
+    """Which program is taken of the ways in which a checker is compiled, and how often it is: the last way makes another one."""
+    guarded, strict, unset = (assembled(crashbpf, place.folder, it) for it in (NULL_POINTER, "mov64 r0, 7; exit", "exit"))
+    for first, last, words, wanted in (
+        (strict, guarded, "", (0, strict, 1)),
+        (strict, guarded, "--no-guards", (0, strict, 1)),
+        (guarded, strict, "", (0, guarded, 1)),
+        (guarded, strict, "--guards", (0, guarded, 1)),
+        (guarded, strict, "--no-guards", (0, strict, 3)),
+        (guarded, unset, "--no-guards", (2, None, 3)),
+        (unset, guarded, "", (0, guarded, 3)),
+        (unset, guarded, "--no-guards", (2, None, 3)),
+        (unset, unset, "", (2, None, 3)),
+    ):
+        place.holds("u64 check(void)\n{\n\treturn 0;\n}\n", elf([("check", first, False)]), listing_of(first))
+        (place.folder / "other").write_bytes(elf([("check", last, False)]))
+        yield f"{first.hex()} and by the last way {last.hex()} {words}", counted(place, words, wanted)
+    (place.folder / "other").unlink()
+
+
+def counted(place, words, wanted):
+    """What is wrong with the status, with what is written, or with how often the compiler made an object file."""
+    (place.folder / "compiled").unlink(missing_ok=True)
+    status, _, said = place.run("source.c", "check", "out.bpf", "--sectors", "4", *words.split())
+    found = (status, place.written("out.bpf"), len(place.written("compiled")))
+    return [] if found == wanted else [f"{found}, wanted {wanted}: {said[-300:]}"]
+
+
+def outputs(place, code):
+    """Names of sources and outputs."""
+    text, object_ = "u64 check(void)\n{\n\treturn 0;\n}\n", elf([("check", code, False)])
+    place.holds(text, object_, listing_of(code, "my é.c"), "my é.c")
+    place.run("my é.c", "check", "out")
+    lines = place.written("out.lines")
+    yield "a name with a space", [] if lines == b"0 my\\x{20}\\x{c3}\\x{a9}.c 10\n1 my\\x{20}\\x{c3}\\x{a9}.c 11\n" else [str(lines)]
+    both = "; a/x.h:1\n       0: word\n; b/x.h:2\n       1: word\n"
+    place.holds(text, object_, both)
+    place.run()
+    lines = place.written("out.lines")
+    yield "two files of one name", [] if lines == b"0 a/x.h 1\n1 b/x.h 2\n" else [str(lines)]
+    place.holds(text, object_, "", "two\nlines.c")
+    yield "a name of two lines", refused(place, "cc: the name of the checker has a character", "two\nlines.c", "check", "out.bpf")
+    place.holds(text, object_)
+    for out, line in (("nowhere/out.bpf", "cc: the file nowhere/out.lines can't be written: "), ("source.c", "cc: source.c is the checker itself")):
+        yield f"{out} as output", refused(place, line, "source.c", "check", out)
+    yield "a device as output", [] if place.run("source.c", "check", "/dev/null")[0] == 0 and not Path("/dev/null.lines").exists() else ["lines"]
+    place.tool("clang", "#!/bin/sh\nexit 0\n")
+    yield "a compiler that makes nothing", refused(place, "cc: clang made no object file")
+    place.tool("clang", "no script")
+    yield "a compiler that can't be run", refused(place, "cc: bin/clang can't be run: ", "source.c", "check", "out.bpf", "--compiler", "bin/clang")
+
+
+def rows(crashbpf, folder):
+    code = assembled(crashbpf, folder, "mov64 r0, 0; exit")
+    yield from odd_objects(code)
+    yield from calls(crashbpf, folder)
+    place = Place(folder, crashbpf)
+    yield from memory(place, crashbpf)
+    yield from lines_of_calls(place, crashbpf)
+    yield from sources(place)
+    yield from objects(place, code)
+    yield from stopped(place, code)
+    yield from accepted(place, crashbpf)
+    yield from ways(place, crashbpf)
+    yield from outputs(place, code)
+
+
+def main(words):
+    # A process that was started by nohup, or by a shell's &, ignores some signals, and so would what it starts.
+    for number in (signal.SIGHUP, signal.SIGINT, signal.SIGTERM):
+        signal.signal(number, signal.SIG_DFL)
+    crashbpf = Path(words[0] if words else TOP / "crates/crashbpf/out/crashbpf").resolve()
+    if not os.access(crashbpf, os.X_OK):
+        sys.exit(f"there is no program {crashbpf}: `rt run` in crates/crashbpf builds it")
+    with tempfile.TemporaryDirectory() as folder:
+        found = list(rows(crashbpf, Path(folder)))
+    failed = [(name, wrong) for name, wrong in found if wrong]
+    for name, wrong in failed:
+        print(f"FAILED {name}: {'; '.join(wrong)[:2000]}")
+    print(f"{len(found) - len(failed)} passed, {len(failed)} failed")
+    return 1 if failed else 0
+
+
+if __name__ == "__main__":
+    sys.exit(main(sys.argv[1:]))

@@ -1,0 +1,378 @@
+#!/usr/bin/env python3
+"""Tests what crashbpf-record makes of strace's text: the entries of the log, and what is refused.
+
+    python3 tests/gate/traced.py [SEED COUNT]
+
+It needs Python alone, neither strace nor the built program: the texts stand here, or are made of those by cutting them off and
+changing bytes. The rule for several files on one device is compared with a plain model of files (files_model.py) on COUNT
+random runs, 3,000 where it isn't given. tests/by_hand/record.py records real programs, by hand.
+
+Prints a line for each row that failed, and last `N passed, M failed`. It takes some five seconds.
+"""
+import os
+import random
+import re
+import subprocess
+import sys
+import tempfile
+from pathlib import Path
+
+sys.dont_write_bytecode = True
+
+import rooms
+
+rooms.enter()
+
+import files_model
+from notation import FUA, SECTOR, TOP, F, M, S, log
+from strace_texts import FILES, HERE, MARKS, strace
+
+RECORD = TOP / "commands/record"
+from commands.record import disk
+from commands.record import layout
+from commands.record import traced
+from commands.record.calls import Refused
+
+A, B, C = (bytes([it]) * SECTOR for it in b"ABC")
+KINDS = {disk.WRITE: "w", disk.FLUSH: "f", disk.FUA: "fua", disk.MARK: "m"}
+
+
+def followed(text, before=None, skipped=()):
+    """What is followed of a text of strace. Raises Refused."""
+    with tempfile.NamedTemporaryFile() as file:
+        file.write(text)
+        file.flush()
+        return traced.follow(file.name, FILES, before or {}, skipped, HERE, MARKS)
+
+
+def entries_of(tracing):
+    """The entries as tuples: a kind, the name of the file, the sector, the bytes."""
+    rows = [(KINDS[it.kind], it.file.name.decode() if it.file else "", it.sector, bytes(it.data)) for it in tracing.disk.entries]
+    return [(it[0],) if it[0] == "f" else (it[0], it[3].decode()) if it[0] == "m" else it for it in rows]
+
+
+OPEN = "openat(AT_FDCWD</elsewhere>, 'x', O_RDWR|O_CREAT, 0644) = 3<db>\n"
+WAL = "openat(AT_FDCWD</elsewhere>, 'x', O_RDWR|O_CREAT, 0644) = 4<wal>\n"
+HALF = b"A" * 100 + b"B" * 20 + b"A" * 392
+
+# The name, the text, the entries; and what stood there before, where something did.
+FOLLOWED = [
+    ("a write and a sync", OPEN + "pwrite64(3<db>, 'A*512', 512, 512) = 512\nfsync(3<db>) = 0", [("w", "db", 1, A), ("f",)]),
+    ("places", OPEN + "write(3<db>, 'A*512', 512) = 512\nwrite(3<db>, 'B*512', 512) = 512\nlseek(3<db>, 0, SEEK_SET) = 0\nread(0x3, 0x7f, 0x200) = 0x200\nwrite(3<db>, 'C*512', 512) = 512",
+     [("w", "db", 0, A), ("w", "db", 1, B), ("w", "db", 1, C)]),
+    ("a part of a sector", OPEN + "write(3<db>, 'A*512', 512) = 512\npwrite64(3<db>, 'B*20', 20, 100) = 20", [("w", "db", 0, A), ("w", "db", 0, HALF)]),
+    ("over two sectors", OPEN + "pwrite64(3<db>, 'A*4', 4, 510) = 4", [("w", "db", 0, bytes(510) + b"AAAA" + bytes(510))]),
+    ("over what stood there", OPEN + "pwrite64(3<db>, 'B*20', 20, 100) = 20", [("w", "db", 0, HALF)], {b"db": A}),
+    ("less than was asked for", OPEN + "write(3<db>, 'A*1024', 1024) = 512\nwrite(3<db>, 'B*512', 512) = 512", [("w", "db", 0, A), ("w", "db", 1, B)]),
+    ("vectors", OPEN + "writev(3<db>, [{iov_base='A*512', iov_len=512}, {iov_base='', iov_len=0}, {iov_base='B*512', iov_len=512}], 3) = 1024", [("w", "db", 0, A + B)]),
+    ("a part of vectors", OPEN + "pwritev(3<db>, [{iov_base='A*512', iov_len=512}, {iov_base='B*512', iov_len=512}], 2, 512) = 512", [("w", "db", 1, A)]),
+    ("pwritev2 at the place", OPEN + "pwritev2(3<db>, [{iov_base='A*512', iov_len=512}], 1, -1, 0) = 512\nwrite(3<db>, 'B*512', 512) = 512", [("w", "db", 0, A), ("w", "db", 1, B)]),
+    ("pwritev2 through", OPEN + "pwritev2(3<db>, [{iov_base='A*512', iov_len=512}], 1, 0, RWF_DSYNC) = 512", [("w", "db", 0, A), ("fua", "db", 0, A)]),
+    ("pwritev2 at the end", OPEN + "pwritev2(3<db>, [{iov_base='B*512', iov_len=512}], 1, 0, RWF_APPEND) = 512", [("w", "db", 1, B)], {b"db": A}),
+    ("O_DSYNC", "openat(AT_FDCWD</elsewhere>, 'x', O_RDWR|O_CREAT|O_DSYNC, 0644) = 3<db>\nwrite(3<db>, 'A*512', 512) = 512", [("w", "db", 0, A), ("fua", "db", 0, A)]),
+    ("O_SYNC", "openat(AT_FDCWD</elsewhere>, 'x', O_RDWR|O_CREAT|O_SYNC, 0644) = 3<db>\nwrite(3<db>, 'A*512', 512) = 512", [("w", "db", 0, A), ("fua", "db", 0, A)]),
+    ("O_APPEND", "openat(AT_FDCWD</elsewhere>, 'x', O_RDWR|O_APPEND) = 3<db>\nwrite(3<db>, 'B*512', 512) = 512\npwrite64(3<db>, 'C*512', 512, 0) = 512", [("w", "db", 1, B), ("w", "db", 2, C)], {b"db": A}),
+    ("F_SETFL", OPEN + "fcntl(3<db>, F_SETFL, O_RDWR|O_APPEND) = 0\nwrite(3<db>, 'B*512', 512) = 512", [("w", "db", 1, B)], {b"db": A}),
+    ("dup", OPEN + "dup(3<db>) = 4<db>\nwrite(4<db>, 'A*512', 512) = 512\nclose(4<db>) = 0\nwrite(3<db>, 'B*512', 512) = 512", [("w", "db", 0, A), ("w", "db", 1, B)]),
+    ("dup2 and F_DUPFD", OPEN + "dup2(3<db>, 9) = 9<db>\nfcntl(9<db>, F_DUPFD_CLOEXEC, 10) = 10<db>\nwrite(10<db>, 'A*512', 512) = 512\nwrite(9<db>, 'B*512', 512) = 512", [("w", "db", 0, A), ("w", "db", 1, B)]),
+    ("two descriptors of one file", OPEN + OPEN.replace("3<", "5<") + "write(3<db>, 'A*512', 512) = 512\nwrite(5<db>, 'B*512', 512) = 512", [("w", "db", 0, A), ("w", "db", 0, B)]),
+    ("a child shares the place", OPEN + "fork() = 101\n101 write(3<db>, 'A*512', 512) = 512\n101 +++ exited with 0 +++\nwrite(3<db>, 'B*512', 512) = 512", [("w", "db", 0, A), ("w", "db", 1, B)]),
+    ("a child before its maker", OPEN + "clone(child_stack=NULL, flags=CLONE_CHILD_SETTID|SIGCHLD, child_tidptr=0x7f <unfinished ...>\n101 write(3<db>, 'A*512', 512) = 512\n101 +++ exited with 0 +++\n<... clone resumed>) = 101", [("w", "db", 0, A)]),
+    ("a maker that has gone", OPEN + "vfork() = 101\n100 +++ exited with 0 +++\n101 write(3<db>, 'A*512', 512) = 512", [("w", "db", 0, A)], {}, "101 +++ killed by SIGKILL +++"),
+    ("a thread opens for another", "clone3({flags=CLONE_VM|CLONE_FS|CLONE_FILES|CLONE_THREAD, stack=0x7f}, 88) = 101\n101 " + OPEN + "write(3<db>, 'A*512', 512) = 512\n101 +++ exited with 0 +++", [("w", "db", 0, A)]),
+    ("execve", "openat(AT_FDCWD</elsewhere>, 'x', O_RDWR|O_CREAT|O_CLOEXEC, 0644) = 4<wal>\n" + OPEN + "execve('/bin/x', ['x'], 0x7f /* 9 vars */) = 0\nwrite(3<db>, 'A*512', 512) = 512\nopenat(AT_FDCWD</elsewhere>, 'x', O_RDONLY) = 4<wal>", [("w", "db", 0, A)]),
+    ("execve of a thread", OPEN + "clone(child_stack=0x7f, flags=CLONE_VM|CLONE_FILES|CLONE_THREAD) = 101\n101 execve('/bin/x', ['x'], 0x7f <unfinished ...>\n100 +++ superseded by execve in pid 101 +++\n100 <... execve resumed>) = 0\nwrite(3<db>, 'A*512', 512) = 512", [("w", "db", 0, A)]),
+    ("a write in flight at a sync", OPEN + "clone(child_stack=0x7f, flags=CLONE_VM|CLONE_FILES|CLONE_THREAD) = 101\npwrite64(3<db>, 'A*512', 512, 0) = 512\n101 pwrite64(3<db>, 'B*512', 512, 512 <unfinished ...>\nfsync(3<db> <unfinished ...>\n101 <... pwrite64 resumed>) = 512\n<... fsync resumed>) = 0\n101 +++ exited with 0 +++",
+     [("w", "db", 0, A), ("w", "db", 1, B), ("fua", "db", 0, A)]),
+    ("a sector that is written again in a sync", OPEN + "clone(child_stack=0x7f, flags=CLONE_VM|CLONE_FILES|CLONE_THREAD) = 101\npwrite64(3<db>, 'A*512', 512, 0) = 512\nfsync(3<db> <unfinished ...>\n101 pwrite64(3<db>, 'B*512', 512, 0) = 512\n<... fsync resumed>) = 0\n101 +++ exited with 0 +++",
+     [("w", "db", 0, A), ("w", "db", 0, B), ("fua", "db", 0, A), ("w", "db", 0, B)]),
+    ("a sync that never ended", OPEN + "pwrite64(3<db>, 'A*512', 512, 0) = 512\nfsync(3<db> <unfinished ...>", [("w", "db", 0, A)]),
+    ("a sync of another file", OPEN + WAL + "write(3<db>, 'A*512', 512) = 512\nwrite(4<wal>, 'B*512', 512) = 512\nfsync(4<wal>) = 0\nfdatasync(3<db>) = 0", [("w", "db", 0, A), ("w", "wal", 0, B), ("fua", "wal", 0, B), ("f",)]),
+    ("runs of sectors", OPEN + WAL + "write(4<wal>, 'C*512', 512) = 512\npwrite64(3<db>, 'A*512', 512, 0) = 512\npwrite64(3<db>, 'B*512', 512, 512) = 512\npwrite64(3<db>, 'C*512', 512, 2048) = 512\nfsync(3<db>) = 0",
+     [("w", "wal", 0, C), ("w", "db", 0, A), ("w", "db", 1, B), ("w", "db", 4, C), ("fua", "db", 0, A + B), ("fua", "db", 4, C)]),
+    ("sync and syncfs", OPEN + WAL + "write(3<db>, 'A*512', 512) = 512\nwrite(4<wal>, 'B*512', 512) = 512\nsync() = 0\nwrite(3<db>, 'C*512', 512) = 512\nsyncfs(4<wal>) = 0", [("w", "db", 0, A), ("w", "wal", 0, B), ("f",), ("w", "db", 1, C), ("f",)]),
+    ("syncfs of another file system", OPEN + "write(3<db>, 'A*512', 512) = 512\nopenat(AT_FDCWD</elsewhere>, 'y', O_RDONLY) = 5</other/y>\nsyncfs(5</other/y>) = 0", [("w", "db", 0, A)]),
+    ("sync_file_range makes nothing durable", OPEN + "write(3<db>, 'A*512', 512) = 512\nsync_file_range(3<db>, 0, 512, SYNC_FILE_RANGE_WRITE) = 0", [("w", "db", 0, A)]),
+    ("ftruncate makes it longer", OPEN + "ftruncate(3<db>, 1024) = 0\npwrite64(3<db>, 'A*512', 512, 512) = 512", [("w", "db", 1, A)]),
+    ("fallocate", OPEN + "write(3<db>, 'A*512', 512) = 512\nfallocate(3<db>, 0, 0, 1024) = 0\nfallocate(3<db>, FALLOC_FL_KEEP_SIZE|FALLOC_FL_PUNCH_HOLE, 0, 512) = 0", [("w", "db", 0, A), ("w", "db", 0, bytes(512))]),
+    ("a mark", OPEN + "write(3<db>, 'A*512', 512) = 512\nopenat(AT_FDCWD</elsewhere>, 'm', O_WRONLY|O_APPEND) = 5</r/marks>\nwrite(5</r/marks>, '0 commit 1\n7 two\n', 17) = 17".replace("1\n7 two\n'", "1'").replace(", 17) = 17", ", 10) = 10"), None),
+    ("a file that is skipped", OPEN.replace("<db>", "<lock>") + "mmap(NULL, 4096, PROT_READ|PROT_WRITE, MAP_SHARED, 3<lock>, 0) = 0x7f0000\nwrite(3<lock>, 'A*512', 512) = 512\nunlink('/r/files/lock') = 0", [], {}, None, ["lo*"]),
+    ("mappings that are read", OPEN + "mmap(NULL, 4096, PROT_READ, MAP_SHARED, 3<db>, 0) = 0x700000\nmunmap(0x700000, 4096) = 0\nmprotect(0x700000, 4096, PROT_READ|PROT_WRITE) = 0\nmmap(NULL, 4096, PROT_READ|PROT_WRITE, MAP_PRIVATE, 3<db>, 0) = 0x700000\nmprotect(0x700000, 4096, PROT_READ|PROT_WRITE) = 0", []),
+    ("calls that fail", OPEN + "write(3<db>, 'A*512', 512) = -1 ENOSPC (No space left on device)\nrename('/r/files/db', '/r/files/x') = -1 ENOENT (No such file or directory)\nio_uring_setup(8, {flags=0}) = -1 ENOSYS (Function not implemented)\nsyscall_0x1d7(0, 0) = -1 ENOSYS (Function not implemented)\nioctl(3<db>, FICLONE, 5</x>) = -1 EOPNOTSUPP (Operation not supported)", []),
+    ("a last unlink", OPEN + "write(3<db>, 'A*512', 512) = 512\nfsync(3<db>) = 0\nunlink('/r/files/db') = 0\nfsync(3<db>(deleted)) = 0\nclose(3<db>(deleted)) = 0", [("w", "db", 0, A), ("f",)]),
+    ("an empty file that comes and goes", OPEN + "unlinkat(5</r/files>, 'db', 0) = 0\nclose(3<db>(deleted)) = 0\n" + OPEN + "write(3<db>, 'A*512', 512) = 512", [("w", "db", 0, A)]),
+    ("a last truncate", OPEN + "write(3<db>, 'A*512', 512) = 512\nftruncate(3<db>, 0) = 0", [("w", "db", 0, A)]),
+    ("other files and folders", "openat(AT_FDCWD</elsewhere>, 'y', O_WRONLY|O_CREAT|O_TRUNC, 0644) = 3</elsewhere/y>\nwrite(3</elsewhere/y>, 'A*512', 512) = 512\nrename('/elsewhere/y', '/elsewhere/z') = 0\nmkdir('/r/files/in', 0777) = 0\nopenat(AT_FDCWD</elsewhere>, 'x', O_RDONLY|O_DIRECTORY) = 4<in>\nfsync(4<in>) = 0\nopenat(AT_FDCWD</elsewhere>, 'x', O_RDWR|O_CREAT, 0644) = 5<in/db>\nwrite(5<in/db>, 'A*512', 512) = 512", [("w", "in/db", 0, A)]),
+    ("signals and remarks", OPEN + "--- SIGCHLD {si_signo=SIGCHLD, si_code=CLD_EXITED} ---\nwrite(3<db>, 'A*512', 512) = 512", [("w", "db", 0, A)]),
+]
+
+MARKED = OPEN + "write(3<db>, 'A*512', 512) = 512\nopenat(AT_FDCWD</elsewhere>, 'm', O_WRONLY|O_APPEND) = 5</r/marks>\n"
+MAPPED = "mmap(NULL, 4096, PROT_READ, MAP_SHARED, 3<db>, 0) = 0x700000\n"
+THREAD = "clone(child_stack=0x7f, flags=CLONE_VM|CLONE_FILES|CLONE_THREAD) = 101\n"
+
+# The name, the text, and what is said, with the line of the text that shows it.
+REFUSED = [
+    ("a shared writable mapping", OPEN + "mmap(NULL, 4096, PROT_READ|PROT_WRITE, MAP_SHARED, 3<db>, 0) = 0x700000", "calls:2: .*a shared mapping can be written unseen"),
+    ("another word for shared", OPEN + "mmap(NULL, 4096, PROT_WRITE, MAP_SHARED_VALIDATE|MAP_SYNC, 3<db>, 0) = 0x700000", "calls:2: .*a shared mapping can be written unseen"),
+    ("a mapping that becomes writable", OPEN + MAPPED + "mprotect(0x700000, 4096, PROT_READ|PROT_WRITE) = 0", "calls:3: .*can be written unseen"),
+    ("a mapping that moves", OPEN + MAPPED + "mremap(0x700000, 4096, 8192, MREMAP_MAYMOVE) = 0x900000\nmprotect(0x901000, 4096, PROT_WRITE) = 0", "calls:4: .*can be written unseen"),
+    ("a mapping of a child", OPEN + MAPPED + "fork() = 101\n101 mprotect(0x700000, 4096, PROT_WRITE) = 0\n101 +++ exited with 0 +++", "calls:4: .*can be written unseen"),
+    ("copy_file_range", OPEN + "copy_file_range(5</other>, NULL, 3<db>, NULL, 512, 0) = 512", "calls:2: .*isn't followed"),
+    ("sendfile", OPEN + "sendfile(3<db>, 5</other>, NULL, 512) = 512", "calls:2: .*isn't followed"),
+    ("splice", OPEN + "splice(5<pipe:[1]>, NULL, 3<db>, NULL, 512, 0) = 512".replace("5<pipe:[1]>", "5"), "calls:2: .*isn't followed"),
+    ("FICLONE", OPEN + "ioctl(3<db>, FICLONE, 5</other>) = 0", "calls:2: .*this ioctl isn't followed"),
+    ("FICLONERANGE", OPEN + "ioctl(3<db>, FICLONERANGE, {src_fd=5</other>, src_offset=0, src_length=0, dest_offset=0}) = 0", "calls:2: .*this ioctl isn't followed"),
+    ("io_uring", OPEN + "io_uring_setup(8, {flags=0}) = 5", "calls:2: .*what a ring writes isn't seen"),
+    ("io_submit", OPEN + "io_submit(0x7f, 1, [{aio_data=0, aio_lio_opcode=IOCB_CMD_PWRITE, aio_fildes=3<db>}]) = 1", "calls:2: .*isn't followed"),
+    ("fsync that fails", OPEN + "fsync(3<db>) = -1 EIO (Input/output error)", "calls:2: .*a sync that fails"),
+    ("a write that fails badly", OPEN + "write(3<db>, 'A*512', 512) = -1 EIO (Input/output error)", "calls:2: .*leaves nothing that is known"),
+    ("a call that nobody knows", OPEN + "syscall_0x1d7(0x3, 0x7f) = 0", "calls:2: .*this strace doesn't know the call"),
+    ("a call that isn't followed", OPEN + "vmnew(3<db>, 0x7f) = 0", "calls:2: .*this call isn't followed, and may write db"),
+    ("a rename", OPEN + "write(3<db>, 'A*512', 512) = 512\nrename('/r/files/db', '/r/files/x') = 0", "calls:3: .*db is renamed, and names are left out; record it in a guest"),
+    ("a rename into the folder", OPEN + "renameat2(AT_FDCWD</elsewhere>, 'y', AT_FDCWD</r/files>, 'new', RENAME_NOREPLACE) = 0", "calls:2: .*new is renamed"),
+    ("a rename of a folder", "mkdir('/r/files/in', 0777) = 0\nopenat(AT_FDCWD</elsewhere>, 'x', O_RDWR|O_CREAT, 0644) = 5<in/db>\nrename('/r/files/in', '/r/files/out') = 0", "calls:3: .*in is renamed"),
+    ("a link", OPEN + "link('/r/files/db', '/elsewhere/x') = 0", "calls:2: .*db gets another name"),
+    ("a symbolic link", OPEN + "symlink('/r/files/db', '/elsewhere/x') = 0", "calls:2: .*db gets another name"),
+    ("a write after an unlink", OPEN + "write(3<db>, 'A*512', 512) = 512\nunlink('/r/files/db') = 0\nwrite(3<db>(deleted), 'A*512', 512) = 512", "calls:4: .*db is written after a name or a size was changed, which is left out: calls:3"),
+    ("a write of another file after an unlink", OPEN + WAL + "write(3<db>, 'A*512', 512) = 512\nunlink('/r/files/db') = 0\nwrite(4<wal>, 'A*512', 512) = 512", "calls:5: .*wal is written after a name"),
+    ("a mark after an unlink", MARKED + "unlink('/r/files/db') = 0\nwrite(5</r/marks>, '0 one@', 6) = 6", "calls:5: .*a mark is made after a name"),
+    ("a file that is made again", OPEN + "write(3<db>, 'A*512', 512) = 512\nunlink('/r/files/db') = 0\n" + OPEN, "calls:4: .*db is made after a name"),
+    ("a write after a truncate", OPEN + "write(3<db>, 'A*512', 512) = 512\nftruncate(3<db>, 10) = 0\nwrite(3<db>, 'A*512', 512) = 512", "calls:4: .*db is written after a name or a size"),
+    ("a truncate by the name", OPEN + "write(3<db>, 'A*512', 512) = 512\ntruncate('/r/files/db', 10) = 0\nftruncate(3<db>, 100) = 0", "calls:4: .*db grows after a name or a size"),
+    ("O_TRUNC", OPEN + "write(3<db>, 'A*512', 512) = 512\n" + OPEN.replace("O_CREAT", "O_TRUNC") + "write(3<db>, 'A*512', 512) = 512", "calls:4: .*db is written after a name or a size"),
+    ("a hole that moves the rest", OPEN + "fallocate(3<db>, FALLOC_FL_COLLAPSE_RANGE, 0, 4096) = 0", "calls:2: .*what it moves isn't followed"),
+    ("a file that nobody opened", "pwrite64(3<db>, 'A*512', 512, 0) = 512", "calls:1: .*no call was seen that made descriptor 3 one of db"),
+    ("a descriptor of another file", OPEN + WAL + "pwrite64(3<wal>, 'A*512', 512, 0) = 512", "calls:3: .*no call was seen that made descriptor 3 one of wal"),
+    ("a descriptor that came by a socket", OPEN + "recvmsg(7, {msg_control=[{cmsg_type=SCM_RIGHTS, cmsg_data=[9<db>]}]}, 0) = 1\npwrite64(9<db>, 'A*512', 512, 0) = 512", "calls:[23]: .*descriptor"),
+    ("a file that nobody made", "openat(AT_FDCWD</elsewhere>, 'x', O_RDWR) = 3<db>", "calls:1: .*no call was seen that made db"),
+    ("a file without a name", "openat(AT_FDCWD</elsewhere>, 'x', O_RDWR|O_TMPFILE, 0600) = 3<#1>", "calls:1: .*"),
+    ("a strace that names no file", OPEN + "pwrite64(3, 'A*512', 512, 0) = 512", "calls:2: .*strace doesn't say that it is of"),
+    ("an open that names no file", "openat(AT_FDCWD</elsewhere>, 'x', O_RDWR|O_CREAT, 0644) = 3", "calls:1: .*strace doesn't say which file it opened"),
+    ("a string that was cut", OPEN + "write(3<db>, 'A*512'..., 600) = 600", "calls:2: .*strace cut its string off"),
+    ("a string that isn't in hex", OPEN.replace("'x'", '"x"'), "calls:1: .*can't be read"),
+    ("vectors that were cut", OPEN + "writev(3<db>, [{iov_base='A*512', iov_len=512}, ...], 3) = 1024", "calls:2: .*its vectors aren't whole"),
+    ("more than was given", OPEN + "write(3<db>, 'A*512', 512) = 513", "calls:2: .*it wrote more than it was given"),
+    ("flags that nobody knows", OPEN + "pwritev2(3<db>, [{iov_base='A*512', iov_len=512}], 1, 0, 0x40 /* RWF_??? */) = 512", "calls:2: .*its flags aren't known"),
+    ("two writes at once", OPEN + THREAD + "pwrite64(3<db>, 'A*100', 100, 0 <unfinished ...>\n101 pwrite64(3<db>, 'B*100', 100, 200) = 100\n<... pwrite64 resumed>) = 100\n101 +++ exited with 0 +++", "calls:3: .*wrote the same sectors at once"),
+    ("two writes at one place", OPEN + THREAD + "write(3<db>, 'A*512', 512 <unfinished ...>\n101 write(3<db>, 'B*512', 512) = 512\n<... write resumed>) = 512\n101 +++ exited with 0 +++", "calls:3: .*where it wrote isn't known"),
+    ("a read at once", OPEN + THREAD + "write(3<db>, 'A*512', 512 <unfinished ...>\n101 read(0x3, 0x7f, 0x10) = 0x10\n<... write resumed>) = 512\n101 +++ exited with 0 +++", "calls:3: .*where it wrote isn't known"),
+    ("a write that never ended", OPEN + "write(3<db>, 'A*512', 512 <unfinished ...>", "calls:2: .*ended within the call"),
+    ("a write without an answer", OPEN + "write(3<db>, 'A*512', 512) = ?", "calls:2: .*what it wrote isn't known"),
+    ("a mark in pieces", MARKED + "write(5</r/marks>, '0 on', 4) = 4", "calls:4: .*a mark is one whole line"),
+    ("a mark without a number", MARKED + "write(5</r/marks>, 'one@', 4) = 4", "calls:4: .*a mark is a number"),
+    ("another root", OPEN + "chroot('/other') = 0", "calls:2: .*paths mean something else"),
+    ("another view of files", OPEN + "unshare(CLONE_NEWNS) = 0", "calls:2: .*paths mean something else"),
+    ("a child that isn't followed", OPEN + "clone(child_stack=NULL, flags=CLONE_UNTRACED|SIGCHLD) = 101", "calls:2: .*strace doesn't follow it"),
+    ("a process that nobody made", OPEN + "101 write(3<db>, 'A*512', 512) = 512\n101 +++ exited with 0 +++", "calls:2: .*no call was seen that made process 101"),
+    ("a call within a call", OPEN + "fsync(3<db> <unfinished ...>\nfsync(3<db>) = 0", "calls:3: .*begins a call within another"),
+    ("an end without a begin", OPEN + "<... fsync resumed>) = 0", "calls:2: .*ends a call that didn't begin"),
+    ("an end of another call", OPEN + "fsync(3<db> <unfinished ...>\n<... write resumed>) = 0", "calls:3: .*ends a call that didn't begin"),
+    ("another text", "strace: exec: Permission denied", "calls:1: no line of strace"),
+    ("memory by a file", "openat(AT_FDCWD</elsewhere>, 'x', O_RDWR) = 3</proc/7/mem>", "calls:1: .*to memory isn't followed"),
+    ("ptrace", "ptrace(PTRACE_ATTACH, 7) = 0", "calls:1: .*memory of others"),
+]
+
+
+def row_fault(name, text, entries, before=None, last=None, skipped=()):
+    """What is wrong with what is made of a text."""
+    if name == "a mark":
+        text, entries = MARKED + "write(5</r/marks>, '0 commit 1@', 11) = 11", [("w", "db", 0, A), ("m", "commit 1")]
+    try:
+        found = entries_of(followed(strace(text, last or "100 +++ exited with 0 +++").replace(rb"\x40", rb"\x0a"), before, skipped))
+    except Refused as refused:
+        return f"{name}: refused: {refused}"
+    return None if found == entries else f"{name}: {found}"
+
+
+def refused_fault(name, text, says):
+    """What is wrong with how a text is refused."""
+    try:
+        found = entries_of(followed(strace(text).replace(rb"\x40", rb"\x0a")))
+    except Refused as refused:
+        return None if re.match(says, str(refused)) else f"{name}: {refused}"
+    return f"{name}: it isn't refused: {found}"
+
+
+def whole_text():
+    """A text with all that is followed."""
+    text = OPEN + WAL + THREAD + MAPPED + "write(3<db>, 'A*700', 700) = 700\nfsync(3<db> <unfinished ...>\n101 pwrite64(4<wal>, 'B*512', 512, 512) = 512\n"
+    text += "<... fsync resumed>) = 0\nfork() = 102\n102 write(3<db>, 'C*30', 30) = 30\n102 +++ exited with 0 +++\n101 +++ exited with 0 +++\nfdatasync(4<wal>) = 0"
+    return strace(text)
+
+
+def cut_faults():
+    """What is wrong where a text is cut off: each is refused."""
+    text, found = whole_text(), []
+    entries_of(followed(text))
+    for end in range(0, len(text), 7):
+        try:
+            found.append(f"cut at {end}: {entries_of(followed(text[:end]))}")
+        except Refused as refused:
+            if not str(refused).startswith("calls:"):
+                found.append(f"cut at {end}: {refused}")
+    lines = text.splitlines(keepends=True)
+    for at in range(len(lines)):
+        try:
+            followed(b"".join(lines[:at] + lines[at + 1 :]))
+        except Refused:
+            pass
+    return found
+
+
+def damage_faults(seed, count):
+    """What is wrong with damaged texts: each is refused in one line, or followed."""
+    chance, text, found = random.Random(seed), whole_text(), []
+    for _ in range(count):
+        damaged = bytearray(text)
+        for _ in range(chance.choice((1, 1, 2, 5))):
+            at = chance.randrange(len(damaged))
+            kind = chance.randrange(4)
+            if kind == 0:
+                damaged[at] = chance.choice(b'0123456789abcdefx\\"<>(){}[],= \n' + bytes([chance.randrange(256)]))
+            elif kind == 1:
+                del damaged[at : at + chance.randrange(1, 40)]
+            elif kind == 2:
+                damaged[at:at] = damaged[chance.randrange(len(damaged)) :][: chance.randrange(1, 60)]
+            else:
+                damaged[at:at] = chance.choice((b"99999999999999999999", b"-1", b"\x00", b'"', b"<unfinished ...>", b"/*"))
+        try:
+            entries_of(followed(bytes(damaged)))
+        except Refused as refused:
+            if "\n" in str(refused) or len(str(refused)) > 2000:
+                found.append(f"a refusal of {len(str(refused))} characters: {str(refused)[:200]!r}")
+        except Exception as error:
+            found.append(f"{type(error).__name__}: {error}: {bytes(damaged)!r}"[:3000])
+    return found
+
+
+def model_fault(seed):
+    """What is wrong with the entries of a random run on files: each image of the files is one of the log, and no other."""
+    chance = random.Random(seed)
+    sizes = [chance.randint(1, 2) for _ in range(chance.randint(1, 3))]
+    made, plain, begun, value = disk.Disk(), files_model.Files(sizes), [], 0
+    for _ in range(chance.randint(1, 9)):
+        step, file = chance.choice("wwwwssbbeedm"), chance.randrange(len(sizes))
+        first = chance.randrange(sizes[file])
+        values = list(range(value + 1, value + 1 + chance.randint(1, sizes[file] - first)))
+        files = [file] if chance.random() < 0.8 else list(range(len(sizes)))
+        data = b"".join(bytes([it]) * SECTOR for it in values)
+        if step in "wd":
+            value = values[-1]
+            made.write(file, first, data)
+        if step == "w":
+            plain.write(file, first, values)
+        elif step == "d":
+            made.force(file, first, data)
+            plain.written_through(file, first, values)
+        elif step == "s":
+            made.end_sync(made.begin_sync(files))
+            plain.synced(plain.seen(files))
+        elif step == "b":
+            begun.append((made.begin_sync(files), plain.seen(files)))
+        elif step == "e" and begun:
+            one, other = begun.pop(chance.randrange(len(begun)))
+            made.end_sync(one)
+            plain.synced(other)
+        elif step == "m":
+            made.mark(b"")
+            plain.mark()
+    names = {disk.WRITE: "write", disk.FLUSH: "flush", disk.FUA: "fua", disk.MARK: "mark"}
+    entries = [(names[it.kind], it.file, it.sector, [it.data[SECTOR * at] for at in range(it.count)]) for it in made.entries]
+    found = files_model.log_leaves(entries, sizes)
+    if found == plain.left:
+        return None
+    return f"run {seed}: {len(plain.left - found)} images are missing, {len(found - plain.left)} impossible: {entries}"
+
+
+MAP = "crashbpf files 1\nsectors 16\nfirst 0 sectors 2 length 700 name db\nfirst 8 sectors 1 length 512 name in/a\\x20b\nend\n"
+# What is wrong with a map, and the line of it.
+MAPS = [
+    ("", "1:"),
+    ("crashbpf files 2\n", "1:"),
+    (MAP[:-1], "5:"),
+    (MAP.replace("end\n", ""), "5:"),
+    (MAP.replace("first 8", "first 1"), "4:"),
+    (MAP.replace("first 8", "first 16"), "4:"),
+    (MAP.replace("length 700", "length 512"), "3:"),
+    (MAP.replace("length 700", "length 1025"), "3:"),
+    (MAP.replace("in/a", "../a"), "4:"),
+    (MAP.replace("in/a", "/a"), "4:"),
+    (MAP.replace("name db", "name in/a\\x20b"), "4:"),
+    (MAP.replace("name db", "name d\\x00b"), "3:"),
+    (MAP.replace("name db", "name d b"), "3:"),
+    (MAP.replace("sectors 2", "sectors 99999999"), "3:"),
+]
+
+
+def map_faults():
+    """What is wrong with maps that are read, and with how they are refused."""
+    wanted = [layout.Place(b"db", 0, 2, 700), layout.Place(b"in/a b", 8, 1, 512)]
+    found = [] if layout.read_map(MAP) == (wanted, 16) else ["the map is read as another"]
+    found += [] if layout.places({b"in/a b": 512, b"db": 700}) == (wanted, 16) else ["the files lie elsewhere"]
+    found += [] if layout.map_text(wanted, 16) == MAP else ["the map is written as another"]
+    for text, says in MAPS:
+        try:
+            found.append(f"a map isn't refused: {text!r}: {layout.read_map(text)}")
+        except Refused as refused:
+            found += [] if str(refused).startswith(says) else [f"a map is refused so: {text!r}: {refused}"]
+    return found
+
+
+def log_fault():
+    """What is wrong with the bytes of a log."""
+    file = object()
+    made = disk.Disk()
+    made.write(file, 1, A + B)
+    made.force(file, 1, A + B)
+    made.mark(b"one")
+    made.end_sync(made.begin_sync([file]))
+    parts, large = layout.log_of(made.entries, {file: 8}, 16)
+    wanted = log([S(9, A + B), S(9, A + B, FUA), M("one"), F])
+    return None if (b"".join(parts), large) == (wanted, False) else "the log has other bytes"
+
+
+def files_faults():
+    """What is wrong with crashbpf-files: the files of an image, its statuses, and what it refuses."""
+    found = []
+    with tempfile.TemporaryDirectory() as folder:
+        image, text = Path(folder, "image"), Path(folder, "files.txt")
+        image.write_bytes(A + B[:200] + bytes(SECTOR - 200) + bytes(SECTOR * 6) + C + bytes(SECTOR * 7))
+        text.write_text(MAP)
+        show = 'ls -R; cat db "in/a b"; [ "$PWD" = "$FILES" ]; exit 7'
+
+        def run(*words):
+            done = subprocess.run([sys.executable, RECORD / "crashbpf-files", *words], capture_output=True, text=True, cwd=folder)
+            return done.returncode, done.stdout, done.stderr
+
+        listed = ".:\ndb\nin\n\n./in:\na b\n" + (A + B[:188]).decode() + C.decode()
+        rows = [
+            ((text, image, "--", "sh", "-c", show), 7, listed, ""),
+            ((text, image, "--", "sh", "-c", "kill -9 $$"), 137, "", ""),
+            ((text, image, "--", "/no/program"), 2, "", "crashbpf-files: /no/program: No such file or directory\n"),
+            ((text, image, "--"), 2, "", "usage: crashbpf-files MAP IMAGE -- PROGRAM [WORD ..]\n"),
+            ((image, text, "--", "true"), 2, "", f"crashbpf-files: {image}:1: it is no map of files\n"),
+            ((text, text, "--", "true"), 2, "", f"crashbpf-files: {text}: it has {len(MAP)} bytes, and the map is of 8192\n"),
+            ((text, folder + "/no", "--", "true"), 2, "", f"crashbpf-files: {folder}/no: No such file or directory\n"),
+        ]
+        for words, *wanted in rows:
+            done = run(*words)
+            found += [] if list(done) == wanted else [f"crashbpf-files {words[2:]}: {done}"]
+        left = [it for it in os.listdir(tempfile.gettempdir()) if it.startswith("crashbpf-files.")]
+    return found + [f"{it} is left" for it in left]
+
+
+def main(words):
+    seed, count = (int(it) for it in (*words, *("1", "3000")[len(words) :]))
+    found = [row_fault(*it) for it in FOLLOWED] + [refused_fault(*it) for it in REFUSED] + [log_fault()]
+    several = [cut_faults(), damage_faults(seed, count // 2), map_faults(), files_faults()]
+    several.append([it for it in (model_fault(seed + turn) for turn in range(count)) if it])
+    wrong = [it for it in found if it] + [it for these in several for it in these]
+    for line in wrong:
+        print("FAILED", line)
+    failed = sum(1 for it in found if it) + sum(1 for it in several if it)
+    print(f"{len(found) + len(several) - failed} passed, {failed} failed")
+    return 1 if failed else 0
+
+
+if __name__ == "__main__":
+    sys.exit(main(sys.argv[1:]))

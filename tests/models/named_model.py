@@ -1,0 +1,331 @@
+"""A plain model of what a crash may leave of files with names and sizes, by the tables of docs/RECORDING.md: for tests/gate/named_files.py.
+
+Nothing is shared with commands/record. What was done is kept whole: the names after each change of them, the sizes of each file in
+their order, and the versions of each sector. Of each there is a number of what is surely on the disk. `left` has every state of the
+files that a crash could have left so far, with the number of marks: a map of paths to contents, where a folder has none.
+
+The second half reads a log by docs/CRASH-MODEL.md, by sector and with any number of losses, and lays the files of each of its
+images out by the head of commands/record/named_layout.py.
+"""
+import itertools
+import struct
+
+SECTOR, BLOCK = 512, 4096
+
+
+class File:
+    """A file: each size that it had, with the number of the time since it was made shorter; its sectors in each such time."""
+
+    def __init__(self, content=b""):
+        self.sizes, self.sure, self.needs = [(0, len(content))], 0, [{}]
+        self.sectors = [{at: Sector(content[SECTOR * at :][:SECTOR]) for at in range(-(-len(content) // SECTOR))}]
+        self.blocks = len(content)
+        # of each time how many sectors lie in blocks that it has from the time before
+        self.shared = [0]
+        # how many changes of names there were when its size changed last, or when it was made
+        self.stamp = 0
+
+    @property
+    def size(self):
+        return self.sizes[-1][1]
+
+    def sector(self, at):
+        return self.sectors[-1].setdefault(at, Sector(b""))
+
+    def put(self, at, content):
+        """A sector has this content, in each time that has its block."""
+        time, limit = len(self.sectors) - 1, None
+        while limit is None or time >= 0 and at < limit:
+            self.sectors[time].setdefault(at, Sector(b"")).versions.append(content)
+            limit = self.shared[time] if limit is None else min(limit, self.shared[time])
+            time -= 1
+
+
+class Sector:
+    def __init__(self, content):
+        self.versions, self.sure = [content.ljust(SECTOR, b"\0")], 0
+
+
+class Model:
+    """What became of names, sizes and sectors, step by step."""
+
+    def __init__(self, table):
+        self.table, self.marks, self.left = table, 0, set()
+        # each change of names: the slots that it changes, and what they hold then; the numbers of those that are durable
+        self.changes, self.sure, self.base, self.files, self.folders = [], set(), {}, [], 1
+
+    # What a crash may leave
+
+    def name_states(self):
+        """Every map of slots to what they hold that a crash may leave: after some of the changes, in their order."""
+        for chosen in self.chosen():
+            state = dict(self.base)
+            for number in sorted(chosen):
+                state.update(self.changes[number])
+            yield {slot: held for slot, held in state.items() if held is not None}
+
+    def chosen(self):
+        """Which changes a crash may leave. By `strict` each slot has its first changes, some number of them, and a change is there
+        for all of its slots or for none."""
+        if self.table != "strict":
+            yield from (range(count) for count in range(max(self.sure, default=-1) + 1, len(self.changes) + 1))
+            return
+        slots = {slot for change in self.changes for slot in change}
+        mine = [[number for number, change in enumerate(self.changes) if slot in change] for slot in slots]
+        for counts in itertools.product(*(range(len(it) + 1) for it in mine)):
+            found = {number for it, count in zip(mine, counts) for number in it[:count]}
+            gone = {number for it, count in zip(mine, counts) for number in it[count:]}
+            if not found & gone and self.sure <= found:
+                yield found
+
+    def contents(self, file):
+        """Every content that a crash may leave of a file."""
+        found = set()
+        for number in range(file.sure, len(file.sizes)):
+            time, size = file.sizes[number]
+            needs = {}
+            for earlier in range(number + 1):
+                if file.sizes[earlier][0] == time and self.table == "ordered":
+                    for at, version in file.needs[earlier].items():
+                        needs[at] = max(needs.get(at, 0), version)
+            kept = []
+            for at in range(-(-size // SECTOR)):
+                it = file.sectors[time].get(at)
+                kept.append(it.versions[max(it.sure, needs.get(at, 0)) :] if it else [bytes(SECTOR)])
+            found |= {b"".join(it)[:size] for it in itertools.product(*kept)}
+        return found
+
+    def crash(self):
+        """Takes in each state that a crash may leave now."""
+        found, known = set(), {}
+        for state in self.name_states():
+            tree, waiting = {}, [(b"", 0)]
+            while waiting:
+                path, number = waiting.pop()
+                for (folder, name), (kind, inside) in state.items():
+                    if folder == number:
+                        below = path + b"/" + name if path else name
+                        tree[below] = None if kind == "folder" else inside
+                        waiting += [(below, inside)] if kind == "folder" else []
+            numbers = sorted({it for it in tree.values() if it is not None})
+            for it in numbers:
+                if it not in known:
+                    known[it] = self.contents(self.files[it])
+            for chosen in itertools.product(*(known[it] for it in numbers)):
+                held = dict(zip(numbers, chosen))
+                found.add((self.marks, frozenset((path, None if it is None else held[it]) for path, it in tree.items())))
+        self.left |= found
+
+    # What is done
+
+    def change(self, slots):
+        self.changes.append(slots)
+        self.crash()
+
+    def make_file(self, slot):
+        self.files.append(File())
+        self.files[-1].stamp = len(self.changes) + 1
+        self.change({slot: ("file", len(self.files) - 1)})
+
+    def make_folder(self, slot):
+        self.folders += 1
+        self.change({slot: ("folder", self.folders - 1)})
+
+    def write(self, number, start, data):
+        """Bytes are written: versions of sectors, and sizes. Returns the sectors."""
+        file = self.files[number]
+        old, end, border = file.size, start + len(data), -(-max(file.blocks, file.size) // BLOCK) * BLOCK // SECTOR
+        needs, sectors = {}, range(start // SECTOR, -(-end // SECTOR))
+        for at in sectors:
+            it = file.sector(at)
+            content = bytearray(it.versions[-1])
+            for place in range(max(start, SECTOR * at), min(end, SECTOR * at + SECTOR)):
+                content[place - SECTOR * at] = data[place - start]
+            file.put(at, bytes(content))
+            if at >= border:
+                needs[at] = len(it.versions) - 1
+        file.blocks = max(file.blocks, end)
+        if end > old:
+            for size in [it for it in range(BLOCK, end, BLOCK) if it > max(old, start)] + [end]:
+                self.sized(file, (len(file.sectors) - 1, size), needs)
+        self.crash()
+        return sectors
+
+    def sized(self, file, size, needs):
+        file.sizes.append(size)
+        file.needs.append(needs)
+        file.stamp = len(self.changes)
+
+    def resize(self, number, size):
+        file = self.files[number]
+        if size < file.size:
+            kept = {}
+            for at in range(size // SECTOR, -(-size // BLOCK) * BLOCK // SECTOR):
+                file.put(at, file.sector(at).versions[-1][: max(size - SECTOR * at, 0)].ljust(SECTOR, b"\0"))
+            for at in range(-(-size // SECTOR)):
+                old, keep = file.sector(at), min(size - SECTOR * at, SECTOR)
+                kept[at] = Sector(b"")
+                kept[at].versions = [it[:keep].ljust(SECTOR, b"\0") for it in old.versions[old.sure :]]
+            file.sectors.append(kept)
+            file.shared.append(-(-size // BLOCK) * BLOCK // SECTOR)
+            file.blocks = size
+        self.sized(file, (len(file.sectors) - 1, size), {})
+        self.crash()
+
+    # Syncs: what begins says what is to be durable, when it ends it is
+
+    def names_up_to(self, count, wanted):
+        """The numbers of the changes among the first `count` that are wanted, and of those that stand before them: of all, or by
+        `strict` of those of the same slots."""
+        found = {number for number in range(count) if wanted(self.changes[number])}
+        if self.table != "strict":
+            return set(range(max(found, default=-1) + 1))
+        for number in reversed(range(count)):
+            if any(later > number and set(self.changes[later]) & set(self.changes[number]) for later in found):
+                found.add(number)
+        return found
+
+    def seen(self, number, sectors=None):
+        """What a sync of a file, that begins now, has to make durable: its sectors, its size, names."""
+        file = self.files[number]
+        time = len(file.sectors) - 1
+        these = {(number, time, at): len(it.versions) - 1 for at, it in file.sectors[time].items() if sectors is None or at in sectors}
+        names = self.names_up_to(file.stamp, lambda _: True) if self.table != "strict" else set()
+        return these, {number: len(file.sizes) - 1}, names
+
+    def seen_folder(self, folder):
+        def wanted(change):
+            made = [held[1] for held in change.values() if held and held[0] == "folder"] if self.table != "strict" else []
+            return any(it == folder for it, _ in change) or folder in made
+
+        return {}, {}, self.names_up_to(len(self.changes), wanted)
+
+    def seen_all(self):
+        found = {}, {}, self.names_up_to(len(self.changes), lambda _: True)
+        for number in range(len(self.files)):
+            these, sizes, _ = self.seen(number)
+            found[0].update(these)
+            found[1].update(sizes)
+        return found
+
+    def synced(self, seen):
+        sectors, sizes, names = seen
+        for (number, time, at), version in sectors.items():
+            it = self.files[number].sectors[time][at]
+            it.sure = max(it.sure, version)
+        for number, size in sizes.items():
+            self.files[number].sure = max(self.files[number].sure, size)
+        self.sure |= names
+        self.crash()
+
+    def mark(self):
+        self.marks += 1
+        self.crash()
+
+
+# A log, and the files of its images
+
+
+def kept_at(entries, base, cut):
+    """The contents that a cut leaves of each sector that may hold several. Entries are (kind, sector, data)."""
+    last = max((at for at in range(cut) if entries[at][0] == "flush"), default=0)
+    kept = {}
+    for number, (kind, first, data) in enumerate(entries[:cut]):
+        for at in range(len(data) // SECTOR if kind in ("write", "fua") else 0):
+            content = data[SECTOR * at : SECTOR * (at + 1)]
+            whole = kind == "fua" or number < last
+            before = kept.get(first + at) or {base[SECTOR * (first + at) :][:SECTOR]}
+            kept[first + at] = {content} if whole else before | {content}
+    return kept
+
+
+class Reader:
+    """Reads the files of all images of a cut. `names` are pairs of a sector and the folders of the sectors of its set."""
+
+    def __init__(self, base, kept, names):
+        self.base, self.kept, self.names = base, kept, names
+
+    def sector(self, number):
+        return self.kept.get(number) or {self.base[SECTOR * number :][:SECTOR]}
+
+    def states(self):
+        for chosen in itertools.product(*(self.sector(it) for it, _ in self.names)):
+            held = {}
+            for text, (_, folders) in zip(chosen, self.names):
+                copy = struct.unpack_from("<Q", text)[0]
+                for at, folder in enumerate(folders):
+                    (sector,) = self.sector(copy + at)
+                    for slot in range(8):
+                        kind, number, name = struct.unpack_from("<II56s", sector, 64 * slot)
+                        if kind:
+                            held[folder, name.rstrip(b"\0")] = kind, number
+            yield held
+
+    def contents(self, number):
+        found = set()
+        for text in self.sector(number):
+            size, first = struct.unpack_from("<QQ", text)
+            kept = [self.sector(first + at) for at in range(-(-size // SECTOR))]
+            found |= {b"".join(it)[:size] for it in itertools.product(*kept)}
+        return found
+
+    def paths(self, held):
+        """The sector of each file by its path, or nothing for a folder."""
+        tree, waiting = {}, [(b"", 0)]
+        while waiting:
+            path, number = waiting.pop()
+            for (folder, name), (kind, inside) in held.items():
+                if folder == number:
+                    below = path + b"/" + name if path else name
+                    tree[below] = None if kind == 2 else inside
+                    waiting += [(below, inside)] if kind == 2 else []
+        return tree
+
+    def may_hold(self, number, content):
+        """Whether a file may have this content."""
+        for text in self.sector(number):
+            size, first = struct.unpack_from("<QQ", text)
+            pieces = [content[at : at + SECTOR] for at in range(0, size, SECTOR)]
+            if size == len(content) and all(any(it.startswith(piece) for it in self.sector(first + at)) for at, piece in enumerate(pieces)):
+                return True
+        return False
+
+    def has(self, tree):
+        """Whether an image has these files."""
+        for held in self.states():
+            paths = self.paths(held)
+            if paths.keys() == tree.keys() and all((it is None) == (tree[path] is None) for path, it in paths.items()):
+                if all(it is None or self.may_hold(it, tree[path]) for path, it in paths.items()):
+                    return True
+        return False
+
+    def trees(self):
+        known = {}
+        for held in self.states():
+            tree = self.paths(held)
+            numbers = sorted({it for it in tree.values() if it is not None})
+            for it in numbers:
+                if it not in known:
+                    known[it] = self.contents(it)
+            for chosen in itertools.product(*(known[it] for it in numbers)):
+                content = dict(zip(numbers, chosen))
+                yield frozenset((path, None if it is None else content[it]) for path, it in tree.items())
+
+
+def log_leaves(entries, base, names):
+    """The files of each image of a log, with the number of marks before its cut."""
+    found = set()
+    for cut in range(len(entries) + 1):
+        marks = sum(it[0] == "mark" for it in entries[:cut])
+        found |= {(marks, it) for it in Reader(base, kept_at(entries, base, cut), names).trees()}
+    return found
+
+
+def allows(entries, base, names, marks, tree):
+    """Whether an image of a log has these files, after as many marks."""
+    passed = 0
+    for cut in range(len(entries) + 1):
+        passed += cut > 0 and entries[cut - 1][0] == "mark"
+        if passed == marks and Reader(base, kept_at(entries, base, cut), names).has(dict(tree)):
+            return True
+    return False
