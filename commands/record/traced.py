@@ -20,7 +20,6 @@ from commands.record.disk import SECTOR, Disk
 from commands.record.files import skips, skips_below
 from commands.record.layout import trace_log
 from commands.record.named import NamedTracing, beginning
-from commands.record.orders import TABLES
 from commands.record.tracing import Tracing
 
 # Calls that strace need not stop at: they write no file, move no place in one, and answer no descriptor of one.

@@ -34,7 +34,7 @@ rooms.enter()
 from case_parts_model import join_texts
 from footprint_soak import checker, entry
 from notation import log
-from run import split_notes
+from running import split_notes
 from soaking import Soak, options, run_all
 
 LIMIT = 120
@@ -162,7 +162,7 @@ class JoinSoak(Soak):
         if chance.random() < 0.2:
             Path(self.folder, "base").write_bytes(chance.randbytes(chance.choice([1, 512, 700])))
             options += " --base base"
-        of_run = f" --checked 200" * (by_number or chance.random() < 0.1) + " --first" * (chance.random() < 0.25)
+        of_run = " --checked 200" * (by_number or chance.random() < 0.1) + " --first" * (chance.random() < 0.25)
         return ["log", *names, *options.split(), *of_run.split()], ["images", "log", *options.split()]
 
     def part(self, chance, words, start, end):

@@ -34,7 +34,8 @@ rooms.enter()
 
 from memory import WANT_OF_MEMORY
 from notation import SECTOR, TOP, Assembly
-from run import Assembler, all_rows, made, shortened, split_notes, split_progress
+from rows import all_rows
+from running import Assembler, made, shortened, split_notes, split_progress
 from soaking import options
 
 LIMIT = 20

@@ -56,7 +56,8 @@ rooms.enter()
 
 from model import Checker, Run, explored, one
 from notation import SECONDS, SECTOR, TESTS, TOP, F, Long, W, explore, log, named, program
-from run import Assembler, all_rows, made, put, shortened, split_notes, split_progress
+from rows import all_rows
+from running import Assembler, made, put, shortened, split_notes, split_progress
 
 WANT_OF_MEMORY = re.compile(rb"refused (11|26|35|60|66|72) at 0(?: of program ([0-7]))?\n")
 

@@ -176,7 +176,7 @@ def refused_faults(name, text, says):
 
 def plan_of(chance):
     """A random run, as steps of words. Each fits what the steps before it left."""
-    names, kinds, sizes, folders, steps, begun, value = {}, [], [], [0], [], 0, 0
+    names, sizes, folders, steps, begun, value = {}, [], [0], [], 0, 0
     if chance.random() < 0.6:
         size = chance.choice((0, 300, 512, 1000, 4096))
         steps.append(("base", (0, b"a"), size))

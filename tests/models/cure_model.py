@@ -11,8 +11,7 @@ windows, each time by trying all flushes there are. It prints `N passed, M faile
 """
 import random
 import sys
-from collections import Counter
-from dataclasses import dataclass, replace
+from dataclasses import dataclass
 from itertools import combinations
 from math import comb
 

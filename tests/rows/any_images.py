@@ -3,8 +3,8 @@
 which the checker ends as the case says."""
 import random
 
-from cases_model import ANY, any_shown, at_risk, cases, ended, image_of, image_said, read_line
-from designs import DESIGNS, EXAMPLES, JUDGES, checker_of, data, folder_of
+from cases_model import any_shown, at_risk, cases, ended, image_of, image_said, read_line
+from designs import DESIGNS, EXAMPLES, checker_of, data, folder_of
 from designs import LOGS as STORED
 from machine_model import judged
 from model import Run

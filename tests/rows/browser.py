@@ -1,11 +1,11 @@
 """Runs as a page for a browser, compared with the model (page_model.py), and of the designs of examples/."""
 from dataclasses import replace
 
+from designs import EXAMPLES, JOURNAL_RIGHT, JOURNAL_WRONG, data, pages, two_slots
 from model import Checker, Run
 from notation import FLUSH, MARK, Entry, F, Long, M, W, explore
 from page_model import page
 
-from rows.examples import EXAMPLES, JOURNAL_RIGHT, JOURNAL_WRONG, data, pages, two_slots
 from rows.modelled import CHECKERS, PROGRAMS, any_fails, runs
 from rows.why import FEW, PAGES, RECORDS, SLOTS, TWO_TORN
 

@@ -1,6 +1,5 @@
 """The cuts at which a run of any number of losses looks for cases, and how it is laid out in parts: what `images --bound any` prints,
 compared with the model (cases_model.py), and what it refuses."""
-from dataclasses import replace
 
 from cases_model import ANY, Losses, survey_cuts
 from designs import DESIGNS

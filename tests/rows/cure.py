@@ -2,10 +2,10 @@
 # Seen to fail for planted bugs of the line of progress: the last image in place of their number, a number that isn't set back.
 from dataclasses import replace
 
+from designs import EXAMPLES, JOURNAL_RIGHT, JOURNAL_WRONG, data, pages, two_slots
 from model import Checker, Run, cure_rounds, cured
 from notation import FLUSH, Long, explore, lines
 
-from rows.examples import EXAMPLES, JOURNAL_RIGHT, JOURNAL_WRONG, data, pages, two_slots
 from rows.modelled import CHECKERS, PROGRAMS, any_fails, narrowed, runs
 from rows.why import FEW, PAGES, RECORDS, SLOTS, TWO_TORN
 

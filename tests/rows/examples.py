@@ -4,7 +4,6 @@ from designs import (
     EXAMPLES,
     FORGOTTEN,
     IN_WORDS,
-    JOURNAL_RIGHT,
     JOURNAL_WRONG,
     JUDGES,
     LOGS,
@@ -17,7 +16,6 @@ from designs import (
     folder_of,
     page,
     pages,
-    two_slots,
 )
 from model import Run, explored, shown
 from notation import Row, explore, verified

@@ -389,10 +389,10 @@ LEFT_BY_STRAY = mov(1, 0) + call(1) + slot(0x55, 0, 0, 2, 0) + GOOD + load(1, 2,
 LEFT_BY_STRAY += slot(0x55, 2, 0, 1, 4) + load(8, 0, 2) + EXIT
 ZEROS = [
     *(row(f"begins with zeros, by byte {it - MEMORY}", MANY, [(left(it), 0)], way, 0) for it in KEPT for way in WAYS),
-    *(row(f"begins with zeros, six places", MANY, [(OFTEN, 0)], way, 0) for way in WAYS),
-    *(row(f"begins with zeros, by copy", MANY, [(LEFT_BY_COPY, 0)], way, 0) for way in WAYS),
-    *(row(f"begins with zeros, after a stray", MANY, [(LEFT_BY_STRAY, 1, 10), (left(MEMORY + 2048), 0)], way) for way in WAYS),
-    *(row(f"begins with zeros, two programs", MANY, [(left(MEMORY), 0), (left(MEMORY), 0), (OFTEN, 0)], way, 0) for way in WAYS),
+    *(row("begins with zeros, six places", MANY, [(OFTEN, 0)], way, 0) for way in WAYS),
+    *(row("begins with zeros, by copy", MANY, [(LEFT_BY_COPY, 0)], way, 0) for way in WAYS),
+    *(row("begins with zeros, after a stray", MANY, [(LEFT_BY_STRAY, 1, 10), (left(MEMORY + 2048), 0)], way) for way in WAYS),
+    *(row("begins with zeros, two programs", MANY, [(left(MEMORY), 0), (left(MEMORY), 0), (OFTEN, 0)], way, 0) for way in WAYS),
 ]
 
 # At which sectors a checksum looks: what it covers of a log's sectors decides, at each cut and with each loss
@@ -416,9 +416,9 @@ COPIED += summing(10, 7, MEMORY, 2048) + move(6, 0) + summing(8, 7, 0, 2048) + s
 FOOTPRINTS = [
     *(row(f"{NAMES[helper]} of {length} bytes from {place}", LOOKED, [odd(helper, place, length)], way, (helper, place) not in PASSED)
       for helper in (8, 9) for place, length in SPANS for way in WAYS),
-    *(row(f"a length on the disk", LOOKED, [(BY_DISK, 0, 10)], way) for way in WAYS),
-    *(row(f"a checksum of what was copied", LOOKED, [(COPIED, 1)], way, 0) for way in WAYS),
-    *(row(f"all spans at once", LOOKED, [odd(8, *it) for it in SPANS[:8]], way) for way in WAYS),
+    *(row("a length on the disk", LOOKED, [(BY_DISK, 0, 10)], way) for way in WAYS),
+    *(row("a checksum of what was copied", LOOKED, [(COPIED, 1)], way, 0) for way in WAYS),
+    *(row("all spans at once", LOOKED, [odd(8, *it) for it in SPANS[:8]], way) for way in WAYS),
 ]
 
 # Runs of any number of losses, and the cure, judge in their own ways

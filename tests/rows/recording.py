@@ -5,7 +5,6 @@ What the tool makes of a trace byte by byte is tested by tests/gate/trace_log.py
 """
 import struct
 
-import model
 from model import Checker, Run, explored
 from notation import DISCARD, MARK, SECTOR, TOP, D, Entry, F, Long, M, Row, S, W, log, named, report
 from rows.checkers import accepted, crc32c, judged, u16, u32

@@ -2,14 +2,14 @@
 images as files, compared with the models (report_model.py, page_model.py), and at which line each damaged report is refused."""
 from functools import cache
 
+from designs import two_slots
 from model import Checker, Run, explored, one, two_slots as slots
 from notation import F, M, Long, Printable, Row, W, log, refused
 from page_model import page, page_of_report
 from report_model import Fault, causes, places, read
 from why_model import causes as causes_of_run
 
-from rows.examples import two_slots
-from rows.modelled import CHECKERS, PROGRAMS, any_fails, runs
+from rows.modelled import CHECKERS, any_fails, runs
 
 # How many images a run may have here.
 FEW = 700

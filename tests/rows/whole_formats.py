@@ -7,10 +7,11 @@ import struct
 from dataclasses import dataclass, replace
 
 import machine_model
+from commands.record import trace_log
 from model import Checker, Run, explored
 from notation import SECTOR, TOP, Long, M, Row, S, explore
 from rows.checkers import by_rule, u16, u32, u64
-from rows.recording import entries_of, trace_log
+from rows.recording import entries_of
 
 FOLDER = TOP / "examples/checkers"
 

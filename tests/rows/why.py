@@ -1,15 +1,14 @@
 """Why checkers fail: what `why` prints of many logs, compared with the model (why_model.py), and of the designs of examples/."""
 from dataclasses import replace
 
+from designs import EXAMPLES, EXPLAINED, JOURNAL_RIGHT, JOURNAL_WRONG, JUDGES, NEW, data, folder_of, pages, two_slots
 import model
 from model import Checker, Run
 from notation import FLUSH, Long, explore
 from why_model import causes
 
-from rows.examples import EXAMPLES, JOURNAL_RIGHT, JOURNAL_WRONG, data, pages, two_slots
 from rows.modelled import CHECKERS, PROGRAMS, any_fails, narrowed, runs
 
-from designs import EXPLAINED, JUDGES, NEW, folder_of
 
 # How many images a run may have whose groups the model is to find.
 FEW = 700

@@ -4,7 +4,7 @@ import tempfile
 from pathlib import Path
 
 from notation import TOP
-from run import Assembler
+from running import Assembler
 
 
 class Soak:
