@@ -65,6 +65,7 @@ def flushes_of(text):
 
 
 def measure(built, name, run, folder):
+    """Prints what explore, why, page and cure take on a run, and what the runs take that cure makes."""
     trace, checker, options = run
     Path(folder, "trace").write_text("\n".join(trace) + "\n")
     Path(folder, "checker.s").write_text(checker)

@@ -78,6 +78,7 @@ def timed(program, words, folder):
 
 
 def prepare(program, folder):
+    """Writes the logs and the checkers to a folder."""
     for name, entries in LOGS.items():
         Path(folder, name).write_bytes(log(entries()))
     for name, text in PROGRAMS.items():

@@ -47,6 +47,7 @@ class Writer:
         return number, keys
 
     def commit(self):
+        """Commits: the root, a flush, the meta page in turn, a flush, and a mark."""
         number, before = self.free.pop(0), self.root
         self.write(page(1, number, [(keys[0], child) for child, keys in self.leaves]), 8 + 8 * number)
         self.root, self.generation = number, self.generation + 1

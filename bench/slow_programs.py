@@ -193,6 +193,7 @@ FILLED = {"ways": WAYS, "stores": STORES, "turned": None}
 
 
 def program(kind, slots, numbers, refused):
+    """Returns the slots of a program of a kind, with that many slots and numbers."""
     begin = [slot(0x79, 9, 1, 8), *(broken(8) if refused == "first" else [])]
     last = [*(broken(2) if refused == "last" else []), *END]
     room = slots - len(begin) - len(last)

@@ -66,6 +66,7 @@ def recorded(folder, words, *options):
 
 
 def lmdb(folder):
+    """Returns what is judged of LMDB, or why it isn't."""
     if not Path(SYSTEM).exists() or subprocess.run([SYSTEM, "-c", "import lmdb"], capture_output=True).returncode:
         return "python3-lmdb isn't there"
     seconds, asked = recorded(folder, [SYSTEM, EXAMPLES / "recovery/lmdb_write.py", "nosync"])
@@ -73,6 +74,7 @@ def lmdb(folder):
 
 
 def sqlite(folder):
+    """Returns what is judged of SQLite, or why it isn't."""
     if not shutil.which("sqlite3"):
         return "sqlite3 isn't there"
     write = CHECKERS / "rollback_journal/write.py"
@@ -87,6 +89,7 @@ def of_trace(folder, name, which, sectors):
 
 
 def fat(folder):
+    """Returns what is judged of FAT, recorded or of a stored trace, or why it isn't."""
     if not shutil.which("fsck.vfat"):
         return "fsck.vfat isn't there"
     judge = ["fsck.vfat", "-n", "{}"]
@@ -98,6 +101,7 @@ def fat(folder):
 
 
 def ext4(folder):
+    """Returns what is judged of ext4, by a stored trace, or why it isn't."""
     if not shutil.which("e2fsck"):
         return "e2fsck isn't there"
     asked = [*of_trace(folder, "ext4", "no_flush", 4096), "--from", 6]

@@ -131,6 +131,7 @@ def zsh_quoted(text):
 
 
 def zsh_value(option):
+    """Returns what zsh completes after an option."""
     if not option.value:
         return ""
     shown = option.value.replace(":", "\\:")
@@ -138,6 +139,7 @@ def zsh_value(option):
 
 
 def zsh_option(option):
+    """Returns an option as zsh has it."""
     says = re.sub(r"([\[\]\\:])", r"\\\1", option.says)
     names = option.names
     exclusive = f"({' '.join(names)})" if len(names) > 1 else ""
@@ -171,6 +173,7 @@ def fish_quoted(text):
 
 
 def fish_option(option, when):
+    """Returns a line of fish for an option, with when it is offered."""
     names = " ".join(f"-l {it[2:]}" if it.startswith("--") else f"-s {it[1:]}" for it in option.names)
     value = ""
     if option.value:

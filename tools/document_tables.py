@@ -122,6 +122,7 @@ def refusals_table():
 
 
 def places_table():
+    """Returns the table of the places of refused options."""
     source = PLACES.read_text()
     body = re.search(r"pub enum OptionPlace \{\n(.*?)\n\}", source, re.S)[1]
     numbers = [int(it) for it in re.findall(r"(?m)^\s*\w+ = (\d+),", body)]

@@ -114,6 +114,7 @@ def helps_in(page):
 
 
 def page(program):
+    """Returns the man page of the program's helps."""
     whole = help_of(program)
     about, _, rest = whole.partition("\n\n")
     parts = [

@@ -98,6 +98,7 @@ def expanded(code, calls):
 
 
 def written_out(code, slots, targets, at, name):
+    """Returns the code in place of a call of a function of memory, for a constant length that isn't too large."""
     length = length_at(code, slots, targets, at)
     if length is None:
         raise NoProgram(

@@ -89,6 +89,7 @@ class Object:
         return struct.unpack_from(form, self.bytes, at)
 
     def text(self, at):
+        """Returns the name at a place of the file."""
         end = self.bytes.find(b"\0", at)
         if end < 0:
             raise broken("a name has no end")
@@ -109,6 +110,7 @@ class Object:
         return self.sections[number] if UNDEFINED < number < len(self.sections) else None
 
     def table(self, section):
+        """Yields the symbols of a section of symbols."""
         names = self.section_at(section.link)
         if names is None:
             raise broken("its symbols have no names")
@@ -190,6 +192,7 @@ class Object:
             yield self.need(offset // SLOT, symbol)
 
     def need(self, slot, symbol):
+        """Returns what a slot needs: a function, data, a number, or what isn't there."""
         section = self.section_at(symbol.section)
         name = symbol.name or (section.name if section else "a number")
         if symbol.section == UNDEFINED:
@@ -301,6 +304,7 @@ def nests_of(edges, depth=0):
 
 
 def nest_of(part, edges, depth):
+    """Returns a part of the graph with its heads, and the nests in it that pass none of them."""
     own = {at: [it for it in edges[at] if it in part] for at in part}
     heads = {it for at, to in edges.items() if at not in part for it in to if it in part} or {min(part)}
     left = {at: [it for it in to if it not in heads] for at, to in own.items()}

@@ -67,6 +67,7 @@ class Loop:
 
 
 def tokens_of(text):
+    """Returns the tokens of a preprocessed text, each with its file and line."""
     found, file, line = [], "", 1
     for it in TOKEN.finditer(text):
         if it.lastgroup == "marker":
@@ -132,6 +133,7 @@ class Source:
                     start, name = at, None
 
     def function(self, found):
+        """Reads a function's body, statement by statement."""
         self.functions.append(found)
         at = found.body + 1
         while at < found.end - 1:

@@ -27,6 +27,7 @@ class Work:
         self.whole, self.signal = False, None
 
     def begin(self):
+        """Makes the folder of the work, and has signals remove it."""
         for it in SIGNALS:
             if signal.getsignal(it) != signal.SIG_IGN:
                 signal.signal(it, self.stop)

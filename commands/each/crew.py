@@ -46,6 +46,7 @@ class Seat:
             pass
 
     def exactly(self, size):
+        """Returns that many bytes from the runner, which has to be there."""
         data = b""
         while len(data) < size:
             more = self.channel.recv(size - len(data))

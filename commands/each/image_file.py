@@ -34,6 +34,7 @@ def write_all(file, data, at):
 
 
 def copy_stretch(source, target, begin, end):
+    """Copies a stretch of a file, by the kernel where it can."""
     while begin < end:
         try:
             done = os.copy_file_range(source, target, end - begin, begin, begin)
@@ -60,6 +61,7 @@ class ImageFile:
         self.bytes = self.whole() if watched else None
 
     def begin_with(self, base):
+        """Begins with what a base holds, holes left as holes."""
         source = os.open(base, os.O_RDONLY | os.O_CLOEXEC)
         try:
             size = os.fstat(source).st_size
@@ -69,6 +71,7 @@ class ImageFile:
             os.close(source)
 
     def whole(self):
+        """Returns all bytes of the image."""
         found = bytearray(self.size)
         for begin, end in data_of(self.file, self.size):
             for at in range(begin, end, PIECE):
@@ -111,6 +114,7 @@ class ImageFile:
     # What a program that only reads has to leave as it was.
 
     def times(self):
+        """Returns what changes of a file when it is written or replaced, or None where it is gone."""
         try:
             it = os.stat(self.path, follow_symlinks=False)
         except OSError:

@@ -93,6 +93,7 @@ class Export:
         return first_line(self.said.read(65536))
 
     def close(self):
+        """Ends the process of the export, and closes its files."""
         self.process.kill()
         self.process.wait()
         self.file.close()

@@ -33,6 +33,7 @@ class Progress:
         self.put(f"progress: {settled} of {self.total} images, {judged} of them judged, {failing} failing; {left} left{rest}")
 
     def put(self, text):
+        """Writes a line of progress, in place of the last one on a terminal. An error stops nothing."""
         try:
             sys.stderr.write(f"\r\x1b[K{text}" if self.rewritten else f"{text}\n")
             sys.stderr.flush()

@@ -34,6 +34,7 @@ def adopt():
 
 
 def exactly(file, size):
+    """Returns that many bytes of a file, or raises Gone where it ends before."""
     data = file.read(size)
     if len(data) != size:
         raise Gone
@@ -56,6 +57,7 @@ class Runner:
         self.nothing = os.open(os.devnull, os.O_RDONLY | os.O_CLOEXEC)
 
     def go(self):
+        """Judges images as they are told, until nobody tells one more."""
         while True:
             number, cut, marks, choice, mark, size = TOLD.unpack(exactly(self.asked, TOLD.size))
             told = {b"CRASH_CUT": b"%d" % cut, b"CRASH_MARKS": b"%d" % marks, b"CRASH_IMAGE": self.path}

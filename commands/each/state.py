@@ -52,6 +52,7 @@ def sums(given):
 
 
 def verdict_of(line):
+    """Returns the number of an image and its verdict by a line of a state, or None for another line."""
     it = LINE.fullmatch(line)
     if not it:
         return None

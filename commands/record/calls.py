@@ -95,6 +95,7 @@ def hexed(data):
 
 
 def string(text, call):
+    """Returns the bytes of a string in hex, which strace has to give whole."""
     found = STRING.fullmatch(text)
     if not found:
         raise Refused(f"{call}: {text[:40]} is no string in hex")

@@ -36,6 +36,7 @@ class File:
         return first, bytes(self.content[SECTOR * first : SECTOR * last])
 
     def grow(self, size):
+        """Makes the file larger, unless it is as large already."""
         if size > self.size:
             self.fit(size)
             self.size, self.grown = size, self.grown + 1

@@ -55,6 +55,7 @@ class NamedTracing(Tracing):
         return self.folders[head], last
 
     def agrees(self, call, process, number, path, gone):
+        """Refuses a descriptor of a file that never had the name that strace says, or that lost it unseen."""
         name = self.name(path)
         if name is None or number == "AT_FDCWD":
             return
@@ -67,6 +68,7 @@ class NamedTracing(Tracing):
             raise Refused(f"{call}: no call was seen that unlinked {shown(os.fsdecode(name))}")
 
     def agrees_for(self, call, opened):
+        """Refuses a call whose descriptor strace calls by no name that its file has had."""
         if opened.file is MARKS:
             return super().agrees_for(call, opened)
         found = NAMED.match(call.word(0))
@@ -87,6 +89,7 @@ class NamedTracing(Tracing):
                 raise Refused(f"{call}: another call changed names at once, and which was first isn't known")
 
     def make(self, call, name, flight):
+        """Makes a file of a new name, and returns it."""
         slot = self.slot(call, name)
         self.renamed(call, flight, slot)
         file = self.tree.make_file(slot)
@@ -94,12 +97,14 @@ class NamedTracing(Tracing):
         return file
 
     def made_folder(self, call, name, flight):
+        """Makes a folder of a new name."""
         slot = self.slot(call, name)
         self.renamed(call, flight, slot)
         self.tree.make_folder(slot)
         self.refresh()
 
     def end_unlink(self, call, _process, flight):
+        """Takes a name away, of a file or of a folder."""
         if call.failed():
             return
         name = self.name(self.own_path(call, "unlinkat"))
@@ -117,6 +122,7 @@ class NamedTracing(Tracing):
         return slot
 
     def end_rename(self, call, _process, flight):
+        """Moves a name, or exchanges two; refuses what leaves the folder or comes into it."""
         if call.failed():
             return
         paths = self.both_paths(call, "rename")
@@ -138,6 +144,7 @@ class NamedTracing(Tracing):
             self.refresh()
 
     def end_link(self, call, process, flight):
+        """Gives a file one name more. A symbolic link is refused as without names."""
         if call.failed():
             return
         if call.name not in ("link", "linkat"):
@@ -157,6 +164,7 @@ class NamedTracing(Tracing):
     # Bytes and sizes
 
     def put(self, call, flight, opened, start, data, through):
+        """Writes bytes of a file, and refuses those beyond an end that another call moved at once."""
         file = opened.file
         self.landed(call, flight, file, start, start + len(data))
         if start + len(data) > file.size and flight.grown != file.grown:
@@ -164,6 +172,7 @@ class NamedTracing(Tracing):
         self.tree.write(file, start, data, through)
 
     def resize(self, call, file, size, flight):
+        """Gives a file another size, unless another call moved its end at once: that is refused."""
         if size == file.size:
             return
         self.landed(call, flight, file, min(size, file.size), max(size, file.size))
@@ -172,6 +181,7 @@ class NamedTracing(Tracing):
         self.tree.resize(file, size)
 
     def end_fallocate(self, call, process, flight):
+        """Follows the call as without names, and notes the room that it reserves."""
         super().end_fallocate(call, process, flight)
         file = flight.file
         if isinstance(file, File) and not call.failed() and "FALLOC_FL_PUNCH_HOLE" not in call.word(1):
@@ -180,6 +190,7 @@ class NamedTracing(Tracing):
     # Syncs
 
     def begin_sync(self, call, process, flight):
+        """Notes what a sync covers as it begins: all, or one file, or a folder."""
         if call.name == "sync":
             flight.sync = self.tree.begin_all()
             return

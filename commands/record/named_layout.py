@@ -104,6 +104,7 @@ class Laid:
         return at
 
     def copy(self, state, places, sectors):
+        """Returns the bytes of a copy of names: for each name its kind and number in its place."""
         content = bytearray(SECTOR * sectors)
         for slot, (kind, number) in state.items():
             if kind == FILE:
@@ -133,6 +134,7 @@ class Laid:
         return bytes(found)
 
     def map_text(self):
+        """Returns the text of files.txt."""
         lines = [HEAD, f"orders {self.tree.table}", f"sectors {self.sectors}"]
         lines += [f"names {it.sector} folders {','.join(map(str, it.folders))}" for it in self.sets]
         lines += [f"size {it.size} first {it.first} sectors {it.sectors} name {escaped(it.name)}" for it in self.rooms]
@@ -239,6 +241,7 @@ class Image:
             self.rooms.setdefault(it.size, []).append(it)
 
     def read(self, first, sectors):
+        """Returns sectors of the image, which have to be there."""
         if first + sectors > self.sectors:
             raise Refused(f"sector {first + sectors - 1} isn't there")
         self.device.seek(SECTOR * first)
@@ -257,6 +260,7 @@ class Image:
         return found
 
     def take(self, folder, kind, number, name):
+        """Puts a name into a folder, and refuses one that no folder can have, or of nothing."""
         if name in folder or name in (b"", b".", b"..") or b"/" in name or b"\0" in name:
             raise Refused(f"a folder has no such name: {shown(os.fsdecode(name))}")
         if kind not in (FILE, FOLDER) or kind == FILE and number not in self.rooms:

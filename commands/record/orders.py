@@ -216,6 +216,7 @@ class Tree:
         return {it: self.top(it) for it in self.parents}
 
     def set_of(self, slot):
+        """Returns the set of names that a name belongs to, with the name in it."""
         if self.one is not None:
             found = self.one
         else:
@@ -284,6 +285,7 @@ class Tree:
         return file
 
     def make_file(self, slot):
+        """Makes a file of a new name, and returns it."""
         file = self.new_file(slot[1])
         self.change({slot: (FILE, file.number)})
         file.stamp = self.version(self.set_of(slot)) if self.table != "strict" else 0
@@ -446,6 +448,7 @@ class Tree:
         return {it: {0: it.touched[folder]} for it in self.all_sets() if folder in it.touched}, [], {}
 
     def begin_all(self):
+        """Returns what a sync of everything covers as it begins."""
         sets = self.all_sets() if self.one is None else []
         found = self.disk.begin_sync([it for it in self.disk.sectors if it not in sets])
         laid = [(room, it) for file in self.files.values() for room in file.rooms for it in room.laid]

@@ -262,6 +262,7 @@ class Log:
         return source.piece(start, end)
 
     def write(self, words):
+        """Adds a write, of one byte filled or of a file's bytes."""
         sector, count = self.span(words)
         length, words = SECTOR * count, words[2:]
         if len(words) < 2 or words[0] not in ("fill", "data"):
@@ -291,12 +292,14 @@ class Log:
         self.put(0, header(0, 0, FLUSH))
 
     def mark(self, text):
+        """Adds a mark with a text."""
         text = text.encode()
         if len(text) > MARK_LENGTH:
             raise Refused(f"the text of a mark has at most {MARK_LENGTH} bytes, and this one {len(text)}")
         self.put(0, header(0, 0, MARK, text))
 
     def log(self, words):
+        """Adds the entries of another log, all or a range."""
         if len(words) not in (1, 3):
             raise Refused("it wants FILE, or FILE FIRST END")
         source = self.source(words[0])

@@ -158,6 +158,7 @@ class Tracing:
             self.agrees(call, process, number, path, gone)
 
     def agrees(self, call, process, number, path, gone):
+        """Refuses a descriptor that isn't of the file that strace names, or whose file was unlinked unseen."""
         name = self.name(path)
         if name is None or number == "AT_FDCWD" or name in self.folders:
             return
@@ -200,6 +201,7 @@ class Tracing:
     # Descriptors
 
     def end_open(self, call, process, flight):
+        """Puts an opened file into the process's table; follows what O_CREAT and O_TRUNC make of it."""
         if call.failed() or call.result is None:
             return
         if call.path is None:
@@ -241,6 +243,7 @@ class Tracing:
         return self.files[name]
 
     def end_dup(self, call, process, _flight):
+        """Gives a descriptor one number more, by dup, dup2 and dup3."""
         if call.failed() or call.result is None:
             return
         from_ = process.table.get(call.number(0))
@@ -251,6 +254,7 @@ class Tracing:
             process.table[call.result] = (from_[0], "O_CLOEXEC" in call.text)
 
     def end_fcntl(self, call, process, _flight):
+        """Follows what fcntl makes of a descriptor: a copy, whether exec closes it, whether writes append."""
         if call.failed() or call.result is None:
             return
         known, command = process.table.get(call.number(0)), call.word(1)
@@ -265,6 +269,7 @@ class Tracing:
             known[0].moved += 1
 
     def end_ioctl(self, call, process, _flight):
+        """Follows the ioctls of close-on-exec, and refuses those that may write a recorded file."""
         known = process.table.get(call.number(0))
         if call.failed() or call.result is None or known is None or known[0].file is MARKS:
             return
@@ -279,6 +284,7 @@ class Tracing:
         process.table.pop(call.number(0), None)
 
     def end_close_range(self, call, process, _flight):
+        """Closes a range of descriptors, or marks them to be closed by exec."""
         if call.failed():
             return
         first, last = call.number(0), call.number(1)
@@ -291,6 +297,7 @@ class Tracing:
                 del process.table[number]
 
     def end_execve(self, call, process, _flight):
+        """Closes what exec closes, and forgets the mappings of the program before."""
         if call.failed():
             return
         process.table = {number: it for number, it in process.table.items() if not it[1]}
@@ -298,6 +305,7 @@ class Tracing:
         process.folder = list(process.folder)
 
     def end_chdir(self, call, process, _flight):
+        """Moves the folder of a process."""
         if call.failed():
             return
         if call.name == "fchdir":
@@ -309,6 +317,7 @@ class Tracing:
             process.folder[0] = os.path.realpath(os.path.join(process.folder[0], call.data(0)))
 
     def end_unshare(self, call, process, _flight):
+        """Gives a process a table and a folder of its own, and refuses mounts of its own."""
         if call.failed():
             return
         if "CLONE_NEWNS" in call.text:
@@ -319,6 +328,7 @@ class Tracing:
             process.folder = list(process.folder)
 
     def end_make(self, call, _process, _flight):
+        """Takes in a process that was made, by the call that made it."""
         if call.failed() or not call.result:
             return
         for flag, why in MADE_APART.items():
@@ -333,6 +343,7 @@ class Tracing:
     # Memory
 
     def end_mmap(self, call, process, _flight):
+        """Refuses a shared mapping that may be written, and notes one that mprotect could make so."""
         if call.failed() or call.result is None:
             return
         length = call.number(1)
@@ -369,6 +380,7 @@ class Tracing:
                 raise Refused(f"{call}: another call wrote the same sectors at once, and which was first isn't known")
 
     def end_write(self, call, process, flight):
+        """Writes what a call of the write family wrote; refuses one whose end isn't known."""
         opened = flight.opened
         if opened is None:
             return
@@ -423,6 +435,7 @@ class Tracing:
         return start
 
     def put(self, call, flight, opened, start, data, through):
+        """Writes bytes of a file to the log, forced ones with FUA, unless the file is unlinked."""
         file = opened.file
         self.still(call, f"{shown(os.fsdecode(file.name))} is written")
         if file.unlinked:
@@ -446,6 +459,7 @@ class Tracing:
                 self.disk.mark(found[1])
 
     def end_read(self, call, process, flight):
+        """Moves the place of an opened file past what was read."""
         if flight.opened is None or call.failed() or not call.result:
             return
         if flight.moved != flight.opened.moved:
@@ -458,6 +472,7 @@ class Tracing:
             self.end_read(call, process, flight)
 
     def end_lseek(self, call, process, flight):
+        """Moves the place of an opened file."""
         if flight.opened is None or call.failed() or call.result is None or flight.opened.file is MARKS:
             return
         if flight.opened.at != call.result:
@@ -480,6 +495,7 @@ class Tracing:
         file.size = size
 
     def end_truncate(self, call, process, flight):
+        """Gives a file another size, by its descriptor or its path."""
         if call.failed():
             return
         file = flight.file
@@ -496,6 +512,7 @@ class Tracing:
         self.resize(call, file, call.number(1), flight)
 
     def end_fallocate(self, call, process, flight):
+        """Follows room that is reserved, and bytes that become zeros; refuses bytes that move."""
         file = flight.file
         if file is None or file is MARKS or call.failed():
             return
@@ -515,6 +532,7 @@ class Tracing:
     # Syncs
 
     def begin_sync(self, call, process, flight):
+        """Notes what a sync covers as it begins: all files, or one."""
         if call.name == "sync":
             flight.sync = self.disk.begin_sync(list(self.files.values()))
             return
@@ -529,6 +547,7 @@ class Tracing:
             flight.sync = self.disk.begin_sync([flight.file])
 
     def end_sync(self, call, process, flight):
+        """Ends a sync that began, and refuses one that failed."""
         if flight.sync is None or (call.error or "").startswith("ERESTART") or call.result is None:
             return
         if call.failed():
@@ -549,6 +568,7 @@ class Tracing:
         return self.path(call, 0, 1) if call.name == from_folder else self.path(call, None, 0)
 
     def end_unlink(self, call, _process, _flight):
+        """Marks a file as unlinked. The log ends there, unless the file was always empty."""
         if call.failed():
             return
         name = self.name(self.own_path(call, "unlinkat"))
@@ -568,6 +588,7 @@ class Tracing:
         return [self.path(call, *it) for it in (((None, 0), (None, 1)) if call.name == plain else ((0, 1), (2, 3)))]
 
     def end_link(self, call, _process, _flight):
+        """Refuses a link or a symbolic link to a recorded name."""
         if call.failed():
             return
         if call.name in ("link", "linkat"):
@@ -579,6 +600,7 @@ class Tracing:
         self.refuse_names(call, paths, "gets another name")
 
     def refuse_names(self, call, paths, what):
+        """Refuses a change of names where one of the paths is recorded."""
         for path in paths:
             name = self.name(path)
             inner = [] if name is None else [it for it in self.files if it == name or it.startswith(name + b"/")]
@@ -586,6 +608,7 @@ class Tracing:
                 raise Refused(f"{call}: {shown(os.fsdecode(name or path))} {what}, and names are left out; record it in a guest")
 
     def end_mkdir(self, call, _process, flight):
+        """Takes in a folder that was made."""
         if call.failed():
             return
         name = self.name(self.own_path(call, "mkdirat"))

@@ -42,6 +42,7 @@ class Machine:
         self.folder, self.begun, self.console = Path(folder), b"", 0
 
     def make(self, sectors):
+        """Makes the machine's folder, with its disk, its locks and its serial line."""
         self.folder.mkdir()
         with open(self.folder / "disk.img", "wb") as file:
             # (a device that runs out of room while it is written would stop the machine)
@@ -72,6 +73,7 @@ class Machine:
 
     @contextlib.contextmanager
     def lines(self):
+        """Has both ends of the serial line open within."""
         self.ask = os.open(self.folder / "line.in", os.O_RDWR)
         self.hear = os.open(self.folder / "line.out", os.O_RDWR | os.O_NONBLOCK)
         try:
@@ -169,6 +171,7 @@ class Machine:
         return answer
 
     def answer(self, word, deadline):
+        """Returns the status and the output of what was asked with a word."""
         words = []
         while words[:2] != [b"done", word]:
             words = self.line(deadline, self.asked).split()
@@ -240,6 +243,7 @@ def own_word():
 
 
 def locked(file, how=fcntl.LOCK_EX):
+    """Locks a file, and returns whether it could."""
     try:
         fcntl.flock(file, how | fcntl.LOCK_NB)
     except OSError:

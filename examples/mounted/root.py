@@ -17,6 +17,7 @@ class NoRoot(Exception):
 
 
 def command(name):
+    """Returns the path of a command, which has to be there."""
     found = shutil.which(name, path=f"{os.environ['PATH']}:/usr/sbin:/sbin")
     if not found:
         raise NoRoot(f"there is no command {name}")
@@ -34,6 +35,7 @@ def put_command(root, name):
 
 
 def put_module(root, kernel, name):
+    """Puts a module of the kernel into the root, unpacked."""
     found = next(iter(sorted((kernel / "lib/modules").rglob(f"{name}.ko*"))), None)
     if not found:
         raise NoRoot(f"the kernel has no module {name}")

@@ -44,6 +44,7 @@ def imm(chance):
 
 
 def arithmetic(chance, registers):
+    """Returns a random instruction of arithmetic."""
     kind = chance.choice([7, 7, 4])
     op = chance.choice([MOV, ADD, SUB, MUL, DIV, OR, AND, LSH, RSH, NEG, MOD, XOR, ARSH])
     by_register = chance.random() < 0.4 and op != NEG
@@ -117,6 +118,7 @@ def own_memory(chance, registers):
 
 
 def helper(chance, registers):
+    """Returns a random call of a helper, with arguments that it may take."""
     number = chance.choice([2, 2, 4, 5, 6, 7, 8])
     text = slot(0xB7, 1, 0, 0, chance.choice([0, 1, 3, 512, 1000, 2040]))
     if number == 2:
@@ -142,6 +144,7 @@ def context(chance, registers):
 
 
 def loop(chance, registers):
+    """Returns a random loop, by the helper that counts turns or by a register."""
     it, inner = chance.choice([7, 8]), chance.choice([arithmetic, stack, computed])(chance, registers)
     if chance.random() < 0.6:
         return slot(0xB7, 1, 0, 0, chance.choice([3, 20])) + slot(0x85, 0, 0, 0, 3) + slot(0x15, 0, 0, len(inner) // 8 + 1, 0) + inner + slot(0x05, 0, 0, -(len(inner) // 8 + 4))
@@ -183,6 +186,7 @@ class AcceptanceSoak(Soak):
         return done.returncode, done.stdout, done.stderr
 
     def differs(self, number, seed):
+        """Compares what two programs say of a random checker, and of its runs."""
         chance = random.Random(f"{seed} {number}")
         Path(self.folder, "p").write_bytes(checker(chance))
         at = ["--sectors", str(SECTORS)]

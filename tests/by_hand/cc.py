@@ -369,6 +369,7 @@ def version(compiler):
 
 
 def found_by(compiler, folder, program):
+    """Yields what is wrong with what a compiler makes, each with its name."""
     if f"version {STORED_BY}" in version(compiler):
         yield from stored_bytes(compiler, folder)
     else:

@@ -170,6 +170,7 @@ ROWS = [
 
 
 def fletcher():
+    """Returns the Fletcher checksum of the words that the checker looks at."""
     low = high = 0
     for at in range(100):
         low = (low + int.from_bytes(DEVICE[4 * at : 4 * at + 4], "little")) % 0xFFFFFFFF
@@ -178,6 +179,7 @@ def fletcher():
 
 
 def of_text():
+    """Returns the number that the checker makes of the long text."""
     number = 0
     for it in LONG.encode().ljust(200, b"\0"):
         number = (number * 31 + it) % 1000003

@@ -75,6 +75,7 @@ def double_line(chance, text):
 
 
 def move_line(chance, text):
+    """Returns the text with a line in another place."""
     lines, at = pick_line(chance, text)
     line = lines.pop(at)
     lines.insert(chance.randrange(len(lines) + 1), line)
@@ -86,6 +87,7 @@ def cut_off(chance, text):
 
 
 def change_number(chance, text):
+    """Returns the text with one number changed."""
     numbers = list(re.finditer(rb"\d+", text))
     found = chance.choice(numbers)
     new = chance.choice([int(found[0]) + 1, max(int(found[0]) - 1, 0), 2**32, 2**64, 2**64 - 1, 0, 88, 89])
@@ -233,6 +235,7 @@ class CasesSoak(JoinSoak):
     """The same of runs of any number of losses."""
 
     def make(self, chance):
+        """Writes a random log and checkers, and returns the words of `explore` and of `images` on them."""
         sectors = chance.choice([3, 8, 16])
         values = chance.sample(range(256), chance.choice([2, 3]))
         entries = [entry(chance, sectors, values) for _ in range(chance.choice([3, 8, 12]))]
@@ -254,6 +257,7 @@ class CasesSoak(JoinSoak):
         return [it[1] for it in done], [f"{' '.join(it)}: {one[0]} {one[2]}" for it, one in zip(ranges, done) if one[0] > 1]
 
     def differs(self, number, seed):
+        """Joins the parts of a random run, whole and damaged, and compares."""
         chance = random.Random(f"cases {seed} {number}")
         words, survey = self.make(chance)
         whole = self.called(["explore", *words])

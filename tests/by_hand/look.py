@@ -20,6 +20,7 @@ LOOKS = [
 
 
 def look(folder, page):
+    """Makes the pictures of a page, and prints their names."""
     for name, width, height, words in LOOKS:
         picture = folder / f"{page.parent.name}-{page.stem}-{name}.png"
         sizes = [f"--window-size={width},{height}", f"--screenshot={picture}"]

@@ -76,6 +76,7 @@ class Checker:
 
 
 def stored():
+    """Yields the checkers of examples/, each with its stored bytes and devices."""
     for name in checkers.CHECKERS:
         path = TOP / f"examples/checkers/{name}.c"
         yield Checker(path, "check", path.with_suffix(".bpf"), checkers.DEVICES[name])
@@ -87,6 +88,7 @@ def stored():
 
 
 def whole():
+    """Yields the checkers of whole formats, with images of their logs to begin with."""
     for name, it in whole_formats.FORMATS.items():
         path = TOP / f"examples/checkers/{name}.c"
         seeds = [image for which in it.runs for image in images_of(whole_formats.run_of(name, which))]
@@ -127,6 +129,7 @@ class Images:
         self.filled = sorted({at for it in checker.seeds for at in range(self.count) if any(it[SECTOR * at : SECTOR * at + SECTOR])})
 
     def place(self):
+        """Returns a place that a checker is likely to look at."""
         rng = self.rng
         likely = [0, 0, 0, 0, 1, 1, 1, 2, 3, self.count - 1, self.count // 2, self.count // 2 + 1]
         likely += rng.choices(self.filled, k=32) if self.filled else []
@@ -140,6 +143,7 @@ class Images:
         return max(0, rng.choice([near, near, rng.randrange(8), rng.randrange(64), 1 << rng.randrange(64), rng.getrandbits(64)]))
 
     def changed(self, image):
+        """Returns an image with some numbers, texts and pieces changed."""
         rng = self.rng
         content = bytearray(image)
         for _ in range(rng.choice([1, 1, 2, 3, 5, 8])):

@@ -90,6 +90,7 @@ class Ext4:
     entry = [(0, 4), (0, 4), (4, 2), (6, 1), (7, 1), (8, 1), (9, 1)]
 
     def tool(self, path):
+        """Returns whether e2fsck finds something wrong, after the journal, and what it says."""
         copy = f"{path}.copy"
         shutil.copy(path, copy)
         replayed, looked = run("e2fsck", "-y", "-E", "journal_only", copy), run("e2fsck", "-fn", copy)
@@ -131,6 +132,7 @@ class Ext4:
         return top
 
     def damaged(self, content, rng):
+        """Returns an image with one field or bit changed, and which."""
         it = Ext4Image(content)
         kind = rng.choice(["super", "group", "inode", "inode", "inode", "blocks", "inodes", "entry", "entry", "entry", "node", "journal"])
         if kind in ("blocks", "inodes"):
@@ -198,6 +200,7 @@ class Ext4Image:
         return found, nodes
 
     def entries(self, extent):
+        """Yields the places of the entries in a stretch of a directory."""
         at, end = extent
         while at < end and number(self.content, "H", at + 4) >= 8:
             yield at
@@ -224,6 +227,7 @@ class Fat:
         return content[:at] + bytes([content[at] & 0xFE]) + content[at + 1 :]
 
     def made(self, folder):
+        """Yields file systems of each kind, with files and folders."""
         path, file = folder / "made", folder / "file"
         for at, (size, options) in enumerate(self.kinds):
             rng = random.Random(at)
@@ -245,6 +249,7 @@ class Fat:
             yield path.read_bytes()
 
     def damaged(self, content, rng):
+        """Returns an image with one field changed, and which."""
         it = FatImage(content)
         kind = rng.choice(["boot", "table", "table", "table", "entry", "entry", "entry", *["info"] * (it.bits == 32)])
         if kind == "table":
@@ -283,6 +288,7 @@ class FatImage:
             n = self.next(n)
 
     def entries(self):
+        """Returns the places of all directory entries."""
         found = []
         left = [self.of_chain(number(self.content, "I", 44)) if self.bits == 32 else range(self.root, self.data, 32)]
         while left:

@@ -138,6 +138,7 @@ def renames_base(folder, _):
 
 
 def renames_found(folder):
+    """Returns which version of the file is there, or what is wrong with it."""
     path = Path(folder, "kept")
     if not path.exists():
         return "the file isn't there"
@@ -261,6 +262,7 @@ class Judge:
         self.found, self.lay, self.known = found, lay, {}
 
     def verdict(self, before, written):
+        """Returns what the database says of an image, which is `before` with these sectors."""
         content = bytearray(before)
         for number, it in written.items():
             content[SECTOR * number : SECTOR * (number + 1)] = it

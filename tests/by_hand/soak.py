@@ -78,6 +78,7 @@ def damaged_field(chance, content):
 
 
 def damaged_bit(chance, content):
+    """Returns the content with one bit turned."""
     if not content:
         return content
     at = chance.randrange(len(content))
@@ -91,6 +92,7 @@ def cut_out(chance, content):
 
 
 def put_in_twice(chance, content):
+    """Returns the content with a stretch in it twice."""
     first, last = sorted(chance.randrange(len(content) + 1) for _ in range(2))
     unit = chance.choice([1, 8, SECTOR])
     first, last = first - first % unit, last - last % unit
@@ -109,6 +111,7 @@ DAMAGES = [damaged_field, damaged_field, damaged_field, damaged_bit, cut_out, pu
 
 
 def damaged(chance, whole):
+    """Returns one of the contents, damaged some times."""
     content = chance.choice(whole)
     for _ in range(chance.choice([0, 1, 1, 2, 3, 8])):
         content = chance.choice(DAMAGES)(chance, content)

@@ -159,6 +159,7 @@ class Place:
         self.holds("u64 check(const struct context *c)\n{\n\treturn 0;\n}\n", elf([]))
 
     def tool(self, name, text):
+        """Puts a script in the place of a program."""
         path = self.folder / "bin" / name
         path.unlink(missing_ok=True)
         path.write_text(text)
@@ -538,6 +539,7 @@ def outputs(place, code):
 
 
 def rows(crashbpf, folder):
+    """Yields what each row is called, and what is wrong with it."""
     code = assembled(crashbpf, folder, "mov64 r0, 0; exit")
     yield from odd_objects(code)
     yield from calls(crashbpf, folder)

@@ -513,6 +513,7 @@ def says_progress(folder):
 
 
 def rows():
+    """Yields the name of each row and what looks at it; those of ext2 where its programs are there."""
     tears = Run(SMALL.recorded, bound=1, tears=True, cuts="flush")
     by_write = Run(SMALL.recorded, bound=2, by="write", flush=(1, 5), first=2, last=5, base=bytes(range(256)) * 5)
     yield "images by sector, with tears", lambda folder: gives_images(folder, tears, "2")

@@ -343,6 +343,7 @@ def cases_in_parts(folder):
 
 
 def rows():
+    """Yields the name of each row and what looks at it."""
     writes = DESIGNS["two_slots/wrong"].recorded
     yield "a run in parts", lambda folder: judges_in_parts(folder, Run(writes, 4, bound=2, tears=True), 16, "--workers 2")
     yield "the first failing image of a run in parts", lambda folder: judges_in_parts(folder, Run(writes, 4, bound=2), 5, "--first")

@@ -227,6 +227,7 @@ def is_interrupted(folder):
 
 
 def rows():
+    """Yields the name of each row and what looks at it."""
     yield "images, by two machines", judges_images
     yield "tests that are ended", goes_on_after_an_end
     yield "machines that don't come up", doesnt_come_up

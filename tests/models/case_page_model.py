@@ -59,6 +59,7 @@ class Found:
         return share(self.cases, len(self.failing))[0]
 
     def cell(self, program):
+        """Returns the cut's cell in the row: a link where a case fails."""
         classes = f"c {self.share()}{shade(self.run, self.number)}"
         if not self.failing:
             return f"<i class='{classes}'></i>\n"
@@ -82,6 +83,7 @@ class Found:
 
 
 def verdict(cuts, complete):
+    """Returns the sentence that begins a program's part of the page."""
     bad, all_cases = [it for it in cuts if it.failing], sum(it.cases for it in cuts)
     if not cuts:
         return "<p class='none'>The log has no wanted cut: no case was judged.</p>\n"
@@ -93,6 +95,7 @@ def verdict(cuts, complete):
 
 
 def program_text(run, program, about, cuts):
+    """Returns the part of the page of one program."""
     complete = all(cut.beyond == (0, 0) for cut in cuts)
     windows = [window_of(case) for cut in cuts for _number, case, _ending in cut.failing]
     flushes = missing_flushes([it for it in windows if it])

@@ -234,6 +234,7 @@ def join_texts(texts, some=False):
 
 
 def some_run(chance):
+    """Returns a random run of any number of losses, with checkers of it."""
     sectors, values = chance.choice([2, 3]), chance.sample(range(256), 2)
     entries = [some_entry(chance, sectors, values) for _ in range(chance.randint(0, 9))]
     first, last = sorted(chance.randint(0, len(entries)) for _ in range(2))

@@ -174,6 +174,7 @@ class Cut:
         return self.rows[sector]
 
     def row_of(self, sector):
+        """Returns the parts at risk over a sector, the last one first, and what lies below them."""
         row = []
         for part in reversed([it for it in self.run.parts_over(sector) if it.entry < self.number]):
             start = SECTOR * (sector - part.sector)
@@ -212,6 +213,7 @@ class Cut:
         yield from self.walk_case(Case(self, {}), checker, losses, Found() if found is None else found)
 
     def walk_case(self, case, checker, losses, found):
+        """Yields the failing leaves below a case, and counts those that are left out."""
         if case.torn() > losses.most_torn(self.run):
             found.torn_beyond += 1
             return
@@ -256,6 +258,7 @@ def window_of(case):
 
 
 def head(run, checkers, losses):
+    """Returns the head of the text of cases."""
     text = f"sectors {run.sectors} entries {len(run.entries)} cuts {run.cuts} bound any"
     text += f" tears yes torn {losses.most_torn(run)}" if run.tears else " tears no"
     text += "" if losses.most is None else f" at-most {losses.most}"

@@ -166,6 +166,7 @@ class Run:
         return [cut for cut in self.cuts_of_kind() if first <= cut <= last]
 
     def cuts_of_kind(self):
+        """Returns the cuts of the kind that is asked for."""
         count = len(self.entries)
         if self.cuts == "all":
             return list(range(count + 1))
@@ -184,12 +185,14 @@ class Run:
         ]
 
     def choices(self, cut):
+        """Yields the choices of a cut, in their order."""
         fates = LOST_OR_TORN if self.tears else LOST
         parts = self.volatile(cut)
         for count in range(self.bound + 1):
             yield from departures(parts, count, fates)
 
     def images(self):
+        """Yields the images of the run, in their order."""
         number = 0
         for cut in self.wanted_cuts():
             for choice in self.choices(cut):
@@ -232,6 +235,7 @@ def failing_lines(image, checkers):
 
 
 def head(run, checkers, first):
+    """Returns the head of the report."""
     text = f"sectors {run.sectors} entries {len(run.entries)} cuts {run.cuts} bound {run.bound}"
     text += f" tears {'yes' if run.tears else 'no'} first {'yes' if first else 'no'}"
     text += (" by write" if run.by == "write" else "") + run.told() + run.told_of_base() + "\n"
@@ -497,6 +501,7 @@ def covered(run):
 
 
 def shown_lines(run, image):
+    """Yields the lines of what `show` says of an image, but for its differences."""
     cut, whole = image.cut, Image(image.number, image.cut, (), run)
     yield (
         f"sectors {run.sectors} entries {len(run.entries)} cuts {run.cuts} bound {run.bound}"
@@ -544,6 +549,7 @@ def byte_64(image):
 
 
 def whole_image(image):
+    """Returns the answer of the checker that mixes all sectors."""
     answer = 0
     for number in range(min(image.run.sectors, 64)):
         answer = (answer * 31 + mix(image.sector(number))) % 2**64

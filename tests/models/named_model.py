@@ -157,6 +157,7 @@ class Model:
         file.stamp = len(self.changes)
 
     def resize(self, number, size):
+        """Gives a file another size: what it holds from then on, and how large it is."""
         file = self.files[number]
         if size < file.size:
             kept = {}
@@ -194,6 +195,7 @@ class Model:
         return these, {number: len(file.sizes) - 1}, names
 
     def seen_folder(self, folder):
+        """Returns what a sync of a folder makes sure."""
         def wanted(change):
             made = [held[1] for held in change.values() if held and held[0] == "folder"] if self.table != "strict" else []
             return any(it == folder for it, _ in change) or folder in made
@@ -201,6 +203,7 @@ class Model:
         return {}, {}, self.names_up_to(len(self.changes), wanted)
 
     def seen_all(self):
+        """Returns what a sync of everything makes sure."""
         found = {}, {}, self.names_up_to(len(self.changes), lambda _: True)
         for number in range(len(self.files)):
             these, sizes, _ = self.seen(number)
@@ -209,6 +212,7 @@ class Model:
         return found
 
     def synced(self, seen):
+        """Makes sure what a sync saw."""
         sectors, sizes, names = seen
         for (number, time, at), version in sectors.items():
             it = self.files[number].sectors[time][at]
@@ -249,6 +253,7 @@ class Reader:
         return self.kept.get(number) or {self.base[SECTOR * number :][:SECTOR]}
 
     def states(self):
+        """Yields what the names are in each image."""
         for chosen in itertools.product(*(self.sector(it) for it, _ in self.names)):
             held = {}
             for text, (_, folders) in zip(chosen, self.names):
@@ -262,6 +267,7 @@ class Reader:
             yield held
 
     def contents(self, number):
+        """Returns the contents that a file has in the images."""
         found = set()
         for text in self.sector(number):
             size, first = struct.unpack_from("<QQ", text)
@@ -300,6 +306,7 @@ class Reader:
         return False
 
     def trees(self):
+        """Yields the paths and contents of each image."""
         known = {}
         for held in self.states():
             tree = self.paths(held)

@@ -54,6 +54,7 @@ def shade(run, place):
 
 
 def entry_cell(run, number):
+    """Returns the cell of an entry in the row of the log."""
     entry = run.entries[number]
     words = ["write"] if entry.count and not entry.flags & DISCARD else []
     words += [word for flag, word in FLAGS if entry.flags & flag and word != "metadata"]
@@ -71,6 +72,7 @@ def share(images, failing):
 
 
 def legend(kind="images"):
+    """Returns the legend below the row."""
     keys = "".join(f"<span><b class='{it[0]}'></b>{it[1]}</span>" for it in (NONE, *BOUNDED, MORE, ALL))
     others = "<span><b class='mark'></b>mark</span><span><b class='even'></b><b class='odd'></b>epochs in turn</span>"
     lack = "<span><b class='lack'></b>flush missing</span>"
@@ -78,6 +80,7 @@ def legend(kind="images"):
 
 
 def flush_cell(program, flush, kind="images"):
+    """Returns the cell of a missing flush."""
     last, first, count = flush
     place = f"{last}" if first == last else f"{last}, or any from {first} on"
     title = f"a flush is missing before entry {place}; failing {kind}: {count}"
@@ -122,6 +125,7 @@ class Cut:
         return f"{len(self.failing)} of {self.images} images fail"
 
     def cell(self, program):
+        """Returns the cut's cell in the row: a link where an image fails."""
         classes = f"c {self.share()}{shade(self.run, self.number)}"
         if not self.failing:
             return f"<i class='{classes}'></i>\n"
@@ -229,6 +233,7 @@ def strip(run, program, flushes, cuts, kind="images"):
 
 
 def verdict(cuts):
+    """Returns the sentence that begins a program's part of the page."""
     bad = [cut for cut in cuts if cut.failing]
     if not cuts:
         return "<p class='none'>The log has no wanted cut: no image was judged.</p>\n"
@@ -238,6 +243,7 @@ def verdict(cuts):
 
 
 def program_text(run, program, said, cuts):
+    """Returns the part of the page of one program."""
     windows = [window_of(it.image) for cut in cuts for it in cut.failing]
     flushes = missing_flushes([it for it in windows if it])
     text = f"<section aria-labelledby='p{program}'>\n<h2 id='p{program}'>Program {program}: {html(said)}</h2>\n" + verdict(cuts)

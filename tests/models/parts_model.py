@@ -244,6 +244,7 @@ def is_choice(head, cut, text):
 
 
 def read_span(line):
+    """Returns the numbers in the first line of a part, or None where they can't be."""
     span = SPAN.fullmatch(line)
     if not span:
         return None
@@ -293,6 +294,7 @@ def read_failing(head, line):
 
 
 def last_of(start, end, first, marks):
+    """Returns the last line of a part."""
     images = [image for image, _program in marks]
     if first:
         return f"images {end - start} first {images[0] if images else 'none'}"

@@ -43,6 +43,7 @@ def is_small(*words):
 
 
 def is_checker(number, line):
+    """Says whether a line is one of a report's head, of the program with this number."""
     it = CHECKER.fullmatch(line)
     if not it or int(it[1]) != number:
         return False

@@ -45,6 +45,7 @@ def folded_groups(failing):
 
 
 def group_line(own):
+    """Returns the line of a group, which is all images that lost the same."""
     example = own[0]
     lost = ", ".join(example.folded()) or "where nothing is lost"
     count = "1 image" if len(own) == 1 else f"{len(own)} images"

@@ -32,6 +32,7 @@ def told(name, run, cut, said, recorded=None):
 
 
 def of_design(which):
+    """Yields rows on the failing cases of a design, each of which its checker has to reject as the model says."""
     run, program = DESIGNS[which], data(EXAMPLES / f"{folder_of(which)}/checker.bpf")
     failing = [it for it in cases(run, [checker_of(which)]).splitlines() if it.startswith("cut ")]
     for number, line in enumerate(failing):
@@ -72,6 +73,7 @@ ALL = range(len(RUNS) - 7, len(RUNS) - 1)
 
 
 def of_runs():
+    """Yields rows on choices of the runs, all of them or some."""
     chance = random.Random("any images")
     for number, run in enumerate(RUNS):
         choices = sorted(set(some_choices(run, chance)))

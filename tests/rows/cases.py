@@ -325,6 +325,8 @@ SPINS = "mov64 r1, 0; call 5; jeq r0, 1, -1; mov64 r0, 0; exit"
 
 
 def indexed(ending):
+    """Returns a checker that answers the byte to which the first word points, and ends so where that is outside of the sector."""
+
     def judge(view):
         place = model.word(view.sector(0), 0)
         return (view.sector(0)[place], ()) if place < 512 else Ended(ending)

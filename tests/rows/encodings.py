@@ -52,6 +52,7 @@ def slot(opcode, dst=0, src=0, offset=0, imm=0):
 
 
 def arithmetic():
+    """Yields instructions of arithmetic, each as text and as bytes."""
     for name, (imm32, register32, imm64, register64, offset) in ARITHMETIC.items():
         yield f"{name}32 r1, -5", slot(imm32, 1, 0, offset, -5)
         yield f"{name}32 r3, r10", slot(register32, 3, 10, offset)
@@ -60,6 +61,7 @@ def arithmetic():
 
 
 def one_operand():
+    """Yields instructions with one operand, each as text and as bytes."""
     yield "neg32 r3", slot(0x84, 3)
     yield "neg64 r4", slot(0x87, 4)
     for bits in [8, 16]:
@@ -72,6 +74,7 @@ def one_operand():
 
 
 def jumps():
+    """Yields jumps and calls, each as text and as bytes."""
     for name, (imm, register, imm32, register32) in JUMPS.items():
         yield f"{name} r1, -5, +3", slot(imm, 1, 0, 3, -5)
         yield f"{name} r1, r2, -32768", slot(register, 1, 2, -32768)
@@ -90,6 +93,7 @@ def jumps():
 
 
 def memory():
+    """Yields loads and stores, each as text and as bytes."""
     for name, opcode in LOADS.items():
         yield f"{name} r0, [r1+16]", slot(opcode, 0, 1, 16)
         yield f"{name} r9, [r10-512]", slot(opcode, 9, 10, -512)
@@ -103,6 +107,7 @@ def memory():
 
 
 def wide():
+    """Yields instructions of two slots, each as text and as bytes."""
     yield "lddw r0, 0", slot(0x18) + slot(0)
     yield "lddw r0, 9223372036854775808", "1800000000000000 0000000000000080"
     yield "lddw r10, 18446744073709551615", slot(0x18, 10, imm=-1) + slot(0, imm=-1)

@@ -435,6 +435,7 @@ ALL_STEPS = 3 * 1048577 + 1
 
 
 def steps(limit, line):
+    """Returns a row of a program that has that many steps, and the ending that its line says."""
     failing = f"image 0 cut 0 program 0 {line} choice -\n" if line else ""
     count = 1 if line else 0
     about = head("1 entries 0 cuts all bound 1 tears no first no", f"slots 4 limit {limit}")

@@ -468,6 +468,7 @@ def is_blind(run, code):
 
 
 def blind_row(helper, place, length):
+    """Returns a row of a checksum of the device, whose note says whether it looks at what is written."""
     code = looks(helper, place, length)
     notes = ["program 0: looks at no sector that an entry writes, so no crash makes it fail"] if is_blind(BLIND, code) else []
     notes += ["entries with more than 1 sectors: 1; none is ever dropped as a whole", "with --by write each may be dropped as a whole", *one_loss_notes(BLIND)]
@@ -517,6 +518,7 @@ TOLD = {
 
 
 def lacking(helper, name):
+    """Returns a row of a helper that one of its arguments lacks."""
     code = LACKING[name] + call(helper)
     at = len(code) // 8 - 1
     notes = [f"slot {at}: call {helper}", *TOLD[name], "a register that is read may be unset (docs/VERIFIER.md, Rules at a slot)"]

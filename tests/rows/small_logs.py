@@ -184,6 +184,7 @@ def survey(states, cuts):
 
 
 def cuts_of(name, entries, states, before_flush, after_mark, units):
+    """Yields rows of a small log: its cuts of each kind, and which units are volatile at its end."""
     log, last = files(entries), len(entries)
     wanted = {"all": range(len(states)), "flush": before_flush, "mark": after_mark}
     for kind, cuts in wanted.items():
@@ -266,6 +267,7 @@ def masked(sector):
 
 
 def any_word(sector):
+    """Returns all words of a sector, by or."""
     answer = 0
     for place in range(0, SECTOR, 8):
         answer |= int.from_bytes(sector[place : place + 8], "little")

@@ -39,6 +39,7 @@ class Assembler:
         self.program, self.found = program, {}
 
     def assemble(self, text):
+        """Returns the bytes of a text."""
         if text not in self.found:
             with tempfile.TemporaryDirectory() as folder:
                 Path(folder, "source").write_text(text)

@@ -12,6 +12,7 @@ import sys
 
 
 def opened(folder, synchronous):
+    """Returns the database, with small pages and a journal that stays."""
     it = sqlite3.connect(f"{folder}/made.db", isolation_level=None)
     for setting in ("page_size = 512", "journal_mode = PERSIST", f"synchronous = {synchronous}"):
         it.execute(f"PRAGMA {setting}").fetchall()
@@ -19,6 +20,7 @@ def opened(folder, synchronous):
 
 
 def insert(db, first, count):
+    """Inserts that many rows from a number on, in one transaction."""
     db.execute("BEGIN")
     for n in range(first, first + count):
         db.execute("INSERT INTO t VALUES (?, ?, ?)", (n, f"name {n * 7 % 100:02}", "x" * 60))
@@ -37,6 +39,7 @@ def prepare(folder):
 
 
 def write(synchronous):
+    """Makes two transactions, each acknowledged by a mark."""
     db = opened(os.environ["FILES"], synchronous)
     for number, first, count in ((1, 9, 1), (2, 10, 3)):
         insert(db, first, count)
