@@ -7,16 +7,11 @@ import tempfile
 from contextlib import contextmanager
 
 from commands.cc.program import Refusal
-
-SIGNALS = (signal.SIGHUP, signal.SIGINT, signal.SIGTERM)
+from commands.shared.ends import Stopped, on_signals
 
 
 class NotRun(Refusal):
     """A program can't be run, or takes too long: no other way of compiling helps."""
-
-
-class Stopped(BaseException):
-    """A signal that ends this program."""
 
 
 class Work:
@@ -28,9 +23,7 @@ class Work:
 
     def begin(self):
         """Makes the folder of the work, and has signals remove it."""
-        for it in SIGNALS:
-            if signal.getsignal(it) != signal.SIG_IGN:
-                signal.signal(it, self.stop)
+        on_signals(self.stop)
         with self.undivided():
             self.folder = tempfile.mkdtemp(prefix="crashbpf-cc-")
 

@@ -1,0 +1,31 @@
+"""How a command ends that comes to no answer: the signals that end it, and the line that says why."""
+import os
+import signal
+import sys
+from contextlib import suppress
+
+SIGNALS = (signal.SIGHUP, signal.SIGINT, signal.SIGTERM)
+
+
+class Stopped(BaseException):
+    """A signal that ends this program."""
+
+
+def on_signals(act):
+    """Has each signal that ends a program call `act`, but those that are ignored already."""
+    for it in SIGNALS:
+        if signal.getsignal(it) != signal.SIG_IGN:
+            signal.signal(it, act)
+
+
+def exit_on_signals():
+    """Has these signals exit with 2, so that what was begun is taken away."""
+    on_signals(lambda *_: sys.exit(2))
+
+
+def say(name, text):
+    """Says in one line on standard error why a command doesn't do what was asked for, and returns the status."""
+    line = "".join(it if it.isprintable() else it.encode("unicode_escape", "surrogatepass").decode() for it in text)
+    with suppress(OSError):
+        os.write(2, f"{name}: {line}\n".encode(errors="backslashreplace"))
+    return 2
