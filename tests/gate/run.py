@@ -28,7 +28,7 @@ What is printed is a line for each row that failed, with what differed, and last
 alone on its line. The status is 1 if any row failed, or if the program isn't there, else 0. All rows together take
 about a minute and a half of processor time.
 
-Where the rows stand
+Where the rows stand, below tests/
     rows/worked.py      the worked examples of the documents, and the reports of small logs
     rows/examples.py    the designs of examples/: their logs, checkers and reports
     rows/options.py     which options find what: the table of docs/CRASH-MODEL.md, cell by cell
@@ -78,19 +78,21 @@ Where the rows stand
     rows/limits.py      sizes near each limit
     rows/large.py       devices, logs and images that `--large` allows, against the model
 
-    notation.py         how rows, logs and programs are written down
-    cure_model.py       the cure, written from docs/CRASH-MODEL.md, docs/COMMANDS.md and docs/OUTPUT.md alone; by itself it tries the laws of windows
-    designs.py          the designs of examples/: their logs entry by entry, their checkers, the runs whose texts are stored
-    stored.py           writes these texts by the models
-    page_model.py       the page, written from docs/OUTPUT.md alone but for its style and script
-    contrast.py         the contrast of the text on a page, by the colours of its style
-    model.py            the crash model and the report, written from docs/CRASH-MODEL.md and docs/OUTPUT.md alone
-    cases_model.py      cases and their text, written from the same documents; by itself it makes all choices of small cuts
-    cure_cases_model.py the cure by cases, written from the same documents; by itself it tries what is said of it on many logs
-    lines_model.py      lines of C and their places in the text of `check`, written from docs/CHECKERS.md and docs/OUTPUT.md alone
-    machine_model.py    what a program comes to on an image, written from docs/MACHINE.md alone
-    parts_model.py      runs in parts and their join, and runs of any number of images, written from the same documents
+    shared/notation.py  how rows, logs and programs are written down
+    shared/running.py   how a row is run, and what it did otherwise
+    shared/designs.py   the designs of examples/: their logs entry by entry, their checkers, the runs whose texts are stored
+    shared/contrast.py  the contrast of the text on a page, by the colours of its style
+    by_hand/stored.py   writes the stored texts by the models
     programs/           programs as assembly texts
+
+    models/model.py             the crash model and the report, written from docs/CRASH-MODEL.md and docs/OUTPUT.md alone
+    models/cure_model.py        the cure, written from docs/CRASH-MODEL.md, docs/COMMANDS.md and docs/OUTPUT.md alone; by itself it tries the laws of windows
+    models/page_model.py        the page, written from docs/OUTPUT.md alone but for its style and script
+    models/cases_model.py       cases and their text, written from the same documents; by itself it makes all choices of small cuts
+    models/cure_cases_model.py  the cure by cases, written from the same documents; by itself it tries what is said of it on many logs
+    models/lines_model.py       lines of C and their places in the text of `check`, written from docs/CHECKERS.md and docs/OUTPUT.md alone
+    models/machine_model.py     what a program comes to on an image, written from docs/MACHINE.md alone
+    models/parts_model.py       runs in parts and their join, and runs of any number of images, written from the same documents
 
 Where expected values come from: the documents in docs/ and examples/, public standards, and the model. Never from what
 the program printed. A row that fails after a change of the program is a question to the documents, not to the row.
