@@ -82,6 +82,8 @@ class Clang:
     # The ways in which a checker is compiled, of which the first is the usual one: whether the compiler knows nothing of the
     # variables of a loop's condition where that is tested (source.py), and more options. By the last indices stay as written.
     WAYS = [(False, []), (True, UNMERGED), (True, ["-mllvm", "-disable-lsr", *APART])]
+    # A place that names a symbol holds the distance from that symbol.
+    FROM_SYMBOLS = True
 
     def __init__(self, name, run):
         self.name, self.run = name, run
@@ -145,6 +147,8 @@ class Gcc:
 
     # As of clang; calls of `copy` stay apart by -O1 too.
     WAYS = [(False, []), (True, ["-fno-crossjumping"]), (True, ["-O1"])]
+    # A place that names a symbol holds the distance from the section's begin with binutils 2.40, and others may differ.
+    FROM_SYMBOLS = False
 
     def __init__(self, name, run):
         self.name, self.run = name, run
@@ -172,7 +176,8 @@ class Gcc:
         return self.run([*self.target, *definitions, "-Wall", "-fsyntax-only", source])
 
     def compile(self, text, options, out):
-        words = [*self.target, "-gdwarf", "-w", *APART]
+        # Constants that may be merged are named by symbols inside of their section, which aren't read (data.py).
+        words = [*self.target, "-gdwarf", "-w", *APART, "-fno-merge-constants"]
         # Loops stay as with clang. A length of `copy` isn't kept in a register over a loop, where the verifier would round it up.
         words += ["-fno-tree-loop-distribute-patterns", "-fno-move-loop-invariants", "-fno-ipa-cp", "-fno-ipa-sra"]
         return self.run([*words, *options, "-c", "-x", "cpp-output", "-", "-o", out], text)

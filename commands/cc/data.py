@@ -66,6 +66,12 @@ class Memory:
             self.fill(start + offset, kind, symbol)
 
     def address(self, symbol, addend):
+        """The address at this distance from a symbol."""
+        if symbol.value and not self.object.from_symbols:
+            raise NoProgram(
+                f"the compiler names {symbol.name or 'a symbol'} inside of its section, and assemblers differ in what that means",
+                "no attribute section(..) of a variable, and no asm outside of functions; or clang",
+            )
         return (MEMORY + self.places[symbol.section] + symbol.value + addend) % 2**64
 
     def fill(self, at, kind, symbol):

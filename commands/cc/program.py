@@ -68,10 +68,14 @@ def broken(why):
 
 
 class Object:
-    """A little-endian ELF file of 64 bits, as both compilers make it. NoProgram is raised where it is any other."""
+    """A little-endian ELF file of 64 bits, as both compilers make it. NoProgram is raised where it is any other.
 
-    def __init__(self, bytes_):
-        self.bytes = bytes_
+    A place of code or data may name a symbol that lies inside of its section. `from_symbols` says that such a place holds the
+    distance from the symbol. Where that isn't known, the place is refused.
+    """
+
+    def __init__(self, bytes_, from_symbols=True):
+        self.bytes, self.from_symbols = bytes_, from_symbols
         if bytes_[:6] != b"\x7fELF\2\1" or self.fields("<H", 0x12) != (BPF,):
             raise broken("it is no little-endian ELF file of 64 bits for BPF")
         (start,) = self.fields("<Q", 0x28)

@@ -31,7 +31,7 @@ from notation import TOP, program
 
 from commands.cc.calls import MADE, copy_code, expanded, set_code
 from commands.cc.data import ROOM, Memory, with_data
-from commands.cc.program import SLOT, NoProgram, Object, slots_of
+from commands.cc.program import LDDW, SLOT, NoProgram, Object, slots_of
 
 CC = TOP / "commands/cc/crashbpf-cc"
 CHANGED = 3000
@@ -58,9 +58,10 @@ NOTES = "#!/bin/sh\necho accepted budget 9\necho 'note: instructions that no run
 COMMON, FUNCTION, OBJECT, GLOBAL = 0xFFF2, 2, 1, 16
 
 
-def elf(functions, needs=(), machine=247, data=()):
+def elf(functions, needs=(), machine=247, data=(), kind=1, addend=None):
     """An object file. A function is a name, its code, and whether it is static; of each the code has a section of its own. Then each
-    piece of data has one. A need is a slot of the first function, the name of a symbol, and its section."""
+    piece of data has one. A need is a slot of the first function, the name of a symbol, its section, and where in that it lies. Its
+    place is of that kind, with an addend beside it where one is given."""
     names, heads, body = b"\0", [(0,) * 10], b""
 
     def section(name, kind, content, link=0, info=0):
@@ -75,14 +76,15 @@ def elf(functions, needs=(), machine=247, data=()):
         texts += name.encode() + b"\0"
     for name, content in data:
         section(f".data.{name}", 1, content)
-    for _slot, name, place in needs:
-        symbols.append(struct.pack("<IBBHQQ", len(texts), OBJECT + GLOBAL, 0, place, 0, 8))
+    for _slot, name, place, *value in needs:
+        symbols.append(struct.pack("<IBBHQQ", len(texts), OBJECT + GLOBAL, 0, place, *(value or [0]), 8))
         texts += name.encode() + b"\0"
     first = len(functions) + 1
-    rows = b"".join(struct.pack("<QQ", 8 * slot, first + i << 32 | 1) for i, (slot, *_) in enumerate(needs))
+    beside = b"" if addend is None else struct.pack("<q", addend)
+    rows = b"".join(struct.pack("<QQ", 8 * slot, first + i << 32 | kind) + beside for i, (slot, *_) in enumerate(needs))
     section(".strtab", 3, texts)
     section(".symtab", 2, b"".join(symbols), link=len(heads) - 1)
-    section(".rel", 9, rows, link=len(heads) - 1, info=1)
+    section(".rel", 9 if addend is None else 4, rows, link=len(heads) - 1, info=1)
     section(".names", 3, b".names\0")
     names, body = names, body + names
     number = len(heads) - 1
@@ -141,6 +143,36 @@ def odd_objects(code):
             except Exception as error:
                 found[repr(error)] = it.hex()
         yield f"odd objects {number}", [f"{error} of {text[:400]}" for error, text in list(found.items())[:3]]
+
+
+def addresses(code):
+    """What is wrong with the address that an instruction gets, by what names it: a section's begin or a symbol inside of it, with a
+    distance in the instruction, or beside it."""
+    for name, value, distance, given, wanted in (
+        ("a section's begin", 0, 0, {}, 0),
+        ("a place in a section", 0, 9, {}, 9),
+        ("a place before a section", 0, -3, {}, -3),
+        ("a symbol inside of a section", 8, 0, {"from_symbols": True}, 8),
+        ("a place after such a symbol", 8, 9, {"from_symbols": True}, 17),
+        ("such a symbol by an assembler that isn't known", 8, 9, {"from_symbols": False}, "the compiler names it inside of its section"),
+        ("a section's begin by an assembler that isn't known", 0, 9, {"from_symbols": False}, 9),
+        ("a distance beside the instruction", 0, 0, {"addend": 9}, "has an addend beside it"),
+        ("a distance of 0 beside it", 0, 9, {"addend": 0}, 9),
+        ("a place of 32 bits", 0, 9, {"kind": 10}, "is filled with it, of kind 10"),
+        ("a word of data in the code", 0, 9, {"kind": 2}, "is filled with it, of kind 2"),
+    ):
+        low, high = distance % 2**32, distance % 2**64 >> 32
+        loads = struct.pack("<BBhIBBhI", LDDW, 1, 0, low, 0, 0, 0, high)
+        from_symbols = given.pop("from_symbols", True)
+        try:
+            bytes_ = elf([("check", loads + code, False)], [(0, "it", 2, value)], data=[("it", bytes(range(1, 41)))], **given)
+            object_ = Object(bytes_, from_symbols)
+            filled = Memory(object_, object_.function("check")).filled_code(loads)
+            found = (int.from_bytes(filled[4:8] + filled[12:16], "little") - MEMORY + 2**63) % 2**64 - 2**63
+            said = found
+        except NoProgram as it:
+            found, said = (wanted if str(wanted) in str(it) else None), str(it)
+        yield name, [] if found == wanted else [f"{said}, wanted {wanted}"]
 
 
 # The whole tool
@@ -542,6 +574,7 @@ def rows(crashbpf, folder):
     """Yields what each row is called, and what is wrong with it."""
     code = assembled(crashbpf, folder, "mov64 r0, 0; exit")
     yield from odd_objects(code)
+    yield from addresses(code)
     yield from calls(crashbpf, folder)
     place = Place(folder, crashbpf)
     yield from memory(place, crashbpf)
