@@ -19,6 +19,8 @@ from commands.record.layout import trace_log
 
 DISK, QEMU, MARKS, TRACE, LOG, DEVICE, NUMBER = "disk.img", "qemu.log", "marks", "trace", "writes.log", "device", "pid"
 MADE = (LOG, QEMU, TRACE, DISK)
+# What stands in the folder of a recording that was refused.
+LEFT = (DISK, QEMU, MARKS, TRACE, DEVICE, NUMBER)
 DISCARD, MARK = 4, 8
 
 

@@ -1,7 +1,8 @@
 """Where files lie on the device of a log, the log itself, and the map of both.
 
 Each file has a range of sectors of its own, as long as the largest size that it gets. A range begins at a multiple of eight
-sectors, and after each file at least one sector is free, which nobody writes: it is zeros in each image.
+sectors, and after each file at least one sector is free, which nobody writes: it is zeros in each image. A file that is a device
+by itself has exactly its sectors, so that what lies at its end is found there.
 
 Three files say where: `files.txt`, which crashbpf-files reads, `files.h` for checkers in C, and what is printed.
 """
@@ -36,8 +37,14 @@ def unescaped(text):
     return re.sub(rb"\\x([0-9a-f]{2})", lambda it: bytes([int(it[1], 16)]), text.encode())
 
 
-def places(sizes):
-    """Lays files out, a map of names to sizes. Returns the places, and the number of sectors of the device."""
+def places(sizes, is_device=False):
+    """Lays files out, a map of names to sizes. Returns the places, and the number of sectors of the device.
+
+    With `is_device` there is one file, of whole sectors, and it is the device.
+    """
+    if is_device:
+        ((name, size),) = sizes.items()
+        return [Place(name, 0, size // SECTOR, size)], size // SECTOR
     found, at = [], 0
     for name in sorted(sizes):
         sectors = -(-sizes[name] // SECTOR)
@@ -136,7 +143,7 @@ HEADER = """\
 
 #include "checker.h"
 
-/* After each file a sector is free and zeros, so a number that begins within a file never ends in another. */
+/* After each file a sector is free and zeros, or the device ends, so a number that begins within a file never ends in another. */
 #define FILE_READ_(name, start, length, kind, read) \\
 	INLINED kind name##_##read(u64 at) {{ return at < (length) ? read((start) + at) : 0; }}
 #define FILE_READS_(name, start, length) \\

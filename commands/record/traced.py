@@ -35,6 +35,8 @@ STRING = 1 << 26
 OPTIONS = ["-f", "-q", "-xx", "-y", "-v", "-s", str(STRING), "-e", f"raw={RAW}"]
 MARKS, FILES, CALLS, BASE, LOG = "marks", "files", "calls", "base.img", "writes.log"
 MADE = (LOG, BASE, "files.txt", "files.h")
+# What stands in the folder of a recording that was refused.
+LEFT = (MARKS, FILES, CALLS, BASE, "files.txt", "files.h")
 
 
 def files_in(folder):
@@ -173,10 +175,18 @@ def compare(tracing, after):
             raise Refused(f"the file {called} differs from byte {place} on from what the calls that were seen wrote")
 
 
-def recorded(tracing, folder):
+def is_device(tracing, base):
+    """Whether a recording is of one file that is a device: of the file `base` alone, which has whole sectors and never got longer."""
+    if base is None or os.path.isdir(base):
+        return False
+    files = [it for it in tracing.files.values() if it.most]
+    return len(files) == 1 and files[0].most == len(files[0].initial) and files[0].most % SECTOR == 0
+
+
+def recorded(tracing, folder, base=None):
     """Writes the log and its maps. Returns what is said of them."""
     sizes = {name: it.most for name, it in tracing.files.items() if it.most}
-    found, sectors = layout.places(sizes)
+    found, sectors = layout.places(sizes, is_device(tracing, base))
     firsts = {tracing.files[it.name]: it.first for it in found}
     if not any(it.count for it in tracing.disk.entries):
         raise Refused("the program wrote no file of its folder, $FILES, so nothing was recorded")
@@ -247,7 +257,7 @@ def record(folder, base, skipped, words, environment, say, table=None):
     compare(tracing, contents_of_recorded(files, skipped, leaves_out))
     if table is not None and {b"", *(it for it in folders_in(files) if not leaves_out(it, skipped))} != set(tracing.folders):
         raise Refused("other folders are there than the calls that were seen made")
-    told = recorded(tracing, folder) if table is None else recorded_names(tracing, folder)
+    told = recorded(tracing, folder, base) if table is None else recorded_names(tracing, folder)
     for line in notes_of(tracing, before):
         say(f"note: {line}")
     return status, told

@@ -16,6 +16,12 @@ from commands.record.disk import SECTOR
 from commands.record.files import MARKS, File, Flight, Opened, Process, Space, flags_of, skips
 from commands.record.known import ASKED, HARMLESS, KINDS, MADE_APART, MOVES, NOT_BEGUN, READS, RWF, SYNCS, THROUGH, UNSEEN, WRITES
 
+# What names the process itself in /proc, and what there leads to a file of a process: its number, the link, a descriptor.
+OWN = (b"/proc/self", b"/proc/thread-self")
+OF_PROCESS = re.compile(rb"/proc/(?:(\d+)|self|thread-self)(?:/task/\d+)?/(cwd|root|exe|fd/(\d+))")
+# (Linux follows as many)
+MOST_LINKS = 40
+
 
 class Tracing:
     """A program that is followed. `before` has the files of the folder, by their names in it."""
@@ -53,7 +59,43 @@ class Tracing:
                 raise Refused(f"{call}: the folder that it means isn't known")
             given = os.path.join(base, given)
         head, tail = os.path.split(given.rstrip(b"/") or b"/")
-        return os.path.join(os.path.realpath(head), tail)
+        return os.path.join(self.real(call, head), tail)
+
+    def real(self, call, path):
+        """An absolute path without links, as the process of a call sees it: /proc/self is that process."""
+        done, left, links = b"/", path.split(b"/"), 0
+        while left:
+            part = left.pop(0)
+            if part in (b"", b"."):
+                continue
+            at = os.path.dirname(done) if part == b".." else os.path.join(done, part)
+            link = None if part == b".." else self.link(call, at)
+            if link is None:
+                done = at
+                continue
+            links += 1
+            if links > MOST_LINKS:
+                raise Refused(f"{call}: {shown(os.fsdecode(path))} leads through more than {MOST_LINKS} links")
+            done, left = b"/" if link.startswith(b"/") else done, link.split(b"/") + left
+        return done
+
+    def link(self, call, path):
+        """What a path links to, or nothing where it is no link. The links of /proc are those of the process that it names."""
+        if path in OWN:
+            return None
+        found = OF_PROCESS.fullmatch(path)
+        if not found:
+            try:
+                return os.readlink(path)
+            except OSError:
+                return None
+        process = self.found.get(int(found[1])) if found[1] else self.process(call)
+        if process is not None and found[2] == b"cwd":
+            return process.folder[0]
+        known = process.table.get(int(found[3]), (None, False))[0] if process is not None and found[3] else None
+        if known is None or known.file is MARKS or known.file.unlinked:
+            raise Refused(f"{call}: what {shown(os.fsdecode(path))} is to the process isn't known; name the file by its path")
+        return self.prefix + known.file.name
 
     # Processes
 
@@ -231,7 +273,8 @@ class Tracing:
                     return
                 raise Refused(f"{call}: no call was seen that made {shown(os.fsdecode(name))}")
             file = self.make(call, name, flight)
-        if "O_TRUNC" in flags and writable:
+        # (Linux cuts the file off even where it is opened for reading alone, and looks at no other flag beside O_PATH)
+        if "O_TRUNC" in flags and "O_PATH" not in flags:
             self.resize(call, file, 0, Flight(grown=file.grown, changes=len(file.changed)))
         through = bool(flags & THROUGH)
         process.table[call.result] = (Opened(file, "O_APPEND" in flags, through, writable), "O_CLOEXEC" in flags)
@@ -314,7 +357,7 @@ class Tracing:
                 raise Refused(f"{call}: strace doesn't say which folder it is")
             process.folder[0] = unhexed(found[2])
         else:
-            process.folder[0] = os.path.realpath(os.path.join(process.folder[0], call.data(0)))
+            process.folder[0] = self.real(call, os.path.join(process.folder[0], call.data(0)))
 
     def end_unshare(self, call, process, _flight):
         """Gives a process a table and a folder of its own, and refuses mounts of its own."""
@@ -500,7 +543,7 @@ class Tracing:
             return
         file = flight.file
         if not call.name.startswith("f"):
-            name = self.name(os.path.realpath(self.path(call, None, 0)))
+            name = self.name(self.real(call, self.path(call, None, 0)))
             file = self.files.get(name)
             if name is not None and file is None:
                 raise Refused(f"{call}: no call was seen that made {shown(os.fsdecode(name))}")
@@ -527,7 +570,8 @@ class Tracing:
         if flags & {"FALLOC_FL_PUNCH_HOLE", "FALLOC_FL_ZERO_RANGE"}:
             end = min(start + length, file.size)
             if end > start:
-                self.put(call, flight, Opened(file, False, False, True), start, bytes(end - start), flight.opened.through)
+                # (O_DSYNC and O_SYNC are of writes: a hole is durable by a sync alone)
+                self.put(call, flight, Opened(file, False, False, True), start, bytes(end - start), False)
 
     # Syncs
 
@@ -596,7 +640,7 @@ class Tracing:
         else:
             at = call.name == "symlinkat"
             made = self.path(call, 1 if at else None, 2 if at else 1)
-            paths = [made, os.path.realpath(os.path.join(os.path.dirname(made), call.data(0)))]
+            paths = [made, self.real(call, os.path.join(os.path.dirname(made), call.data(0)))]
         self.refuse_names(call, paths, "gets another name")
 
     def refuse_names(self, call, paths, what):
