@@ -212,7 +212,8 @@ def recorded_names(tracing, folder):
     laid = named_layout.Laid(tracing.tree)
     if not any(it.count for it in tracing.disk.entries):
         raise Refused("the program changed no file of its folder, $FILES, so nothing was recorded")
-    parts, large = layout.log_of(list(laid.entries()), laid.firsts, laid.sectors)
+    entries = list(laid.entries())
+    parts, large = layout.log_of(entries, laid.firsts, laid.sectors)
     Path(folder, "files.txt").write_text(laid.map_text())
     Path(folder, "files.h").write_text(named_layout.header_text(laid))
     Path(folder, BASE).write_bytes(laid.image())
@@ -222,7 +223,7 @@ def recorded_names(tracing, folder):
     lines = [
         *(f"names: sector {it.sector}" for it in laid.sets),
         *(f"{layout.escaped(it.name)}: its size in sector {it.size}, {it.sectors} sectors from {it.first} on" for it in laid.rooms),
-        f"entries {len(tracing.disk.entries)} marks {marks}: crashbpf explore {Path(folder, LOG)} .. {options}",
+        f"entries {len(entries)} marks {marks}: crashbpf explore {Path(folder, LOG)} .. {options}",
     ]
     return "\n".join(lines)
 

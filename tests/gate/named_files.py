@@ -377,6 +377,45 @@ def plan_faults(name, steps):
     return found
 
 
+def once_fault(laid):
+    """What is wrong with the versions of chains that are left where at most one write is lost: all that may be left are."""
+    names = [(it.sector, it.folders) for it in laid.sets]
+    chains = {*(it.sector for it in laid.sets), *(it.size for it in laid.rooms)}
+    entries = [(KINDS[it.kind], 0 if it.file is None else laid.firsts[it.file] + it.sector, it.data) for it in laid.entries()]
+    for cut in range(len(entries) + 1):
+        last = max((at for at in range(cut) if entries[at][0] == "flush"), default=0)
+        whole = named_model.Reader(laid.image(), named_model.kept_at(entries, laid.image(), cut), names)
+        left, found = {(first, *it) for first in chains for it in whole.chain(first)}, set()
+        for lost in [None, *(at for at in range(last, cut) if entries[at][0] == "write")]:
+            image = bytearray(laid.image())
+            for at, (kind, first, data) in enumerate(entries[:cut]):
+                if at != lost and kind in ("write", "fua"):
+                    image[SECTOR * first : SECTOR * first + len(data)] = data
+            found |= {(first, *it) for first in chains for it in named_model.Reader(bytes(image), {}, names).chain(first)}
+        if found != left:
+            return f"at cut {cut} {len(left - found)} of {len(left)} versions are lost by no single write"
+    return None
+
+
+def long_fault():
+    """What is wrong with a chain of many changes: after a flush it begins anew, and no image has a row of more than some."""
+    steps = [("make", A), *(step for turn in range(200) for step in (("write", 0, 100 * turn, b"x" * 100), ("sync", 0)))]
+    for table in TABLES:
+        laid = laid_of(steps, table)
+        (size,) = {it.size for it in laid.rooms}
+        image, row, most = bytearray(laid.image()), 0, 0
+        for it in laid.entries():
+            if it.count:
+                first = laid.firsts[it.file] + it.sector
+                image[SECTOR * first : SECTOR * (first + it.count)] = it.data
+                row = 0 if first == size else row + (size < first <= size + 200)
+                most = max(most, row)
+        ((length, _),) = named_model.Reader(bytes(image), {}, []).chain(size)
+        if length != 20000 or most > named_layout.LONG + 1:
+            return f"a long chain, {table}: its size is {length}, and its longest row {most}"
+    return None
+
+
 def log_fault(laid):
     """What is wrong with the bytes of a log: it has the entries, each on the device, and marks say nothing else."""
     parts, _ = layout.log_of(list(laid.entries()), laid.firsts, laid.sectors)
@@ -418,32 +457,37 @@ def bytes_faults(seed, count):
     for turn in range(count):
         chance = random.Random(seed + turn)
         laid = laid_of(plan_of(chance), chance.choice(TABLES))
-        found += [f"run {seed + turn}: {it}" for it in (log_fault(laid), image_fault(laid, chance)) if it]
+        found += [f"run {seed + turn}: {it}" for it in (log_fault(laid), image_fault(laid, chance), once_fault(laid)) if it]
     return found
 
 
-MAP = "crashbpf files 2\norders strict\nsectors 32\nnames 0 folders 0,0,1\nsize 1 first 8 sectors 2 name in/a\\x20b\nend\n"
+MAP = "crashbpf files 3\norders strict\nsectors 32\nnames 0 changes 1 folders 0,0,1\nsize 3 changes 1 first 8 sectors 2 name in/a\\x20b\nend\n"
 # What is wrong with a map, and the line of it.
 MAPS = [
     ("", "1:"),
-    (MAP.replace("files 2", "files 3"), "1:"),
+    (MAP.replace("files 3", "files 2"), "1:"),
+    (MAP.replace("files 3", "files 4"), "1:"),
     (MAP.replace("strict", "loose"), "1:"),
     (MAP[:-1], "6:"),
     (MAP.replace("end\n", ""), "6:"),
     (MAP.replace("names 0", "names 32"), "4:"),
     (MAP.replace("0,0,1", "0,,1"), "4:"),
-    (MAP.replace("size 1 ", "size 32 "), "5:"),
+    (MAP.replace("names 0 changes 1", "names 0 changes 31"), "4:"),
+    (MAP.replace("names 0 changes 1 ", "names 0 "), "4:"),
+    (MAP.replace("size 3 ", "size 32 "), "5:"),
+    (MAP.replace("size 3 changes 1", "size 3 changes 28"), "5:"),
     (MAP.replace("first 8", "first 31"), "5:"),
     (MAP.replace("name in", "nam in"), "5:"),
 ]
 SLOT = struct.Struct("<II56s")
 
 
-def image_of(pointer=16, size=3, first=8, slots=((1, 1, b"a"),)):
-    """An image of MAP with one sector of names in its first folder."""
+def image_of(pointer=16, size=3, first=8, slots=((1, 3, b"a"),)):
+    """An image of MAP with one sector of names in its first folder. Of both chains the change is there."""
     image = bytearray(SECTOR * 32)
-    struct.pack_into("<Q", image, 0, pointer)
-    struct.pack_into("<QQ", image, SECTOR, size, first)
+    struct.pack_into("<QQ", image, 0, 0, 31)
+    struct.pack_into("<QQ", image, SECTOR, 1, pointer)
+    struct.pack_into("<QQQ", image, SECTOR * 3, 1, size, first)
     image[SECTOR * 8 : SECTOR * 8 + 3] = b"abc"
     for at, it in enumerate(slots):
         SLOT.pack_into(image, SECTOR * 16 + 64 * at, *it)
@@ -453,14 +497,14 @@ def image_of(pointer=16, size=3, first=8, slots=((1, 1, b"a"),)):
 # What is wrong with an image, and what is said of it.
 IMAGES = [
     (image_of(pointer=30), "sector 32 isn't there"),
-    (image_of(size=1025), "the file of sector 1 has 1025 bytes, and no room for them"),
-    (image_of(first=9), "the file of sector 1 has 3 bytes, and no room for them"),
-    (image_of(slots=((3, 1, b"a"),)), "the name a is of nothing"),
-    (image_of(slots=((1, 2, b"a"),)), "the name a is of nothing"),
-    (image_of(slots=((1, 1, b"../a"),)), "a folder has no such name"),
-    (image_of(slots=((1, 1, b".."),)), "a folder has no such name"),
-    (image_of(slots=((1, 1, b""),)), "a folder has no such name"),
-    (image_of(slots=((1, 1, b"a"), (1, 1, b"a"))), "a folder has no such name"),
+    (image_of(size=1025), "the file of sector 3 has 1025 bytes, and no room for them"),
+    (image_of(first=9), "the file of sector 3 has 3 bytes, and no room for them"),
+    (image_of(slots=((3, 3, b"a"),)), "the name a is of nothing"),
+    (image_of(slots=((1, 4, b"a"),)), "the name a is of nothing"),
+    (image_of(slots=((1, 3, b"../a"),)), "a folder has no such name"),
+    (image_of(slots=((1, 3, b".."),)), "a folder has no such name"),
+    (image_of(slots=((1, 3, b""),)), "a folder has no such name"),
+    (image_of(slots=((1, 3, b"a"), (1, 3, b"a"))), "a folder has no such name"),
 ]
 
 
@@ -475,7 +519,7 @@ def map_faults():
     with tempfile.TemporaryDirectory() as folder:
         names, image = Path(folder, "files.txt"), Path(folder, "image")
         names.write_text(MAP)
-        rows = [(image_of(slots=((1, 1, b"a"), (2, 1, b"in"), (1, 1, b"b"))), 7, "a b in\nabcabc", "")]
+        rows = [(image_of(slots=((1, 3, b"a"), (2, 1, b"in"), (1, 3, b"b"))), 7, "a b in\nabcabc", "")]
         rows += [(content, 2, "", f"crashbpf-files: {image}: {says}") for content, says in IMAGES]
         for content, *wanted in rows:
             image.write_bytes(content)
@@ -490,7 +534,7 @@ def main(words):
     seed, count = (int(it) for it in (*words, *("1", "250")[len(words) :]))
     rows = [row_faults(*it) for it in ROWS] + [refused_faults(*it) for it in REFUSED]
     rows += [plan_faults(*it) for it in PLANS.items()]
-    rows += [map_faults(), bytes_faults(seed, count)]
+    rows += [map_faults(), bytes_faults(seed, count), [it for it in [long_fault()] if it]]
     rows.append([it for turn in range(count) for it in run_faults(seed + turn)])
     for line in [it for these in rows for it in these]:
         print("FAILED", line)

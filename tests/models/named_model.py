@@ -244,7 +244,8 @@ def kept_at(entries, base, cut):
 
 
 class Reader:
-    """Reads the files of all images of a cut. `names` are pairs of a sector and the folders of the sectors of its set."""
+    """Reads the files of all images of a cut. `names` are pairs of the first sector of a chain and the folders of the sectors of its
+    set."""
 
     def __init__(self, base, kept, names):
         self.base, self.kept, self.names = base, kept, names
@@ -252,12 +253,24 @@ class Reader:
     def sector(self, number):
         return self.kept.get(number) or {self.base[SECTOR * number :][:SECTOR]}
 
+    def chain(self, first):
+        """What each version of a chain says that may be in force."""
+        for text in self.sector(first):
+            number, *words = struct.unpack_from("<QQQ", text)
+            while True:
+                after = self.sector(first + number + 1)
+                there = [it for it in after if struct.unpack_from("<Q", it)[0] == number + 1]
+                if len(there) < len(after):
+                    yield words
+                if not there:
+                    break
+                number, *words = struct.unpack_from("<QQQ", *there)
+
     def states(self):
         """Yields what the names are in each image."""
-        for chosen in itertools.product(*(self.sector(it) for it, _ in self.names)):
+        for chosen in itertools.product(*(list(self.chain(it)) for it, _ in self.names)):
             held = {}
-            for text, (_, folders) in zip(chosen, self.names):
-                copy = struct.unpack_from("<Q", text)[0]
+            for (copy, _), (_, folders) in zip(chosen, self.names):
                 for at, folder in enumerate(folders):
                     (sector,) = self.sector(copy + at)
                     for slot in range(8):
@@ -269,8 +282,7 @@ class Reader:
     def contents(self, number):
         """Returns the contents that a file has in the images."""
         found = set()
-        for text in self.sector(number):
-            size, first = struct.unpack_from("<QQ", text)
+        for size, first in self.chain(number):
             kept = [self.sector(first + at) for at in range(-(-size // SECTOR))]
             found |= {b"".join(it)[:size] for it in itertools.product(*kept)}
         return found
@@ -289,8 +301,7 @@ class Reader:
 
     def may_hold(self, number, content):
         """Whether a file may have this content."""
-        for text in self.sector(number):
-            size, first = struct.unpack_from("<QQ", text)
+        for size, first in self.chain(number):
             pieces = [content[at : at + SECTOR] for at in range(0, size, SECTOR)]
             if size == len(content) and all(any(it.startswith(piece) for it in self.sector(first + at)) for at, piece in enumerate(pieces)):
                 return True
