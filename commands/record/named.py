@@ -202,7 +202,7 @@ class NamedTracing(Tracing):
             if path == self.folder or path.startswith(self.prefix):
                 flight.sync = self.tree.begin_all()
         elif isinstance(flight.file, File):
-            flight.sync = self.tree.begin_file(flight.file)
+            flight.sync = self.tree.begin_file(flight.file, data=call.name == "fdatasync")
         else:
             name = b"" if path == self.folder else self.name(path)
             if name in self.folders:

@@ -1,24 +1,26 @@
 """What a crash may leave of files with their names and sizes, and the entries of a log that say the same.
 
-On the device of the log are three kinds of places, each a sector that holds one of its versions, the durable one or a later one:
+On the device of the log are three kinds of places, each with one of its versions in force, the durable one or a later one:
 
-- **Names.** A sector says which copy of a set of names is in force; the copies stand on the device from the start. So one write
-  of one sector changes all names of the set, and a crash leaves them as they were after one of the changes, in the order of
-  these. By `ordered` and `writeback` there is one set, by `strict` one for each name and those that a rename ties to it. Of the
-  changes of such a set those alone are in order that have a name in common: a crash leaves some of them, and with each one all
-  that it follows. So a change writes all versions that it is the last of, and the one with all changes last.
-- **Sizes.** Each file has a sector with its size and with the first sector of its bytes. Where a file gets shorter it has new
-  sectors for its bytes, so what stood there before is as it was where the change is lost. But the blocks that it keeps are the
-  same: what is written to them is written to both.
+- **Names.** A version says which copy of a set of names is in force; the copies stand on the device from the start. So one write
+  changes all names of the set, and a crash leaves them as they were after one of the changes, in the order of these. By `strict`
+  there is a set for each name and those that a rename ties to it, by the other tables one set. Of the changes of such a set those
+  alone are in order that have a name in common: a crash leaves some of them, and with each one all that it follows. So a change
+  writes all versions that it is the last of, and the one with all changes last.
+- **Sizes.** A version is a size of a file, with the first sector of its bytes. Where a file gets shorter it has new sectors for its
+  bytes, so what stood there before is as it was where the change is lost. But the blocks that it keeps are the same: what is
+  written to them is written to both.
 - **Bytes.** Each sector of a file, as in `disk.py`.
 
 What no name and no size shows is lost without a trace. So by `ordered` the bytes of a new block are written as durable right
 before the size that shows them: whoever sees the size sees them.
 
-Which entries a call makes, a write below being a write entry that is in flight until what makes it durable, and sectors of names
-and sizes being written as a whole:
+Versions of names and of sizes stand in chains (`named_layout.py`), in which what stands after a lost one doesn't count. So each older
+version is left where one write is lost.
 
-- open with O_CREAT and creat that make a file, mkdir, link, rename, unlink, rmdir: a write of the sector of the names; by `strict`
+Which entries a call makes, a write below being a write entry that is in flight until what makes it durable:
+
+- open with O_CREAT and creat that make a file, mkdir, link, rename, unlink, rmdir: a write of a version of the names; by `strict`
   as many writes as there are versions that the change is the last of.
 - write: of the bytes; where they are in a block that the append begins, by `ordered` a FUA write, since no image shows them before
   the size. Then, where the size grew, a write of the sector of the size: at each multiple of 4,096 bytes that it passed, and at
@@ -31,7 +33,8 @@ and sizes being written as a whole:
   that size shows them, too.
 - fallocate that makes a hole, or zeros: a write of the bytes.
 - fsync, fdatasync, sync, and a write with O_DSYNC after its own entries: where nothing else is in flight that an image could show,
-  a flush. Else FUA writes of what it makes durable, and after these a write of what came later.
+  a flush. Else FUA writes of what it makes durable, and after these a write of what came later. By `ext4` fsync has the names durable
+  up to the last change of the file's own, and fdatasync hasn't.
 
 Left out are writes that no image shows: to a file without a name, where no crash can bring its name back, and of bytes where none
 can bring their size back.
@@ -46,7 +49,7 @@ from commands.record.calls import Refused
 from commands.record.disk import SECTOR
 from commands.record.files import File
 
-TABLES = ("ordered", "writeback", "strict")
+TABLES = ("ext4", "ordered", "writeback", "strict")
 # A file system gives a file whole blocks. Where a write goes on in one that the file has, nothing orders its bytes.
 BLOCK = 4096
 FILE, FOLDER = 1, 2
@@ -159,6 +162,8 @@ class Named(File):
         self.number, self.rooms, self.place = number, [Bytes(0, content, len(content))], Size(number)
         # up to where it has blocks; the version of the names when its size changed last; how many names it has, and had
         self.blocks, self.stamp, self.names, self.known = len(content), 0, 0, {name}
+        # the version of the names when one of its own changed last
+        self.named = 0
 
     def size_text(self, size):
         return struct.pack("<QQ", size, len(self.rooms) - 1).ljust(SECTOR, b"\0")
@@ -236,6 +241,7 @@ class Tree:
         """Slots change, to what they hold now or to nothing. `made` is the number of a folder that is new."""
         sets = {self.set_of(it) for it in slots}
         assert len(sets) == 1
+        changed = [it for slot in slots for it in (self.now.get(slot), slots[slot]) if it is not None]
         for slot, it in slots.items():
             self.count(self.now.pop(slot, None), -1)
             self.count(it, 1)
@@ -250,6 +256,9 @@ class Tree:
         self.disk.write(names, 0, copy_text(len(names.states) - 1))
         touched = {folder for folder, _ in slots} | ({made} if made is not None and self.table != "strict" else set())
         names.touched.update(dict.fromkeys(touched, self.version(names)))
+        for held in changed:
+            if held[0] == FILE:
+                self.files[held[1]].named = self.version(names)
 
     def settle(self, names, bits):
         """Changes of a set are durable, by `strict`. Returns the version of its sector that is, or nothing where none is new."""
@@ -335,7 +344,7 @@ class Tree:
         if file.size > old:
             self.sized(file, [*range(up(max(old, start) + 1, BLOCK), file.size, BLOCK), file.size])
         if through:
-            self.end_sync(self.begin_file(file, range(first, first + len(sectors) // SECTOR)))
+            self.end_sync(self.begin_file(file, range(first, first + len(sectors) // SECTOR), data=True))
 
     def put(self, file, first, data):
         """Whole sectors of a file are written. Where they lie in blocks that it had before it got shorter, a crash may leave them
@@ -430,15 +439,17 @@ class Tree:
 
     # Syncs
 
-    def begin_file(self, file, sectors=None):
-        """A sync of a file begins, or of some of its sectors. Returns what it will make durable."""
+    def begin_file(self, file, sectors=None, data=False):
+        """A sync of a file begins, or of some of its sectors; with `data` one that does no more than fdatasync. Returns what it will
+        make durable."""
         room = file.rooms[-1]
         found = self.disk.begin_sync([room, file.place])
         laid = [(room, it) for it in room.laid if sectors is None or it in sectors]
         if sectors is not None:
             found[room] = {number: it for number, it in found[room].items() if number in sectors}
-        if self.table != "strict" and file.stamp:
-            found[self.one] = {0: file.stamp}
+        stamp = max(file.stamp, file.named) if self.table == "ext4" and not data else file.stamp
+        if self.table != "strict" and stamp:
+            found[self.one] = {0: stamp}
         return found, laid, {}
 
     def begin_folder(self, folder):

@@ -39,6 +39,9 @@ from commands.record.calls import Refused
 from commands.record.orders import FOLDER, TABLES, Names, Size, Tree
 
 KINDS = {disk.WRITE: "write", disk.FLUSH: "flush", disk.FUA: "fua", disk.MARK: "mark"}
+BY_TABLE = ("ordered", "writeback", "strict", "ext4")
+# What a table allows a weaker one allows too.
+WEAKER = (("ordered", "writeback"), ("ext4", "writeback"), ("writeback", "strict"))
 
 
 # The calls, by each table
@@ -80,7 +83,8 @@ MADE = ["names a=0"]
 # The bytes that are written after the unlink are seen only where it is lost.
 REST = ["fua names a=0", "flush", "names", "bytes 0", "flush", "flush"]
 
-# The name, the text, the entries by each table, or by all of them where they are the same; what stood there before.
+# The name, the text, the entries by `ordered`, `writeback`, `strict` and `ext4`, or by all of them where they are the same; what stood
+# there before. Where there are three `ext4` has those of `writeback`.
 ROWS = [
     ("a file is made", OPEN, MADE),
     ("creat", "creat('/r/files/a', 0644) = 3<a>", MADE),
@@ -110,7 +114,10 @@ ROWS = [
     ("rename to another folder", OPEN + IN + "renameat(AT_FDCWD</r/files>, 'a', 9<in>, 'b') = 0", *[[*MADE, "names a=0 in=/1", "names 1/b=0 in=/1"]] * 2, ["names a=0", "names in=/1", "names 1/b=0"]),
     ("renameat2", OPEN + B + "renameat2(AT_FDCWD</r/files>, 'a', AT_FDCWD</r/files>, 'b', RENAME_EXCHANGE) = 0", *[[*MADE, "names a=0 b=1", "names a=1 b=0"]] * 2, [*MADE, "names b=1", "names a=0 b=1", "names a=1 b=0"]),
     ("a folder gets another name", IN + OPEN.replace("files/a", "files/in/a").replace("<a>", "<in/a>") + "rename('/r/files/in', '/r/files/out') = 0\nwrite(3<out/a>, 'A*512', 512) = 512", ["names in=/1", "names 1/a=0 in=/1", "names 1/a=0 out=/1", "fua bytes 0", "size 0 512"], ["names in=/1", "names 1/a=0 in=/1", "names 1/a=0 out=/1", "bytes 0", "size 0 512"], ["names in=/1", "names 1/a=0", "names out=/1", "bytes 0", "size 0 512"]),
-    ("link", OPEN + "link('/r/files/a', '/r/files/b') = 0\nunlink('/r/files/a') = 0\n" + "fsync(3<a>(deleted)) = 0", *[[*MADE, "names a=0 b=0", "names b=0", "fua names a=0", "names a=0 b=0", "names b=0"]] * 2, [*MADE, "names b=0", "names"]),
+    ("fsync after a rename", OPEN + "rename('/r/files/a', '/r/files/b') = 0\nfsync(3<b>) = 0", *[[*MADE, "names b=0", "fua names a=0", "names b=0"]] * 2, [*MADE, "names b=0"], [*MADE, "names b=0", "flush"]),
+    ("fdatasync after a rename", OPEN + "rename('/r/files/a', '/r/files/b') = 0\nfdatasync(3<b>) = 0", *[[*MADE, "names b=0", "fua names a=0", "names b=0"]] * 2, [*MADE, "names b=0"]),
+    ("fsync after a rename of another file", OPEN + "fsync(3<a>) = 0\n" + B + "rename('/r/files/b', '/r/files/c') = 0\nfsync(3<a>) = 0", *[[*MADE, "flush", "names a=0 b=1", "names a=0 c=1"]] * 2, [*MADE, "names b=1", "names c=1"], [*MADE, "flush", "names a=0 b=1", "names a=0 c=1"]),
+    ("link", OPEN + "link('/r/files/a', '/r/files/b') = 0\nunlink('/r/files/a') = 0\n" + "fsync(3<a>(deleted)) = 0", *[[*MADE, "names a=0 b=0", "names b=0", "fua names a=0", "names a=0 b=0", "names b=0"]] * 2, [*MADE, "names b=0", "names"], [*MADE, "names a=0 b=0", "names b=0", "flush"]),
     ("mkdir and rmdir", IN + "rmdir('/r/files/in') = 0", ["names in=/1", "names"]),
     ("unlinkat of a folder", IN + "unlinkat(9</r/files>, 'in', AT_REMOVEDIR) = 0", ["names in=/1", "names"]),
     ("fsync of a new file", OPEN + WRITE + "fsync(3<a>) = 0", [*MADE, "fua bytes 0", "size 0 512", "flush"], [*MADE, "bytes 0", "size 0 512", "flush"], [*MADE, "bytes 0", "size 0 512", "fua bytes 0", "fua size 0 512"]),
@@ -149,7 +156,8 @@ def row_faults(name, text, *wanted):
     before = wanted[-1] if isinstance(wanted[-1], dict) else {}
     wanted = [it for it in wanted if not isinstance(it, dict)]
     found = []
-    for table, these in zip(TABLES, [*wanted, *[wanted[-1]] * (len(TABLES) - len(wanted))]):
+    last = wanted[-1] if len(wanted) < 3 else wanted[1]
+    for table, these in zip(BY_TABLE, [*wanted, *[wanted[-1]] * (3 - len(wanted)), *[last] * (len(wanted) < 4)]):
         try:
             made = [told(it) for it in followed(strace(text), table, before).disk.entries]
         except Refused as refused:
@@ -183,7 +191,7 @@ def plan_of(chance):
         names[0, b"a"] = ("file", 0)
         sizes.append(size)
     for _ in range(chance.randint(2, 9)):
-        kind = chance.choice("mmwwwwwtruclsssSbeddDxk")
+        kind = chance.choice("mmwwwwwtrruclsssffSbeddDxk")
         files = [it for it, held in names.items() if held[0] == "file"]
         free = [it for it in ((folder, name) for folder in folders for name in (b"a", b"b")) if it not in names]
         if kind == "m" and free:
@@ -231,6 +239,8 @@ def plan_of(chance):
             steps.append(("link", slot, to))
         elif kind == "s" and sizes:
             steps.append(("sync", chance.randrange(len(sizes))))
+        elif kind == "f" and sizes:
+            steps.append(("sync data", chance.randrange(len(sizes))))
         elif kind == "S":
             steps.append(("sync folder", chance.choice(folders)))
         elif kind == "x" and chance.random() < 0.5:
@@ -243,7 +253,7 @@ def plan_of(chance):
             steps.append(("end",))
         elif kind == "k" and chance.random() < 0.5:
             steps.append(("mark",))
-        if kind in "sSxe" and chance.random() < 0.4:
+        if kind in "sfSxe" and chance.random() < 0.4:
             steps.append(("mark",))
     return steps
 
@@ -275,6 +285,8 @@ def tree_of(steps, table, joined=None):
             tree.link(*words)
         elif what == "sync":
             tree.end_sync(tree.begin_file(file))
+        elif what == "sync data":
+            tree.end_sync(tree.begin_file(file, data=True))
         elif what == "sync folder":
             tree.end_sync(tree.begin_folder(words[0]))
         elif what == "sync all":
@@ -303,7 +315,7 @@ def model_of(steps, table):
         elif what == "write":
             model.write(*words)
         elif what == "through":
-            model.synced(model.seen(words[0], model.write(*words)))
+            model.synced(model.seen(words[0], model.write(*words), data=True))
         elif what == "resize":
             model.resize(*words)
         elif what == "remove":
@@ -315,6 +327,8 @@ def model_of(steps, table):
             model.change({**gone, to: now[slot]})
         elif what == "sync":
             model.synced(model.seen(words[0]))
+        elif what == "sync data":
+            model.synced(model.seen(words[0], data=True))
         elif what == "sync folder":
             model.synced(model.seen_folder(words[0]))
         elif what == "sync all":
@@ -361,19 +375,20 @@ def run_faults(seed):
 
 def plan_faults(name, steps):
     """What is wrong with a run, by each table. States are told apart by the marks before them, so one stands at the end."""
-    found, allowed, steps = [], [], [*steps, ("mark",)]
+    found, allowed, steps = [], {}, [*steps, ("mark",)]
     for table in TABLES:
         wanted, laid = model_of(steps, table).left, laid_of(steps, table)
         made = log_states(laid)
-        allowed.append(wanted)
+        allowed[table] = wanted
         if made != wanted:
             found.append(f"{name}, {table}: {len(wanted - made)} states are missing, {len(made - wanted)} impossible: {steps}")
         sets, rooms, sectors = named_layout.read_map(laid.map_text())
         if (sets, rooms, sectors) != (laid.sets, laid.rooms, laid.sectors):
             found.append(f"{name}, {table}: the map is read as another")
-    for less, more, table in zip(allowed, allowed[1:], TABLES[1:]):
-        if less - more:
-            found.append(f"{name}: {table} doesn't allow {len(less - more)} states that a stronger table allows: {steps}")
+    for strong, weak in WEAKER:
+        more = allowed[strong] - allowed[weak]
+        if more:
+            found.append(f"{name}: {weak} doesn't allow {len(more)} states that {strong} allows: {steps}")
     return found
 
 

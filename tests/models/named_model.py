@@ -22,8 +22,8 @@ class File:
         self.blocks = len(content)
         # of each time how many sectors lie in blocks that it has from the time before
         self.shared = [0]
-        # how many changes of names there were when its size changed last, or when it was made
-        self.stamp = 0
+        # how many changes of names there were when its size changed last, or when it was made; and when a name of its own did
+        self.stamp = self.named = 0
 
     @property
     def size(self):
@@ -119,7 +119,12 @@ class Model:
     # What is done
 
     def change(self, slots):
+        now = {slot: held for change in [self.base, *self.changes] for slot, held in change.items()}
         self.changes.append(slots)
+        for slot, held in slots.items():
+            for kind, number in (it for it in (now.get(slot), held) if it):
+                if kind == "file":
+                    self.files[number].named = len(self.changes)
         self.crash()
 
     def make_file(self, slot):
@@ -186,12 +191,14 @@ class Model:
                 found.add(number)
         return found
 
-    def seen(self, number, sectors=None):
-        """What a sync of a file, that begins now, has to make durable: its sectors, its size, names."""
+    def seen(self, number, sectors=None, data=False):
+        """What a sync of a file, that begins now, has to make durable: its sectors, its size, names. By `ext4` fsync has the names up
+        to the last change of the file's own, and fdatasync, which is `data`, hasn't."""
         file = self.files[number]
         time = len(file.sectors) - 1
         these = {(number, time, at): len(it.versions) - 1 for at, it in file.sectors[time].items() if sectors is None or at in sectors}
-        names = self.names_up_to(file.stamp, lambda _: True) if self.table != "strict" else set()
+        count = max(file.stamp, file.named) if self.table == "ext4" and not data else file.stamp
+        names = self.names_up_to(count, lambda _: True) if self.table != "strict" else set()
         return these, {number: len(file.sizes) - 1}, names
 
     def seen_folder(self, folder):
