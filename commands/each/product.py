@@ -7,12 +7,14 @@ import tempfile
 from pathlib import Path
 
 from commands.each.faults import Refusal
-from commands.each.words import OF_LOG
+from commands.each.words import FLAGS, OF_LOG, VALUED
 
 # A program of one instruction, `exit`: with `--checked 0` it takes no step, so that crashbpf tells what a run is without one.
 EXIT = b"\x95" + bytes(7)
 PART = re.compile(r"part 0\.\.[01] of (0|[1-9]\d*) inputs \d+", re.A)
 MARK = re.compile(rb'entry \d+ .*\bmark\b.* text "(.*)"')
+PROMISES = ("note: marks that promise ", "note: a write before each of them ")
+RISK = re.compile(r"cut \d+ epoch \d+ marks \d+ at risk (\d+) in flight \d+", re.A)
 NO_IMAGE = "refused 13 at 17"
 
 
@@ -59,11 +61,25 @@ def head(program, given, folder):
 
 
 def marks(program, given):
-    """Returns the text of each mark of the log, in order, as `crashbpf log` prints it."""
+    """Returns the text of each mark of the log, in order, as `crashbpf log` prints it, and its notes of those that promise too much."""
     status, printed, said = asked(program, ["log", *given.of_images(OF_LOG)])
     if status != 0:
         raise Refusal(f"crashbpf refuses the log {given.log}: {first_line(said)}")
-    return [it[1] for it in map(MARK.fullmatch, printed.split(b"\n")) if it]
+    notes = [it for it in said.decode(errors="replace").splitlines() if it.startswith(PROMISES)]
+    return [it[1] for it in map(MARK.fullmatch, printed.split(b"\n")) if it], notes
+
+
+def beyond(program, given):
+    """Returns a note of the cuts at which more parts may be lost at once than the bound has, or no note where there is none."""
+    bound = int(given.value("--bound") or 1)
+    words = given.of_images([it for it in VALUED + FLAGS if it != "--bound"])
+    status, printed, said = asked(program, ["images", *words, "--bound", "any"])
+    if status != 0:
+        return [f"note: at how many cuts more is lost than --bound {bound} has isn't known: {first_line(said)}"]
+    risks = [int(it[1]) for it in map(RISK.fullmatch, printed.decode().splitlines()) if it]
+    more = sum(it > bound for it in risks)
+    parts = "part" if bound == 1 else "parts"
+    return [f"note: at {more} of {len(risks)} cuts a crash may lose more than {bound} {parts}, and such images aren't judged"] * (more > 0)
 
 
 class Export:

@@ -75,7 +75,7 @@ KINDS = {
     "ext4-ordered": Kind("ordered", 16384, EXT4, "data=ordered,commit=1"),
     "ext4-writeback": Kind("writeback", 16384, EXT4, "data=writeback,commit=1"),
     # (these have blocks of 4,096 bytes: dioread_nolock, which is the default then, and without it)
-    "ext4-4096": Kind("writeback", 32768, f"{EXT4} -b 4096", "data=ordered,commit=1,dioread_nolock"),
+    "ext4-4096": Kind("ext4", 32768, f"{EXT4} -b 4096", "data=ordered,commit=1,dioread_nolock"),
     "ext4-4096-lock": Kind("ordered", 32768, f"{EXT4} -b 4096", "data=ordered,commit=1,dioread_lock"),
     "ext4-fast": Kind("strict", 32768, f"{EXT4} -b 4096 -O fast_commit", "data=ordered,commit=1"),
     "xfs": Kind("writeback", 614400, "mkfs.xfs -q -f", "noatime", "xfs"),
