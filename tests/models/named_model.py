@@ -119,6 +119,7 @@ class Model:
     # What is done
 
     def change(self, slots):
+        """Changes slots to what they hold then, and notes which files have other names by that."""
         now = {slot: held for change in [self.base, *self.changes] for slot, held in change.items()}
         self.changes.append(slots)
         for slot, held in slots.items():
