@@ -37,7 +37,7 @@ sys.dont_write_bytecode = True
 from notation import TOP
 
 # The folders of the repository that tools/package reads, beside README.md and CONTRIBUTING.md.
-READ = ("docs", "bench", "examples", "crates/aside/data", "tools")
+READ = ("docs", "bench", "examples", "tools")
 PATH = f"{os.environ['PATH']}:/usr/sbin:/sbin"
 INSTALLED = """\
 Package: {name}

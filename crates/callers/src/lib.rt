@@ -1,0 +1,29 @@
+//! Callers of the public calls that only tests make.
+//!
+//! A `requires` that nobody can meet proves anything, so each public call has a caller that is proved. Tests stand outside of the
+//! proofs. Where no other crate makes a call, a function here does: it meets what the call requires, and passes on its answer.
+//!
+//! | Module | Has a caller of |
+//! |---|---|
+//! | `checkers` | `refine` of `intervals`; `check` of `ranges`; `check_table`, `raise`, `verify` and `Table::into_states` of `verifier`; `round_trip` of `bpf_isa` and of `bpf_asm` |
+//! | `judged` | `judge_block` of `workers`; `Key::changed_sectors` of `images` |
+//! | `events` | of `explore_core` `Jobs::new`, `Keys::of`, `run`, and of an `Explore` `next`, `least` and `pieces` |
+//!
+//! # Place
+//!
+//! On top of all crates whose calls it makes. No crate stands on it, and no program has it.
+//!
+//! # What is proved
+//!
+//! That each call is made as its `requires` ask. A law has no `requires` and does nothing, so none is called here.
+//!
+//! # Example
+//!
+//! ```text
+//! let verified = callers::checkers::verified(alloc, &program)?;    // for a device of one sector
+//! ```
+#![tactic(auto)]
+
+pub mod checkers;
+pub mod events;
+pub mod judged;
