@@ -19,8 +19,11 @@
 //!
 //! # Example
 //!
-//! ```text
-//! let verified = callers::checkers::verified(alloc, &program)?;    // for a device of one sector
+//! ```
+//! use callers::checkers::verified;
+//!
+//! let verified = verified(alloc, &program)?;      // for a device of one sector
+//! let budget = verified.budget();
 //! ```
 #![tactic(auto)]
 
