@@ -10,7 +10,7 @@ use bpf_isa::program::Program;
 use checker::Checker;
 use choices::{Starts, count};
 use epochs::{By, Cuts, Plan};
-use images::{History, Key};
+use images::{ChangedSector, History, Key};
 use logfmt::{Log, read};
 use std::alloc::{AllocError, Global};
 use std::marker::Brand;
@@ -18,9 +18,15 @@ use std::sync::{Mutex, Wait};
 use verdict_cache::{Run, Shard, shards};
 use workers::{AskedRun, Input, Piece, judge_block};
 
-/// How many sectors a key names.
-pub fn changed_of(key: &Key<'_>) -> usize {
-    key.changed_sectors().len()
+/// The program, the epoch and the marks of a key, and how many sectors it names.
+pub fn parts_of(key: &Key<'_>) -> (u8, u32, u32, usize) {
+    let changed = key.changed_sectors();
+    (key.program(), key.epoch(), key.marks(), changed.len())
+}
+
+/// The number of a sector that a key names.
+pub fn number_of(sector: &ChangedSector<'_>) -> u32 {
+    sector.number()
 }
 
 /// The plan of a log with all its cuts.

@@ -6,7 +6,7 @@
 //! | Module | Has a caller of |
 //! |---|---|
 //! | `checkers` | `refine` of `intervals`; `check` of `ranges`; `check_table`, `raise`, `verify` and `Table::into_states` of `verifier`; `round_trip` of `bpf_isa` and of `bpf_asm` |
-//! | `judged` | `judge_block` of `workers`; `Key::changed_sectors` of `images` |
+//! | `judged` | `judge_block` of `workers`; of `images` a `Key`'s `program`, `epoch`, `marks` and `changed_sectors`, and `ChangedSector::number` |
 //! | `events` | of `explore_core` `Jobs::new`, `Keys::of`, `run`, and of an `Explore` `next`, `least` and `pieces` |
 //!
 //! # Place
