@@ -80,9 +80,9 @@ def left_over(folder):
 
 
 def low(folder):
-    """Those beside the first have the least priority, and those after it the usual one."""
+    """Those beside the first have less priority, and those after it the usual one."""
     lines, _, _ = gate(folder, part("first", "sleep 0.5"), beside=[part("b", 'echo "b has $(nice)"')], after=[part("a", 'echo "a has $(nice)"')])
-    yield "priorities", [it for it in lines if re.match(r"\w has ", it)], ["b has 19", f"a has {os.nice(0)}"]
+    yield "priorities", [it for it in lines if re.match(r"\w has ", it)], [f"b has {min(19, os.nice(0) + 5)}", f"a has {os.nice(0)}"]
 
 
 def room(folder):

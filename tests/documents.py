@@ -1,12 +1,13 @@
 #!/usr/bin/env python3
-"""Tests tools/check_documents.py: what it finds of names that aren't there, and what it lets pass; and which definitions
-tools/statement.py follows.
+"""Tests tools/check_documents.py: what it finds of names that aren't there, and what it lets pass; which definitions
+tools/statement.py follows; and which lists of edits tools/wrong_bodies.py reads.
 
     python3 tests/documents.py
 
 It needs Python alone. Prints a line for each test that failed, and last `N passed, M failed`.
 """
 import sys
+import tempfile
 from pathlib import Path
 
 sys.dont_write_bytecode = True
@@ -16,6 +17,7 @@ sys.path.insert(0, str(TOP / "tools"))
 import plant_dummy
 from check_documents import Repository, strays, unknown_places, unknown_sections, unlisted
 from statement import Sources, followed
+from wrong_bodies import listed_in
 
 # A word that no file has: not even this one, in one piece.
 LOST = "never_" + "heard"
@@ -77,6 +79,32 @@ PLANTED = """pub enum Kind {
 """
 
 
+# A list of edits, and the edits that it names with their promises, or the number of the line in which it has another form.
+LISTS = [
+    ("# all\n\nlow:\n    one: it holds\n\tother: so does: that\n\nhigh:\n    one: it holds too\n", {"low/one": "it holds", "low/other": "so does: that", "high/one": "it holds too"}),
+    ("", {}),
+    ("low/one\n", 1),
+    ("low:\n    one\n", 2),
+    ("low:\n    one:\n", 2),
+    ("low:\n    one two: it holds\n", 2),
+    ("low: it holds\n", 1),
+    ("    one: it holds\n", 1),
+    ("low:\n    one: it holds\n    one: once more\n", 3),
+    ("low:\n    one: it holds\nhigh:\n    one: it holds\nlow:\n    other: it holds\n", 5),
+]
+
+
+def read_list(text):
+    """Returns what a list of edits names, or the number of the line in which it has another form."""
+    with tempfile.NamedTemporaryFile("w", encoding="utf-8", suffix=".txt") as file:
+        file.write(text)
+        file.flush()
+        try:
+            return listed_in(file.name)
+        except ValueError as error:
+            return int(str(error).removeprefix(f"{file.name}:").partition(":")[0])
+
+
 def leads(sources, module, name):
     """Returns the names of the definitions to which one leads."""
     found = set()
@@ -107,6 +135,7 @@ def main():
     for start, wanted, unwanted in LEADS:
         found = leads(sources, *start)
         tests.append(([".".join(start)], sorted(wanted - found | unwanted & found), []))
+    tests += [([text], read_list(text), wanted) for text, wanted in LISTS]
     for lines, found, wanted in tests:
         if found != wanted:
             failed += 1

@@ -3,7 +3,7 @@
 
     tools/count.py COMMAND .. [--beside COMMAND ..] .. [--after COMMAND ..] .. [--alone COMMAND ..] ..
 
-The first command begins at once. Those after `--beside` need nothing of it: they run beside it, one at a time, with the least
+The first command begins at once. Those after `--beside` need nothing of it: they run beside it, one at a time, with less
 priority. Where it ended before them, the rest of them run in two lanes. When all these have ended, those after `--after` run in two
 lanes, in their order. Last come those after `--alone`, which nothing may disturb. `ROOM` in a word stands for a folder that all commands share,
 and that is removed at the end.
@@ -29,6 +29,9 @@ COUNTS = re.compile(r"(\d+) (?:passed|refused), (\d+) (?:failed|not)")
 KINDS = ("--beside", "--after", "--alone")
 # How many parts run side by side when the first has ended. Most of them use all processors by themselves.
 LANES = 2
+# The nice value of what runs beside the first command: some quarter of a processor where all are at work. With less it would hold its
+# memory for longer.
+LOW = 5
 # How often it is looked whether a part printed more, in seconds.
 LOOKS = 0.2
 
@@ -46,7 +49,7 @@ class Part:
         self.has_counted = False
 
     def run(self, is_low):
-        """Runs the command to its end, with the least priority where that is asked for."""
+        """Runs the command to its end, with less priority where that is asked for."""
         began = time.time()
         try:
             self.wait(is_low)
@@ -63,7 +66,7 @@ class Part:
         def prepare():
             # A group of its own, to end it by; no session, since Linux may give each an equal share of the processors.
             os.setpgid(0, 0)
-            os.nice(19 if is_low else 0)
+            os.nice(LOW if is_low else 0)
 
         with open(self.output, "wb") as out:
             started = subprocess.Popen(self.words, stdin=subprocess.DEVNULL, stdout=out, stderr=subprocess.STDOUT, preexec_fn=prepare)
