@@ -395,7 +395,7 @@ def other_kit(top, text):
 def wrong_layers(top):
     """Returns what is wrong with the crates in the table of layers of docs/MAP.md."""
     crates = ledger.crates(top)
-    rows = re.findall(r"(?m)^\| (?:\d+|aside) \| `(\w+)` \|", (top / "docs/MAP.md").read_text())
+    rows = re.findall(r"(?m)^\| \d+ \| `(\w+)` \|", (top / "docs/MAP.md").read_text())
     yield from (f"no row for the crate {it}" for it in crates if it not in rows)
     yield from (f"no crate {it}" for it in rows if it not in crates)
 

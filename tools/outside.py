@@ -24,6 +24,7 @@ allocator of its own: built of the module that `rt try` made, and linked as `rt 
 import os
 import re
 import shutil
+import signal
 import subprocess
 import sys
 import tempfile
@@ -220,6 +221,9 @@ def outside(crate, to, way, keep, words):
 def main(words):
     if not words or words[0].startswith("-"):
         sys.exit(__doc__)
+    # So that folders for temporary files are removed.
+    for it in (signal.SIGTERM, signal.SIGHUP):
+        signal.signal(it, lambda number, _: sys.exit(128 + number))
     crate, to, way, keep = Outside(Path(words[0])), None, None, None
     words = words[1:]
     while words and words[0].startswith("-"):
