@@ -1,6 +1,6 @@
 #!/usr/bin/env python3
 """Tests tools/check_documents.py: what it finds of names that aren't there, and what it lets pass; which definitions
-tools/statement.py follows; and which lists of edits tools/wrong_bodies.py reads.
+tools/statement.py follows; which lists of edits tools/wrong_bodies.py reads; and which calls tools/callers.py finds to have no caller.
 
     python3 tests/documents.py
 
@@ -14,6 +14,7 @@ sys.dont_write_bytecode = True
 TOP = Path(__file__).resolve().parent.parent
 sys.path.insert(0, str(TOP / "tools"))
 
+import callers
 import plant_dummy
 from check_documents import Repository, strays, unknown_places, unknown_sections, unlisted
 from statement import Sources, followed
@@ -105,6 +106,40 @@ def read_list(text):
             return int(str(error).removeprefix(f"{file.name}:").partition(":")[0])
 
 
+# A crate with calls that a test makes, one of which requires nothing, and a caller of the other.
+LOW = """pub fn asks(n: u32) -> u32
+    requires { n < 10 }
+{
+    n
+}
+
+pub fn takes_all(n: u32) -> u32
+    ensures { result ≡ n }
+{
+    // asks(n) would do too
+    n
+}
+"""
+CALLER = "pub fn caller() -> u32 {\n    low::asks(1)\n}\n"
+REQUIRING = "pub fn caller()\n    requires { asks(1) ≡ 1 }\n{\n}\n"
+LONELY = "low: asks has a requires, and only tests call it: give it a caller in the crate callers"
+
+
+def lonely(high):
+    """Returns which calls are found to have no caller, where another crate has this text."""
+    with tempfile.TemporaryDirectory(prefix="callers-") as folder:
+        files = {
+            "crates.txt": "low:\nhigh: low\n",
+            "crates/low/src/lib.rt": LOW,
+            "crates/high/src/lib.rt": high,
+            "tests/crates/own/src/lib.rt.txt": "fn test() {\n    low::asks(low::takes_all(2));\n}\n",
+        }
+        for name, text in files.items():
+            Path(folder, name).parent.mkdir(parents=True, exist_ok=True)
+            Path(folder, name).write_text(text)
+        return list(callers.findings(Path(folder)))
+
+
 def leads(sources, module, name):
     """Returns the names of the definitions to which one leads."""
     found = set()
@@ -136,6 +171,7 @@ def main():
         found = leads(sources, *start)
         tests.append(([".".join(start)], sorted(wanted - found | unwanted & found), []))
     tests += [([text], read_list(text), wanted) for text, wanted in LISTS]
+    tests += [([text], lonely(text), wanted) for text, wanted in ((CALLER, []), (REQUIRING, [LONELY]), ("", [LONELY]))]
     for lines, found, wanted in tests:
         if found != wanted:
             failed += 1

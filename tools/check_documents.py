@@ -49,7 +49,8 @@ apart, in a row of its crate. Tests are left out. They, and those for a new caus
 thing's neighbour is named (tools/plant_dummy.py).
 
 tests/gate_edits.txt names edits of crates/*/wrong/, in groups by crate, and says of each which promise it guards. These and those of
-must-fail/ are at most EDITS, and at most MUST_FAIL stand in must-fail/.
+must-fail/ are at most EDITS, and at most MUST_FAIL stand in must-fail/. Each public call with a `requires` that the crates of
+tests/crates make has a caller that is proved (tools/callers.py).
 
 The files in docs/completions/ are what tools/completions.py writes of docs/crashbpf.1, which tests/run.py compares with what
 the program's help says.
@@ -64,6 +65,7 @@ from pathlib import Path
 
 sys.dont_write_bytecode = True
 
+import callers
 import completions
 import ledger
 import plant_dummy
@@ -415,6 +417,7 @@ def findings(top):
     yield from ((top / "docs/PROVED.md", number, it) for number, it in ledger.findings(top))
     yield from ((top / statement.PAGE, 1, it) for it in statement.findings(top))
     yield from ((top / "docs/MAP.md", 1, it) for it in wrong_layers(top))
+    yield from ((top / "crates.txt", 1, it) for it in callers.findings(top))
     files = list(sources(top))
     texts = [file.read_text() for file in files]
     words = set(re.findall(r"\w+", (top / "crates.txt").read_text()))

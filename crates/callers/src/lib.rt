@@ -1,7 +1,8 @@
 //! Callers of the public calls that only tests make.
 //!
-//! A `requires` that nobody can meet proves anything, so each public call has a caller that is proved. Tests stand outside of the
-//! proofs. Where no other crate makes a call, a function here does: it meets what the call requires, and passes on its answer.
+//! A `requires` that nobody can meet proves anything, so each public call that has one has a caller that is proved. Tests stand
+//! outside of the proofs. Where no other crate makes a call, a function here does: it meets what the call requires, and passes on
+//! its answer. Some calls that only tests make require nothing; most of them have a caller here all the same.
 //!
 //! | Module | Has a caller of |
 //! |---|---|
