@@ -21,8 +21,8 @@ import sys
 from pathlib import Path
 
 COLUMN = "Carried by"
-# Crates of which the table of another crate speaks, and those with tests alone.
-ALONE = {"aside", "checker_tests", "command_tests", "log_tests"}
+# Crates of which the table of another crate speaks, and the one that only calls.
+ALONE = {"callers"}
 ITEM = r"`[\w:]+`(?: \(`\w+`(?:, `\w+`)*\))?"
 GROUP = re.compile(rf"`(\w+)`: ({ITEM}(?:, {ITEM})*)")
 ITEMS = re.compile(r"`([\w:]+)`(?: \(([^)]*)\))?")

@@ -83,7 +83,7 @@ def texts_of(top):
     """Returns the texts of the crates' code, definitions and proofs without comments, by their paths below crates/. Tests are left out."""
     texts = {}
     for crate in ledger.crates(top):
-        if not crate.endswith("_tests") and crate != "aside":
+        if crate != "callers":
             for path in sorted((top / "crates" / crate).rglob("*")):
                 place = path.relative_to(top / "crates")
                 if path.suffix in (".rt", ".antt") and place.parts[1] in ("src", "specs", "proofs"):

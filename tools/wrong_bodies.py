@@ -9,10 +9,11 @@ is run by hand for each crate whose contracts change. It runs at the top of the 
 crates' out/, and checks a copy of each crate, begun with what `rt check` kept. N crates are tried side by side (one where N
 isn't given), each by one check at a time.
 
-With --listed it tries the edits that FILE names, NAME/EDIT in a line, as the gate does after `rt ci`. It works on a copy of
-the crates, over the libraries that `rt ci` kept or left; what isn't there is proved. A check then asks for the functions that
-its edits change, and for no other. Where the crate itself was proved of the same text, it isn't proved once more; else these
-functions are, without an edit. RT_JOBS is N where none is given.
+With --listed it tries the edits that FILE names, as the gate does after `rt ci`. There a line `NAME:` begins those of a crate,
+and each stands below it in a line of its own, moved in: EDIT, a colon, and the promise that it guards, in a few words. It works
+on a copy of the crates, over the libraries that `rt ci` kept or left; what isn't there is proved. A check then asks for the
+functions that its edits change, and for no other. Where the crate itself was proved of the same text, it isn't proved once more; else
+these functions are, without an edit. RT_JOBS is N where none is given.
 
 An edit has the form that `rt must-fail` reads; it may name several files. Edits that change different functions are tried in
 one check. An edit is refused where an error of the proof lies in a function that it changes; where it changes a constant, in
@@ -279,9 +280,9 @@ class Edit:
 
 
 def rounds_of(edits):
-    """Returns lists of edits of which no two meet."""
+    """Returns lists of edits of which no two meet, few of them: those that meet most others are put first."""
     rounds = []
-    for edit in edits:
+    for edit in sorted(edits, key=lambda it: -sum(it.meets(other) for other in edits)):
         free = [it for it in rounds if not any(edit.meets(other) for other in it)]
         (free[0] if free else rounds.append([]) or rounds[-1]).append(edit)
     return rounds
@@ -511,10 +512,29 @@ def label_of(crate, file):
 
 
 def listed_in(file):
-    """Returns the edits that a file names, NAME/EDIT in a line; # begins a comment."""
+    """Returns the edits that a file names, NAME/EDIT, each with the promise that it guards.
+
+    A file of another form than --listed has above is a ValueError.
+    """
+    found, crates, crate = {}, [], None
     with open(file, encoding="utf-8") as it:
-        lines = [line.partition("#")[0].strip() for line in it]
-    return list(dict.fromkeys(it for it in lines if it))
+        lines = it.read().split("\n")
+    for number, line in enumerate(lines, 1):
+        name, colon, promise = (it.strip() for it in line.partition(":"))
+        label = f"{crate}/{name}"
+        if not line.strip() or line.startswith("#"):
+            continue
+        is_crate = not line[0].isspace()
+        if not colon or bool(promise) == is_crate or not re.fullmatch(r"\w+", name) or not is_crate and not crate:
+            raise ValueError(f"{file}:{number}: a line is 'NAME:' of a crate, or below it, moved in, 'EDIT: ' and the promise that it guards")
+        if is_crate and name in crates or not is_crate and label in found:
+            raise ValueError(f"{file}:{number}: {name} stands there before")
+        if is_crate:
+            crates.append(name)
+            crate = name
+        else:
+            found[label] = promise
+    return found
 
 
 def options_in(words):
@@ -571,7 +591,10 @@ def main(words):
     rt = kit.load()
     if not listed:
         return tried(rt, parts, lanes, named, None)
-    named = listed_in(listed)
+    try:
+        named = listed_in(listed)
+    except ValueError as error:
+        sys.exit(str(error))
     with copy_of_crates() as top:
         return tried(rt, parts, lanes, named, top)
 

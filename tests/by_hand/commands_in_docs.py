@@ -53,7 +53,7 @@ PYTHON = "/usr/bin/python3"
 KERNEL = ["--kernel", "qemu-system-x86_64", "busybox", "cpio", "mkfs.ext4", "dmsetup"]
 FUSE = ["qemu-storage-daemon", "/dev/fuse", *(["fusermount3"] if os.getuid() else [])]
 # What a copy of the repository has, and which of its folders are on the path, as a package has what is in them.
-COPIED = ("commands", "include", "examples", "tools", "crates/aside/data")
+COPIED = ("commands", "include", "examples", "tools")
 ON_PATH = ("crates/crashbpf/out", "commands/cc", "commands/each", "commands/record")
 # Why blocks with these words aren't run, and the programs with which they are all the same: none, where nothing here suffices. Of several
 # rows that fit a block the first one counts.
@@ -80,17 +80,17 @@ EXT2 = (
     'echo "write $it 32 data base.img"; [ $it != 128 ] || echo flush; done | commands/record/trace_log.py - disk.log --sectors 256'
 )
 HELD = {
-    "README.md": "cp examples/saving/* examples/tree/* crates/aside/data/tree/* .; "
+    "README.md": "cp examples/saving/* examples/tree/* .; "
     'cp "$FIRST_BASH" save.sh; { echo \'#include "checker.h"\'; cat "$FIRST_C"; } > root.c; rm root.bpf',
     "docs/RECOVERY.md": EXT2,
     "docs/ASSEMBLY.md": "cp examples/two_slots/checker.s check.s",
-    "docs/CHECKERS.md": 'cp "$FIRST_C" check.c; cp crates/aside/data/pages/wrong.log writes.log',
-    "docs/CI.md": "mkdir ci; cp examples/two_slots/checker.c ci/check.c; cp crates/aside/data/two_slots/wrong.log writes.log; "
+    "docs/CHECKERS.md": 'cp "$FIRST_C" check.c; cp examples/pages/wrong.log writes.log',
+    "docs/CI.md": "mkdir ci; cp examples/two_slots/checker.c ci/check.c; cp examples/two_slots/wrong.log writes.log; "
     "crashbpf explore writes.log examples/two_slots/checker_c.bpf --sectors 4 --bound 2 --tears > known.report; "
     r"sed -n 's/^image .* \(program .*\) choice .*/\1/p' known.report | sort -u > known.answers; "
     f"{EXT2}",
     "docs/RECORDING.md": 'cp "$FIRST_TEXT" commit.trace; cp "$FIRST_C" check.c',
-    "examples/many_machines/README.md": "cp examples/pages/checker.bpf check.bpf; cp crates/aside/data/pages/wrong.log disk.log; PATH=$PATH:$PWD/examples/many_machines",
+    "examples/many_machines/README.md": "cp examples/pages/checker.bpf check.bpf; cp examples/pages/wrong.log disk.log; PATH=$PATH:$PWD/examples/many_machines",
 }
 
 

@@ -63,7 +63,7 @@ class Stock:
                 elif isinstance(content, (bytes, str)) and len(content) <= GREATEST:
                     kind = self.logs if name == "log" else self.programs if kinds is None else kinds
                     kind.append(made(content))
-        self.logs += [path.read_bytes() for path in sorted(TOP.glob("crates/aside/data/*/*.log"))]
+        self.logs += [path.read_bytes() for path in sorted(TOP.glob("examples/*/*.log"))]
 
 
 def damaged_field(chance, content):

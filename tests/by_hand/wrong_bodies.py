@@ -206,13 +206,20 @@ def says(top, *words):
     return {line.split(": ")[0]: line.split(": ", 2)[1:] for line in lines if "/" in line.split(": ")[0]}, lines[-1], ran.returncode
 
 
+def as_list(labels):
+    """Returns the text of a list that names these edits."""
+    crates = dict.fromkeys(label.split("/")[0] for label in labels)
+    groups = ([f"{crate}:"] + [f"    {it.split('/')[1]}: what it guards" for it in labels if it.startswith(f"{crate}/")] for crate in crates)
+    return "".join("\n".join(lines) + "\n" for lines in groups)
+
+
 def written(top):
     """Writes the repository, and a list of all its edits and one of those that are to be refused."""
     (top / ".git").mkdir()
     texts = {f"crates/{label.replace('/', '/wrong/')}.edit": "\n".join(lines) + "\n" for label, (_, _, lines) in EDITS.items()}
-    texts["all.txt"] = "# all\n" + "\n".join(EDITS)
-    texts["good.txt"] = "\n".join(label for label, (result, _, _) in EDITS.items() if result == "refused")
-    texts["lost.txt"] = "low/adds_one\nlow/nothing\n"
+    texts["all.txt"] = "# all\n" + as_list(EDITS)
+    texts["good.txt"] = as_list([label for label, (result, _, _) in EDITS.items() if result == "refused"])
+    texts["lost.txt"] = as_list(["low/adds_one", "low/nothing"])
     for path, text in {**FILES, **texts}.items():
         (top / path).parent.mkdir(parents=True, exist_ok=True)
         (top / path).write_text(text)

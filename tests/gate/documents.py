@@ -1,12 +1,14 @@
 #!/usr/bin/env python3
-"""Tests tools/check_documents.py: what it finds of names that aren't there, and what it lets pass; and which definitions
-tools/statement.py follows.
+"""Tests tools/check_documents.py: what it finds of names that aren't there, and what it lets pass; which definitions
+tools/statement.py follows; which lists of edits tools/wrong_bodies.py reads; and which calls tools/callers.py finds to have no caller.
 
     python3 tests/gate/documents.py
 
 It needs Python alone. Prints a line for each test that failed, and last `N passed, M failed`.
 """
 import sys
+import tempfile
+from pathlib import Path
 
 sys.dont_write_bytecode = True
 
@@ -14,10 +16,12 @@ import rooms
 
 rooms.enter()
 
+import callers
 import plant_dummy
 from check_documents import Repository, strays, unknown_places, unknown_sections, unlisted
 from notation import TOP
 from statement import Sources, followed
+from wrong_bodies import listed_in
 
 # A word that no file has: not even this one, in one piece.
 LOST = "never_" + "heard"
@@ -79,6 +83,66 @@ PLANTED = """pub enum Kind {
 """
 
 
+# A list of edits, and the edits that it names with their promises, or the number of the line in which it has another form.
+LISTS = [
+    ("# all\n\nlow:\n    one: it holds\n\tother: so does: that\n\nhigh:\n    one: it holds too\n", {"low/one": "it holds", "low/other": "so does: that", "high/one": "it holds too"}),
+    ("", {}),
+    ("low/one\n", 1),
+    ("low:\n    one\n", 2),
+    ("low:\n    one:\n", 2),
+    ("low:\n    one two: it holds\n", 2),
+    ("low: it holds\n", 1),
+    ("    one: it holds\n", 1),
+    ("low:\n    one: it holds\n    one: once more\n", 3),
+    ("low:\n    one: it holds\nhigh:\n    one: it holds\nlow:\n    other: it holds\n", 5),
+]
+
+
+def read_list(text):
+    """Returns what a list of edits names, or the number of the line in which it has another form."""
+    with tempfile.NamedTemporaryFile("w", encoding="utf-8", suffix=".txt") as file:
+        file.write(text)
+        file.flush()
+        try:
+            return listed_in(file.name)
+        except ValueError as error:
+            return int(str(error).removeprefix(f"{file.name}:").partition(":")[0])
+
+
+# A crate with calls that a test makes, one of which requires nothing, and a caller of the other.
+LOW = """pub fn asks(n: u32) -> u32
+    requires { n < 10 }
+{
+    n
+}
+
+pub fn takes_all(n: u32) -> u32
+    ensures { result ≡ n }
+{
+    // asks(n) would do too
+    n
+}
+"""
+CALLER = "pub fn caller() -> u32 {\n    low::asks(1)\n}\n"
+REQUIRING = "pub fn caller()\n    requires { asks(1) ≡ 1 }\n{\n}\n"
+LONELY = "low: asks has a requires, and only tests call it: give it a caller in the crate callers"
+
+
+def lonely(high):
+    """Returns which calls are found to have no caller, where another crate has this text."""
+    with tempfile.TemporaryDirectory(prefix="callers-") as folder:
+        files = {
+            "crates.txt": "low:\nhigh: low\n",
+            "crates/low/src/lib.rt": LOW,
+            "crates/high/src/lib.rt": high,
+            "tests/crates/own/src/lib.rt.txt": "fn test() {\n    low::asks(low::takes_all(2));\n}\n",
+        }
+        for name, text in files.items():
+            Path(folder, name).parent.mkdir(parents=True, exist_ok=True)
+            Path(folder, name).write_text(text)
+        return list(callers.findings(Path(folder)))
+
+
 def leads(sources, module, name):
     """Returns the names of the definitions to which one leads."""
     found = set()
@@ -109,6 +173,8 @@ def main():
     for start, wanted, unwanted in LEADS:
         found = leads(sources, *start)
         tests.append(([".".join(start)], sorted(wanted - found | unwanted & found), []))
+    tests += [([text], read_list(text), wanted) for text, wanted in LISTS]
+    tests += [([text], lonely(text), wanted) for text, wanted in ((CALLER, []), (REQUIRING, [LONELY]), ("", [LONELY]))]
     for lines, found, wanted in tests:
         if found != wanted:
             failed += 1

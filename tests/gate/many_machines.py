@@ -30,7 +30,7 @@ from notation import TOP, W, log
 from shells import differs, sh, try_all
 
 MACHINES = TOP / "examples/many_machines"
-LOGS = TOP / "crates/aside/data"
+LOGS = TOP / "examples"
 
 
 def laid_out(folder, run, parts, options=""):

@@ -6,7 +6,8 @@
 
 The second form prints how many allocations each row makes and how it is refused, as the lines of ROWS and CALLS.
 
-PROGRAM is as in run.py, CALLS crates/aside/out/aside in the same way. A C compiler (`cc`, `gcc` or `clang`)
+PROGRAM is as in run.py. CALLS is tests/crates/aside without a sanitizer, as tools/outside.py keeps it, and is built so where it isn't
+given, which takes some minutes. A C compiler (`cc`, `gcc` or `clang`)
 builds `refuse.c` beside this script, which is loaded before the program. It makes all runs of a row from one process, so
 that thousands of them take seconds; rows are made side by side, one a processor.
 
@@ -164,7 +165,7 @@ EXTRA = [
     )
 ]
 
-# How many allocations the calls by themselves make.
+# How many allocations the calls by themselves make: as many in a build that was proved and compiled with -O2.
 CALLS = 579
 
 # Runs with some 600,000 lines and more. Of n writes in one epoch, of which up to three are lost, there are as many images as
@@ -430,7 +431,7 @@ def put_files(row, folder, assembler):
 
 def swept_calls(calls, library):
     """What went wrong with the calls by themselves."""
-    stored = Path(TOP, "crates/aside/stdout").read_bytes().splitlines(keepends=True)
+    stored = Path(TOP, "tests/crates/aside/stdout").read_bytes().splitlines(keepends=True)
     printed = b"".join(line for line in stored if line.endswith(b" right\n"))
     with tempfile.TemporaryDirectory() as folder:
         runs = sweep(calls, library, ["aside", "calls"], folder, 0, 2 * CALLS)
@@ -512,19 +513,27 @@ def starved(rows):
         yield f"{name}, with {size} KiB of stack", rows[name], lambda size=size: with_stack(size << 10), ["."]
 
 
-def built_program(words, place, name):
-    """The path of a program: the word at that place, or where `rt run` leaves it."""
-    path = str(Path(words[place] if len(words) > place else TOP / f"crates/{name}/out/{name}").resolve())
+def built_program(words):
+    """The path of the program: the first word, or where `rt run` leaves it."""
+    path = str(Path(words[0] if words else TOP / "crates/crashbpf/out/crashbpf").resolve())
     if not os.access(path, os.X_OK):
-        sys.exit(f"there is no program {path}: `rt run` in crates/{name} builds it")
+        sys.exit(f"there is no program {path}: `rt run` in crates/crashbpf builds it")
+    return path
+
+
+def built_calls(folder):
+    """Builds the program that makes calls by themselves, and returns its path."""
+    path = str(Path(folder, "aside"))
+    words = [TOP / "tools/outside.py", TOP / "tests/crates/aside", "--compare", "--keep", path]
+    if subprocess.run([sys.executable, *words], stdout=subprocess.DEVNULL).returncode:
+        sys.exit("tools/outside.py tests/crates/aside --compare failed")
     return path
 
 
 def main(words):
     only_counts = words[:1] == ["--counts"]
     words = words[only_counts:]
-    program = built_program(words, 0, "crashbpf")
-    calls = built_program(words, 1, "aside")
+    program = built_program(words)
     rows = {row.name: row for row in [*all_rows(), *EXTRA]}
     missing = [name for name in [*ROWS, *STARVED, *SMALL_STACKS] if name not in rows]
     if missing:
@@ -532,6 +541,7 @@ def main(words):
     assembler = Assembler(program)
     with tempfile.TemporaryDirectory() as folder, ThreadPoolExecutor(os.cpu_count()) as pool:
         library = built(folder)
+        calls = str(Path(words[1]).resolve()) if len(words) > 1 else built_calls(folder)
         if only_counts:
             print_counts(program, calls, library, rows, assembler, pool)
             return 0

@@ -41,7 +41,7 @@ rooms.enter()
 from notation import TOP
 
 # The folders of the repository that tools/package reads, beside README.md and CONTRIBUTING.md.
-READ = ("docs", "bench", "commands", "include", "examples", "crates/aside/data", "tools")
+READ = ("docs", "bench", "commands", "include", "examples", "tools")
 PATH = f"{os.environ['PATH']}:/usr/sbin:/sbin"
 INSTALLED = """\
 Package: {name}

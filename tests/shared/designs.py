@@ -7,7 +7,7 @@ from model import Checker, Run
 from notation import FLUSH, TOP, F, M, S, W
 
 EXAMPLES = TOP / "examples"
-LOGS = TOP / "crates/aside/data"
+LOGS = TOP / "examples"
 
 
 def data(path):

@@ -23,7 +23,7 @@
 //! - `events_find_failing_lines`: where a list of events on these jobs has drawn all blocks and lost none, and
 //!   passed over none, its pieces by block are the failing lines of the run.
 //!
-//! That the steps of a real run are such a list of events is no theorem: `log_tests` replays one.
+//! That the steps of a real run are such a list of events is no theorem: a test replays one.
 //!
 //! # Example
 //!

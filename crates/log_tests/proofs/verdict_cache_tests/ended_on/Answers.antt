@@ -1,5 +1,0 @@
-use Rattle.checker.proofs.Suiting.{suits_all}
-use Rattle.log_tests.proofs.verdict_cache_tests.ended_on.Goals as goal
-
-pub judge-requires : goal.judge-requires
-judge-requires c = record { image = suits_all c.args.checker.now.verified _ _ c.requires.limited; served = c.requires.served }
