@@ -24,8 +24,8 @@
 //! takes `base`, beside `--base FILE`: that asks for the largest device, so that all of FILE is read, and `set_size` for one of the size
 //! that FILE has. Without `--base` it asks for a device of no sectors, which there is none of.
 //!
-//! The texts of the help stand in `words.rt`. `tools/man_page.py` makes `docs/crashbpf.1` of what the built program prints of
-//! them.
+//! The commands stand in a table with their words, options and help (`table.rt`), and `words.rt` makes `clap`'s commands of it.
+//! `tools/man_page.py` makes `docs/crashbpf.1` of what the built program prints of them.
 //!
 //! # What is proved
 //!
@@ -72,6 +72,7 @@ mod flush_list;
 mod number;
 mod parsed;
 mod sized;
+mod table;
 mod words;
 
 pub use parsed::Parsed;
