@@ -22,11 +22,8 @@ use Rattle.join.specs.CaseReading.{unbounded, AreAlike, torn_option, losses_word
 use Rattle.join.proofs.Texts.{cancel}
 use Rattle.join.proofs.Spans.{line_lacks}
 use Rattle.join.proofs.WordsRead.{spaced, words_spaced, spaced_both, less}
+use Rattle.join.proofs.ProgramsRead.{small_few}
 use Rattle.join.proofs.HeadsRead.{option_are, option_other, flush_are, flush_other, few_places, other_long, given_spaced, given_is, all_lack, option_lack, given_lack, kind_lack, yes_lack, spaced_lack, moved, yes_word}
-
-small_few : (o : Option ℕ) → IsFewOption o → IsSmallOption o
-small_few None few = tt
-small_few (Some n) few = less n few
 
 -- how many parts may be torn and lost, where that stands there
 torn_is : (w : Losses) → are_torn_of_run w ≡ true → IsFewOption (torn_option w) × (unwrap_or (torn_option w) 0 ≡ w.torn)

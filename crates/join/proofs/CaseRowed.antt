@@ -8,7 +8,8 @@ use Rattle.losses.specs.FoundCases.{most_cases}
 use Rattle.join.specs.CaseTexts.{first_of, last_of}
 use Rattle.join.specs.CaseReading.{CasesRead}
 use Rattle.join.specs.CaseJoining.{IsOfCaseRun, Adjoins, FollowInRow, all_cases}
-use Rattle.join.specs.CaseRows.{AreOfRunTo, NoneIsForeign, IsForeignAt, AreAdjoining, NoneIsApart, IsApart, IsApartAt, IsManyAt}
+use Rattle.join.specs.Rows.{IsApart}
+use Rattle.join.specs.CaseRows.{AreOfRunTo, NoneIsForeign, IsForeignAt, AreAdjoining, NoneIsApart, IsApartAt, IsManyAt}
 
 -- an element that is there
 pub there : (rs : List CasesRead) (k : ℕ) (d : CasesRead) → k < length rs → slice_get rs k ≡ Some (get_or rs k d)

@@ -140,8 +140,3 @@ image_lines (l ∷ ls) all first images t = record {
       ∙ ap (λ (bs : List ℕ). bs ++ 10 ∷ (flat_map line_text ls ++ last_text first images t)) (line_word_is l);
   one = let whole : lacks 10 (codes "image" ++ line_word l) ≡ true = rw (line_word_is l) at (body_lacks l all.0) in whole;
 }
-
--- neither kind
-pub neither_kind : (text : List ℕ) (images : ℕ) (t : Tally) → text ≢ last_text false images t → text ≢ last_text true images t → (first : Bool) → text ≢ last_text first images t
-neither_kind text images t all one false = all
-neither_kind text images t all one true = one

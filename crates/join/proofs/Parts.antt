@@ -147,13 +147,15 @@ module _ (text body found front last : List ℕ) (h : HeadValue) (s : Span) (t :
   steps : AreSteps text body found front last h s t
   steps = record { span = span; head = head; front_is = front_is; read = read; lines = lines; none = none }
 
-  pub no_last_no_part : ((first : Bool) → last ≢ last_text first (s.to - s.from) t) → NoPartText text
-  no_last_no_part lack = record {
+  pub other_last_no_part : last ≢ last_text h.first (s.to - s.from) t → NoPartText text
+  other_last_no_part lack = record {
     none = λ p is e.
         let of = steps_of text body found front last h s t steps p is e in
+        let as_one = same_head front h read p is of.head_is in
+        let kind : h.first ≡ p.first = as_one.0.first ∙ is.options.shown in
         let same_span = of.span in
         let same_tally = of.tally in
-        lack p.first (of.last_is ∙ rw (same_span, same_tally) refl);
+        lack (of.last_is ∙ rw (same_span, same_tally, kind) refl);
   }
 
   -- the last line tells of which kind the part is
@@ -164,14 +166,6 @@ module _ (text body found front last : List ℕ) (h : HeadValue) (s : Span) (t :
       let same_tally = of.tally in
       let said : last ≡ last_text first (p.span.to - p.span.from) (tally_of p) = at ∙ rw (same_span, same_tally) refl in
       one_kind first p.first (p.span.to - p.span.from) (tally_of p) (sym said ∙ of.last_is)
-
-  pub other_kind_no_part : (first : Bool) → last ≡ last_text first (s.to - s.from) t → h.first ≢ first → NoPartText text
-  other_kind_no_part first at other = record {
-    none = λ p is e.
-        let of = steps_of text body found front last h s t steps p is e in
-        let as_one = same_head front h read p is of.head_is in
-        other (as_one.0.first ∙ is.options.shown ∙ sym (same_kind first at p is e));
-  }
 
   pub not_whole_no_part : (first : Bool) → last ≡ last_text first (s.to - s.from) t → (IsWhole s first t → ⊥) → NoPartText text
   not_whole_no_part first at lack = record {

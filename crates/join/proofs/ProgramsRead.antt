@@ -6,7 +6,7 @@ use Rattle.report.specs.MarkReading.{lacks}
 use Rattle.report.proofs.Back.{lacks_both}
 use Rattle.report.specs.declared.head.ProgramHead.{ProgramHead}
 use Rattle.report.specs.Report.{steps_word, guards_words, steps_text, program_line, program_lines}
-use Rattle.join.specs.Heads.{join_words, option_words, program_words, IsFewOption, IsWord, IsProgramHead, IsProgramLine, NoProgram, NoProgramLine, ReadsGuards, ReadsMore, ReadsProgram, ReadsPrograms, ReadsWord}
+use Rattle.join.specs.Heads.{join_words, option_words, program_words, IsFewOption, IsSmallOption, IsWord, IsProgramHead, IsProgramLine, NoProgram, NoProgramLine, ReadsGuards, ReadsMore, ReadsOption, ReadsProgram, ReadsPrograms, ReadsWord}
 use Rattle.join.specs.Reading.{NoCut}
 use Rattle.join.proofs.Texts.{cancel, one_cut, has_it}
 use Rattle.join.proofs.Spans.{SaysNumber, line_lacks}
@@ -21,27 +21,13 @@ steps_lack : (is : Bool) → lacks 10 (steps_word is) ≡ true
 steps_lack true = refl
 steps_lack false = refl
 
--- the last words are none of guards
-pub guards_lacking : (line word value : List ℕ) → ReadsWord line word value → word ≢ codes "guards" → ReadsGuards line None
-guards_lacking line word value r other = record { read = reads }
-  where
-    reads : (o : Option ℕ) → IsFewOption o → line ≡ join_words (option_words (codes "guards") o) → None ≡ o
-    reads None small e = refl
-    reads (Some n) small e = absurd (other (r.read (codes "guards") (decimal n ∷ []) (omega arith, refl) e).0)
+pub small_few : (o : Option ℕ) → IsFewOption o → IsSmallOption o
+small_few None few = tt
+small_few (Some n) few = less n few
 
--- or these with their number
-pub guards_found : (line word value said rest : List ℕ) (n : ℕ) → ReadsWord line word value → word ≡ codes "guards" → ReadsWord value said rest → SaysSmall said n → ReadsGuards line (Some n)
-guards_found line word value said rest n r same s says = record { read = reads }
-  where
-    reads : (o : Option ℕ) → IsFewOption o → line ≡ join_words (option_words (codes "guards") o) → Some n ≡ o
-    reads None small e =
-        let none : length word ≡ 0 = ap length (r.none e) in
-        let long : length word ≡ 6 = ap length same in
-        absurd (omega (arith, none, long))
-    reads (Some m) small e =
-        let one = r.read (codes "guards") (decimal m ∷ []) (omega arith, refl) e in
-        let two = s.read (decimal m) [] (number_word m (less m small)) one.1 in
-        ap (λ (k : ℕ). Some k) (says m small two.0)
+-- the number of guards is read as that of an option
+pub guards_read : (line rest : List ℕ) (found few : Option ℕ) → ReadsOption (codes "guards") line found rest → ((n : Option ℕ) → IsFewOption n → found ≡ n → few ≡ n) → ReadsGuards line few
+guards_read line rest found few r says = record { read = λ o small e. says o small (r.read o [] tt (small_few o small) tt (e ∙ ap join_words (sym (append-nil (option_words (codes "guards") o))))).0 }
 
 -- a program is read from its words
 pub program_read : (line number r1 name r2 slots r3 steps r4 limit rest : List ℕ) (n m : ℕ) (is : Bool) (guards : Option ℕ)

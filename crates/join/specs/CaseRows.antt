@@ -3,12 +3,12 @@
 use Rattle.std.specs.Prelude.{ℕ, ◌+◌, ◌-◌, ◌≡◌, ◌↔◌, IsTrue, ◌<◌, ◌≤◌, ◌^◌, ◌⊎◌, Bool, false, List, length, take, slice_get, Some}
 use Rattle.std.specs.List.Sorted.{IsPermutation, IsNonDecreasingBy, IsStableByKey}
 use Rattle.std.specs.Ordering.{nat_cmp}
-use Rattle.base.specs.declared.causes.JoinCause.{JoinCause}
 use Rattle.base.specs.declared.causes.JoinCause.TheVariants as cause
 use Rattle.join.specs.declared.fault.JoinFault.{JoinFault}
 use Rattle.join.specs.declared.case_parts.fault.CasesFault.{CasesFault}
 use Rattle.join.specs.declared.case_parts.fault.CasesFault.TheVariants as refused
 use Rattle.losses.specs.FoundCases.{most_cases}
+use Rattle.join.specs.Rows.{IsApart}
 use Rattle.join.specs.CaseTexts.{first_of, last_of}
 use Rattle.join.specs.CaseReading.{CasesRead}
 use Rattle.join.specs.CaseJoining.{IsOfCaseRun, Adjoins, HaveAllCuts, LackCuts, all_cases, all_totals, joined_cases}
@@ -46,10 +46,6 @@ AreAdjoining rs n = (k : ℕ) (left right : CasesRead) → k < n → slice_get r
 
 pub record NoneIsApart (rs : List CasesRead) : Type 0 where
   pub joined : (n : ℕ) → AreAdjoining rs n
-
--- cuts are missing between the end of a text and the start of the next one, or both have some
-abbrev pub IsApart : ℕ → ℕ → JoinCause → Type 0
-IsApart end start kind = ((kind ≡ cause.Gap) × (end < start)) ⊎ ((kind ≡ cause.Overlap) × (start < end))
 
 -- the first text that doesn't adjoin the next one is told, by the file of the next one
 pub record IsApartAt (rs : List CasesRead) (fault : JoinFault) : Type 0 where

@@ -36,9 +36,9 @@ AreJoinedTo rs n = (k : ℕ) (left right : PartRead) → k < n → slice_get rs 
 pub record NoneIsApart (rs : List PartRead) : Type 0 where
   pub joined : (n : ℕ) → AreJoinedTo rs n
 
--- images are missing between two parts, or both have some
-abbrev pub IsApart : PartRead → PartRead → JoinCause → Type 0
-IsApart left right kind = ((kind ≡ cause.Gap) × (left.span.to < right.span.from)) ⊎ ((kind ≡ cause.Overlap) × (right.span.from < left.span.to))
+-- images, or cuts, are missing between the end of a text and the start of the next one, or both have some
+abbrev pub IsApart : ℕ → ℕ → JoinCause → Type 0
+IsApart end start kind = ((kind ≡ cause.Gap) × (end < start)) ⊎ ((kind ≡ cause.Overlap) × (start < end))
 
 -- the first part that doesn't end where the next one begins is told, by the file of the next one
 pub record IsApartAt (rs : List PartRead) (fault : JoinFault) : Type 0 where
@@ -49,7 +49,7 @@ pub record IsApartAt (rs : List PartRead) (fault : JoinFault) : Type 0 where
   pub right_there : slice_get rs (place + 1) ≡ Some right
   pub joined : AreJoinedTo rs place
   pub file : fault.file ≡ right.file
-  pub kind : IsApart left right fault.cause
+  pub kind : IsApart left.span.to right.span.from fault.cause
 
 -- the bytes are the text of a row of parts: the head of the first one, the lines of all, and the totals over all
 pub record IsWritten (span : Span) (rs : List PartRead) (bytes : List ℕ) : Type 0 where

@@ -3,7 +3,7 @@
 ghost use Rattle.std.specs.Prelude.{ℕ, ◌≡◌, ◌≢◌, ◌<◌, ◌≤◌, ◌^◌, ◌↔◌, ◌++◌, List, true, IfOk, IsTrue, MatchOption};
 ghost use Rattle.std.specs.Fmt.{decimal};
 ghost use Rattle.choices.specs.CrashModel.{IsFate};
-ghost use Rattle.report.specs.ChoiceText.{IsPlace, IsName};
+ghost use Rattle.report.specs.ChoiceText.{IsName};
 ghost use Rattle.join.specs.Printable.{IsEnd, all_rise, are_names_of_run, comes_before, each_of_run, is_drop, is_name_of_run, names_rise};
 ghost use Rattle.join.specs.Endings.{IsPlain, IsNumber, IsFaultNumber, AreNumbers, AreCodes, IsEnding, IsAtChoice, NoChoice, AreNamesAt, AreNamesOf, IsAnswer, IsChoice, IsFault, IsVerdict};
 
@@ -136,16 +136,6 @@ pub(crate) fn is_ending(text: &str) -> bool
     }
 }
 
-/// Whether a place in an entry is one: by write a part is the whole entry.
-fn is_place(by: By, place: u32) -> bool
-    ensures { IsTrue result ↔ IsPlace by place }
-{
-    match by {
-        By::Sector => true,
-        By::Write => place == 0,
-    }
-}
-
 /// Whether a fate has 1 to 7 eighths, where it has some.
 fn is_fate(fate: Fate) -> bool
     ensures { IsTrue result ↔ IsFate true fate }
@@ -157,13 +147,14 @@ fn is_fate(fate: Fate) -> bool
     }
 }
 
-/// Whether the numbers of a name are within their ranges.
+/// Whether the numbers of a name are within their ranges: by write a part is the whole entry, and its place is 0.
 fn is_name(by: By, name: Name) -> bool
     ensures { IsTrue result ↔ IsName by name }
 {
-    let place = is_place(by, name.place);
-    let fate = is_fate(name.fate);
-    u64::from(name.entry) < 4_294_967_296 && place && fate
+    match by {
+        By::Sector => is_fate(name.fate),
+        By::Write => name.place == 0 && is_fate(name.fate),
+    }
 }
 
 /// Whether the numbers of all names are within their ranges.
@@ -246,13 +237,7 @@ fn are_names_at(head: &Head, cut: u64, names: &[Name]) -> bool
 
 /// Whether a text is that of a choice at a cut of a run with that head, where so much departs as one.
 #[tactic(auto, using(crate::proofs::Choosing::choice_found, crate::proofs::Choosing::names_within, crate::proofs::Choosing::no_choice))]
-fn is_choice_by(
-    alloc: Global,
-    by: By,
-    head: &Head,
-    cut: u64,
-    text: &str,
-) -> Result<bool, AllocError>
+fn is_choice(alloc: Global, by: By, head: &Head, cut: u64, text: &str) -> Result<bool, AllocError>
     requires { by ≡ head.now.by }
     ensures { IfOk result (λ is. IsTrue is ↔ IsChoice head.now cut text.now) }
 {
@@ -260,13 +245,6 @@ fn is_choice_by(
         Some(names) => Ok(are_names_at(head, cut, names.as_slice())),
         None => Ok(false),
     }
-}
-
-/// Whether a text is that of a choice at a cut of a run with that head.
-fn is_choice(alloc: Global, head: &Head, cut: u64, text: &str) -> Result<bool, AllocError>
-    ensures { IfOk result (λ is. IsTrue is ↔ IsChoice head.now cut text.now) }
-{
-    is_choice_by(alloc, head.by, head, cut, text)
 }
 
 /// A text without these words at its end, if it ends with them.
@@ -298,5 +276,5 @@ pub(crate) fn is_end(alloc: Global, head: &Head, cut: u64, text: &str) -> Result
     if !is_ending(ending) {
         return Ok(false);
     }
-    is_choice(alloc, head, cut, choice)
+    is_choice(alloc, head.by, head, cut, choice)
 }

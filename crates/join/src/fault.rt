@@ -8,3 +8,9 @@ pub struct JoinFault {
     pub cause: JoinCause,
     pub file: u32,
 }
+
+/// The refusal for want of memory.
+pub(crate) const MEMORY_FAULT: JoinFault = JoinFault {
+    cause: JoinCause::Memory,
+    file: 0,
+};

@@ -49,24 +49,15 @@ fn has_programs(head: &Head) -> bool
     count >= 1 && count <= MOST_PROGRAMS
 }
 
-/// Whether no more slots of a program are guarded than it has, and none where it isn't verified.
-fn are_guards_of_run(program: &ProgramHead) -> bool
-    ensures { result ≡ are_guards_of_run program.now }
-{
-    match program.guards {
-        Some(guards) => guards <= program.slots && program.verified,
-        None => true,
-    }
-}
-
-/// Whether a program is as a run may have it.
+/// Whether a program is as a run may have it: no more of its slots are guarded than it has, and none where it isn't verified.
 fn is_program_of_run(program: &ProgramHead) -> bool
     ensures { result ≡ is_program_of_run program.now }
 {
-    program.slots >= 1
-        && program.slots <= 4096
-        && program.limit <= 1_000_000_000
-        && are_guards_of_run(program)
+    let guarded = match program.guards {
+        Some(guards) => guards <= program.slots && program.verified,
+        None => true,
+    };
+    program.slots >= 1 && program.slots <= 4096 && program.limit <= 1_000_000_000 && guarded
 }
 
 /// Whether each program of a head is one that a run can have.

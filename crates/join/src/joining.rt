@@ -6,13 +6,14 @@ ghost use Rattle.join.specs.Reading.{last_text, IsPartText, NoPartText, none_rea
 ghost use Rattle.join.specs.Joining.{ArePartTexts, IsFirstOther, IsFirstLong, IsJoin, RefusesJoin, opening_text, size_of, totalled, added, earlier, first_some, shown_bytes};
 ghost use Rattle.join.specs.Rows.{IsRowText, IsSpanOfRow, IsWritten, NoneIsStrange, IsSortedText, IsSortedApart, WhyNoRow, WhyNotJoined};
 
-use crate::fault::JoinFault;
-use crate::part::{RunPart, put_last, read_part};
+use crate::fault::{JoinFault, MEMORY_FAULT};
+use crate::part::{RunPart, put_last, read_text};
 use crate::row::{first_strange, put_in_order, row_fault};
 use crate::tally::Tally;
 use base::causes::JoinCause;
 use report::{Span, put_span};
 use std::alloc::{AllocError, Global};
+use std::str;
 
 /// What texts of parts come to.
 #[derive(Drop)]
@@ -25,16 +26,6 @@ pub struct JoinedText {
 
 /// How many bytes the texts may have that are joined.
 const MOST_BYTES: usize = 1_073_741_824;
-
-/// The refusal for want of memory.
-fn memory_fault() -> JoinFault
-    ensures { result ≡ record { cause = cause.Memory; file = 0 } }
-{
-    JoinFault {
-        cause: JoinCause::Memory,
-        file: 0,
-    }
-}
 
 /// The first file with which the texts have more bytes than can be joined.
 #[tactic(auto, using(crate::proofs::Joins::left_more, crate::proofs::Joins::long_found, crate::proofs::Joins::none_long))]
@@ -52,30 +43,24 @@ pub(crate) fn first_long(files: &[Vec<u8>]) -> Option<usize>
     None
 }
 
-/// The part of a file.
+/// The part of a file, of whose bytes it is the text.
+#[tactic(auto, using(crate::proofs::Utf8::no_text_no_part))]
 fn part_of<'t>(alloc: Global, file: u32, bytes: &'t [u8]) -> Result<RunPart<'t>, JoinFault>
     requires { length bytes.now ≤ 2 ^ 30 }
     ensures part { IfOk result (λ part. IsPartText bytes.now part × (part.file ≡ file)) }
     ensures refused { IfErr result (λ f. (f ≡ record { cause = cause.Memory; file = 0 }) ⊎ ((f ≡ record { cause = cause.NotPart; file = file }) × NoPartText bytes.now)) }
 {
-    match read_part(alloc, file, bytes) {
+    let other = JoinFault {
+        cause: JoinCause::NotPart,
+        file,
+    };
+    let Ok(text) = str::from_utf8(bytes) else {
+        return Err(other);
+    };
+    match read_text(alloc, file, text) {
         Ok(Some(part)) => Ok(part),
-        Ok(None) => Err(JoinFault {
-            cause: JoinCause::NotPart,
-            file,
-        }),
-        Err(_error) => Err(memory_fault()),
-    }
-}
-
-/// Appends a part.
-fn push_part<'t>(parts: &mut Vec<RunPart<'t>>, part: RunPart<'t>) -> Result<(), JoinFault>
-    ensures pushed { OnOk result (parts.new.items ≡ parts.old.items ++ part.entry ∷ []) }
-    ensures refused { IfErr result (λ f. f ≡ record { cause = cause.Memory; file = 0 }) }
-{
-    match parts.push(part) {
-        Ok(()) => Ok(()),
-        Err(_failed) => Err(memory_fault()),
+        Ok(None) => Err(other),
+        Err(_error) => Err(MEMORY_FAULT),
     }
 }
 
@@ -89,19 +74,12 @@ fn parts_of<'t>(alloc: Global, files: &'t [Vec<u8>]) -> Result<Vec<RunPart<'t>>,
     let mut parts = Vec::new(alloc);
     for (number, file) in files.iter().enumerate() {
         let part = part_of(alloc, number as u32, file.as_slice())?;
-        push_part(&mut parts, part)?;
+        match parts.push(part) {
+            Ok(()) => (),
+            Err(_failed) => return Err(MEMORY_FAULT),
+        }
     }
     Ok(parts)
-}
-
-/// The first of two images, each of which there may not be.
-fn earlier(first: Option<u64>, other: Option<u64>) -> Option<u64>
-    ensures { result ≡ earlier first other }
-{
-    match first {
-        Some(image) => Some(image),
-        None => other,
-    }
 }
 
 /// What is counted of two parts together.
@@ -110,10 +88,9 @@ fn sum_of(tally: Tally, other: Tally) -> Tally
     requires images { tally.images + other.images < 2 ^ 64 }
     ensures { result ≡ added tally other }
 {
-    let first = earlier(tally.first, other.first);
     Tally {
         last: other.last,
-        first,
+        first: tally.first.or(other.first),
         lines: tally.lines + other.lines,
         images: tally.images + other.images,
         ordered: tally.ordered && other.ordered,
@@ -168,23 +145,16 @@ fn put_shown(out: &mut Vec<u8>, first: bool, parts: &[RunPart<'_>]) -> Result<()
     }
 }
 
-/// Appends the first lines of a report, or of a part of one.
-fn put_opening(out: &mut String, span: Span) -> Result<(), AllocError>
-    ensures { OnOk result (string_bytes out.new ≡ string_bytes out.old ++ opening_text span) }
-{
-    if span.from == 0 && span.to == span.images {
-        write!(out, "crash report 2\n")
-    } else {
-        put_span(out, span)
-    }
-}
-
 /// The first lines of a report, or of a part of one.
 fn opening(alloc: Global, span: Span) -> Result<String, AllocError>
     ensures { IfOk result (λ out. string_bytes out ≡ opening_text span) }
 {
     let mut out = String::new(alloc);
-    put_opening(&mut out, span)?;
+    if span.from == 0 && span.to == span.images {
+        write!(out, "crash report 2\n")?;
+    } else {
+        put_span(&mut out, span)?;
+    }
     Ok(out)
 }
 
@@ -249,7 +219,7 @@ fn join_row(alloc: Global, part: bool, parts: &[RunPart<'_>]) -> Result<JoinedTe
             bytes,
             failing: tally.lines > 0,
         }),
-        Err(_error) => Err(memory_fault()),
+        Err(_error) => Err(MEMORY_FAULT),
     }
 }
 
@@ -269,7 +239,7 @@ fn join_run(
 {
     match put_in_order(parts) {
         Ok(()) => join_row(alloc, part, parts.as_slice()),
-        Err(_error) => Err(memory_fault()),
+        Err(_error) => Err(MEMORY_FAULT),
     }
 }
 

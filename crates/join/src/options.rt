@@ -1,10 +1,10 @@
 //! The line of the options of a part, read word by word.
 
-ghost use Rattle.std.specs.Prelude.{ℕ, ◌≡◌, ◌+◌, ◌<◌, ◌≤◌, ◌^◌, Bool, All};
+ghost use Rattle.std.specs.Prelude.{ℕ, ◌≡◌, ◌+◌, ◌<◌, ◌≤◌, ◌^◌, Bool, All, Option};
 ghost use Rattle.epochs.specs.declared.cuts.CutKind.{CutKind};
 ghost use Rattle.epochs.specs.Flushes.{places_of};
 ghost use Rattle.report.specs.Text.{cuts_word, yes_or_no};
-ghost use Rattle.join.specs.Heads.{AreEntries, IsProgramHead, IsSmallGiven, IsSmallHead, IsSmallOption, IsWord, ReadsBy, ReadsChoices, ReadsDevice, ReadsEntries, ReadsFlushes, ReadsGiven, ReadsOption, ReadsOptions};
+ghost use Rattle.join.specs.Heads.{AreEntries, IsFewOption, IsProgramHead, IsSmallGiven, IsSmallHead, IsSmallOption, IsWord, ReadsBy, ReadsChoices, ReadsDevice, ReadsEntries, ReadsFlushes, ReadsGiven, ReadsOption, ReadsOptions};
 
 use crate::words::{next_word, parts};
 use epochs::{By, CutKind, Cuts, Flushes};
@@ -134,6 +134,18 @@ pub(crate) fn option_said<'t>(name: &str, line: &'t str) -> (Option<u64>, &'t st
         return (Some(number(said)), rest);
     }
     (None, line)
+}
+
+/// A number that is below 2^32, and 0 where it isn't.
+pub(crate) fn few(number: Option<u64>) -> Option<u32>
+    ensures same { (n : Option ℕ) → IsFewOption n → number ≡ n → result ≡ n }
+    ensures small { IsFewOption result }
+{
+    match number {
+        Some(number) if number < 4_294_967_296 => Some(number as u32),
+        Some(_) => Some(0),
+        None => None,
+    }
 }
 
 /// The options of a line that stand there only where they are given.

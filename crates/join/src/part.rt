@@ -13,7 +13,6 @@ use crate::words::before;
 use report::{Span, put_image};
 use std::alloc::{AllocError, Global};
 use std::marker::Model;
-use std::str;
 
 /// A part of a run, as its text tells it.
 #[derive(Drop)]
@@ -40,29 +39,8 @@ impl<'t> Model for RunPart<'t> {
     ghost view = { λ p. record { span = p.span; head = p.head.now; first = p.first; lines = p.lines.now; tally = p.tally; file = p.file } };
 }
 
-/// Appends the last line of a part with the first failing image alone.
+/// Appends the last line of a part: of one with the first failing image alone, or of one with all lines.
 #[tactic(auto, unfolding(crate::specs::Reading::last_text))]
-fn put_first(out: &mut String, images: u64, tally: Tally) -> Result<(), AllocError>
-    ensures { OnOk result (string_bytes out.new ≡ string_bytes out.old ++ last_text true images tally) }
-{
-    write!(out, "images {images} first ")?;
-    put_image(out, tally.first)?;
-    write!(out, "\n")
-}
-
-/// Appends the last line of a part with all lines.
-#[tactic(auto, unfolding(crate::specs::Reading::last_text))]
-fn put_totals(out: &mut String, images: u64, tally: Tally) -> Result<(), AllocError>
-    ensures { OnOk result (string_bytes out.new ≡ string_bytes out.old ++ last_text false images tally) }
-{
-    write!(
-        out,
-        "images {images} failing {} lines {}\n",
-        tally.images, tally.lines
-    )
-}
-
-/// Appends the last line of a part.
 pub(crate) fn put_last(
     out: &mut String,
     first: bool,
@@ -72,9 +50,15 @@ pub(crate) fn put_last(
     ensures { OnOk result (string_bytes out.new ≡ string_bytes out.old ++ last_text first images tally) }
 {
     if first {
-        put_first(out, images, tally)
+        write!(out, "images {images} first ")?;
+        put_image(out, tally.first)?;
+        write!(out, "\n")
     } else {
-        put_totals(out, images, tally)
+        write!(
+            out,
+            "images {images} failing {} lines {}\n",
+            tally.images, tally.lines
+        )
     }
 }
 
@@ -91,25 +75,6 @@ pub(crate) fn is_last(
     let mut printed = String::new(alloc);
     put_last(&mut printed, first, images, tally)?;
     Ok(printed.as_str() == text)
-}
-
-/// Whether a text is the last line of a part with the first failing image alone, or of one with all lines; none where it is neither.
-#[tactic(auto, using(crate::proofs::Findings::neither_kind))]
-fn kind_of_last(
-    alloc: Global,
-    images: u64,
-    tally: Tally,
-    text: &str,
-) -> Result<Option<bool>, AllocError>
-    ensures { IfOk result (λ found. MatchOption found ((first : Bool) → text.now ≢ last_text first images tally) (λ first. text.now ≡ last_text first images tally)) }
-{
-    if is_last(alloc, false, images, tally, text)? {
-        return Ok(Some(false));
-    }
-    if is_last(alloc, true, images, tally, text)? {
-        return Ok(Some(true));
-    }
-    Ok(None)
 }
 
 /// Whether these can be images of a run.
@@ -131,8 +96,16 @@ fn is_whole(span: Span, first: bool, tally: Tally) -> bool
 }
 
 /// The part of which a text is that, to the byte; none where it is that of no part.
+///
+/// # Errors
+///
+/// Want of memory.
 #[tactic(auto, using(crate::proofs::Parts::lines_after_head, crate::proofs::Parts::head_in_front, crate::proofs::Parts::lines_in_front))]
-fn read_text<'t>(alloc: Global, file: u32, text: &'t str) -> Result<Option<RunPart<'t>>, AllocError>
+pub(crate) fn read_text<'t>(
+    alloc: Global,
+    file: u32,
+    text: &'t str,
+) -> Result<Option<RunPart<'t>>, AllocError>
     requires { length text.now ≤ 2 ^ 30 }
     ensures { IfOk result (λ found. MatchOption found (NoPartText text.now) (λ part. IsPartText text.now part × (part.file ≡ file))) }
 {
@@ -147,41 +120,19 @@ fn read_text<'t>(alloc: Global, file: u32, text: &'t str) -> Result<Option<RunPa
         return Ok(None);
     };
     let (tally, last) = read_lines(alloc, span, &head, found)?;
-    let Some(first) = kind_of_last(alloc, span.to.saturating_sub(span.from), tally, last)? else {
-        return Ok(None);
-    };
-    if head.first != first {
+    let images = span.to.saturating_sub(span.from);
+    if !is_last(alloc, head.first, images, tally, last)? {
         return Ok(None);
     }
-    if !is_whole(span, first, tally) {
+    if !is_whole(span, head.first, tally) {
         return Ok(None);
     }
     Ok(Some(RunPart {
         span,
         head: front,
-        first,
+        first: head.first,
         lines: before(found, last),
         tally,
         file,
     }))
-}
-
-/// The part of which these bytes are the text, to the byte; none where they are that of no part.
-///
-/// # Errors
-///
-/// Want of memory.
-#[tactic(auto, using(crate::proofs::Utf8::no_text_no_part))]
-pub(crate) fn read_part<'t>(
-    alloc: Global,
-    file: u32,
-    bytes: &'t [u8],
-) -> Result<Option<RunPart<'t>>, AllocError>
-    requires { length bytes.now ≤ 2 ^ 30 }
-    ensures { IfOk result (λ found. MatchOption found (NoPartText bytes.now) (λ part. IsPartText bytes.now part × (part.file ≡ file))) }
-{
-    match str::from_utf8(bytes) {
-        Ok(text) => read_text(alloc, file, text),
-        Err(_error) => Ok(None),
-    }
 }

@@ -2,8 +2,9 @@
 
 ghost use Rattle.std.specs.Prelude.{◌≡◌, Bool, All, IfOk, MatchOption};
 ghost use Rattle.report.specs.Report.{steps_word};
-ghost use Rattle.join.specs.Heads.{IsFewOption, IsProgramHead, IsProgramLine, NoProgramLine, ReadsGuards, ReadsProgram, ReadsPrograms};
+ghost use Rattle.join.specs.Heads.{IsProgramHead, IsProgramLine, NoProgramLine, ReadsProgram, ReadsPrograms};
 
+use crate::options::{few, option_said};
 use crate::words::{beyond, next_word, parts};
 use report::ProgramHead;
 use report::printed::{number, small_number};
@@ -17,20 +18,6 @@ fn is_budget(word: &str) -> bool
     ensures { (is : Bool) → word.now ≡ steps_word is → result ≡ is }
 {
     word == "budget"
-}
-
-/// How many slots are guarded, by the last words of the line of a program, where these say it.
-#[tactic(auto, using(crate::proofs::ProgramsRead::guards_lacking, crate::proofs::ProgramsRead::guards_found))]
-fn guards_said(line: &str) -> Option<u32>
-    ensures read { ReadsGuards line.now result }
-    ensures small { IsFewOption result }
-{
-    let (word, value) = next_word(line);
-    if word == "guards" {
-        let (said, _rest) = next_word(value);
-        return Some(small_number(said));
-    }
-    None
 }
 
 /// What the line of a program says after its first word.
@@ -47,7 +34,7 @@ fn program_said(line: &str) -> ProgramHead
         slots: small_number(slots),
         limit: number(limit),
         verified: is_budget(steps),
-        guards: guards_said(line),
+        guards: few(option_said("guards", line).0),
     }
 }
 

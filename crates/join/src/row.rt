@@ -46,21 +46,18 @@ pub(crate) fn put_in_order(parts: &mut Vec<RunPart<'_>>) -> Result<(), AllocErro
     Ok(())
 }
 
-/// The refusal of a part that doesn't begin where the one before it ends.
-fn apart(left: &RunPart<'_>, right: &RunPart<'_>) -> JoinFault
-    requires { left.now.span.to ≢ right.now.span.from }
-    ensures file { result.file ≡ right.now.file }
-    ensures kind { IsApart left.now right.now result.cause }
+/// The refusal of a text as of a file of this number, that doesn't begin where the one before it ends.
+pub(crate) fn apart(end: u64, start: u64, file: u32) -> JoinFault
+    requires { end ≢ start }
+    ensures file { result.file ≡ file }
+    ensures kind { IsApart end start result.cause }
 {
-    let cause = if left.span.to < right.span.from {
+    let cause = if end < start {
         JoinCause::Gap
     } else {
         JoinCause::Overlap
     };
-    JoinFault {
-        cause,
-        file: right.file,
-    }
+    JoinFault { cause, file }
 }
 
 /// The first part in a row that doesn't begin where the one before it ends, as its refusal.
@@ -72,20 +69,10 @@ pub(crate) fn first_apart(parts: &[RunPart<'_>]) -> Option<JoinFault>
         let left = &parts[place - 1];
         let right = &parts[place];
         if left.span.to != right.span.from {
-            return Some(apart(left, right));
+            return Some(apart(left.span.to, right.span.from, right.file));
         }
     }
     None
-}
-
-/// The refusal of a part of a run as of a file of this number, between which and the part before it images are missing.
-fn gap_at(file: u32) -> JoinFault
-    ensures { result ≡ record { cause = cause.Gap; file = file } }
-{
-    JoinFault {
-        cause: JoinCause::Gap,
-        file,
-    }
 }
 
 /// Why parts in a row haven't all images of their run, as a refusal: of the first of them where images are missing before it, and else
@@ -99,10 +86,16 @@ fn lacking(parts: &[RunPart<'_>]) -> Option<JoinFault>
     let first = &parts[0];
     let last = &parts[parts.len() - 1];
     if first.span.from > 0 {
-        return Some(gap_at(first.file));
+        return Some(JoinFault {
+            cause: JoinCause::Gap,
+            file: first.file,
+        });
     }
     if last.span.to != first.span.images {
-        return Some(gap_at(parts.len() as u32));
+        return Some(JoinFault {
+            cause: JoinCause::Gap,
+            file: parts.len() as u32,
+        });
     }
     None
 }

@@ -31,15 +31,6 @@ fn span_said(text: &str) -> (Span, &str)
     (span, rest)
 }
 
-/// The two lines with which the text of a part begins.
-fn span_text(alloc: Global, span: Span) -> Result<String, AllocError>
-    ensures { IfOk result (λ out. string_bytes out ≡ span_text span) }
-{
-    let mut out = String::new(alloc);
-    put_span(&mut out, span)?;
-    Ok(out)
-}
-
 /// The span that a text begins with, and what stands after it, if it begins with one to the byte.
 #[tactic(auto, using(crate::proofs::Spans::found_span, crate::proofs::Spans::no_span))]
 pub(crate) fn read_span<'t>(
@@ -49,7 +40,8 @@ pub(crate) fn read_span<'t>(
     ensures { IfOk result (λ found. MatchOption found (NoSpan text.now) (λ x. IsSpanOf text.now x.0 x.1.now)) }
 {
     let (span, _rest) = span_said(text);
-    let printed = span_text(alloc, span)?;
+    let mut printed = String::new(alloc);
+    put_span(&mut printed, span)?;
     match beyond(printed.as_str(), text) {
         Some(rest) => Ok(Some((span, rest))),
         None => Ok(None),

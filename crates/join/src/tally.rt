@@ -1,8 +1,8 @@
 //! What is counted of lines.
 
 ghost use Rattle.std.specs.Prelude.{◌≡◌, ◌<◌, ◌+◌, ◌^◌};
-ghost use Rattle.join.specs.Order.{is_after, follows};
-ghost use Rattle.join.specs.Reading.{is_new, first_of, none_read, one_more};
+ghost use Rattle.join.specs.Order.{follows};
+ghost use Rattle.join.specs.Reading.{is_new, none_read, one_more};
 
 use report::Span;
 use report::lines::LineMark;
@@ -22,19 +22,14 @@ pub struct Tally {
     pub(crate) ordered: bool,
 }
 
-/// Whether a line stands after another: by image, and then by program.
-fn is_after(last: LineMark, mark: LineMark) -> bool
-    ensures { result ≡ is_after last mark }
-{
-    last.image < mark.image || (last.image == mark.image && last.program < mark.program)
-}
-
-/// Whether a line stands after the last one, if there is one.
+/// Whether a line stands after the last one, if there is one: by image, and then by program.
 fn follows(last: Option<LineMark>, mark: LineMark) -> bool
     ensures { result ≡ follows last mark }
 {
     match last {
-        Some(last) => is_after(last, mark),
+        Some(last) => {
+            last.image < mark.image || (last.image == mark.image && last.program < mark.program)
+        }
         None => true,
     }
 }
@@ -46,16 +41,6 @@ fn is_new(last: Option<LineMark>, image: u64) -> bool
     match last {
         Some(last) => last.image != image,
         None => true,
-    }
-}
-
-/// The first of two images, each of which there may not be.
-fn first_of(first: Option<u64>, image: u64) -> Option<u64>
-    ensures { result ≡ first_of first image }
-{
-    match first {
-        Some(first) => Some(first),
-        None => Some(image),
     }
 }
 
@@ -84,7 +69,7 @@ impl Tally {
         let within = span.from <= mark.image && mark.image < span.to && beyond;
         Tally {
             last: Some(mark),
-            first: first_of(self.first, mark.image),
+            first: self.first.or(Some(mark.image)),
             lines: self.lines + 1,
             images: self.images + u64::from(new),
             ordered: self.ordered && within,

@@ -1,14 +1,14 @@
 //! The head of a text of cases: its options and programs.
 
-ghost use Rattle.std.specs.Prelude.{ℕ, ◌≡◌, ◌↔◌, ◌<◌, ◌^◌, ◌++◌, All, IfOk, IsTrue, MatchOption, Option, OnOk, string_bytes};
+ghost use Rattle.std.specs.Prelude.{◌≡◌, ◌↔◌, All, IfOk, IsTrue, MatchOption, string_bytes};
 ghost use Rattle.case_text.specs.Text.{cases_head, options_text};
-ghost use Rattle.join.specs.Heads.{IsFewOption, IsPrintedHead, IsProgramHead, IsSmallHead};
+ghost use Rattle.join.specs.Heads.{IsPrintedHead, IsProgramHead, IsSmallHead};
 ghost use Rattle.join.specs.CaseTexts.{AreLosses, are_lost_of_run, are_torn_of_run};
 ghost use Rattle.join.specs.CaseJoining.{cuts_between, head_between};
 ghost use Rattle.join.specs.CaseReading.{IsCaseHead, NoCaseHead, ReadsCaseHead, ReadsCaseOptions, ReadsLosses, unbounded};
 
 use crate::heading::is_of_run;
-use crate::options::{device_said, given_said, is_yes, option_said};
+use crate::options::{device_said, few, given_said, is_yes, option_said};
 use crate::programs::programs_said;
 use crate::words::{beyond, next_word};
 use case_text::{put_opening, put_options};
@@ -17,17 +17,6 @@ use losses::found::Losses;
 use report::printed::cut;
 use report::{Head, ProgramHead};
 use std::alloc::{AllocError, Global};
-
-/// A number that is below 2^32, and 0 where it isn't.
-fn few(number: Option<u64>) -> Option<u32>
-    ensures { (n : Option ℕ) → IsFewOption n → number ≡ n → result ≡ n }
-{
-    match number {
-        Some(number) if number < 4_294_967_296 => Some(number as u32),
-        Some(_) => Some(0),
-        None => None,
-    }
-}
 
 /// What a line says of losses, and what stands after that.
 #[tactic(auto, using(crate::proofs::CaseHeads::losses_read))]

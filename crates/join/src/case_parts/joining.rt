@@ -13,54 +13,33 @@ ghost use Rattle.case_text.specs.Text.{cases_head};
 
 use crate::case_parts::fault::CasesFault;
 use crate::case_parts::heading::{head_between, head_text};
-use crate::case_parts::part::{CasePart, read_part};
+use crate::case_parts::part::{CasePart, read_text};
 use crate::case_parts::row::{first_foreign, put_in_order, row_fault};
 use crate::case_parts::totals::{CaseTotals, first_of, last_of, put_totals};
-use crate::fault::JoinFault;
+use crate::fault::{JoinFault, MEMORY_FAULT};
 use crate::joining::{JoinedText, first_long};
 use base::causes::JoinCause;
 use std::alloc::{AllocError, Global};
-
-/// The refusal for want of memory.
-fn memory_fault() -> CasesFault
-    ensures { result ≡ refused.Part (record { cause = cause.Memory; file = 0 }) }
-{
-    CasesFault::Part(JoinFault {
-        cause: JoinCause::Memory,
-        file: 0,
-    })
-}
+use std::str;
 
 /// What is read of a file.
+#[tactic(auto, using(crate::proofs::CaseWholes::no_text_no_cases))]
 fn part_of<'t>(alloc: Global, file: u32, bytes: &'t [u8]) -> Result<CasePart<'t>, JoinFault>
     requires { length bytes.now ≤ 2 ^ 30 }
     ensures part { IfOk result (λ part. IsCasesPart bytes.now part × (part.file ≡ file)) }
     ensures refused { IfErr result (λ f. (f ≡ record { cause = cause.Memory; file = 0 }) ⊎ ((f ≡ record { cause = cause.NotPart; file = file }) × NoCasesText bytes.now)) }
 {
-    match read_part(alloc, file, bytes) {
+    let other = JoinFault {
+        cause: JoinCause::NotPart,
+        file,
+    };
+    let Ok(text) = str::from_utf8(bytes) else {
+        return Err(other);
+    };
+    match read_text(alloc, file, text) {
         Ok(Some(part)) => Ok(part),
-        Ok(None) => Err(JoinFault {
-            cause: JoinCause::NotPart,
-            file,
-        }),
-        Err(_error) => Err(JoinFault {
-            cause: JoinCause::Memory,
-            file: 0,
-        }),
-    }
-}
-
-/// Appends what is read of a file.
-fn push_part<'t>(parts: &mut Vec<CasePart<'t>>, part: CasePart<'t>) -> Result<(), JoinFault>
-    ensures pushed { OnOk result (parts.new.items ≡ parts.old.items ++ part.entry ∷ []) }
-    ensures refused { IfErr result (λ f. f ≡ record { cause = cause.Memory; file = 0 }) }
-{
-    match parts.push(part) {
-        Ok(()) => Ok(()),
-        Err(_failed) => Err(JoinFault {
-            cause: JoinCause::Memory,
-            file: 0,
-        }),
+        Ok(None) => Err(other),
+        Err(_error) => Err(MEMORY_FAULT),
     }
 }
 
@@ -74,7 +53,10 @@ fn parts_of<'t>(alloc: Global, files: &'t [Vec<u8>]) -> Result<Vec<CasePart<'t>>
     let mut parts = Vec::new(alloc);
     for (number, file) in files.iter().enumerate() {
         let part = part_of(alloc, number as u32, file.as_slice())?;
-        push_part(&mut parts, part)?;
+        match parts.push(part) {
+            Ok(()) => (),
+            Err(_failed) => return Err(MEMORY_FAULT),
+        }
     }
     Ok(parts)
 }
@@ -124,15 +106,6 @@ fn put_all(out: &mut Vec<u8>, parts: &[CasePart<'_>]) -> Result<(), AllocError>
     Ok(())
 }
 
-/// The last line of what they come to.
-fn last_line(alloc: Global, totals: CaseTotals) -> Result<String, AllocError>
-    ensures { IfOk result (λ out. string_bytes out ≡ totals_line totals) }
-{
-    let mut out = String::new(alloc);
-    put_totals(&mut out, totals)?;
-    Ok(out)
-}
-
 /// Whether a row has all cuts of the log, by its first and its last text.
 fn have_all_cuts(first: &CasePart<'_>, last: &CasePart<'_>) -> bool
     ensures { result ≡ have_all_cuts first.now last.now }
@@ -140,25 +113,14 @@ fn have_all_cuts(first: &CasePart<'_>, last: &CasePart<'_>) -> bool
     first_of(&first.head) == 0 && last_of(&last.head) == u64::from(last.head.entries)
 }
 
-/// The range of cuts that the text of a row tells: none where it has all cuts of the log.
-fn told_range(first: &CasePart<'_>, last: &CasePart<'_>) -> (Option<u64>, Option<u64>)
-    ensures { result ≡ (told_from first.now last.now, told_to first.now last.now) }
+/// The first and the last cut that the text of a row tells, and the number of its inputs: none where it has all cuts of the log.
+fn told_range(first: &CasePart<'_>, last: &CasePart<'_>) -> (Option<u64>, Option<u64>, Option<u64>)
+    ensures { result ≡ (told_from first.now last.now, told_to first.now last.now, told_number first.now last.now) }
 {
     if have_all_cuts(first, last) {
-        (None, None)
+        (None, None, None)
     } else {
-        (first.head.cuts.from, last.head.cuts.to)
-    }
-}
-
-/// The number of the inputs that it tells: none where it has all cuts of the log.
-fn told_number(first: &CasePart<'_>, last: &CasePart<'_>) -> Option<u64>
-    ensures { result ≡ told_number first.now last.now }
-{
-    if have_all_cuts(first, last) {
-        None
-    } else {
-        first.inputs
+        (first.head.cuts.from, last.head.cuts.to, first.inputs)
     }
 }
 
@@ -166,9 +128,9 @@ fn told_number(first: &CasePart<'_>, last: &CasePart<'_>) -> Option<u64>
 fn opening(alloc: Global, first: &CasePart<'_>, last: &CasePart<'_>) -> Result<String, AllocError>
     ensures { IfOk result (λ out. string_bytes out ≡ cases_head (told_number first.now last.now) (joined_head first.now last.now) first.now.asked) }
 {
-    let (from, to) = told_range(first, last);
+    let (from, to, inputs) = told_range(first, last);
     let head = head_between(alloc, &first.head, from, to)?;
-    head_text(alloc, told_number(first, last), &head, first.asked)
+    head_text(alloc, inputs, &head, first.asked)
 }
 
 /// The text of a row.
@@ -179,7 +141,8 @@ fn row_text(alloc: Global, parts: &[CasePart<'_>]) -> Result<Vec<u8>, AllocError
     requires small { All IsSmallPart parts.now }
     ensures { IfOk result (λ bytes. IsCasesWritten parts.now bytes.items) }
 {
-    let end = last_line(alloc, total_of(parts))?;
+    let mut end = String::new(alloc);
+    put_totals(&mut end, total_of(parts))?;
     let mut out = opening(alloc, &parts[0], &parts[parts.len() - 1])?.into_bytes();
     put_all(&mut out, parts)?;
     out.extend_from_slice(end.as_bytes())?;
@@ -204,7 +167,7 @@ fn join_row(alloc: Global, part: bool, parts: &[CasePart<'_>]) -> Result<JoinedT
             bytes,
             failing: totals.failing > 0,
         }),
-        Err(_error) => Err(memory_fault()),
+        Err(_error) => Err(CasesFault::Part(MEMORY_FAULT)),
     }
 }
 
@@ -222,7 +185,7 @@ fn join_run(
 {
     match put_in_order(parts) {
         Ok(()) => join_row(alloc, part, parts.as_slice()),
-        Err(_error) => Err(memory_fault()),
+        Err(_error) => Err(CasesFault::Part(MEMORY_FAULT)),
     }
 }
 
@@ -245,7 +208,7 @@ fn join_parts(
             file: place as u32,
         })),
         Ok(None) => join_run(alloc, part, parts),
-        Err(_error) => Err(memory_fault()),
+        Err(_error) => Err(CasesFault::Part(MEMORY_FAULT)),
     }
 }
 

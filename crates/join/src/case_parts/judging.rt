@@ -349,23 +349,17 @@ fn all_apart(lost: &[PartName], mixed: &[PartName], kept: &[PartName]) -> bool
     none_stands(lost, kept) && none_stands(mixed, kept)
 }
 
-/// Whether each of three lists of parts rises.
-fn all_rise(lost: &[PartName], kept: &[PartName], mixed: &[PartName]) -> bool
-    ensures { result ≡ (parts_rise None lost.now && parts_rise None kept.now && parts_rise None mixed.now) }
-{
-    parts_rise(lost) && parts_rise(kept) && parts_rise(mixed)
-}
-
 /// Whether the parts that are told rise, and go together.
 fn are_in_order(alloc: Global, said: &CaseSaid<'_>) -> Result<bool, AllocError>
     ensures { IfOk result (λ is. is ≡ (all_rise said.now && go_together said.now)) }
 {
     let lost = parts_of(alloc, said.lost.as_slice())?;
     let mixed = mixed_parts(alloc, said.mixed.as_slice())?;
-    if !all_rise(lost.as_slice(), said.kept.as_slice(), mixed.as_slice()) {
+    let (lost, kept, mixed) = (lost.as_slice(), said.kept.as_slice(), mixed.as_slice());
+    if !(parts_rise(lost) && parts_rise(kept) && parts_rise(mixed)) {
         return Ok(false);
     }
-    let apart = all_apart(lost.as_slice(), mixed.as_slice(), said.kept.as_slice());
+    let apart = all_apart(lost, mixed, kept);
     Ok(apart && all_begin(said.lost.as_slice(), said.mixed.as_slice()))
 }
 

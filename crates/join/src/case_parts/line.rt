@@ -2,7 +2,7 @@
 
 ghost use Rattle.std.specs.Prelude.{◌≡◌, ◌<◌, ◌≤◌, ◌+◌, ◌^◌, ◌++◌, IfOk, IfSome, MatchOption, length};
 ghost use Rattle.join.specs.Heads.{IsPrintedHead};
-ghost use Rattle.join.specs.CaseTexts.{goes_on, is_new_cut, is_next};
+ghost use Rattle.join.specs.CaseTexts.{goes_on, is_new_cut};
 ghost use Rattle.join.specs.CaseReading.{AreCasesRead, IsCaseBody, IsCaseLine, NoCaseBody, NoCaseLine, none_told, one_told};
 
 use crate::case_parts::front::CaseFront;
@@ -27,22 +27,19 @@ pub struct CaseTally {
     pub(crate) rising: bool,
 }
 
-/// Whether a line stands after another.
-fn is_next(last: CaseFront, front: CaseFront) -> bool
-    ensures { result ≡ is_next last front }
-{
-    last.cut < front.cut
-        || ((last.cut == front.cut && last.epoch == front.epoch && last.marks == front.marks)
-            && (last.program < front.program
-                || (last.program == front.program && last.number < front.number)))
-}
-
 /// Whether a line stands after the last one, if there is one.
 fn goes_on(last: Option<CaseFront>, front: CaseFront) -> bool
     ensures { result ≡ goes_on last front }
 {
     match last {
-        Some(last) => is_next(last, front),
+        Some(last) => {
+            last.cut < front.cut
+                || ((last.cut == front.cut
+                    && last.epoch == front.epoch
+                    && last.marks == front.marks)
+                    && (last.program < front.program
+                        || (last.program == front.program && last.number < front.number)))
+        }
         None => true,
     }
 }

@@ -17,13 +17,6 @@ fn push_name(names: &mut Vec<Name>, name: Name) -> Result<(), AllocError>
     names.extend_from_slice(&[name])
 }
 
-/// Appends what may become of a part.
-fn push_fate(fates: &mut Vec<Option<Fate>>, fate: Option<Fate>) -> Result<(), AllocError>
-    ensures { OnOk result (fates.new.items ≡ fates.old.items ++ fate ∷ []) }
-{
-    fates.extend_from_slice(&[fate])
-}
-
 /// The lost and torn parts that a word says.
 #[tactic(auto, using(crate::proofs::CaseLists::no_names, crate::proofs::CaseLists::names_begun, crate::proofs::CaseLists::names_on, crate::proofs::CaseLists::names_read))]
 pub(crate) fn names_said(alloc: Global, by: By, text: &str) -> Result<Vec<Name>, AllocError>
@@ -68,10 +61,10 @@ fn fates_said(alloc: Global, text: &str) -> Result<Vec<Option<Fate>>, AllocError
     let mut fates = Vec::new(alloc);
     let mut rest = text;
     while let Some((word, more)) = parts(rest, '+') {
-        push_fate(&mut fates, possible_said(word))?;
+        fates.push(possible_said(word))?;
         rest = more;
     }
-    push_fate(&mut fates, possible_said(rest))?;
+    fates.push(possible_said(rest))?;
     Ok(fates)
 }
 

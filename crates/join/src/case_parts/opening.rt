@@ -27,15 +27,6 @@ fn inputs_said(text: &str) -> Option<u64>
     }
 }
 
-/// The first lines with that number.
-fn opening_text(alloc: Global, inputs: Option<u64>) -> Result<String, AllocError>
-    ensures { IfOk result (λ out. string_bytes out ≡ opening_text inputs) }
-{
-    let mut out = String::new(alloc);
-    put_opening(&mut out, inputs)?;
-    Ok(out)
-}
-
 /// The number of the inputs that a text tells, and what stands after its first lines, if it begins with these to the byte.
 #[tactic(auto, using(crate::proofs::CaseOpenings::found_opening))]
 pub(crate) fn read_opening<'t>(
@@ -45,7 +36,8 @@ pub(crate) fn read_opening<'t>(
     ensures { IfOk result (λ found. MatchOption found (NoOpening text.now) (λ x. IsOpening text.now x.0 x.1.now)) }
 {
     let inputs = inputs_said(text);
-    let printed = opening_text(alloc, inputs)?;
+    let mut printed = String::new(alloc);
+    put_opening(&mut printed, inputs)?;
     match beyond(printed.as_str(), text) {
         Some(rest) => Ok(Some((inputs, rest))),
         None => Ok(None),

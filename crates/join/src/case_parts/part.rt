@@ -14,7 +14,6 @@ use losses::found::Losses;
 use report::Head;
 use std::alloc::{AllocError, Global};
 use std::marker::Model;
-use std::str;
 
 /// What is read of a text of cases.
 #[derive(Drop)]
@@ -83,8 +82,12 @@ fn read_rest<'t>(
 }
 
 /// What is read of a text of cases; none where it is the text of none.
+///
+/// # Errors
+///
+/// Want of memory.
 #[tactic(auto, using(crate::proofs::CaseWholes::no_opening_no_cases, crate::proofs::CaseWholes::rest_short))]
-fn read_text<'t>(
+pub(crate) fn read_text<'t>(
     alloc: Global,
     file: u32,
     text: &'t str,
@@ -96,25 +99,5 @@ fn read_text<'t>(
     match read_opening(alloc, text)? {
         Some((inputs, rest)) => read_rest(alloc, file, text, inputs, rest),
         None => Ok(None),
-    }
-}
-
-/// What is read of the text of cases that these bytes are, to the byte; none where they are that of none.
-///
-/// # Errors
-///
-/// Want of memory.
-#[tactic(auto, using(crate::proofs::CaseWholes::no_text_no_cases))]
-pub(crate) fn read_part<'t>(
-    alloc: Global,
-    file: u32,
-    bytes: &'t [u8],
-) -> Result<Option<CasePart<'t>>, AllocError>
-    requires { length bytes.now ≤ 2 ^ 30 }
-    ensures { IfOk result (λ found. MatchOption found (NoCasesText bytes.now) (λ part. IsCasesPart bytes.now part × (part.file ≡ file))) }
-{
-    match str::from_utf8(bytes) {
-        Ok(text) => read_text(alloc, file, text),
-        Err(_error) => Ok(None),
     }
 }

@@ -2,25 +2,15 @@
 
 ghost use Rattle.std.specs.Prelude.{◌≡◌, ◌++◌, ◌↔◌, IfOk, IsTrue, OnOk, map, string_bytes};
 ghost use Rattle.report.specs.ChoiceText.{part_text};
-ghost use Rattle.join.specs.CaseTexts.{among_text, front_text, mixed_text, next_mixed, next_part, parts_text, said_text, told_body};
+ghost use Rattle.join.specs.CaseTexts.{among_text, mixed_text, next_mixed, next_part, parts_text, said_text, told_body};
 ghost use Rattle.join.specs.CaseReading.{mixed_value};
 
-use crate::case_parts::front::CaseFront;
 use crate::case_parts::names::{Mixed, PartName};
 use crate::case_parts::said::CaseSaid;
 use case_text::{put_fates, put_number, put_place, put_window};
 use epochs::By;
 use report::choice_text::{put_names, put_part};
 use std::alloc::{AllocError, Global};
-
-/// Appends the words with which a line begins.
-#[tactic(auto, unfolding(crate::specs::CaseTexts::front_text))]
-fn put_front(out: &mut String, front: CaseFront) -> Result<(), AllocError>
-    ensures { OnOk result (string_bytes out.new ≡ string_bytes out.old ++ front_text front) }
-{
-    put_place(out, front.cut, front.epoch, front.marks)?;
-    put_number(out, front.program, front.number)
-}
 
 /// Appends a part that follows another.
 fn put_next_part(out: &mut String, by: By, part: PartName) -> Result<(), AllocError>
@@ -97,11 +87,12 @@ fn put_said(out: &mut String, by: By, said: &CaseSaid<'_>) -> Result<(), AllocEr
 }
 
 /// Appends the line of a case without its newline.
-#[tactic(auto, unfolding(crate::specs::CaseTexts::told_body))]
+#[tactic(auto, unfolding(crate::specs::CaseTexts::told_body, crate::specs::CaseTexts::front_text))]
 fn put_body(out: &mut String, by: By, said: &CaseSaid<'_>) -> Result<(), AllocError>
     ensures { OnOk result (string_bytes out.new ≡ string_bytes out.old ++ told_body by said.now) }
 {
-    put_front(out, said.front)?;
+    put_place(out, said.front.cut, said.front.epoch, said.front.marks)?;
+    put_number(out, said.front.program, said.front.number)?;
     write!(out, "{}", said.outcome)?;
     put_said(out, by, said)?;
     put_window(out, said.window)

@@ -5,7 +5,7 @@ ghost use Rattle.std.specs.List.Sorted.{IsPermutation, IsNonDecreasingBy, IsStab
 ghost use Rattle.std.specs.Ordering.{nat_cmp};
 ghost use Rattle.join.specs.CaseTexts.{first_of, last_of};
 ghost use Rattle.join.specs.CaseJoining.{IsOfCaseRun, all_cases, run_text};
-ghost use Rattle.join.specs.CaseRows.{IsApart, IsApartAt, IsCasesRow, IsForeignAt, IsManyAt, IsSmallPart, NoneIsApart, NoneIsForeign, RowHasAllCuts, RowLacksCuts, WhyNoCasesRow};
+ghost use Rattle.join.specs.CaseRows.{IsApartAt, IsCasesRow, IsForeignAt, IsManyAt, IsSmallPart, NoneIsApart, NoneIsForeign, RowHasAllCuts, RowLacksCuts, WhyNoCasesRow};
 ghost use Rattle.losses.specs.FoundCases.{most_cases};
 
 use crate::case_parts::fault::CasesFault;
@@ -14,6 +14,7 @@ use crate::case_parts::judging::MOST_CASES;
 use crate::case_parts::part::CasePart;
 use crate::case_parts::totals::{first_of, last_of};
 use crate::fault::JoinFault;
+use crate::row::apart;
 use base::causes::JoinCause;
 use std::alloc::{AllocError, Global};
 
@@ -25,20 +26,13 @@ fn run_text(alloc: Global, part: &CasePart<'_>) -> Result<String, AllocError>
     head_text(alloc, part.inputs, &head, part.asked)
 }
 
-/// Whether a text is of the run of which that is said.
-fn is_of_run(alloc: Global, run: &str, part: &CasePart<'_>) -> Result<bool, AllocError>
-    ensures { IfOk result (λ is. IsTrue is ↔ (run_text part.now ≡ run.now)) }
-{
-    let said = run_text(alloc, part)?;
-    Ok(said.as_str() == run)
-}
-
 /// Whether two texts are of one run.
 fn is_alike(alloc: Global, run: &CasePart<'_>, part: &CasePart<'_>) -> Result<bool, AllocError>
     ensures { IfOk result (λ is. IsTrue is ↔ IsOfCaseRun run.now part.now) }
 {
     let said = run_text(alloc, run)?;
-    is_of_run(alloc, said.as_str(), part)
+    let other = run_text(alloc, part)?;
+    Ok(other.as_str() == said.as_str())
 }
 
 /// The place of the first text that is of another run than the first.
@@ -66,20 +60,6 @@ pub(crate) fn put_in_order(parts: &mut Vec<CasePart<'_>>) -> Result<(), AllocErr
 {
     parts.sort_by_key(|part| first_of(&part.head))?;
     Ok(())
-}
-
-/// The refusal of a text that doesn't begin right after the one before it ends.
-fn apart(end: u64, start: u64, file: u32) -> JoinFault
-    requires { end ≢ start }
-    ensures file { result.file ≡ file }
-    ensures kind { IsApart end start result.cause }
-{
-    let cause = if end < start {
-        JoinCause::Gap
-    } else {
-        JoinCause::Overlap
-    };
-    JoinFault { cause, file }
 }
 
 /// Where the text after one has to begin.

@@ -29,15 +29,6 @@ fn are_checkers(programs: &[ProgramHead]) -> bool
     programs.len() >= 1 && programs.len() <= MOST_PROGRAMS && are_programs_of_run(programs)
 }
 
-/// The lines of checkers.
-fn checkers_text(alloc: Global, programs: &[ProgramHead]) -> Result<String, AllocError>
-    ensures { IfOk result (λ out. string_bytes out ≡ program_lines 0 programs.now) }
-{
-    let mut out = String::new(alloc);
-    put_programs(&mut out, programs)?;
-    Ok(out)
-}
-
 /// The checkers with whose lines a text begins, and what stands after these, if it begins with those of a run.
 #[tactic(auto, using(crate::proofs::JudgesRead::checkers_found, crate::proofs::JudgesRead::no_checkers, crate::proofs::JudgesRead::no_printed, crate::proofs::JudgesRead::after_judges, crate::proofs::JudgesRead::after_front))]
 fn checkers_said<'t>(alloc: Global, text: &'t str) -> Result<Option<(Judges, &'t str)>, AllocError>
@@ -49,7 +40,8 @@ fn checkers_said<'t>(alloc: Global, text: &'t str) -> Result<Option<(Judges, &'t
     if !are_checkers(programs.as_slice()) {
         return Ok(None);
     }
-    let printed = checkers_text(alloc, programs.as_slice())?;
+    let mut printed = String::new(alloc);
+    put_programs(&mut printed, programs.as_slice())?;
     let Some(rest) = beyond(printed.as_str(), text) else {
         return Ok(None);
     };

@@ -51,18 +51,6 @@ fn newlines_before(text: &str, rest: &str) -> u64 {
     }
 }
 
-/// The images of a whole run, as those of a part.
-fn span_of(run: &ReportRun<'_>) -> Span
-    ensures { result ≡ record { from = 0; to = run.now.images; images = run.now.images; inputs = 0 } }
-{
-    Span {
-        from: 0,
-        to: run.images,
-        images: run.images,
-        inputs: 0,
-    }
-}
-
 /// What a report says after its title, by the text after its options, which goes on with the programs; none where it is none of the run.
 /// `line` becomes the line at which that shows, from that of the programs on.
 #[tactic(auto, using(crate::proofs::JudgesRead::few_judges))]
@@ -86,7 +74,13 @@ fn rest_said<'t>(
     };
     let begun = newlines_before(whole, lines);
     let (outside, count) = (judges.outside, judges.count());
-    let said = lines_said(alloc, run, span_of(run), outside, count, lines)?;
+    let span = Span {
+        from: 0,
+        to: run.images,
+        images: run.images,
+        inputs: 0,
+    };
+    let said = lines_said(alloc, run, span, outside, count, lines)?;
     *line = begun.saturating_add(said.ordered).saturating_add(1);
     if !said.tally.ordered {
         return Ok(None);

@@ -11,7 +11,7 @@ returns-in_err-part-clause-refused c =
 
 pub loop-number-preserved : goal.loop-number-preserved
 loop-number-preserved c =
-    rw c.in_ok-push_part.ensures.pushed
+    rw c.in-Ok.ensures.items
     (parts_next _ c.args.files.now c.loop-number.number c.index-files-number.result c.as_slice.result.now c.loop-number.parts.items _ c.loop-number.invariant c.loop-number-test.true c.index-files-number.is c.as_slice.ensures.value c.in_ok-part.ensures.part.0 c.in_ok-part.ensures.part.1)
 
 pub returns-clause-parts : goal.returns-clause-parts

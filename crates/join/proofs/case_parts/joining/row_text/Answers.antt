@@ -14,5 +14,5 @@ returns c =
     (there c.args.parts.now _ c.index-parts-parts.result (omega (arith, some)) ∙ ap (λ (r : CasesRead). Some r) (sym c.index-parts-parts.is))
     (ap (λ (v : Vec ℕ Global). v.items) c.into_bytes-out.ensures.value ∙ c.in_ok-opening.ensures)
     refl
-    (c.as_bytes.ensures.value ∙ c.in_ok-end.ensures ∙ ap (λ (t : CaseTotals). totals_line t) c.total_of.ensures)
+    (c.as_bytes.ensures.value ∙ c.in_ok-put_totals.ensures ∙ ap (λ (bs : List ℕ). bs ++ totals_line c.total_of.result) c.new-end.ensures.bytes ∙ ap (λ (t : CaseTotals). totals_line t) c.total_of.ensures)
     (c.in_ok-extend_from_slice.ensures.items ∙ ap (λ (bs : List ℕ). bs ++ c.as_bytes.result.now) c.in_ok-put_all.ensures)

@@ -1,4 +1,4 @@
-use Rattle.std.proofs.Common.{map}
+use Rattle.std.proofs.Common.{map, refl}
 use Rattle.join.specs.Given.{line_told}
 use Rattle.join.specs.GivenReading.{NoJudges, AreJudgesRead}
 use Rattle.join.proofs.Endings.{fails}
@@ -21,7 +21,7 @@ returns-then-not-said c =
     unordered_no_report c.args.run.now.options.now c.args.run.now.starts.now c.args.run.now.images c.args.whole.now c.args.titled.now c.args.text.now c.in-Some.lines.now c.in-Some.judges.outside c.in-Some.judges.programs.items
     c.count-count.result (map line_told c.in_ok-said.said.lines.items) c.in_ok-said.said.tally c.in_ok-said.said.rest.now
     (are_steps_of c.args.run.now.options.now c.args.run.now.starts.now c.args.run.now.images c.args.whole.now c.args.titled.now c.args.text.now c.in-Some.lines.now c.in-Some.judges.outside c.in-Some.judges.programs.items
-    c.count-count.result (map line_told c.in_ok-said.said.lines.items) c.in_ok-said.said.tally c.in_ok-said.said.rest.now c.span_of.result c.span_of.ensures c.requires.titled c.requires.given read c.count-count.ensures c.in_ok-said.ensures.read c.in_ok-said.ensures.end)
+    c.count-count.result (map line_told c.in_ok-said.said.lines.items) c.in_ok-said.said.tally c.in_ok-said.said.rest.now (record { from = 0; to = c.args.run.now.images; images = c.args.run.now.images; inputs = 0 }) refl c.requires.titled c.requires.given read c.count-count.ensures c.in_ok-said.ensures.read c.in_ok-said.ensures.end)
     c.if-not-said.true
 
 pub returns-then-not-branch : goal.returns-then-not-branch
@@ -30,7 +30,7 @@ returns-then-not-branch c =
     other_last_no_report c.args.run.now.options.now c.args.run.now.starts.now c.args.run.now.images c.args.whole.now c.args.titled.now c.args.text.now c.in-Some.lines.now c.in-Some.judges.outside c.in-Some.judges.programs.items
     c.count-count.result (map line_told c.in_ok-said.said.lines.items) c.in_ok-said.said.tally c.in_ok-said.said.rest.now
     (are_steps_of c.args.run.now.options.now c.args.run.now.starts.now c.args.run.now.images c.args.whole.now c.args.titled.now c.args.text.now c.in-Some.lines.now c.in-Some.judges.outside c.in-Some.judges.programs.items
-    c.count-count.result (map line_told c.in_ok-said.said.lines.items) c.in_ok-said.said.tally c.in_ok-said.said.rest.now c.span_of.result c.span_of.ensures c.requires.titled c.requires.given read c.count-count.ensures c.in_ok-said.ensures.read c.in_ok-said.ensures.end)
+    c.count-count.result (map line_told c.in_ok-said.said.lines.items) c.in_ok-said.said.tally c.in_ok-said.said.rest.now (record { from = 0; to = c.args.run.now.images; images = c.args.run.now.images; inputs = 0 }) refl c.requires.titled c.requires.given read c.count-count.ensures c.in_ok-said.ensures.read c.in_ok-said.ensures.end)
     (fails c.in_ok-is_last.field-0 c.if-not-branch.true c.in_ok-is_last.ensures)
 
 pub returns-in_default-without : goal.returns-in_default-without
@@ -46,5 +46,5 @@ returns c =
     report_found c.args.run.now.options.now c.args.run.now.starts.now c.args.run.now.images c.args.whole.now c.args.titled.now c.args.text.now c.in-Some.lines.now c.in-Some.judges.outside c.in-Some.judges.programs.items
     c.count-count.result (map line_told c.in_ok-said.said.lines.items) c.in_ok-said.said.tally c.in_ok-said.said.rest.now c.in-Some-without.head.now
     (are_steps_of c.args.run.now.options.now c.args.run.now.starts.now c.args.run.now.images c.args.whole.now c.args.titled.now c.args.text.now c.in-Some.lines.now c.in-Some.judges.outside c.in-Some.judges.programs.items
-    c.count-count.result (map line_told c.in_ok-said.said.lines.items) c.in_ok-said.said.tally c.in_ok-said.said.rest.now c.span_of.result c.span_of.ensures c.requires.titled c.requires.given read c.count-count.ensures c.in_ok-said.ensures.read c.in_ok-said.ensures.end)
+    c.count-count.result (map line_told c.in_ok-said.said.lines.items) c.in_ok-said.said.tally c.in_ok-said.said.rest.now (record { from = 0; to = c.args.run.now.images; images = c.args.run.now.images; inputs = 0 }) refl c.requires.titled c.requires.given read c.count-count.ensures c.in_ok-said.ensures.read c.in_ok-said.ensures.end)
     c.requires.utf8 c.if-not-said.false last c.in-Some-without.ensures

@@ -3,7 +3,7 @@ use Rattle.choices.specs.declared.name.Name.{Name}
 use Rattle.join.specs.Endings.{AreNamesAt}
 use Rattle.join.proofs.Endings.{like, never}
 use Rattle.join.proofs.Choosing.{choice_found, names_within, no_choice}
-use Rattle.join.proofs.ending.is_choice_by.Goals as goal
+use Rattle.join.proofs.ending.is_choice.Goals as goal
 
 pub returns-in-Some : goal.returns-in-Some
 returns-in-Some c =
