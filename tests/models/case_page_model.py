@@ -1,6 +1,6 @@
 """The page of `page --bound any`, in the plainest form, written from docs/OUTPUT.md, 'The page of `page`'.
 
-As in page_model.py, the parts that are the same on each page are taken from where they stand (crates/crash_page/src/dress.rt).
+As in page_model.py, the parts that are the same on each page are taken from where they stand (crates/page_parts/src/dress.rt).
 """
 from cases_model import ANY, Cut, head, judged_cuts, window_of
 from model import entry_line, missing_flushes

@@ -2,7 +2,7 @@
 says of flushes that are missing.
 
 The parts that are the same on each page, its style, the keys of its entries and its script, are taken from where they stand
-(crates/crash_page/src/dress.rt); nothing else is taken from the program under test.
+(crates/page_parts/src/dress.rt); nothing else is taken from the program under test.
 """
 import re
 
@@ -26,7 +26,7 @@ NONE = ("s0", "no image fails", None)
 BOUNDED = [(f"s{number + 1}", f"up to 1 in {most}", most) for number, most in enumerate((100, 10, 2))]
 MORE, ALL = ("s4", "more", None), ("s5", "all of them", None)
 
-DRESS = (TOP / "crates/crash_page/src/dress.rt").read_text()
+DRESS = (TOP / "crates/page_parts/src/dress.rt").read_text()
 
 
 def dress(name):

@@ -1,5 +1,5 @@
 """The contrast of the text on a page: the ratio of the Web Content Accessibility Guidelines (WCAG 2.1, 'contrast ratio'), of the colours
-of the style in crates/crash_page/src/dress.rt, light and dark.
+of the style in crates/page_parts/src/dress.rt, light and dark.
 """
 import re
 

@@ -7,7 +7,7 @@
 //! # Place
 //!
 //! On `cases`, whose search it drives, on `checker`, which runs a program with every check or without any, on `epochs`, whose plan
-//! tells of the context of a cut, and on `losses` for the types of what is found. `runs` stands above it. `case_text` and `crash_page`
+//! tells of the context of a cut, and on `losses` for the types of what is found. `runs` stands above it. `case_text` and `case_page`
 //! tell what is found by these types alone.
 //!
 //! # The calls

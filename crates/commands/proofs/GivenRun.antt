@@ -28,7 +28,7 @@ use Rattle.losses.specs.FailureWindows.{AreFailuresAt}
 use Rattle.losses.specs.ProgramOutcomes.{own_outcome, outcomes_failing}
 use Rattle.losses.specs.CureText.{missing_text}
 use Rattle.losses.specs.Causes.{causes_from}
-use Rattle.crash_page.specs.Judges.{judge_text}
+use Rattle.page_parts.specs.Judges.{judge_text}
 use Rattle.crash_page.specs.Failing.{IsFailing as FailsOn}
 use Rattle.join.specs.Given.{ToldLine, IsTold, AreToldOf, GivenValue, IsReport, told_body, told_line, told_totals, chosen_told, marks_told, images_told}
 use Rattle.join.specs.Laws.{IsRun}

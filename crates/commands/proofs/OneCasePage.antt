@@ -16,16 +16,17 @@ use Rattle.losses.specs.declared.found.CutFound.{CutFound}
 use Rattle.losses.specs.declared.found.FailingCase.{FailingCase}
 use Rattle.losses.specs.FoundCases.{failing_value}
 use Rattle.case_runs.specs.Found.{KnownCase, known_case, SameFound}
-use Rattle.crash_page.specs.Counts.{failing_of, cases_of, case_count, count_fails, has_all_at, has_all}
-use Rattle.crash_page.specs.Blocks.{most_cells}
-use Rattle.crash_page.specs.Groups.{cut_begin, cut_body, shown_of, one_failing, unlisted_text}
-use Rattle.crash_page.specs.Page.{title_text, strip_text, most_of_program}
-use Rattle.crash_page.specs.Lacking.{advice_text}
-use Rattle.crash_page.specs.declared.judge.PageJudge.TheVariants as judging
-use Rattle.crash_page.specs.declared.case_program.CaseProgram.{CaseProgram}
-use Rattle.crash_page.specs.CaseRows.{row_at, case_said, row_text, case_row}
-use Rattle.crash_page.specs.CasePage.{RunValue, cut_at, case_rows, rest_text, case_head, cut_shown, listed_text, cuts_text, verdict_text, counts_of, said_text, summary_text, shown_cuts, program_text, programs_text, left_text, run_text, run_with, parts_text}
-use Rattle.crash_page.specs.CaseFlushes.{failures_at, failures_of, IsLacking, IsCasePage}
+use Rattle.page_parts.specs.Counts.{count_fails}
+use Rattle.case_page.specs.Counts.{failing_of, cases_of, case_count, has_all_at, has_all}
+use Rattle.page_parts.specs.Blocks.{most_cells}
+use Rattle.page_parts.specs.Cuts.{cut_begin, cut_body, shown_of, one_failing, unlisted_text}
+use Rattle.page_parts.specs.Frame.{title_text, strip_text, most_of_program}
+use Rattle.page_parts.specs.Lacking.{advice_text}
+use Rattle.page_parts.specs.declared.judge.PageJudge.TheVariants as judging
+use Rattle.case_page.specs.declared.case_program.CaseProgram.{CaseProgram}
+use Rattle.case_page.specs.CaseRows.{row_at, case_said, row_text, case_row}
+use Rattle.case_page.specs.CasePage.{RunValue, cut_at, case_rows, rest_text, case_head, cut_shown, listed_text, cuts_text, verdict_text, counts_of, said_text, summary_text, shown_cuts, program_text, programs_text, left_text, run_text, run_with, parts_text}
+use Rattle.case_page.specs.CaseFlushes.{failures_at, failures_of, IsLacking, IsCasePage}
 use Rattle.case_text.specs.Why.{ToldValue, program_failures, found_failures, failure_of}
 use Rattle.case_text.specs.Text.{options_text}
 use Rattle.commands.proofs.Alike.{AreAlike, alike}

@@ -12,12 +12,15 @@ use Rattle.report.specs.Report.{HeadValue}
 use Rattle.losses.specs.declared.why.cut.CutFailures.{CutFailures}
 use Rattle.losses.specs.declared.why.group.FailingGroup.{FailingGroup}
 use Rattle.crash_page.specs.declared.program.ProgramFailures.{ProgramFailures}
-use Rattle.crash_page.specs.Lacking.{advice_text}
-use Rattle.crash_page.specs.Blocks.{most_cells}
-use Rattle.crash_page.specs.Counts.{image_count, count_fails}
-use Rattle.crash_page.specs.Groups.{groups_text, first_text, cut_begin, cut_body, cut_head, rest_text, shown_of, cut_shown, cut_text, one_failing, listed_text, cuts_text, unlisted_text}
-use Rattle.crash_page.specs.Page.{counts_of, verdict_text, strip_text, name_text, title_text, summary_text, outcomes_of, most_of_program, shown_cuts, program_text, programs_text, page_text}
-use Rattle.crash_page.specs.Judges.{judge_text, checker_text}
+use Rattle.page_parts.specs.Lacking.{advice_text}
+use Rattle.page_parts.specs.Blocks.{most_cells}
+use Rattle.page_parts.specs.Counts.{count_fails}
+use Rattle.crash_page.specs.Counts.{image_count}
+use Rattle.page_parts.specs.Cuts.{cut_begin, cut_body, shown_of, one_failing, unlisted_text}
+use Rattle.crash_page.specs.Groups.{groups_text, first_text, cut_head, rest_text, cut_shown, cut_text, listed_text, cuts_text}
+use Rattle.page_parts.specs.Frame.{strip_text, name_text, title_text, most_of_program}
+use Rattle.crash_page.specs.Page.{counts_of, verdict_text, summary_text, outcomes_of, shown_cuts, program_text, programs_text, page_text}
+use Rattle.page_parts.specs.Judges.{judge_text, checker_text}
 use Rattle.crash_page.specs.Failing.{own_failures, IsFailing, IsPage}
 use Rattle.runs.specs.Paged.{IsSaid, about_run, IsPageOf}
 use Rattle.commands.proofs.Alike.{AreAlike, alike}

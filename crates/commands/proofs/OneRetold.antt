@@ -13,7 +13,7 @@ use Rattle.losses.specs.declared.cure.failure.Failure.{Failure}
 use Rattle.losses.specs.FailureWindows.{IsWindowIf, IsFailureAt, AreFailuresAt, windows_in}
 use Rattle.losses.specs.CureText.{programs_text, missing_text, flush_line}
 use Rattle.losses.specs.Causes.{causes_from}
-use Rattle.crash_page.specs.Judges.{checker_text, outside_text}
+use Rattle.page_parts.specs.Judges.{checker_text, outside_text}
 use Rattle.crash_page.specs.Failing.{IsPage}
 use Rattle.join.specs.Given.{ToldLine, GivenValue, NoReport, marks_told}
 use Rattle.request.specs.declared.settings.Settings.{Settings}

@@ -1,5 +1,5 @@
 -- What a page takes of a program, by the images on which it fails.
-use Rattle.std.proofs.Common.{ℕ, zero, suc, ◌≡◌, ◌+◌, ◌<◌, ◌≤◌, Bool, true, false, if◌then◌else◌, List, [], ◌∷◌, ◌++◌, length, length-append, filter, take, All, get_or, slice_get, Option, None, Some, refl, sym, ◌∙◌, ap, subst, inl, inr, arith}
+use Rattle.std.proofs.Common.{ℕ, zero, suc, ◌≡◌, ◌+◌, ◌<◌, Bool, true, false, if◌then◌else◌, List, [], ◌∷◌, ◌++◌, length, length-append, filter, take, All, get_or, slice_get, Option, None, Some, refl, sym, ◌∙◌, ap, subst, inl, inr, arith}
 use Rattle.std.proofs.lemmas.List.{take_more}
 use Rattle.std.proofs.lemmas.List.Elements.{filter-append}
 use Rattle.std.proofs.lemmas.Option.{same_Some, slice_get_within, slice_get-get_or}
@@ -11,9 +11,9 @@ use Rattle.losses.specs.Places.{AreWindows}
 use Rattle.losses.specs.Counted.{AreMissing}
 use Rattle.losses.specs.declared.cure.failure.Failure.{Failure}
 use Rattle.losses.specs.FailureWindows.{if_window, windows_in}
-use Rattle.losses.specs.CureText.{is_of, is_uncured}
+use Rattle.losses.specs.CureText.{is_of}
 use Rattle.crash_page.specs.declared.program.ProgramFailures.{ProgramFailures}
-use Rattle.crash_page.specs.Judges.{judge_text}
+use Rattle.page_parts.specs.Judges.{judge_text}
 use Rattle.crash_page.specs.Page.{AreOfRun, page_text}
 use Rattle.crash_page.specs.Failing.{own_failures, IsFailing, AreFailing, IsPage}
 
@@ -23,17 +23,6 @@ pub own_more : (program : ℕ) (fs : List Failure) (n : ℕ) (f : Failure) (old 
 own_more program fs n f old now within is was more =
     let taken : take (n + 1) fs ≡ take n fs ++ f ∷ [] = take_more fs n f within ∙ ap (λ (x : Failure). take n fs ++ x ∷ []) (sym is) in
     more ∙ ap (λ (xs : List Failure). xs ++ own_failures program (f ∷ [])) was ∙ sym (filter-append (is_of program) (take n fs) (f ∷ [])) ∙ ap (own_failures program) (sym taken)
-
--- how many of them no flush takes away, with one more
-pub uncured_more : (program : ℕ) (fs : List Failure) (n count one now : ℕ) (f : Failure) → n < length fs → f ≡ get_or fs n f
-    → (count ≡ length (filter (is_uncured program) (take n fs))) × (count ≤ n) → one ≡ length (filter (is_uncured program) (f ∷ [])) → one ≤ 1 → now ≡ count + one
-    → (now ≡ length (filter (is_uncured program) (take (n + 1) fs))) × (now ≤ n + 1)
-uncured_more program fs n count one now f within is so_far more few sum =
-    let taken : take (n + 1) fs ≡ take n fs ++ f ∷ [] = take_more fs n f within ∙ ap (λ (x : Failure). take n fs ++ x ∷ []) (sym is) in
-    let whole : length (filter (is_uncured program) (take (n + 1) fs)) ≡ length (filter (is_uncured program) (take n fs)) + length (filter (is_uncured program) (f ∷ [])) =
-    ap (λ (xs : List Failure). length (filter (is_uncured program) xs)) taken ∙ ap length (filter-append (is_uncured program) (take n fs) (f ∷ []))
-    ∙ length-append (filter (is_uncured program) (take n fs)) (filter (is_uncured program) (f ∷ [])) in
-    (omega (arith, whole, so_far.0, more, sum), omega (arith, so_far.1, few, sum))
 
 -- a window of the failures of a program is one of all failures
 beyond : (ws : List Window) (w : Window) (o : Option Window) → ((j : ℕ) × (slice_get ws j ≡ Some w)) → (j : ℕ) × (slice_get (if_window o ++ ws) j ≡ Some w)

@@ -8,7 +8,7 @@ use Rattle.losses.specs.declared.cure.failure.Failure.{Failure}
 use Rattle.losses.specs.FailureWindows.{windows_in}
 use Rattle.losses.specs.CureText.{is_of, is_uncured}
 use Rattle.crash_page.specs.declared.program.ProgramFailures.{ProgramFailures}
-use Rattle.crash_page.specs.Judges.{judge_text}
+use Rattle.page_parts.specs.Judges.{judge_text}
 use Rattle.crash_page.specs.Page.{page_text, outcomes_of}
 
 -- the failures of a program, of those of a run

@@ -1,28 +1,22 @@
--- What is said of a cut at which something fails; and of one at which images fail its first groups, each with the image of its example in words.
-use Rattle.std.specs.Prelude.{ℕ, ◌-◌, ◌==◌, nat_le, min, Bool, false, if◌then◌else◌, List, [], ◌∷◌, ◌++◌, length, take, slice_get}
+-- What is said of a cut at which images fail: its first groups, each with the image of its example in words.
+use Rattle.std.specs.Prelude.{ℕ, ◌-◌, ◌==◌, nat_le, Bool, false, if◌then◌else◌, List, [], ◌∷◌, ◌++◌, length, take, slice_get}
 use Rattle.std.specs.Fmt.{decimal}
 use Rattle.std.specs.List.{flat_map}
 use Rattle.std.specs.Option.{option_map_or}
-use Rattle.logfmt.specs.declared.entry.Entry.{Entry}
-use Rattle.epochs.specs.Units.{epoch_at, marks_at}
 use Rattle.choices.specs.Choices.{ChoiceValue, ranked_choices}
 use Rattle.choices.specs.Sums.{StartsValue}
 use Rattle.report.specs.ChoiceText.{departures_text}
 use Rattle.images.specs.Views.{ViewValue, view_of, sectors_of}
 use Rattle.crash_text.specs.Shown.{shown_text}
 use Rattle.losses.specs.declared.why.cut.CutFailures.{CutFailures}
-use Rattle.crash_page.specs.declared.counts.CutCount.{CutCount}
 use Rattle.losses.specs.declared.why.group.FailingGroup.{FailingGroup}
 use Rattle.losses.specs.CountedGroups.{ends_at}
-use Rattle.crash_page.specs.declared.pieces.PagePart.TheVariants as piece
-use Rattle.crash_page.specs.Pieces.{piece_text}
-use Rattle.crash_page.specs.declared.cut.Showing.{Showing}
-use Rattle.crash_page.specs.declared.counts.JudgedKind.{JudgedKind}
-use Rattle.crash_page.specs.Counts.{kind_word, image_count}
-use Rattle.crash_page.specs.Html.{html, side_by_side}
-use Rattle.crash_page.specs.Shares.{share_of, share_class}
-use Rattle.crash_page.specs.Cells.{place_name, count_text}
-use Rattle.crash_page.specs.Blocks.{most_cells, more_name}
+use Rattle.page_parts.specs.declared.pieces.PagePart.TheVariants as piece
+use Rattle.page_parts.specs.Pieces.{piece_text}
+use Rattle.page_parts.specs.declared.cut.Showing.{Showing}
+use Rattle.crash_page.specs.Counts.{image_count}
+use Rattle.page_parts.specs.Html.{html, side_by_side}
+use Rattle.page_parts.specs.Cuts.{cut_begin, cut_body, shown_of, one_failing, showing}
 
 -- the image of a choice's cut where nothing departs
 abbrev pub whole_view : StartsValue → ChoiceValue → ViewValue
@@ -87,43 +81,12 @@ unfoldable pub first_text : StartsValue → List FailingGroup → List ℕ
 first_text s [] = []
 first_text s (g ∷ gs) = piece_text piece.FirstOpen ++ choice_at s g.image ++ piece_text piece.FirstOf ++ decimal (length (g ∷ gs)) ++ piece_text piece.FirstClose
 
--- where a cut stands
-unfoldable pub stand_text : List Entry → ℕ → List ℕ
-stand_text es cut =
-    piece_text piece.CutNumber ++ decimal cut ++ piece_text piece.CutEpoch ++ decimal (epoch_at es cut) ++ piece_text piece.CutMarks
-    ++ decimal (marks_at es cut) ++ piece_text piece.CutMarksEnd
-
--- how much of it fails, in words and as a bar
-unfoldable pub bar_text : CutCount → List ℕ
-bar_text c =
-    piece_text piece.BarOpen ++ count_text c ++ piece_text piece.BarMost ++ decimal c.all ++ piece_text piece.BarValue ++ decimal c.failing ++ piece_text piece.BarClose
-
-abbrev pub cut_line : Bool → List ℕ
-cut_line is_open = if is_open then piece_text piece.CutOpened else piece_text piece.CutLine
-
-unfoldable pub cut_open : Bool → CutCount → List ℕ
-cut_open is_open c = piece_text piece.CutOpen ++ share_class (share_of c.all c.failing) ++ cut_line is_open
-
-unfoldable pub cut_body : ℕ → ℕ → List ℕ
-cut_body program cut = piece_text piece.CutBody ++ place_name program cut ++ piece_text piece.OpenEnd
-
--- the line of a cut, with what only a cut of images has
-unfoldable pub cut_begin : List Entry → Bool → CutCount → List ℕ
-cut_begin es is_open c = cut_open is_open c ++ stand_text es c.cut ++ bar_text c
-
 unfoldable pub cut_head : StartsValue → Showing → CutFailures → List ℕ
 cut_head s how c = cut_begin s.plan.log.entries how.is_open (image_count c) ++ first_text s c.groups.items ++ cut_body how.program c.cut
 
 -- how many groups aren't shown
 unfoldable pub rest_text : ℕ → List ℕ
 rest_text n = if n == 0 then [] else piece_text piece.RestOpen ++ decimal n ++ piece_text piece.RestClose
-
--- how many of a cut's groups or cases are shown, where `left` more may be on the page
-abbrev pub most_of_cut : ℕ
-most_of_cut = 8
-
-abbrev pub shown_of : ℕ → ℕ → ℕ
-shown_of left rows = min left (min most_of_cut rows)
 
 -- a cut, with that many of its groups; where it is open, the first of them is, too
 unfoldable pub cut_shown : StartsValue → List (List ℕ) → Showing → CutFailures → List ℕ
@@ -135,15 +98,6 @@ cut_shown s outcomes how c =
 abbrev pub cut_text : StartsValue → List (List ℕ) → Showing → CutFailures → List ℕ
 cut_text s outcomes how c = if c.failing == 0 then [] else cut_shown s outcomes how c
 
--- how many cuts a cut at which that much fails is
-abbrev pub one_failing : ℕ → ℕ
-one_failing failing = if failing == 0 then 0 else 1
-
--- how a cut with `rows` groups or cases is shown, where `lines` failing cuts may still be listed and `left` groups or cases shown; the first
--- failing cut is open
-abbrev pub showing : ℕ → ℕ → ℕ → ℕ → Showing
-showing program lines left rows = record { program = program; is_open = lines == most_cells; rows = shown_of left rows }
-
 -- a cut that is listed
 abbrev pub listed_text : StartsValue → List (List ℕ) → ℕ → Showing → CutFailures → List ℕ
 listed_text s outcomes lines how c = if lines == 0 then [] else cut_text s outcomes how c
@@ -154,10 +108,3 @@ cuts_text s outcomes program lines left [] = []
 cuts_text s outcomes program lines left (c ∷ cs) =
     listed_text s outcomes lines (showing program lines left (length c.groups.items)) c
     ++ cuts_text s outcomes program (lines - one_failing c.failing) (left - shown_of left (length c.groups.items)) cs
-
--- how many cuts at which something fails aren't listed
-unfoldable pub more_count : JudgedKind → ℕ → List ℕ
-more_count of n = decimal n ++ piece_text piece.MoreCuts ++ kind_word of ++ piece_text piece.MoreClose
-
-unfoldable pub unlisted_text : JudgedKind → ℕ → ℕ → List ℕ
-unlisted_text of program n = if n == 0 then [] else piece_text piece.MoreOpen ++ more_name program ++ piece_text piece.LinkEnd ++ more_count of n

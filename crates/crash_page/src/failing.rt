@@ -1,16 +1,14 @@
 //! What a page takes of a program, by the images on which it fails.
 
-ghost use Rattle.std.specs.Prelude.{◌≡◌, ◌≤◌, ◌++◌, ◌∷◌, [], map, length, filter, IfOk, OnOk};
+ghost use Rattle.std.specs.Prelude.{◌≡◌, ◌++◌, ◌∷◌, [], map, length, IfOk, OnOk};
 ghost use Rattle.losses.specs.Places.{AreWindows};
 ghost use Rattle.losses.specs.Counted.{AreMissing};
 ghost use Rattle.losses.specs.Failures.{AreImages};
 ghost use Rattle.losses.specs.FailureWindows.{windows_in};
-ghost use Rattle.losses.specs.CureText.{is_uncured};
-ghost use Rattle.crash_page.specs.Judges.{judge_text};
+ghost use Rattle.page_parts.specs.Judges.{judge_text};
 ghost use Rattle.crash_page.specs.Failing.{own_failures, IsFailing};
 ghost use Rattle.crash_page.specs.Page.{AreOfRun};
 
-use crate::judge::PageJudge;
 use crate::laws::failures_are_of_run;
 use crate::program::ProgramFailures;
 use crate::run::PageRun;
@@ -18,6 +16,7 @@ use logfmt::Log;
 use losses::cure::{Failure, missing_of};
 use losses::flushes::MissingFlush;
 use losses::why::failures;
+use page_parts::{PageJudge, uncured_of};
 use std::alloc::{AllocError, Global};
 
 /// Appends a failure, if it is of that program.
@@ -44,27 +43,6 @@ fn failures_of(
         push_own(&mut own, program, *failure)?;
     }
     Ok(own)
-}
-
-/// One where a failure is of that program and has no window, else none.
-fn count_uncured(failure: Failure, program: usize) -> usize
-    ensures value { result ≡ length (filter (is_uncured program) (failure ∷ [])) }
-    ensures bound { result ≤ 1 }
-{
-    usize::from(usize::from(failure.program) == program && failure.window.is_none())
-}
-
-/// How many failures of a program have no window.
-#[tactic(auto, using(crate::proofs::Owned::uncured_more))]
-pub(crate) fn uncured_of(failures: &[Failure], program: usize) -> usize
-    ensures value { result ≡ length (filter (is_uncured program) failures.now) }
-    ensures bound { result ≤ length failures.now }
-{
-    let mut count = 0;
-    for failure in failures {
-        count += count_uncured(*failure, program);
-    }
-    count
 }
 
 /// The flushes that are missing for the failures of a program, of those of a run of a log.

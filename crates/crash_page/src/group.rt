@@ -6,13 +6,12 @@ ghost use Rattle.images.specs.Views.{IsMember};
 ghost use Rattle.losses.specs.WhyText.{IsNumbered};
 ghost use Rattle.crash_page.specs.Groups.{image_text, block_text, choice_at, sides_text, group_open, group_choice, group_size, same_text, group_end, group_line, chosen_text, group_text};
 
-use crate::html::{put_html, put_sided};
-use crate::pieces::{PagePart, put, put_number};
 use crate::run::PageRun;
 use choices::{Choice, Starts, choice_named};
 use crash_text::put_shown;
 use images::images_are_devices;
 use losses::why::FailingGroup;
+use page_parts::{PagePart, put, put_html, put_number, put_sided};
 use report::choice_text::put_departures;
 use std::alloc::{AllocError, Global};
 

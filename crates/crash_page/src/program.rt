@@ -1,38 +1,25 @@
 //! What is said of a program.
 
-ghost use Rattle.std.specs.Prelude.{◌≡◌, ◌==◌, if◌then◌else◌, ◌≤◌, ◌++◌, [], ◌∷◌, All, length, map, OnOk, string_bytes};
-ghost use Rattle.crash_page.specs.declared.pieces.PagePart.TheVariants as piece;
-ghost use Rattle.crash_page.specs.Pieces.{piece_text};
-ghost use Rattle.crash_page.specs.declared.counts.CutCount.{CutCount as CutValue};
-ghost use Rattle.crash_page.specs.declared.counts.JudgedKind.TheVariants as kind;
-ghost use Rattle.crash_page.specs.Blocks.{most_cells};
-ghost use Rattle.crash_page.specs.Groups.{one_failing, listed_text, cuts_text, more_count, unlisted_text};
-ghost use Rattle.crash_page.specs.Counts.{count_fails};
-ghost use Rattle.crash_page.specs.Page.{counts_of, bad_text, judged_text, verdict_text, strip_open, row_of, strip_text, name_text, title_text, summary_text, most_of_program, shown_cuts, program_text, IsOfRun, AreOfRun};
+ghost use Rattle.std.specs.Prelude.{◌≡◌, ◌==◌, if◌then◌else◌, ◌≤◌, ◌++◌, All, length, map, OnOk, string_bytes};
+ghost use Rattle.page_parts.specs.declared.pieces.PagePart.TheVariants as piece;
+ghost use Rattle.page_parts.specs.Pieces.{piece_text};
+ghost use Rattle.page_parts.specs.declared.counts.JudgedKind.TheVariants as kind;
+ghost use Rattle.page_parts.specs.Blocks.{most_cells};
+ghost use Rattle.page_parts.specs.Counts.{count_fails};
+ghost use Rattle.crash_page.specs.Groups.{listed_text, cuts_text};
+ghost use Rattle.crash_page.specs.Page.{counts_of, bad_text, judged_text, verdict_text, summary_text, shown_cuts, program_text, IsOfRun, AreOfRun};
 
-use crate::block::{MOST_CELLS, is_large, put_more_name, put_row_blocks, put_width};
-use crate::counts::{CutCount, JudgedKind, count_failing, image_counts, put_kind};
-use crate::cut::{Showing, put_cut, shown_of};
-use crate::judge::{PageJudge, put_judge};
-use crate::lacking::{Lacking, put_advice};
-use crate::pieces::{PagePart, put, put_number};
-use crate::run::{Logged, PageRun, logged_of};
-use crate::share::put_legend;
-use crate::strip::put_strip;
-use crash_text::put_word;
-use logfmt::Log;
+use crate::counts::image_counts;
+use crate::cut::put_cut;
+use crate::run::{PageRun, logged_of};
 use losses::flushes::MissingFlush;
 use losses::why::CutFailures;
+use page_parts::{
+    CutCount, JudgedKind, Lacking, MOST_CELLS, PageJudge, PagePart, Showing, count_failing,
+    most_of_program, one_failing, put, put_advice, put_legend, put_number, put_row, put_title,
+    put_unlisted, shown_of,
+};
 use std::alloc::{AllocError, Global};
-
-/// How many groups or cases of a program are shown.
-const MOST_OF_PROGRAM: usize = 500;
-
-/// How many of them where the log is large.
-const MOST_OF_LARGE: usize = 100;
-
-/// Above how many entries their cells are narrow.
-const MANY: usize = 400;
 
 /// On which images a program fails.
 #[derive(Drop)]
@@ -95,59 +82,6 @@ fn put_verdict(out: &mut String, failing: usize, cuts: &[CutCount]) -> Result<()
     }
 }
 
-/// Appends what begins a row of that many entries.
-#[tactic(auto, unfolding(crate::specs::Page::strip_open))]
-fn put_strip_open(out: &mut String, of: JudgedKind, log: &Log) -> Result<(), AllocError>
-    ensures { OnOk result (string_bytes out.new ≡ string_bytes out.old ++ strip_open of log.now.entries) }
-{
-    put_width(out, of, log)?;
-    put(out, PagePart::StripOpen)?;
-    put_word(out, log.entries().len() > MANY, "many")?;
-    put(out, PagePart::OpenEnd)
-}
-
-/// Appends the cells of a row: in blocks where the log is large.
-fn put_row_of(
-    alloc: Global,
-    out: &mut String,
-    logged: &Logged<'_>,
-    lacking: &Lacking<'_>,
-    cuts: &[CutCount],
-) -> Result<(), AllocError>
-    requires cuts { All (λ (c : CutValue). c.cut ≤ length logged.now.log.now.entries) cuts.now }
-    ensures { OnOk result (string_bytes out.new ≡ string_bytes out.old ++ row_of lacking.now.of logged.now.log.now.entries lacking.now.program lacking.now.flushes.now cuts.now) }
-{
-    if is_large(logged.log) {
-        put_row_blocks(out, logged, lacking, cuts)
-    } else {
-        put_strip(alloc, out, logged, lacking, cuts)
-    }
-}
-
-/// Appends the row of entries and cuts, with the flushes that are missing.
-#[tactic(auto, unfolding(crate::specs::Page::strip_text))]
-pub(crate) fn put_row(
-    alloc: Global,
-    out: &mut String,
-    logged: &Logged<'_>,
-    lacking: &Lacking<'_>,
-    cuts: &[CutCount],
-) -> Result<(), AllocError>
-    requires cuts { All (λ (c : CutValue). c.cut ≤ length logged.now.log.now.entries) cuts.now }
-    ensures { OnOk result (string_bytes out.new ≡ string_bytes out.old ++ strip_text lacking.now.of logged.now.log.now.entries lacking.now.program lacking.now.flushes.now cuts.now) }
-{
-    put_strip_open(out, lacking.of, logged.log)?;
-    put_row_of(alloc, out, logged, lacking, cuts)?;
-    put(out, PagePart::StripClose)
-}
-
-/// How many cuts a cut at which that much fails is.
-pub(crate) fn one_failing(failing: usize) -> usize
-    ensures { result ≡ one_failing failing }
-{
-    if failing == 0 { 0 } else { 1 }
-}
-
 /// Appends a cut, where that many failing cuts may still be listed.
 fn put_listed(
     alloc: Global,
@@ -197,47 +131,6 @@ fn put_cuts(
     Ok(())
 }
 
-/// Appends how many cuts more there are at which something fails.
-#[tactic(auto, unfolding(crate::specs::Groups::more_count))]
-fn put_more_count(out: &mut String, of: JudgedKind, count: usize) -> Result<(), AllocError>
-    ensures { OnOk result (string_bytes out.new ≡ string_bytes out.old ++ more_count of count) }
-{
-    put_number(out, count as u64)?;
-    put(out, PagePart::MoreCuts)?;
-    put_kind(out, of)?;
-    put(out, PagePart::MoreClose)
-}
-
-/// Appends how many cuts at which something fails aren't listed, if there are any.
-#[tactic(auto, unfolding(crate::specs::Groups::unlisted_text))]
-pub(crate) fn put_unlisted(
-    out: &mut String,
-    of: JudgedKind,
-    program: usize,
-    count: usize,
-) -> Result<(), AllocError>
-    ensures { OnOk result (string_bytes out.new ≡ string_bytes out.old ++ unlisted_text of program count) }
-{
-    if count == 0 {
-        return Ok(());
-    }
-    put(out, PagePart::MoreOpen)?;
-    put_more_name(out, program)?;
-    put(out, PagePart::LinkEnd)?;
-    put_more_count(out, of, count)
-}
-
-/// How many groups or cases of a program are shown, of that log.
-pub(crate) fn most_of_program(log: &Log) -> usize
-    ensures { result ≡ most_of_program log.now.entries }
-{
-    if is_large(log) {
-        MOST_OF_LARGE
-    } else {
-        MOST_OF_PROGRAM
-    }
-}
-
 /// Appends the first cuts at which a program fails, and how many more there are.
 #[tactic(auto, unfolding(crate::specs::Page::shown_cuts))]
 fn put_shown_cuts(
@@ -270,33 +163,6 @@ fn lacking_of<'a>(program: usize, failures: &'a ProgramFailures<'_>) -> Lacking<
         program,
         flushes: failures.missing.as_slice(),
     }
-}
-
-/// Appends the number of a program, and what the report says of it.
-#[tactic(auto, unfolding(crate::specs::Page::name_text))]
-fn put_name(out: &mut String, program: usize, judge: &PageJudge<'_>) -> Result<(), AllocError>
-    ensures { OnOk result (string_bytes out.new ≡ string_bytes out.old ++ name_text program judge.now) }
-{
-    write!(out, "{program}: ")?;
-    put_judge(out, judge)
-}
-
-/// Appends the title of a program.
-#[tactic(auto, unfolding(crate::specs::Page::title_text))]
-pub(crate) fn put_title(
-    out: &mut String,
-    program: usize,
-    judge: &PageJudge<'_>,
-) -> Result<(), AllocError>
-    ensures { OnOk result (string_bytes out.new ≡ string_bytes out.old ++ title_text program judge.now) }
-{
-    put(out, PagePart::ProgramOpen)?;
-    put_number(out, program as u64)?;
-    put(out, PagePart::ProgramId)?;
-    put_number(out, program as u64)?;
-    put(out, PagePart::ProgramName)?;
-    put_name(out, program, judge)?;
-    put(out, PagePart::ProgramClose)
 }
 
 /// Appends what a program comes to, and what flushes would do.

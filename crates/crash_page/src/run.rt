@@ -1,12 +1,11 @@
-//! The run of which a page is, and its log.
+//! The run of which a page is.
 
 ghost use Rattle.std.specs.Prelude.{◌≡◌};
 
 use choices::Starts;
 use crash_text::Numbering;
-use epochs::{By, Plan};
 use images::History;
-use logfmt::Log;
+use page_parts::Logged;
 
 /// The run of which a page is: the table of its choices, the images, and what these are numbered by.
 #[derive(Clone, Copy)]
@@ -23,24 +22,6 @@ pub struct PageRun<'a> {
     pub ghost by_is: { starts.now.plan.by ≡ numbering.by },
     pub ghost bound_is: { starts.now.bound ≡ numbering.bound },
     pub ghost tears_are: { starts.now.tears ≡ numbering.tears },
-}
-
-/// A log with its plan.
-#[derive(Clone, Copy)]
-pub(crate) struct Logged<'a> {
-    pub(crate) plan: &'a Plan<'a>,
-    pub(crate) log: &'a Log<'a>,
-    pub(crate) ghost log_is: { plan.now.log ≡ log.now },
-}
-
-/// Of which log cases are, what departs as one, and whether parts may be torn.
-#[derive(Clone, Copy)]
-pub(crate) struct CaseRun<'a> {
-    pub(crate) plan: &'a Plan<'a>,
-    pub(crate) log: &'a Log<'a>,
-    pub(crate) by: By,
-    pub(crate) tears: bool,
-    pub(crate) ghost log_is: { plan.now.log ≡ log.now },
 }
 
 /// The log of a run.

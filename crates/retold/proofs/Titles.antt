@@ -5,8 +5,8 @@ use Rattle.report.specs.declared.head.ProgramHead.{ProgramHead}
 use Rattle.losses.specs.declared.cure.failure.Failure.{Failure}
 use Rattle.losses.specs.FailureWindows.{AreFailuresAt}
 use Rattle.crash_page.specs.declared.program.ProgramFailures.{ProgramFailures}
-use Rattle.crash_page.specs.declared.judge.PageJudge.TheVariants as judging
-use Rattle.crash_page.specs.Judges.{judge_text}
+use Rattle.page_parts.specs.declared.judge.PageJudge.TheVariants as judging
+use Rattle.page_parts.specs.Judges.{judge_text}
 use Rattle.crash_page.specs.Page.{page_text}
 use Rattle.crash_page.specs.Failing.{IsFailing, AreFailing}
 use Rattle.crash_page.proofs.Owned.{page_told}

@@ -16,7 +16,7 @@ use Rattle.losses.specs.Causes.{AreCauses, causes_from}
 use Rattle.losses.specs.declared.cure.failure.Failure.{Failure}
 use Rattle.losses.specs.FailureWindows.{AreFailuresAt, windows_in, places_in}
 use Rattle.losses.specs.CureText.{programs_text, missing_text, flush_line, uncured_at}
-use Rattle.crash_page.specs.Judges.{checker_text, outside_text}
+use Rattle.page_parts.specs.Judges.{checker_text, outside_text}
 use Rattle.crash_page.specs.Failing.{IsPage}
 use Rattle.join.specs.Given.{GivenValue, ToldLine, AreJudges, judge_count, marks_told, told_line}
 

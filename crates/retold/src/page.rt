@@ -3,7 +3,7 @@
 ghost use Rattle.std.specs.Prelude.{ℕ, ◌≡◌, ◌≢◌, ◌<◌, ◌++◌, ◌∷◌, [], true, List, All, Some, length, map, slice_get, IfOk, MatchOption, OnOk, string_bytes};
 ghost use Rattle.losses.specs.FailureWindows.{windows_in};
 ghost use Rattle.losses.specs.Places.{AreWindows};
-ghost use Rattle.crash_page.specs.Judges.{judge_text};
+ghost use Rattle.page_parts.specs.Judges.{judge_text};
 ghost use Rattle.crash_page.specs.Failing.{IsFailing, AreFailing};
 ghost use Rattle.crash_page.specs.Page.{AreOfRun as AreTaken};
 ghost use Rattle.join.specs.Given.{line_told};
@@ -13,12 +13,13 @@ ghost use Rattle.retold.specs.Told.{AreOfRun, HasHead, IsOwnHead, NoOwnHead, IsS
 use crate::lines::{images_of, outcomes_of};
 use crate::missing::failures_in;
 use crate::subject::Subject;
-use crash_page::{PageJudge, PageRun, ProgramFailures, program_failures, put_page};
+use crash_page::{PageRun, ProgramFailures, program_failures, put_page};
 use crash_text::Numbering;
 use epochs::Cuts;
 use images::History;
 use join::Given;
 use losses::cure::Failure;
+use page_parts::PageJudge;
 use report::ProgramHead;
 use std::alloc::{AllocError, Global};
 

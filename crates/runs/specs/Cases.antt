@@ -12,7 +12,7 @@ use Rattle.case_runs.specs.First.{IsFirstFailing}
 use Rattle.case_text.specs.First.{first_bytes}
 use Rattle.case_text.specs.Text.{cases_bytes, is_any_failing}
 use Rattle.case_text.specs.Why.{TellsWhy}
-use Rattle.crash_page.specs.CaseFlushes.{IsCasePage}
+use Rattle.case_page.specs.CaseFlushes.{IsCasePage}
 use Rattle.request.specs.declared.any_losses.AnyLosses.{AnyLosses}
 use Rattle.request.specs.declared.settings.CaseTelling.{CaseTelling}
 use Rattle.request.specs.declared.settings.CaseTelling.TheVariants as telling

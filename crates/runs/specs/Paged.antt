@@ -7,7 +7,7 @@ use Rattle.losses.specs.FailureWindows.{AreFailures}
 use Rattle.losses.specs.ProgramOutcomes.{outcomes_failing}
 use Rattle.report.specs.declared.head.ProgramHead.{ProgramHead}
 use Rattle.report.specs.Report.{HeadValue, options_text, totals_line}
-use Rattle.crash_page.specs.Judges.{checker_text}
+use Rattle.page_parts.specs.Judges.{checker_text}
 use Rattle.crash_page.specs.Failing.{IsPage}
 
 -- this is said of the checker of that number

@@ -7,7 +7,7 @@
 //! `bpf_isa` decodes the programs, `verifier` accepts them, `workers` judges the images
 //! by `checker`, `report` writes the lines and what stands at the head of each text, `losses` tells what fails of a program at
 //! each cut (`why`) and which flushes are missing (`cure`), and `crash_page` writes the page. Of any number of losses `case_runs` finds
-//! the failing cases, and `case_text` writes them.
+//! the failing cases, `case_text` writes them, and `case_page` their page.
 //!
 //! | Call | Answers |
 //! |---|---|

@@ -1,6 +1,6 @@
 use Rattle.std.proofs.Common.{ℕ, ◌≡◌, ◌+◌, ◌<◌, List, [], All, map, sym, subst, rules}
 use Rattle.crash_page.specs.declared.program.ProgramFailures.{ProgramFailures}
-use Rattle.crash_page.specs.Judges.{judge_text}
+use Rattle.page_parts.specs.Judges.{judge_text}
 use Rattle.crash_page.specs.Page.{AreOfRun}
 use Rattle.crash_page.specs.Failing.{AreFailing}
 use Rattle.crash_page.proofs.Owned.{failing_none, failing_more, taken_none, taken_more}

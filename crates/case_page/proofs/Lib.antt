@@ -1,0 +1,4 @@
+-- Lemmas of the crate.
+pub mod Summed
+pub mod CaseTexts
+pub mod CaseFlushes

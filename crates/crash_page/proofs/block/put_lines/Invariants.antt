@@ -1,7 +1,0 @@
-use Rattle.std.proofs.Common.{◌≡◌, ◌++◌, string_bytes}
-use Rattle.std.specs.List.{flat_map, range_with_len}
-use Rattle.crash_page.specs.Blocks.{line_text}
-use Rattle.crash_page.proofs.block.put_lines.Given as goal
-
-abbrev pub invariant-loop-step : goal.invariant-loop-step
-invariant-loop-step l = string_bytes l.out ≡ string_bytes l.initial.out ++ flat_map (line_text l.log.entries) (range_with_len l.from l.step)

@@ -1,8 +1,0 @@
-use Rattle.std.proofs.Common.{◌≡◌, ◌++◌, string_bytes}
-use Rattle.std.specs.List.{flat_map, range_with_len}
-use Rattle.crash_page.specs.Blocks.{row_at}
-use Rattle.crash_page.proofs.block.put_row_blocks.Given as goal
-
-abbrev pub invariant-loop-number : goal.invariant-loop-number
-invariant-loop-number l =
-    string_bytes l.out ≡ string_bytes l.initial.out ++ flat_map (row_at l.lacking.of l.logged.log.now.entries l.lacking.program l.lacking.flushes.now l.cuts) (range_with_len 0 l.number)
