@@ -33,6 +33,6 @@ pub fn least_of(explore: &Explore<'_>) -> Option<u64> {
 }
 
 /// What was handed over.
-pub fn pieces_of(explore: &Explore<'_>) -> &[HandedBlock] {
+pub fn pieces_of<'a>(explore: &'a Explore<'_>) -> &'a [HandedBlock] {
     explore.pieces()
 }

@@ -70,11 +70,12 @@ fn first_of_run<'a, J: Run, R: Wait>(
     requires checkers { checkers.now ≡ J.checkers }
     requires cache { 16 ≡ J.size }
 {
-    if input.block_count() == 0 {
-        return Ok(None);
-    }
     let shards: Vec<Mutex<Shard<'a, J>>> = shards(alloc, history, checkers, 16)?;
-    Ok(Some(judge_block(rt, alloc, input, shards.as_slice(), 0)?))
+    if 0 < input.block_count() {
+        Ok(Some(judge_block(rt, alloc, input, shards.as_slice(), 0)?))
+    } else {
+        Ok(None)
+    }
 }
 
 /// The piece of the first block of a run of one program, which has a limit of three steps, of all images of a plan.
