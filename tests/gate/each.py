@@ -93,11 +93,15 @@ def report(run, words, text_of, first=False):
     return "".join(["crash report 2\n", head, "\n", f"program 0 outside {told(words)}\n", *lines, last])
 
 
+# The notes of marks that promise too much, and of what a bound leaves out, which `says_notes` tests.
+NOTE = r"crashbpf-each: note: (marks that promise|a write before each of them|at \d+ of \d+ cuts) [^\r\n]*\r?\n"
+
+
 def ended(what, done, status, printed, said=""):
     """What is wrong with how a call ended: its status, its output, and the last line that it said."""
     found = differs(f"the status of {what}", done.returncode, status) + differs(f"the output of {what}", done.stdout, printed)
     # (on a slow machine the progress is said too)
-    lines = "".join(it for it in done.stderr.splitlines(keepends=True) if not it.startswith("progress: "))
+    lines = "".join(it for it in done.stderr.splitlines(keepends=True) if not it.startswith("progress: ") and not re.fullmatch(NOTE, it))
     return found + ([] if re.fullmatch(said, lines) else [f"{what} says {lines!r}"])
 
 
@@ -496,6 +500,26 @@ def takes_any_name(folder):
     return found + (["a word was run"] if Path(folder, "stolen").exists() else [])
 
 
+def says_notes(folder):
+    """What is wrong with what is said of marks and of what a bound leaves out."""
+    marked = [W(0, 1, 1), W(1, 1, 2), M("saved"), F, W(2, 1, 3)]
+    synced = [W(0, 1, 1), F, M("saved"), W(2, 1, 3)]
+    promise = "crashbpf-each: note: marks that promise what nothing made durable: entries 2\n"
+    lost = "crashbpf-each: note: a write before each of them may still be lost there: it has no flush after it, and isn't FUA\n"
+    beyond = "crashbpf-each: note: at 2 of 3 cuts a crash may lose more than 1 part, and such images aren't judged\n"
+    found = []
+    for name, run, words, wanted in (
+        ("a mark before its flush", Run(marked), [], promise + lost + beyond),
+        ("two writes by a bound of two", Run(marked, bound=2), [], promise + lost),
+        ("a mark after its flush", Run(synced), [], ""),
+        ("two writes of a range", Run(marked), ["--from", "4"], promise + lost),
+    ):
+        done = each(folder, [*put(folder, run), *words], ["true"])
+        said = "".join(it for it in done.stderr.splitlines(keepends=True) if not it.startswith("progress: "))
+        found += differs(f"the status of {name}", done.returncode, 0) + differs(f"what is said of {name}", said, wanted)
+    return found
+
+
 def says_progress(folder):
     """What is wrong with the line that a terminal is shown."""
     ours, theirs = pty.openpty()
@@ -507,7 +531,7 @@ def says_progress(folder):
     os.close(theirs)
     total = len(firsts(SMALL))
     line = rf"\r\x1b\[Kprogress: (\d+) of {total} images, \d+ of them judged, 0 failing; (\d+) left(, some \d+ s)?"
-    right = re.fullmatch(rf"({line})+\r\x1b\[K", said)
+    right = re.fullmatch(rf"({line})+\r\x1b\[K({NOTE})*", said)
     found = differs("the report", printed, report(SMALL, ["sleep", "0.1"], lambda of: None))
     return found + ([] if right and all(int(it[0]) + int(it[1]) == total for it in re.findall(line, said)) else [f"a terminal is shown {said!r}"])
 
@@ -535,6 +559,7 @@ def rows():
     yield "exports that are cut off", refuses_cut_exports
     yield "refusals", refuses
     yield "odd names", takes_any_name
+    yield "notes", says_notes
     yield "progress", says_progress
 
 
