@@ -33,12 +33,14 @@ def hints_for(said):
         yield "a checker has no library: no floating point; memcpy and the like are those of checker.h"
 
 
-# What clang says where a library would be called, or too many bytes be held at once.
-NO_LIBRARY = re.compile("A call to built-in function 'mem(cpy|set)'|stack limit of 512 bytes")
+# What clang says where a library would be called, too many bytes be held at once, or a signed number be divided.
+NO_LIBRARY = re.compile("A call to built-in function 'mem(cpy|set)'|stack limit of 512 bytes|[Uu]nsupport(ed)? signed division")
 # A copy, or bytes that are set, in its own language; and how many bytes are left to it.
 INTRINSIC = re.compile(r"call void @llvm\.(memcpy|memset)\.[\w.]+\(")
 FEW = 32
 POINTER = re.compile(r"\bptr\b")
+# A division of signed numbers there; one that is exact, or by a power of two, needs none.
+DIVISION = re.compile(r"(\s*)(%[\w.]+) = (sdiv|srem) i(8|16|32|64) ([^,]+), ([^,]+)(.*)$")
 
 
 def arguments(text):
@@ -56,11 +58,12 @@ def arguments(text):
 
 def with_calls(text):
     """A module of clang's own language in which many bytes are copied and set by calls."""
-    lines = [called_line(it) for it in text.split("\n")]
+    lines = [divided_line(called_line(it)) for it in text.split("\n")]
     pointer = "ptr" if any(INTRINSIC.search(it) and POINTER.search(it) for it in text.split("\n")) else "i8*"
-    kinds = {"copies_": f"{pointer}, {pointer}, i64", "sets_": f"{pointer}, i8, i64"}
-    used = [name for name in kinds if any(f"@{name}(" in it for it in lines)]
-    return "\n".join([*lines, *(f"declare void @{name}({kinds[name]})" for name in used), ""])
+    kinds = {"void @copies_": f"{pointer}, {pointer}, i64", "void @sets_": f"{pointer}, i8, i64"}
+    kinds |= {"i64 @divides_": "i64, i64", "i64 @remains_": "i64, i64"}
+    used = [name for name in kinds if any(f"call {name}(" in it for it in lines)]
+    return "\n".join([*lines, *(f"declare {name}({kinds[name]})" for name in used), ""])
 
 
 def called_line(line):
@@ -72,6 +75,21 @@ def called_line(line):
         return line
     name = "copies_" if found[1] == "memcpy" else "sets_"
     return f"{line[: found.start()]}call void @{name}({', '.join(given[:3])}){rest}"
+
+
+def divided_line(line):
+    """A line, or the lines of a signed division as a call, of numbers of 64 bits."""
+    found = DIVISION.match(line)
+    if not found:
+        return line
+    space, name, kind, bits, first, second, rest = found.groups()
+    called = "divides_" if kind == "sdiv" else "remains_"
+    if bits == "64":
+        return f"{space}{name} = call i64 @{called}(i64 {first}, i64 {second}){rest}"
+    own = f"%{called}{name[1:]}_"
+    wide = [f"{space}{own}{at} = sext i{bits} {it} to i64{rest}" for at, it in enumerate((first, second))]
+    call = f"{space}{own}2 = call i64 @{called}(i64 {own}0, i64 {own}1){rest}"
+    return "\n".join([*wide, call, f"{space}{name} = trunc i64 {own}2 to i{bits}{rest}"])
 
 
 class Clang:
