@@ -25,12 +25,6 @@ def hints_for(said):
         yield 'checker.h is found from anywhere: #include "checker.h"'
     if re.search(r"unknown type name .u(8|16|32|64)\b", said):
         yield 'a checker begins with #include "checker.h"'
-    if "signed division" in said:
-        yield "divide unsigned numbers"
-    if "stack limit" in said or "stack frame" in said:
-        yield "all locals together have 512 bytes: make large arrays and structs static, which have 65536 in memory"
-    if "built-in function" in said:
-        yield "a checker has no library: no floating point; memcpy and the like are those of checker.h"
 
 
 # What clang says where a library would be called, too many bytes be held at once, or a signed number be divided.

@@ -5,7 +5,7 @@ which the code refers are placed there one after the other, and stores in front 
 """
 import struct
 
-from commands.cc.program import LDDW, MOST_SLOTS, SLOT, NoProgram, broken
+from commands.cc.program import LDDW, MOST_SLOTS, SLOT, FunctionTaken, NoProgram, broken
 
 MEMORY, ROOM = 1 << 40, 65536
 # One base reaches all of it: a distance is a number of 16 bits with a sign.
@@ -78,7 +78,7 @@ class Memory:
         """An address among the first bytes."""
         need = self.object.need(0, symbol)
         if need.kind == "function":
-            raise NoProgram(f"a table or a variable has the address of the function {need.name}", "a switch that calls the functions by their names")
+            raise FunctionTaken(need.name)
         if kind not in OF_WORD or need.kind != "data" or at + 8 > len(self.bytes):
             raise broken(f"a place of its data is filled with {need.name}, of kind {kind}")
         (addend,) = struct.unpack_from("<Q", self.bytes, at)
