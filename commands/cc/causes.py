@@ -50,6 +50,24 @@ CALLED = re.compile(r"built-in function '(\w+)'")
 ATOMICS, BY_REGISTER = (0xC3, 0xDB), 0x8D
 STACK_REGISTER = 10
 SHOWN = 8
+# Locals of as many bytes aren't named.
+SMALL = 16
+
+
+class StackSpent(NoProgram):
+    """The locals of a function don't fit."""
+
+
+def too_large(function, locals_, guards):
+    """The refusal where locals don't fit: each of them that isn't small, the largest first, with its function."""
+    large = sorted((it for it in locals_ if it.size > SMALL), key=lambda it: -it.size)
+    lines = [f"{it.declaration.place()}: {it.name} of {it.declaration.function.name} takes {it.size} bytes" for it in large]
+    helps = ["say static for the large ones: those have 65536 bytes of memory. Give them their value by a statement"]
+    helps += [] if guards else ["that memory is there with guards alone: take --no-guards away, or read by position"]
+    helps += [] if large else ["a struct as a parameter or an answer has its place there too: pass a pointer to a static one"]
+    return NoProgram(
+        "\n    ".join([f"the locals of {function} and of what is inlined in it take more than 512 bytes", *lines[:SHOWN]]), *helps
+    )
 
 
 def of_library(name):

@@ -13,6 +13,9 @@ HEADERS = ["-I", INCLUDE, "-I", INCLUDE / "native", "-isystem", INCLUDE / "stand
 # Each function and each variable has a section of its own, so that a program has no more than what it needs.
 APART = ["-ffunction-sections", "-fdata-sections"]
 
+# A position that no device has: 2^64 less this.
+PAST = -1024
+
 # What a call of a helper leaves nothing of.
 CLOBBERED = '"r0", "r1", "r2", "r3", "r4", "r5", "memory"'
 
@@ -112,6 +115,10 @@ class Clang:
     def check(self, source, definitions):
         return self.run([*self.target, *definitions, "-Wall", "-Wno-pass-failed", "-fsyntax-only", source])
 
+    def read(self, text):
+        """Reads a preprocessed text, and makes nothing of it."""
+        return self.run([*self.target, "-ferror-limit=0", "-fsyntax-only", "-x", "cpp-output", "-"], text)
+
     def compile(self, text, options, out):
         """Compiles the preprocessed text to the file `out`; each function gets a section of its own, .text.NAME."""
         words = [*self.target, "-g", "-w", *APART, "-fno-jump-tables", "-fno-crash-diagnostics"]
@@ -139,6 +146,10 @@ class Clang:
     def end(self, code, answer):
         """A statement that ends the run."""
         return f'__asm__ volatile("r1 = {code}\\n\\tcall 4\\n\\tr0 = {answer}\\n\\texit" : : : {CLOBBERED});'
+
+    def zeros(self, place, length):
+        """A statement that makes so many bytes zeros: helper `copy` has none of a place past the device."""
+        return f'__asm__ volatile("r2 = %0\\n\\tr1 = {PAST}\\n\\tr3 = {length}\\n\\tcall 2" : : "r"({place}) : {CLOBBERED});'
 
     def lines(self, path, object_, section):
         """For each slot of a section, given by its number, the file, the line and the instruction."""
@@ -187,6 +198,9 @@ class Gcc:
     def check(self, source, definitions):
         return self.run([*self.target, *definitions, "-Wall", "-fsyntax-only", source])
 
+    def read(self, text):
+        return self.run([*self.target, "-fsyntax-only", "-x", "cpp-output", "-"], text)
+
     def compile(self, text, options, out):
         # Constants that may be merged are named by symbols inside of their section, which aren't read (data.py).
         words = [*self.target, "-gdwarf", "-w", *APART, "-fno-merge-constants"]
@@ -203,6 +217,9 @@ class Gcc:
 
     def end(self, code, answer):
         return f'__asm__ volatile("mov %%r1,{code}\\n\\tcall 4\\n\\tmov %%r0,{answer}\\n\\texit" : : : {CLOBBERED});'
+
+    def zeros(self, place, length):
+        return f'__asm__ volatile("mov %%r2,%0\\n\\tmov %%r1,{PAST}\\n\\tmov %%r3,{length}\\n\\tcall 2" : : "r"({place}) : {CLOBBERED});'
 
     def lines(self, path, object_, section):
         """As of clang."""

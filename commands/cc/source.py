@@ -82,12 +82,13 @@ def tokens_of(text):
 
 
 class Source:
-    """The text, its functions, and the loops in them, outer ones in front of inner ones."""
+    """The text, its functions, the loops in them, outer ones in front of inner ones, and their statements: the first token of each that has
+    no other one in it, and its semicolon."""
 
     def __init__(self, text):
         self.text = text
         self.tokens = tokens_of(text)
-        self.functions, self.loops = [], []
+        self.functions, self.loops, self.statements = [], [], []
         try:
             self.outside()
         except RecursionError:
@@ -217,10 +218,12 @@ class Source:
             return self.statement(at + 1) if self.word(at + 1) != "}" else at + 1
         if self.word(at + 1) == ":" and re.match(r"[A-Za-z_]", word):
             return self.statement(at + 2) if self.word(at + 2) != "}" else at + 2
+        first = at
         while self.word(at) != ";":
             if at >= len(self.tokens):
                 raise Unread("a statement has no end")
             at = self.expression(at) if self.word(at) in CLOSES else at + 1
+        self.statements.append((first, at))
         return at + 1
 
     def expression(self, at):
