@@ -58,12 +58,15 @@ class StackSpent(NoProgram):
     """The locals of a function don't fit."""
 
 
-def too_large(function, locals_, guards):
-    """The refusal where locals don't fit: each of them that isn't small, the largest first, with its function."""
+def too_large(function, locals_, guards, again):
+    """The refusal where locals don't fit: each of them that isn't small, the largest first, with its function. Those of the functions
+    `again` stay on the stack, since such a function may be called while it runs."""
     large = sorted((it for it in locals_ if it.size > SMALL), key=lambda it: -it.size)
     lines = [f"{it.declaration.place()}: {it.name} of {it.declaration.function.name} takes {it.size} bytes" for it in large]
     helps = ["say static for the large ones: those have 65536 bytes of memory. Give them their value by a statement"]
     helps += [] if guards else ["that memory is there with guards alone: take --no-guards away, or read by position"]
+    called = [it.name for it in again if any(local.declaration.function is it for local in large)]
+    helps = [f"{' and '.join(called)} may be called by a pointer while it runs: a switch that calls each function by its name"] if called else helps
     helps += [] if large else ["a struct as a parameter or an answer has its place there too: pass a pointer to a static one"]
     return NoProgram(
         "\n    ".join([f"the locals of {function} and of what is inlined in it take more than 512 bytes", *lines[:SHOWN]]), *helps

@@ -3,6 +3,7 @@
 A program with guards has 65,536 bytes of its own (docs/MACHINE.md, 'Memory'), which are zeros when a run begins. The sections to
 which the code refers are placed there one after the other, and stores in front of the code give them their first bytes.
 """
+import re
 import struct
 
 from commands.cc.program import LDDW, MOST_SLOTS, SLOT, FunctionTaken, NoProgram, broken
@@ -17,6 +18,8 @@ STORE_WORD, STORE_DOUBLE = 0x62, 0x7A
 # r1 has the context when a program starts; this register is free.
 REGISTER = 2
 HALF = 1 << 31
+# How many variables are named where all are too large.
+SHOWN = 6
 
 
 def signed(value, bits):
@@ -40,11 +43,17 @@ class Memory:
         if self.size > ROOM:
             raise NoProgram(
                 f"its variables, tables and strings take {self.size} bytes, and a program has {ROOM}",
+                f"the largest: {', '.join(self.largest())}",
                 "smaller buffers, or one for several uses",
             )
         self.bytes = bytearray(self.size)
         for number, start in self.places.items():
             self.put(number, start)
+
+    def largest(self):
+        """What takes most of the memory, each with its bytes."""
+        sections = sorted((self.object.sections[it] for it in self.places), key=lambda it: -it.size)
+        return [f"{re.sub('^[.](bss|data|rodata)[.]?', '', it.name) or 'strings'} {it.size}" for it in sections[:SHOWN]]
 
     def of_symbol(self, symbol):
         """The section of a symbol of data, or none."""

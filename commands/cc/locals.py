@@ -3,7 +3,8 @@
 The stack has 512 bytes for all functions that are inlined together. A local array or struct becomes a static variable. There is one of it
 for each declaration, and that is enough: no function calls itself, so that no two uses of one local are there at a time. Its initializer
 becomes code that stands where the declaration stood, and gives it its whole value whenever the run comes there, as C says. One that is
-`const`, and whose initializer is constant, keeps it: its value is never another.
+`const`, and whose initializer is constant, keeps it: its value is never another. Locals of a function that may be called while it runs
+stay on the stack: a compiler may make a loop of one that calls itself, and inline one that is called by a pointer.
 
 Nothing is known of types here. How large a local is, the compiler says; which bytes an initializer gives, its object file has.
 """
@@ -175,6 +176,23 @@ def declarator(source, at, last, own):
     return Local(source.word(name), name, begin, at, dimension, equals, own), at
 
 
+def circular(source, functions):
+    """The functions of these that may be called while they run. One that is called by a pointer may be called from anywhere."""
+    taken = {source.word(at) for at in source.addresses()}
+    called = {it.name: taken | {source.word(at) for at in source.calls(it)} for it in functions}
+    return [it for it in functions if reaches(called, it.name)]
+
+
+def reaches(called, name):
+    """Whether a function leads to itself."""
+    seen, left = set(), [name]
+    while left:
+        for it in called.get(left.pop(), set()) - seen:
+            seen.add(it)
+            left.append(it)
+    return name in seen
+
+
 def locals_of(source, functions):
     """The arrays and structs among the locals of these functions."""
     found = []
@@ -208,9 +226,10 @@ def measured(locals_, said):
 class Moved:
     """The locals that get a place in memory: those of at least so many bytes."""
 
-    def __init__(self, source, locals_, compiler):
+    def __init__(self, source, locals_, functions, compiler):
         self.source, self.compiler, self.all = source, compiler, locals_
-        self.able = [it for it in locals_ if it.size >= LEAST[-1] and it.declaration.can_move()]
+        self.again = again = circular(source, functions)
+        self.able = [it for it in locals_ if it.size >= LEAST[-1] and it.declaration.can_move() and it.declaration.function not in again]
         self.least = LEAST[0] if any(it.size >= LEAST[0] for it in self.able) else LEAST[-1]
 
     def locals(self):
