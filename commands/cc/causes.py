@@ -48,7 +48,6 @@ MEANT = re.compile(r"could not determine the original source location for (.+):(
 CALLED = re.compile(r"built-in function '(\w+)'")
 # Instructions of atomics (of 32 and of 64 bits), and a call through a register.
 ATOMICS, BY_REGISTER = (0xC3, 0xDB), 0x8D
-STACK_REGISTER = 10
 SHOWN = 8
 # Locals of as many bytes aren't named.
 SMALL = 16
@@ -178,8 +177,6 @@ class Causes:
             kind = ATOMIC if it.opcode in ATOMICS else None
             if it.opcode == BY_REGISTER or it.opcode == CALL and it.source == 0 and code[8 * at + 1] & 15:
                 kind = (f"a function {POINTED[0]}", POINTED[1])
-            if it.opcode & 7 in (0, 1, 4, 7) and code[8 * at + 1] & 15 == STACK_REGISTER:
-                kind = SIZED
             if kind:
                 file, line, _ = lines.get(at, ("", 0, ""))
                 causes.append((f"{Path(file).name}:{line}", *kind))
