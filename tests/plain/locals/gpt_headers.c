@@ -64,7 +64,7 @@ u64 check(const struct context *context)
 		copy(512 * (2 + i), entries + 512 * i, 512);
 	report(crc32(&crc, entries, sizeof entries));
 	if (!good && !other)
-		return crc32(&crc, entries, 128 * (1 + context->epoch)) | 1;
+		return crc32(&crc, entries, 128 * (1 + context->epoch % 32)) | 1;
 	if (good && crc32(&crc, entries, sizeof entries) != primary.entries_crc)
 		return 2;
 	return good != other;

@@ -67,7 +67,7 @@ static int scan(struct scanner *s)
 			if (is_digit(c)) {
 				long value = 0;
 				while (s->at < s->end && is_digit(s->text[s->at]))
-					value = value * 10 + (s->text[s->at++] - '0');
+					value = (value * 10 + (s->text[s->at++] - '0')) % 1000000;
 				s->numbers += value % 1000;
 			} else
 				s->at++;
