@@ -1,18 +1,22 @@
-"""Calls of the library that a compiler makes by itself, for a copy of many bytes or for bytes that are set: the code that stands there.
+"""Calls of the library that a compiler makes by itself: the code that stands there.
 
-A called function could do it as well, but may not write to the locals of its caller (docs/MACHINE.md, 'Guards'). So each call becomes
-loads and stores of words in its place. Their number is known: the compiler calls for a constant length alone.
+It calls for a copy of many bytes, or for bytes that are set. A called function could do that as well, but may not write to the locals
+of its caller (docs/MACHINE.md, 'Guards'). So each call becomes loads and stores of words in its place. Their number is known: the
+compiler calls for a constant length alone. It calls for a signed division too, which the machine has and older processors of BPF
+haven't: that becomes one instruction.
 """
 import struct
 
 from commands.cc.program import CALL, EXIT, JA32, LDDW, MOST_SLOTS, SLOT, NoProgram, broken, slots_of
 
-# The names of both, as gcc calls them and as compilers.py has clang call them.
+# The names of each, as gcc calls them and as compilers.py has clang call them.
 COPIES, SETS = ("memcpy", "copies_"), ("memset", "sets_")
-MADE = (*COPIES, *SETS)
+QUOTIENTS, REMAINDERS = ("__divdi3", "divides_"), ("__moddi3", "remains_")
+MADE = (*COPIES, *SETS, *QUOTIENTS, *REMAINDERS)
 SIZES = {8: 0x18, 4: 0x00, 2: 0x08, 1: 0x10}
 LOAD, STORE = 0x61, 0x63
-MOV, MOV32, MOVE, AND, MUL = 0xB7, 0xB4, 0xBF, 0x57, 0x2F
+MOV, MOV32, MOVE, AND, MUL, DIV, MOD = 0xB7, 0xB4, 0xBF, 0x57, 0x2F, 0x3F, 0x9F
+SIGNED = 1
 LENGTH = 3
 BYTES = 0x01010101
 JUMPS = (5, 6)
@@ -44,6 +48,11 @@ def set_code(length):
     whole = slot(AND, 2, 0, 0, 255) + slot(LDDW, 0, 0, 0, BYTES) + slot(0, 0, 0, 0, BYTES) + slot(MUL, 2, 0)
     words = [slot(STORE | SIZES[size], 1, 2, at) for at, size in pieces(length)]
     return whole + b"".join(words) + slot(MOVE, 0, 1)
+
+
+def division_code(opcode):
+    """Divides r1 by r2, both signed, and answers the quotient or the remainder."""
+    return slot(MOVE, 0, 1) + slot(opcode, 0, 2, SIGNED)
 
 
 def target_of(at, it):
@@ -98,7 +107,9 @@ def expanded(code, calls):
 
 
 def written_out(code, slots, targets, at, name):
-    """Returns the code in place of a call of a function of memory, for a constant length that isn't too large."""
+    """Returns the code in place of a call: of a division, or of a function of memory for a constant length that isn't too large."""
+    if name in QUOTIENTS + REMAINDERS:
+        return division_code(DIV if name in QUOTIENTS else MOD)
     length = length_at(code, slots, targets, at)
     if length is None:
         raise NoProgram(

@@ -13,6 +13,9 @@ HEADERS = ["-I", INCLUDE, "-I", INCLUDE / "native", "-isystem", INCLUDE / "stand
 # Each function and each variable has a section of its own, so that a program has no more than what it needs.
 APART = ["-ffunction-sections", "-fdata-sections"]
 
+# A position that no device has: 2^64 less this.
+PAST = -1024
+
 # What a call of a helper leaves nothing of.
 CLOBBERED = '"r0", "r1", "r2", "r3", "r4", "r5", "memory"'
 
@@ -25,20 +28,16 @@ def hints_for(said):
         yield 'checker.h is found from anywhere: #include "checker.h"'
     if re.search(r"unknown type name .u(8|16|32|64)\b", said):
         yield 'a checker begins with #include "checker.h"'
-    if "signed division" in said:
-        yield "divide unsigned numbers"
-    if "stack limit" in said or "stack frame" in said:
-        yield "all locals together have 512 bytes: make large arrays and structs static, which have 65536 in memory"
-    if "built-in function" in said:
-        yield "a checker has no library: no floating point; memcpy and the like are those of checker.h"
 
 
-# What clang says where a library would be called, or too many bytes be held at once.
-NO_LIBRARY = re.compile("A call to built-in function 'mem(cpy|set)'|stack limit of 512 bytes")
+# What clang says where a library would be called, too many bytes be held at once, or a signed number be divided.
+NO_LIBRARY = re.compile("A call to built-in function 'mem(cpy|set)'|stack limit of 512 bytes|[Uu]nsupport(ed)? signed division")
 # A copy, or bytes that are set, in its own language; and how many bytes are left to it.
 INTRINSIC = re.compile(r"call void @llvm\.(memcpy|memset)\.[\w.]+\(")
 FEW = 32
 POINTER = re.compile(r"\bptr\b")
+# A division of signed numbers there; one that is exact, or by a power of two, needs none.
+DIVISION = re.compile(r"(\s*)(%[\w.]+) = (sdiv|srem) i(8|16|32|64) ([^,]+), ([^,]+)(.*)$")
 
 
 def arguments(text):
@@ -56,11 +55,12 @@ def arguments(text):
 
 def with_calls(text):
     """A module of clang's own language in which many bytes are copied and set by calls."""
-    lines = [called_line(it) for it in text.split("\n")]
+    lines = [divided_line(called_line(it)) for it in text.split("\n")]
     pointer = "ptr" if any(INTRINSIC.search(it) and POINTER.search(it) for it in text.split("\n")) else "i8*"
-    kinds = {"copies_": f"{pointer}, {pointer}, i64", "sets_": f"{pointer}, i8, i64"}
-    used = [name for name in kinds if any(f"@{name}(" in it for it in lines)]
-    return "\n".join([*lines, *(f"declare void @{name}({kinds[name]})" for name in used), ""])
+    kinds = {"void @copies_": f"{pointer}, {pointer}, i64", "void @sets_": f"{pointer}, i8, i64"}
+    kinds |= {"i64 @divides_": "i64, i64", "i64 @remains_": "i64, i64"}
+    used = [name for name in kinds if any(f"call {name}(" in it for it in lines)]
+    return "\n".join([*lines, *(f"declare {name}({kinds[name]})" for name in used), ""])
 
 
 def called_line(line):
@@ -72,6 +72,21 @@ def called_line(line):
         return line
     name = "copies_" if found[1] == "memcpy" else "sets_"
     return f"{line[: found.start()]}call void @{name}({', '.join(given[:3])}){rest}"
+
+
+def divided_line(line):
+    """A line, or the lines of a signed division as a call, of numbers of 64 bits."""
+    found = DIVISION.match(line)
+    if not found:
+        return line
+    space, name, kind, bits, first, second, rest = found.groups()
+    called = "divides_" if kind == "sdiv" else "remains_"
+    if bits == "64":
+        return f"{space}{name} = call i64 @{called}(i64 {first}, i64 {second}){rest}"
+    own = f"%{called}{name[1:]}_"
+    wide = [f"{space}{own}{at} = sext i{bits} {it} to i64{rest}" for at, it in enumerate((first, second))]
+    call = f"{space}{own}2 = call i64 @{called}(i64 {own}0, i64 {own}1){rest}"
+    return "\n".join([*wide, call, f"{space}{name} = trunc i64 {own}2 to i{bits}{rest}"])
 
 
 class Clang:
@@ -100,6 +115,10 @@ class Clang:
     def check(self, source, definitions):
         return self.run([*self.target, *definitions, "-Wall", "-Wno-pass-failed", "-fsyntax-only", source])
 
+    def read(self, text):
+        """Reads a preprocessed text, and makes nothing of it."""
+        return self.run([*self.target, "-ferror-limit=0", "-fsyntax-only", "-x", "cpp-output", "-"], text)
+
     def compile(self, text, options, out):
         """Compiles the preprocessed text to the file `out`; each function gets a section of its own, .text.NAME."""
         words = [*self.target, "-g", "-w", *APART, "-fno-jump-tables", "-fno-crash-diagnostics"]
@@ -127,6 +146,10 @@ class Clang:
     def end(self, code, answer):
         """A statement that ends the run."""
         return f'__asm__ volatile("r1 = {code}\\n\\tcall 4\\n\\tr0 = {answer}\\n\\texit" : : : {CLOBBERED});'
+
+    def zeros(self, place, length):
+        """A statement that makes so many bytes zeros: helper `copy` has none of a place past the device."""
+        return f'__asm__ volatile("r2 = %0\\n\\tr1 = {PAST}\\n\\tr3 = {length}\\n\\tcall 2" : : "r"({place}) : {CLOBBERED});'
 
     def lines(self, path, object_, section):
         """For each slot of a section, given by its number, the file, the line and the instruction."""
@@ -175,6 +198,9 @@ class Gcc:
     def check(self, source, definitions):
         return self.run([*self.target, *definitions, "-Wall", "-fsyntax-only", source])
 
+    def read(self, text):
+        return self.run([*self.target, "-fsyntax-only", "-x", "cpp-output", "-"], text)
+
     def compile(self, text, options, out):
         # Constants that may be merged are named by symbols inside of their section, which aren't read (data.py).
         words = [*self.target, "-gdwarf", "-w", *APART, "-fno-merge-constants"]
@@ -191,6 +217,9 @@ class Gcc:
 
     def end(self, code, answer):
         return f'__asm__ volatile("mov %%r1,{code}\\n\\tcall 4\\n\\tmov %%r0,{answer}\\n\\texit" : : : {CLOBBERED});'
+
+    def zeros(self, place, length):
+        return f'__asm__ volatile("mov %%r2,%0\\n\\tmov %%r1,{PAST}\\n\\tmov %%r3,{length}\\n\\tcall 2" : : "r"({place}) : {CLOBBERED});'
 
     def lines(self, path, object_, section):
         """As of clang."""

@@ -3,9 +3,10 @@
 A program with guards has 65,536 bytes of its own (docs/MACHINE.md, 'Memory'), which are zeros when a run begins. The sections to
 which the code refers are placed there one after the other, and stores in front of the code give them their first bytes.
 """
+import re
 import struct
 
-from commands.cc.program import LDDW, MOST_SLOTS, SLOT, NoProgram, broken
+from commands.cc.program import LDDW, MOST_SLOTS, SLOT, FunctionTaken, NoProgram, broken
 
 MEMORY, ROOM = 1 << 40, 65536
 # One base reaches all of it: a distance is a number of 16 bits with a sign.
@@ -17,6 +18,8 @@ STORE_WORD, STORE_DOUBLE = 0x62, 0x7A
 # r1 has the context when a program starts; this register is free.
 REGISTER = 2
 HALF = 1 << 31
+# How many variables are named where all are too large.
+SHOWN = 6
 
 
 def signed(value, bits):
@@ -40,11 +43,17 @@ class Memory:
         if self.size > ROOM:
             raise NoProgram(
                 f"its variables, tables and strings take {self.size} bytes, and a program has {ROOM}",
+                f"the largest: {', '.join(self.largest())}",
                 "smaller buffers, or one for several uses",
             )
         self.bytes = bytearray(self.size)
         for number, start in self.places.items():
             self.put(number, start)
+
+    def largest(self):
+        """What takes most of the memory, each with its bytes."""
+        sections = sorted((self.object.sections[it] for it in self.places), key=lambda it: -it.size)
+        return [f"{re.sub('^[.](bss|data|rodata)[.]?', '', it.name) or 'strings'} {it.size}" for it in sections[:SHOWN]]
 
     def of_symbol(self, symbol):
         """The section of a symbol of data, or none."""
@@ -78,7 +87,7 @@ class Memory:
         """An address among the first bytes."""
         need = self.object.need(0, symbol)
         if need.kind == "function":
-            raise NoProgram(f"a table or a variable has the address of the function {need.name}", "a switch that calls the functions by their names")
+            raise FunctionTaken(need.name)
         if kind not in OF_WORD or need.kind != "data" or at + 8 > len(self.bytes):
             raise broken(f"a place of its data is filled with {need.name}, of kind {kind}")
         (addend,) = struct.unpack_from("<Q", self.bytes, at)

@@ -29,6 +29,14 @@ class NoProgram(Refusal):
     """The checker can't be made a program, in one way of compiling it at least."""
 
 
+class FunctionTaken(NoProgram):
+    """A table or a variable has the address of a function, of this name."""
+
+    def __init__(self, name):
+        super().__init__(f"a table or a variable has the address of the function {name}", "a switch that calls the functions by their names")
+        self.name = name
+
+
 @dataclass
 class Symbol:
     name: str
@@ -138,11 +146,6 @@ class Object:
             raise NoProgram(
                 f"the section {section.name} of {name} holds more than this function and what is LOCAL to it",
                 "take the attribute section(..) away, and all asm outside of functions",
-            )
-        if section.size > SLOT * MOST_SLOTS:
-            raise NoProgram(
-                f"the function {name} has {section.size // SLOT} slots, and a program has at most {MOST_SLOTS}",
-                "loops with few turns, tables and inlined functions are written out: give them TURN, or make them LOCAL",
             )
         return it
 

@@ -82,12 +82,13 @@ def tokens_of(text):
 
 
 class Source:
-    """The text, its functions, and the loops in them, outer ones in front of inner ones."""
+    """The text, its functions, the loops in them, outer ones in front of inner ones, and their statements: the first token of each that has
+    no other one in it, and its semicolon."""
 
     def __init__(self, text):
         self.text = text
         self.tokens = tokens_of(text)
-        self.functions, self.loops = [], []
+        self.functions, self.loops, self.statements = [], [], []
         try:
             self.outside()
         except RecursionError:
@@ -95,6 +96,60 @@ class Source:
 
     def word(self, at):
         return self.tokens[at].text if at < len(self.tokens) else ""
+
+    def place(self, at):
+        """The file, without folders, and the line of a token, as refusals name them."""
+        token = self.tokens[at]
+        return f"{token.file.rpartition('/')[2]}:{token.line}"
+
+    def function_at(self, file, line):
+        """The function in whose lines this place is, or none."""
+        for it in self.functions:
+            body, end = self.tokens[it.body], self.tokens[it.end - 1]
+            if body.file.rpartition("/")[2] == file.rpartition("/")[2] and self.tokens[it.declared].line <= line <= end.line:
+                return it
+        return None
+
+    def own_name(self, at, names):
+        """Whether a token is one of these names, and no field of that name."""
+        return self.word(at) in names and self.word(at - 1) != "." and (self.word(at - 2), self.word(at - 1)) != ("-", ">")
+
+    def calls(self, function):
+        """The tokens of a function's body that name functions of the source."""
+        names = {it.name for it in self.functions}
+        return [at for at in range(function.body, function.end) if self.own_name(at, names)]
+
+    def reached(self, name):
+        """The functions that the function of this name needs, itself too."""
+        found, left = [], [name]
+        while left:
+            name = left.pop()
+            for it in self.functions:
+                if it.name == name and it not in found:
+                    found.append(it)
+                    left += [self.word(at) for at in self.calls(it)]
+        return found
+
+    def circle(self, name):
+        """The tokens of calls that lead from a function back to itself, of the first such that this function needs; or none."""
+        by_name = {it.name: it for it in self.functions}
+        for it in self.reached(name):
+            ways, seen = [[at] for at in self.calls(it)], set()
+            while ways:
+                way = ways.pop(0)
+                called = self.word(way[-1])
+                if called == it.name:
+                    return way
+                if called not in seen:
+                    seen.add(called)
+                    ways += [[*way, at] for at in self.calls(by_name[called])]
+        return []
+
+    def addresses(self, name=None):
+        """The tokens that name functions, or this one, and don't call them."""
+        names = {it.name for it in self.functions} if name is None else {name}
+        declared = {at for it in self.functions for at in range(it.declared, it.body)}
+        return [at for at in range(len(self.tokens)) if self.own_name(at, names) and self.word(at + 1) != "(" and at not in declared]
 
     def closed(self, at):
         """The token after the bracket that closes the one at this place."""
@@ -163,10 +218,12 @@ class Source:
             return self.statement(at + 1) if self.word(at + 1) != "}" else at + 1
         if self.word(at + 1) == ":" and re.match(r"[A-Za-z_]", word):
             return self.statement(at + 2) if self.word(at + 2) != "}" else at + 2
+        first = at
         while self.word(at) != ";":
             if at >= len(self.tokens):
                 raise Unread("a statement has no end")
             at = self.expression(at) if self.word(at) in CLOSES else at + 1
+        self.statements.append((first, at))
         return at + 1
 
     def expression(self, at):

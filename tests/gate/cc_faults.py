@@ -10,6 +10,7 @@ Prints a line for each row that failed, and last `N passed, M failed`. It takes 
 """
 import os
 import random
+import re
 import shutil
 import signal
 import struct
@@ -31,7 +32,9 @@ from notation import TOP, program
 
 from commands.cc.calls import MADE, copy_code, expanded, set_code
 from commands.cc.data import ROOM, Memory, with_data
+from commands.cc.locals import Moved, can_be_told, circular, locals_of
 from commands.cc.program import LDDW, SLOT, NoProgram, Object, slots_of
+from commands.cc.source import Source
 
 CC = TOP / "commands/cc/crashbpf-cc"
 CHANGED = 3000
@@ -451,6 +454,139 @@ def memory(place, crashbpf):
         yield f"data: {name}, without guards", refused(place, "which lies outside of the function check", "source.c", "check", "out.bpf", "--no-guards")
 
 
+# Quotients and remainders of signed numbers, one by one.
+DIVIDED = """
+mov64 r1, -17
+mov64 r2, 5
+call 500
+mov64 r6, r0
+mov64 r1, -17
+mov64 r2, 5
+call 501
+mul64 r6, 1000
+add64 r6, r0
+mov64 r1, -17
+mov64 r2, 0
+call 500
+add64 r6, r0
+mov64 r1, -17
+mov64 r2, 0
+call 501
+mul64 r0, 100
+add64 r0, r6
+exit
+"""
+
+
+def divisions(crashbpf, folder):
+    """What is wrong with signed divisions that are written out."""
+    code = assembled(crashbpf, folder, DIVIDED.strip().replace("\n", "; "))
+    calls_ = {at: it.immediate for at, it in slots_of(code).items() if it.opcode == 0x85}
+    for names in (("__divdi3", "__moddi3"), ("divides_", "remains_")):
+        out, _places = expanded(code, {at: names[number - 500] for at, number in calls_.items()})
+        end = judged(out, Zeros(), 1000, True).text
+        # -17 / 5 is -3 and -2 are left; by 0 it is 0, and all is left.
+        wanted = f"answer {(-3000 - 2 + 0 - 1700) % 2**64} codes -"
+        yield f"divisions {names}", [] if end == wanted else [f"{end}, wanted {wanted}"]
+
+
+# What a compiler prints that makes nothing, of a source in whose lines the cause stands, and how the refusal begins.
+CAUSES = """\
+static u64 (*const table[])(u64) = { first };
+static u64 first(u64 n) { return n; }
+static u64 some(int n, ...) { return n; }
+static u64 down(u64 n) { return down(n - 1); }
+u64 check(void)
+{
+	down(1);
+	return some(1) + first(2);
+}
+"""
+NOTED = "source.c:5:5: note: could not determine the original source location for source.c:7:2"
+SAYINGS = [
+    (f"source.c:5:5: error: A call to built-in function '__muldf3' is not supported.\n{NOTED}", "cc: source.c:7: floating point"),
+    ("source.c:8:5: error: A call to built-in function '__multi3' is not supported.", "cc: source.c:8: a number of 128 bits"),
+    ("source.c:8:5: error: A call to built-in function '__atomic_fetch_add_8' is not supported.", "cc: source.c:8: an atomic operation"),
+    ("source.c:8:5: error: A call to built-in function 'qsort' is not supported.", "cc: source.c:8: qsort is called"),
+    ("source.c:9:1: error: indirect call in function, which are not supported by eBPF", "cc: source.c:1: first is called by a pointer"),
+    ("source.c:3:1: error: functions with VarArgs or StructRet are not supported", "cc: source.c:3: some has variable arguments"),
+    ("source.c:3:12: error: function 'some' can never be inlined because it uses variable argument lists", "cc: source.c:3: some has variable arguments"),
+    ("source.c:4:12: error: inlining failed in call to 'always_inline' 'down': recursive inlining", "cc: source.c:4: down calls itself"),
+    ("source.c:2:12: error: too many function arguments for eBPF", "cc: source.c:2: a function that is LOCAL and takes more"),
+    ("fatal error: error in backend: Unsupported dynamic stack allocation", "cc: an array whose length is a variable"),
+    ("source.c:8:2: error: something else", "cc: source.c:8:2: error: something else"),
+    ("source.c:5:1: error: A call to built-in function '__muldf3' is not.\nsource.c:8:2: error: else", "cc: source.c:5: floating point"),
+]
+FAILS = "#!/bin/sh\nfor it; do last=$it; case $it in -E | -fsyntax-only | -c | -S) what=$it ;; esac; done\n"
+FAILS += 'case $what in\n-E) echo "# 1 \\"$last\\""; cat "$last" ;;\n-fsyntax-only) [ ! -e sizes ] || cat sizes >&2 ;;\n*) cat said >&2; exit 1 ;;\nesac\n'
+
+
+def sayings(place):
+    """Which refusals are made of what compilers print."""
+    place.tool("clang", FAILS)
+    for said, line in SAYINGS:
+        place.holds(CAUSES, elf([]))
+        (place.folder / "said").write_text(said + "\n")
+        yield f"a compiler says {said[:60]}", refused(place, line)
+    place.holds(LARGE, elf([]))
+    (place.folder / "said").write_text("error: Looks like the BPF stack limit of 512 bytes is exceeded.\n")
+    (place.folder / "sizes").write_text("".join(f"it: 'char (*)[{number}][{size}][1]'\n" for number, size in ((1, 8), (2, 400), (3, 24), (4, 600))))
+    status, _, said = place.run("source.c", "check", "out.bpf", "--no-guards")
+    named = "\ncc: the locals of check and of what is inlined in it take more than 512 bytes\n    source.c:3: d of check takes 600 bytes\n    source.c:1: b of other takes 400 bytes\n    source.c:3: s of check takes 24 bytes\n"
+    yield "locals that are too large", [] if status == 2 and named in said else [f"{status} {said}"]
+    (place.folder / "sizes").unlink()
+    place.tool("clang", CLANG)
+
+
+LARGE = "static u64 other(void) { u64 n; u8 b[400]; return n; }\nu64 check(void)\n{ struct it s, *p; u8 d[600] = { 1, other() };\nreturn other(); }\nstatic u64 none(void) { u8 e[900]; }\n"
+
+
+class Noted:
+    """In place of a compiler: what it writes for bytes that are zeros."""
+
+    def zeros(self, place, length):
+        return f"zeros({place}, {length});"
+
+
+# The body of a function, how large its arrays and structs are in their order, the images of these, and what it becomes.
+STATICS = [
+    ("u8 b[600];", [600], [None], "static u8 b[600]@; "),
+    ("u64 n = 4; u8 b[600], c;", [8, 600, 1], [None] * 3, "u64 n = 4; static u8 b[600]@;  u8 c;"),
+    ("u8 b[] = { 1 };", [600], [b"\1" + bytes(599)], "static u8 b[600]@; zeros((char *)&b + 0, 512); zeros((char *)&b + 512, 88); { T*(crashbpf_8_ *)((char *)&b + 0) = 1ull; }"),
+    ("const u8 b[] = { 1 };", [600], [b"\1" + bytes(599)], "static const u8 b[600]@ = { 1 };"),
+    ("const u64 b[80] = { n, m };", [640], [False], "static  u64 b[80]@; zeros((char *)&b + 0, 512); zeros((char *)&b + 512, 128); b[0] = n; b[1] = m;"),
+    ("const char *b[80] = { n };", [640], [False], "static const char *b[80]@; zeros((char *)&b + 0, 512); zeros((char *)&b + 512, 128); b[0] = n;"),
+    ("register struct it s = f(1, 2), *p = &s;", [300], [False], "static  struct it s@; s = f(1, 2); register struct it *p = &s;"),
+    ("state s = { .a = n, .b[2] = m };", [300], [False], "static state s@; zeros((char *)&s + 0, 300); s.a = n; s.b[2] = m;"),
+    ("state s = { n, m };", [300], [False], None),
+    ("state s = { .a = { n } };", [300], [False], None),
+    ("u64 b[80] = { [3] = n, m };", [640], [False], None),
+    ("u8 b[600] = { ({ n; }) };", [600], [False], None),
+    ("struct { u8 b[600]; } s, t;", [600, 600], [None] * 2, None),
+    ("b[600] = 4; f(n); return c; x: g(); static u8 d[600]; extern u8 e[600];", [], [], None),
+    ("u8 b[3]; u64 n;", [3, 8], [None] * 2, None),
+]
+
+
+def statics():
+    """What becomes of declarations of large locals."""
+    for body, sizes, images, wanted in STATICS:
+        source = Source(f"u64 check(void) {{ {body} }}")
+        found = locals_of(source, source.functions)
+        for it, size, image in zip(found, sizes, images):
+            it.size, it.count, it.image = size, 600, image
+        moved = Moved(source, found, source.functions, Noted())
+        moved.able = [it for it in moved.able if can_be_told(moved, it)]
+        text = source.edited(list(moved.edits(moved.locals(), moved.static)))[len("u64 check(void) { ") : -2]
+        text = re.sub("(typedef [^;]*; )+", "T", text.replace(" __attribute__((__aligned__(8)))", "@"))
+        good = len(found) == len(sizes) and text == (wanted or body)
+        yield f"a static in place of {body}", [] if good else [f"{len(found)} locals: {text}"]
+    for text, again in (("f() { f(); } g() { f(); }", ["f"]), ("f() { g(); } g() { f(); } h() { f(); }", ["f", "g"]), ("f() { h(&g); } g() { h(0); } h(p) { p(); }", ["g", "h"])):
+        source = Source(text)
+        found = [it.name for it in circular(source, source.functions)]
+        yield f"functions that may be called while they run: {text}", [] if found == again else [str(found)]
+
+
 # What stands in front of a call whose length isn't a constant on each way to it.
 UNKNOWN_LENGTHS = [
     "ja +0; mov64 r3, 5; jeq r0, 0, -1; call 500",
@@ -576,10 +712,13 @@ def rows(crashbpf, folder):
     yield from odd_objects(code)
     yield from addresses(code)
     yield from calls(crashbpf, folder)
+    yield from divisions(crashbpf, folder)
+    yield from statics()
     place = Place(folder, crashbpf)
     yield from memory(place, crashbpf)
     yield from lines_of_calls(place, crashbpf)
     yield from sources(place)
+    yield from sayings(place)
     yield from objects(place, code)
     yield from stopped(place, code)
     yield from accepted(place, crashbpf)
