@@ -120,7 +120,7 @@ class Images:
         text = checker.source.read_text()
         text = re.sub(r"/\*.*?\*/|//[^\n]*", "", text, flags=re.S)
         self.numbers = sorted({int(it, 0) for it in re.findall(r"\b(?:0x[0-9a-fA-F]+|[1-9][0-9]*|0)(?=[uUlL]*\b)", text)})
-        self.texts = [it.encode().decode("unicode_escape").encode("latin-1") for it in re.findall(r'"([^"\n]+)"', text)]
+        self.texts = [it.encode().decode("unicode_escape").encode("latin-1") for it in re.findall(r'"((?:\\.|[^"\\\n])+)"', re.sub(r"'(?:\\.|[^'\\\n])'", "", text))]
         self.texts = [it for it in self.texts if not it.endswith(b".h")]
         self.sectors = [it for it in self.numbers if it < self.count] or [0]
         seeds = checker.seeds or [bytes(SECTOR * SECTORS), *(checkers.device(it[0]) for it in checker.devices)]
