@@ -148,7 +148,7 @@ class Clang:
         return f'__asm__ volatile("r1 = {code}\\n\\tcall 4\\n\\tr0 = {answer}\\n\\texit" : : : {CLOBBERED});'
 
     def zeros(self, place, length):
-        """A statement that makes so many bytes zeros: helper `copy` has none of a place past the device."""
+        """A statement that makes that many bytes zeros: helper `copy` has none of a place past the device."""
         return f'__asm__ volatile("r2 = %0\\n\\tr1 = {PAST}\\n\\tr3 = {length}\\n\\tcall 2" : : "r"({place}) : {CLOBBERED});'
 
     def lines(self, path, object_, section):

@@ -224,7 +224,7 @@ def measured(locals_, said):
 
 
 class Moved:
-    """The locals that get a place in memory: those of at least so many bytes."""
+    """The locals that get a place in memory: those of at least that many bytes."""
 
     def __init__(self, source, locals_, functions, compiler):
         self.source, self.compiler, self.all = source, compiler, locals_
