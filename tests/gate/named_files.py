@@ -10,6 +10,7 @@ model allows is one that an image of the log has, and no other. What a table all
 Prints a line for each row that failed, and last `N passed, M failed`.
 """
 import io
+import math
 import os
 import random
 import re
@@ -181,10 +182,15 @@ def refused_faults(name, text, says):
 
 # Random runs
 
+# How many contents of a file a crash may leave in a random run, at most: the model has each of them by itself.
+MOST_FLYING = 500
+
 
 def plan_of(chance):
     """A random run, as steps of words. Each fits what the steps before it left."""
     names, sizes, folders, steps, begun, value = {}, [], [0], [], 0, 0
+    # how many versions of each sector may be left
+    flying = {}
     if chance.random() < 0.6:
         size = chance.choice((0, 300, 512, 1000, 4096))
         steps.append(("base", (0, b"a"), size))
@@ -208,8 +214,11 @@ def plan_of(chance):
             number = chance.randrange(len(sizes))
             start = chance.choice((sizes[number], sizes[number], max(sizes[number] - 200, 0), 0, 512))
             length = chance.choice((100, 200, 512, 700, 1024) if start else (100, 512, 600, 4096 + 300))
-            if start + length > 5500:
+            written = range(start // SECTOR, -(-(start + length) // SECTOR))
+            more = {**flying, **{(number, at): flying.get((number, at), 1) + 1 for at in written}}
+            if start + length > 5500 or math.prod(it for (file, _), it in more.items() if file == number) > MOST_FLYING:
                 continue
+            flying = more
             value += 1
             steps.append(("through" if kind == "d" else "write", number, start, bytes([value]) * length))
             sizes[number] = max(sizes[number], start + length)
@@ -239,6 +248,7 @@ def plan_of(chance):
             steps.append(("link", slot, to))
         elif kind == "s" and sizes:
             steps.append(("sync", chance.randrange(len(sizes))))
+            flying = {it: count for it, count in flying.items() if it[0] != steps[-1][1]}
         elif kind == "f" and sizes:
             steps.append(("sync data", chance.randrange(len(sizes))))
         elif kind == "S":
