@@ -3,7 +3,7 @@ use Rattle.machine.specs.Memory.{byte_count, plain_size}
 use Rattle.machine.specs.Step.{address}
 use Rattle.machine.specs.Guards.{memory_step}
 use Rattle.interp.specs.Going.{at_slot}
-use Rattle.interp.proofs.Reached.{load_inside, store_inside, stored_inside, copies_there, call_made}
+use Rattle.interp.proofs.Reached.{load_inside, loads_signed, store_inside, stored_inside, copies_there, call_made}
 use Rattle.interp.proofs.state.CheckedMachine.go_own.Goals as goal
 
 pub load_own-requires : goal.load_own-requires
@@ -12,11 +12,11 @@ load_own-requires g c =
     let same : c.address-address.result ≡ address c.args.self.now c.in-Load.base c.in-Load.offset = search rules in
     (search rules, (c.requires.slot, (c.requires.long, rw same (load_inside (g.D.Device.content c.args.world.now.device.now) c.args.self.now c.in-Load.dst c.in-Load.base c.in-Load.offset (byte_count c.in-Load.size) own))))
 
-pub load_signed_own-requires : goal.load_signed_own-requires
-load_signed_own-requires g c =
+pub load_own-requires-in-LoadSigned : goal.load_own-requires-in-LoadSigned
+load_own-requires-in-LoadSigned g c =
     let own = rw c.in-LoadSigned.is at c.requires.reaches in
     let same : c.address-address-in-LoadSigned.result ≡ address c.args.self.now c.in-LoadSigned.base c.in-LoadSigned.offset = search rules in
-    (search rules, (c.requires.slot, (c.requires.long, rw same (load_inside (g.D.Device.content c.args.world.now.device.now) c.args.self.now c.in-LoadSigned.dst c.in-LoadSigned.base c.in-LoadSigned.offset (byte_count (plain_size c.in-LoadSigned.size)) own))))
+    (search rules, (c.requires.slot, (c.requires.long, rw (same, c.plain_size.ensures) (load_inside (g.D.Device.content c.args.world.now.device.now) c.args.self.now c.in-LoadSigned.dst c.in-LoadSigned.base c.in-LoadSigned.offset (byte_count (plain_size c.in-LoadSigned.size)) own))))
 
 pub store_own-requires : goal.store_own-requires
 store_own-requires g c =
@@ -42,3 +42,11 @@ returns-in-CallHelper-clause-made g c =
     let own = rw c.in-CallHelper.is at c.requires.reaches in
     rw c.in-CallHelper.is
     (call_made c.args.world.now.program.now (g.D.Device.content c.args.world.now.device.now) c.args.memory.now (at_slot c.args.slot c.args.self.now) _ _ (copies_there (g.D.Device.content c.args.world.now.device.now) c.args.self.now _ own).0 c.copy_own.ensures.made)
+
+pub returns-in-LoadSigned-clause-made : goal.returns-in-LoadSigned-clause-made
+unfolding memory_step
+returns-in-LoadSigned-clause-made g c =
+    let same : c.address-address-in-LoadSigned.result ≡ address c.args.self.now c.in-LoadSigned.base c.in-LoadSigned.offset = search rules in
+    rw c.in-LoadSigned.is
+    (loads_signed c.args.world.now.program.now (g.D.Device.content c.args.world.now.device.now) c.args.memory.now (at_slot c.args.slot c.args.self.now) c.in-LoadSigned.dst _ _ c.plain_size.result c.in-LoadSigned.size _
+    c.plain_size.ensures same c.load_own-in-LoadSigned.ensures.made)
