@@ -21,7 +21,7 @@ use Rattle.case_runs.specs.Leaves.{IsFit}
 use Rattle.case_runs.specs.declared.found.SearchFault.{SearchFault}
 use Rattle.case_runs.specs.declared.found.SearchFault.TheVariants as fault
 use Rattle.losses.specs.FoundCases.{cases_at, cases_in, most_cases}
-use Rattle.case_runs.specs.Found.{IsFoundAt, IsBegunAt, AreFoundAt, AreFoundIn, AreFirstAt, AreFirstIn, AreTooMany, StopsAtOne, StopsAt, StopsIn}
+use Rattle.case_runs.specs.Found.{IsFoundAt, AreFoundAt, AreFoundIn, AreFirstAt, AreFirstIn, AreTooMany, StopsAtOne, StopsAt, StopsIn}
 
 pub found_none : (asked : Losses) (at : CutValue) (checkers : List CheckerValue) → AreFirstAt asked at checkers 0 []
 found_none asked at checkers = record { count = refl; each = λ i c f one two. absurd (let bad : None ≡ Some f = two in cc) }
@@ -102,22 +102,6 @@ led s cs leaves left no_case = are_there
 led s cs leaves left (is_beyond c xs ls more out rest) = past_beyond c xs ls more out (led s xs ls more rest)
 led s cs leaves left (is_leaf c xs ls more within none rest) = past_leaf c xs ls more within none (led s xs ls more rest)
 led s cs leaves left (is_split c it xs ls more within some rest) = past_split c it xs ls more within some (led s _ ls more rest)
-
-pub begun_of : (asked : Losses) (at : CutValue) (checker : CheckerValue) (found : CaseFindings) → IsFoundAt asked at checker found → IsBegunAt asked at checker found.cases
-begun_of asked at checker found is =
-    let those = is.those in
-    record {
-      leaves = is.leaves;
-      those = record {
-        told = those.told;
-        left = those.left;
-        to = [];
-        added = those.added;
-        many = sym (is.cases ∙ ap length those.added);
-        leads = led _ _ _ _ those.are;
-        endings = those.endings;
-      };
-    }
 
 -- where it stops
 

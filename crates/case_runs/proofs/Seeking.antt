@@ -1,17 +1,17 @@
 -- Looking for the first leaf on which a checker fails.
-use Rattle.std.proofs.Common.{ℕ, ◌≡◌, ◌+◌, ◌<◌, ◌≤◌, Bool, true, false, if◌then◌else◌, List, [], ◌∷◌, ◌++◌, length, map, slice_get, None, Some, IsTrue, refl, sym, subst, ◌∙◌, ap, arith}
+use Rattle.std.proofs.Common.{ℕ, ◌≡◌, ◌+◌, ◌<◌, ◌≤◌, ◌⊎◌, Bool, true, false, if◌then◌else◌, List, [], ◌∷◌, ◌++◌, length, map, slice_get, Some, IsTrue, refl, sym, subst, ◌∙◌, ap, arith, inl, inr}
 use Rattle.std.proofs.Math.ListN.{length-append}
+use Rattle.std.proofs.lemmas.List.{length-map}
 use Rattle.std.proofs.lemmas.List.Elements.{All-push}
 use Rattle.logfmt.specs.Bounds.{LogValue}
 use Rattle.epochs.specs.declared.part.By.{By}
-use Rattle.helpers.specs.declared.device.Context.{Context}
 use Rattle.machine.specs.Outcome.{Ending, fails}
 use Rattle.images.specs.Views.{context_at}
 use Rattle.checker.specs.Checker.{CheckerValue}
-use Rattle.cases.specs.Cases.{representative}
+use Rattle.cases.specs.Cases.{whole_case, representative}
 use Rattle.cases.specs.AtCut.{CutValue}
 use Rattle.cases.specs.Trees.{Program, ending_of}
-use Rattle.cases.specs.Search.{Asked, subject_of, SearchValue, case_in, SameSearch, Went, LeafValue, Ran, FoundCases, BegunCases}
+use Rattle.cases.specs.Search.{Asked, subject_of, SearchValue, case_in, pending, SameSearch, Went, LeafValue, Ran, FoundCases, BegunCases}
 use Rattle.cases.proofs.Runs.{ran_start, ran_more, ran_end, found_all, begun_all}
 use Rattle.losses.specs.declared.found.Losses.{Losses}
 use Rattle.losses.specs.declared.found.CaseFindings.{CaseFindings}
@@ -19,89 +19,125 @@ use Rattle.losses.specs.declared.found.CutFound.{CutFound}
 use Rattle.case_runs.specs.declared.found.SearchFault.{SearchFault}
 use Rattle.case_runs.specs.declared.found.SearchFault.TheVariants as fault
 use Rattle.losses.specs.declared.found.FirstCase.{FirstCase}
-use Rattle.case_runs.specs.declared.first.Next.{Next}
-use Rattle.case_runs.specs.declared.first.Next.TheVariants as next
-use Rattle.case_runs.specs.declared.first.Met.{Met}
 use Rattle.losses.specs.declared.found.FailingCase.{FailingCase}
 use Rattle.case_runs.specs.Judges.{program_of}
 use Rattle.losses.specs.FoundCases.{FailingValue, failing_value, cases_at, cases_in, most_cases}
 use Rattle.case_runs.specs.Leaves.{failing_if, failing_from}
-use Rattle.case_runs.specs.Found.{IsFoundAt, AreFirstAt, AreFirstIn}
-use Rattle.case_runs.specs.First.{losses_in, BeginsAt, NextLeaf, leaf_at, IsMetAt, GoesTo, IsPassing, EndsWith, MeetsOne, NoneFailsAt, NoneFails, FailsFirst, PassesMost, FailsFirstAt, IsFirstFailing, PassesMostIn, EndsAtOne, EndsAt, EndsIn}
+use Rattle.case_runs.specs.Laws.{subject_at}
+use Rattle.case_runs.specs.Found.{IsFoundAt, AreFirstAt, AreFirstIn, StopsAtOne}
+use Rattle.case_runs.specs.First.{NoneFailsAt, NoneFails, FailsFirst, PassesMost, FailsFirstAt, IsFirstFailing, PassesMostIn, EndsIn}
+use Rattle.case_runs.specs.Walk.{PassToLast, SeeksTo, EndsAtOne, EndsAt}
 use Rattle.case_runs.proofs.Telling.{failing_push}
+use Rattle.case_runs.proofs.Stretching.{none_left}
 
--- a search went over n leaves, of which none fails
-pub record PassedSo (program : Program) (old now : SearchValue) (n : ℕ) : Type 0 where
-  pub leaves : List LeafValue
+-- a search that a judge was told of went over n leaves, of which none fails
+pub record PassedSo (program : Program) (old now : SearchValue) (leaves : List LeafValue) (n : ℕ) : Type 0 where
   pub same : SameSearch old now
   pub ran : Ran (subject_of old.asked program) old now [] leaves
   pub many : length leaves ≡ n
   pub passing : failing_from 0 leaves ≡ []
 
-pub passed_none : (program : Program) (v : SearchValue) → PassedSo program v v 0
-passed_none program v = record {
-  leaves = [];
+pub passed_none : (program : Program) (v : SearchValue) (leaves : List LeafValue) → leaves ≡ [] → PassedSo program v v leaves 0
+passed_none program v leaves none = record {
   same = record { asked = refl; tears = refl };
-  ran = ran_start (subject_of v.asked program) v [];
-  many = refl;
-  passing = refl;
+  ran = subst (λ (ls : List LeafValue). Ran (subject_of v.asked program) v v [] ls) (sym none) (ran_start (subject_of v.asked program) v []);
+  many = ap (λ (ls : List LeafValue). length ls) none;
+  passing = ap (failing_from 0) none;
 }
 
--- where a search goes, by the program of the judge as it was
-goes_so : (was program : Program) (now new : SearchValue) (n : ℕ) (it : Next) → was ≡ program → GoesTo was now new n it → GoesTo program now new n it
-goes_so was program now new n it same goes = subst (λ (p : Program). GoesTo p now new n it) same goes
+abbrev one_more : List LeafValue → List ℕ → Ending → List LeafValue
+one_more leaves sets ending = leaves ++ record { sets = sets; ending = ending } ∷ []
 
--- the judge's last run was on the representative of the next leaf
-pub next_leaf : (program : Program) (now new : SearchValue) (ending : Ending) (found : Bool) → SameSearch now new → Went (subject_of now.asked program) now new found
-    → (IsTrue found → ending ≡ ending_of (subject_of now.asked program) (representative (case_in new))) → found ≡ true → NextLeaf program now new ending
-next_leaf program now new ending found kept went ends is = record {
+-- it went to the next leaf, of which the judge was told
+pub record WentTo (program : Program) (now new : SearchValue) (leaves after : List LeafValue) : Type 0 where
+  pub same : SameSearch now new
+  pub went : Went (subject_of now.asked program) now new true
+  pub ending : Ending
+  pub ends : ending ≡ ending_of (subject_of now.asked program) (representative (case_in new))
+  pub put : after ≡ leaves ++ record { sets = new.sets; ending = ending } ∷ []
+
+pub went_to : (program was : Program) (now new : SearchValue) (leaves mid after : List LeafValue) (ending : Ending) (sets : List ℕ) (found : Bool) → was ≡ program → SameSearch now new
+    → Went (subject_of now.asked was) now new found → (IsTrue found → ending ≡ ending_of (subject_of now.asked was) (representative (case_in new))) → found ≡ true → mid ≡ leaves → sets ≡ new.sets
+    → after ≡ mid ++ record { sets = sets; ending = ending } ∷ [] → WentTo program now new leaves after
+went_to program was now new leaves mid after ending sets found same kept went ends is stays own put = record {
   same = kept;
-  went = subst (λ b. Went (subject_of now.asked program) now new b) is went;
-  ends = ends is;
+  went = subst (λ (p : Program). Went (subject_of now.asked p) now new true) same (subst (λ b. Went (subject_of now.asked was) now new b) is went);
+  ending = ending;
+  ends = ends is ∙ ap (λ (p : Program). ending_of (subject_of now.asked p) (representative (case_in new))) same;
+  put = put ∙ (λ i. one_more (stays i) (own i) ending);
 }
 
--- what is told of a leaf by its sets and by what the judge ended in
-leaf_told : (n : ℕ) (sets own : List ℕ) (ending said : Ending) (fs : List FailingValue) → own ≡ sets → said ≡ ending
-    → failing_if n (record { sets = own; ending = said }) ≡ fs → failing_if n (record { sets = sets; ending = ending }) ≡ fs
-leaf_told n sets own ending said fs same ends is = sym (λ i. failing_if n (record { sets = same i; ending = ends i })) ∙ is
+ran_next : (program : Program) (old now new : SearchValue) (leaves after : List LeafValue) (n : ℕ) → PassedSo program old now leaves n → WentTo program now new leaves after
+    → Ran (subject_of old.asked program) old new [] after
+ran_next program old now new leaves after n so to = ran_more program old now new [] leaves after to.ending true so.same so.ran to.same to.went refl to.ends to.put
 
--- what is met there, of what is told of its sets and of what the judge ended in
-pub goes_to : (program : Program) (now new : SearchValue) (ending said : Ending) (own : List ℕ) (n : ℕ) (it : Next) → NextLeaf program now new ending → own ≡ new.sets → said ≡ ending
-    → IsMetAt n (record { sets = own; ending = said }) it → GoesTo program now new n it
-goes_to program now new ending said own n next.Ended leaf same ends met = absurd met
-goes_to program now new ending said own n next.Passing leaf same ends met = (ending, leaf, leaf_told n new.sets own ending said [] same ends met)
-goes_to program now new ending said own n (next.Failing f) leaf same ends met = (ending, leaf, leaf_told n new.sets own ending said (failing_value f ∷ []) same ends met)
-
-ran_next : (program : Program) (old now new : SearchValue) (ending : Ending) (n : ℕ) (so : PassedSo program old now n) → NextLeaf program now new ending
-    → Ran (subject_of old.asked program) old new [] (so.leaves ++ leaf_at new ending ∷ [])
-ran_next program old now new ending n so leaf =
-    ran_more program old now new [] so.leaves (so.leaves ++ leaf_at new ending ∷ []) ending true so.same so.ran leaf.same leaf.went refl leaf.ends refl
-
-abbrev same_both : SearchValue → SearchValue → SearchValue → Type 0
-same_both old now new = SameSearch old now → SameSearch now new → SameSearch old new
-
-same_next : (old now new : SearchValue) → same_both old now new
+same_next : (old now new : SearchValue) → SameSearch old now → SameSearch now new → SameSearch old new
 same_next old now new a b = record { asked = b.asked ∙ a.asked; tears = b.tears ∙ a.tears }
 
-failing_next : (leaves : List LeafValue) (leaf : LeafValue) (n : ℕ) (fs : List FailingValue) → length leaves ≡ n → failing_from 0 leaves ≡ [] → failing_if n leaf ≡ fs
-    → failing_from 0 (leaves ++ leaf ∷ []) ≡ fs
-failing_next leaves leaf n fs many none is =
-    let at_end : 0 + length leaves ≡ n = omega (arith, many) in
-    failing_push 0 leaves leaf ∙ ap (λ gs. gs ++ failing_if (0 + length leaves) leaf) none ∙ ap (λ m. failing_if m leaf) at_end ∙ is
-
-long_next : (leaves : List LeafValue) (leaf : LeafValue) (n : ℕ) → length leaves ≡ n → length (leaves ++ leaf ∷ []) ≡ n + 1
-long_next leaves leaf n many = let all = length-append leaves (leaf ∷ []) in omega (arith, all, many)
+long_next : (program : Program) (old now new : SearchValue) (leaves after : List LeafValue) (n : ℕ) → PassedSo program old now leaves n → WentTo program now new leaves after → length after ≡ n + 1
+long_next program old now new leaves after n so to =
+    let many = so.many in
+    let all = ap (λ (ls : List LeafValue). length ls) to.put ∙ length-append leaves (record { sets = new.sets; ending = to.ending } ∷ []) in
+    omega (arith, many, all)
 
 -- one more leaf that passes
-passed_more : (program : Program) (old now new : SearchValue) (ending : Ending) (n : ℕ) → PassedSo program old now n → NextLeaf program now new ending
-    → failing_if n (leaf_at new ending) ≡ [] → PassedSo program old new (n + 1)
-passed_more program old now new ending n so leaf none = record {
-  leaves = so.leaves ++ leaf_at new ending ∷ [];
-  same = same_next old now new so.same leaf.same;
-  ran = ran_next program old now new ending n so leaf;
-  many = long_next so.leaves (leaf_at new ending) n so.many;
-  passing = failing_next so.leaves (leaf_at new ending) n [] so.many so.passing none;
+pub passed_more : (program : Program) (old now new : SearchValue) (leaves after : List LeafValue) (n : ℕ) → PassedSo program old now leaves n → WentTo program now new leaves after
+    → failing_from 0 after ≡ [] → PassedSo program old new after (n + 1)
+passed_more program old now new leaves after n so to none = record {
+  same = same_next old now new so.same to.same;
+  ran = ran_next program old now new leaves after n so to;
+  many = long_next program old now new leaves after n so to;
+  passing = none;
 }
+
+-- the first leaf that fails
+pub seeks_failing : (program : Program) (old now new : SearchValue) (leaves after : List LeafValue) (n most : ℕ) → PassedSo program old now leaves n → WentTo program now new leaves after → n < most
+    → (failing_from 0 after ≡ [] → ⊥) → SeeksTo program old new after most
+seeks_failing program old now new leaves after n most so to few failing =
+    let long = long_next program old now new leaves after n so to in
+    record {
+      same = same_next old now new so.same to.same;
+      ran = ran_next program old now new leaves after n so to;
+      few = omega (arith, long, few);
+      passing = inr (record { before = leaves; last = record { sets = new.sets; ending = to.ending }; are = to.put; passing = so.passing });
+      ended = λ less none. absurd (failing none);
+    }
+
+-- no leaf more
+pub seeks_ended : (program was : Program) (old now new : SearchValue) (leaves after : List LeafValue) (n most : ℕ) (found : Bool) → PassedSo program old now leaves n → n < most → was ≡ program
+    → SameSearch now new → Went (subject_of now.asked was) now new found → found ≡ false → after ≡ leaves → SeeksTo program old new after most
+seeks_ended program was old now new leaves after n most found so few same kept went is stays =
+    let one : Went (subject_of now.asked program) now new false =
+    subst (λ (p : Program). Went (subject_of now.asked p) now new false) same (subst (λ b. Went (subject_of now.asked was) now new b) is went) in
+    let many = so.many in
+    let long = ap (λ (ls : List LeafValue). length ls) stays in
+    record {
+      same = same_next old now new so.same kept;
+      ran = ran_end program old now new [] leaves after false so.same so.ran one refl stays;
+      few = omega (arith, many, long, few);
+      passing = inl (ap (failing_from 0) stays ∙ so.passing);
+      ended = λ less none. one.ended refl;
+    }
+
+-- as many as are wanted
+pub seeks_most : (program : Program) (old now : SearchValue) (leaves : List LeafValue) (n most : ℕ) → PassedSo program old now leaves n → n ≤ most → most ≤ n → SeeksTo program old now leaves most
+seeks_most program old now leaves n most so low high =
+    let many = so.many in
+    record {
+      same = so.same;
+      ran = so.ran;
+      few = omega (arith, many, low);
+      passing = inl so.passing;
+      ended = λ less none. absurd (omega (arith, less, many, high));
+    }
+
+-- how many fail, by what a judge kept of them
+
+pub none_failing : (n : ℕ) (kept vs : List FailingValue) → n ≡ length kept → kept ≡ vs → n ≤ 0 → vs ≡ []
+none_failing n kept vs is own low = sym own ∙ none_left kept n is (omega (arith, low))
+
+pub some_failing : (n : ℕ) (kept vs : List FailingValue) → n ≡ length kept → kept ≡ vs → 0 < n → vs ≡ [] → ⊥
+some_failing n kept vs is own low none = let long = ap (λ (ws : List FailingValue). length ws) (own ∙ none) in omega (arith, is, low, long)
 
 -- the number of a leaf that fails
 number_of : (n : ℕ) (leaf : LeafValue) (v : FailingValue) → failing_if n leaf ≡ v ∷ [] → n ≡ v.number
@@ -115,89 +151,135 @@ number_of n leaf v is = by (fails leaf.ending) is
         first_number (w ∷ ws) = w.number
     by false h = absurd (let bad : [] ≡ v ∷ [] = h in cc)
 
--- the first leaf that fails
-fails_first : (checker : CheckerValue) (context : Context) (old now new : SearchValue) (ending : Ending) (n : ℕ) (f : FailingCase) → context ≡ context_at old.asked.at.log old.asked.at.cut
-    → BeginsAt old → PassedSo (program_of checker context) old now n → NextLeaf (program_of checker context) now new ending → failing_if n (leaf_at new ending) ≡ failing_value f ∷ []
-    → FailsFirst (losses_in old) old.asked.at checker f
-fails_first checker context old now new ending n f is begins so leaf failing =
-    let at_end = number_of n (leaf_at new ending) (failing_value f) failing in
-    let long = long_next so.leaves (leaf_at new ending) n so.many in
-    let begun = begun_all old.asked (program_of checker context) old.tears old new [] (so.leaves ++ leaf_at new ending ∷ []) (f.number + 1) refl refl begins.whole
-    (ran_next (program_of checker context) old now new ending n so leaf) (omega (arith, at_end, long)) in
+few_if : (n : ℕ) (leaf : LeafValue) → length (failing_if n leaf) ≤ 1
+few_if n leaf = by (fails leaf.ending)
+  where
+    by : (b : Bool) → length {A = FailingValue} (if b then record { number = n; ending = leaf.ending; sets = leaf.sets } ∷ [] else []) ≤ 1
+    by true = omega arith
+    by false = omega arith
+
+-- where one leaf at most fails, the last one of those that were kept is all of them
+all_failing : (n : ℕ) (leaf : LeafValue) (front : List FailingCase) (f : FailingCase) → map failing_value (front ++ f ∷ []) ≡ failing_if n leaf → failing_if n leaf ≡ failing_value f ∷ []
+all_failing n leaf [] f is = sym is
+all_failing n leaf (g ∷ front) f is =
+    let long = ap (λ (vs : List FailingValue). length vs) is in
+    let same = length-map ((g ∷ front) ++ f ∷ []) failing_value in
+    let all = length-append front (f ∷ []) in
+    let few = few_if n leaf in
+    absurd (omega (arith, long, same, all, few))
+
+not_none : (front : List FailingCase) (f : FailingCase) → map failing_value (front ++ f ∷ []) ≡ [] → ⊥
+not_none [] f is = let bad : failing_value f ∷ [] ≡ [] = is in cc
+not_none (g ∷ front) f is = let bad : failing_value g ∷ map failing_value (front ++ f ∷ []) ≡ [] = is in cc
+
+-- some leaves with the last one apart
+
+last_apart : (leaf : LeafValue) (leaves : List LeafValue) → (before : List LeafValue) × (last : LeafValue) × (leaf ∷ leaves ≡ before ++ last ∷ [])
+last_apart leaf [] = ([], leaf, refl)
+last_apart leaf (next ∷ leaves) = let rest = last_apart next leaves in (leaf ∷ rest.0, rest.1, ap (λ (ls : List LeafValue). leaf ∷ ls) rest.2)
+
+first_none : (vs ws : List FailingValue) → vs ++ ws ≡ [] → vs ≡ []
+first_none [] ws none = refl
+first_none (v ∷ vs) ws none = absurd (let bad : v ∷ (vs ++ ws) ≡ [] = none in cc)
+
+pass_to_last : (leaves : List LeafValue) → 0 < length leaves → (failing_from 0 leaves ≡ []) ⊎ PassToLast leaves → PassToLast leaves
+pass_to_last leaves some (inr so) = so
+pass_to_last [] some (inl none) = absurd (omega (arith, some))
+pass_to_last (leaf ∷ leaves) some (inl none) =
+    let it = last_apart leaf leaves in
     record {
-      leaves = so.leaves ++ leaf_at new ending ∷ [];
-      those = subst (λ (x : Context). BegunCases (subject_of old.asked (program_of checker x)) old.tears old.asked.at [] (so.leaves ++ leaf_at new ending ∷ []) (f.number + 1)) is begun;
-      failing = failing_next so.leaves (leaf_at new ending) n (failing_value f ∷ []) so.many so.passing failing;
+      before = it.0;
+      last = it.1;
+      are = it.2;
+      passing = first_none (failing_from 0 it.0) (failing_if (0 + length it.0) it.1) (sym (failing_push 0 it.0 it.1) ∙ ap (failing_from 0) (sym it.2) ∙ none);
     }
 
-fails_within : (n left : ℕ) (leaf : LeafValue) (f : FailingCase) → failing_if n leaf ≡ failing_value f ∷ [] → n < left → f.number < left
-fails_within n left leaf f failing few = let at_end = number_of n leaf (failing_value f) failing in omega (arith, at_end, few)
+-- what was looked for at a cut with a checker, and what was found of it
+pub record SoughtSo (asked : Losses) (at : CutValue) (checker : CheckerValue) (program : Program) (old new : SearchValue) (leaves : List LeafValue) (left : ℕ) (found : CaseFindings) : Type 0 where
+  pub program_is : program ≡ program_of checker (context_at at.log at.cut)
+  pub asked_is : old.asked ≡ record { at = at; torn = asked.torn; lost = asked.lost }
+  pub tears_is : old.tears ≡ asked.tears
+  pub whole : pending old ≡ whole_case asked.tears ∷ []
+  pub none : (old.torn_beyond ≡ 0) × (old.lost_beyond ≡ 0)
+  pub seeks : SeeksTo program old new leaves (left + 1)
+  pub cases : found.cases ≡ length leaves
+  pub torn : found.torn_beyond ≡ new.torn_beyond
+  pub lost : found.lost_beyond ≡ new.lost_beyond
+  pub failing : map failing_value found.failing.items ≡ failing_from 0 leaves
 
-pub meets_failing : (checker : CheckerValue) (context : Context) (was : Program) (old now new : SearchValue) (n left : ℕ) (f : FailingCase)
-    → context ≡ context_at old.asked.at.log old.asked.at.cut → BeginsAt old → was ≡ program_of checker context → PassedSo (program_of checker context) old now n → n < left
-    → GoesTo was now new n (next.Failing f) → FailsFirst (losses_in old) old.asked.at checker f × (f.number < left)
-meets_failing checker context was old now new n left f is begins same so few goes =
-    let own = goes_so was (program_of checker context) now new n (next.Failing f) same goes in
-    (fails_first checker context old now new own.0 n f is begins so own.1 own.2, fails_within n left (leaf_at new own.0) f own.2 few)
+begun_so : (asked : Losses) (at : CutValue) (checker : CheckerValue) (program : Program) (old new : SearchValue) (leaves : List LeafValue) (left n : ℕ) (found : CaseFindings)
+    → SoughtSo asked at checker program old new leaves left found → length leaves ≡ n → BegunCases (subject_at at.log at.way at.cut checker asked.torn asked.lost) asked.tears at [] leaves n
+begun_so asked at checker program old new leaves left n found so long =
+    let own : Asked = record { at = at; torn = asked.torn; lost = asked.lost } in
+    subst (λ (p : Program). BegunCases (subject_of own p) asked.tears at [] leaves n) so.program_is
+    (begun_all own program asked.tears old new [] leaves n so.asked_is so.tears_is so.whole so.seeks.ran (omega (arith, long)))
 
--- one more leaf that passes
-pub passes_on : (program was after : Program) (old now new : SearchValue) (n : ℕ) → after ≡ was → was ≡ program → PassedSo program old now n → GoesTo was now new n next.Passing
-    → (after ≡ program) × PassedSo program old new (n + 1)
-passes_on program was after old now new n stays same so goes =
-    let own = goes_so was program now new n next.Passing same goes in
-    (stays ∙ same, passed_more program old now new own.0 n so own.1 own.2)
+-- the first leaf that fails
+pub first_met : (asked : Losses) (at : CutValue) (checker : CheckerValue) (program : Program) (old new : SearchValue) (leaves : List LeafValue) (left : ℕ) (found : CaseFindings)
+    (front : List FailingCase) (f : FailingCase) → SoughtSo asked at checker program old new leaves left found → found.failing.items ≡ front ++ f ∷ [] → found.cases ≤ left
+    → FailsFirst asked at checker f × (f.number < left)
+first_met asked at checker program old new leaves left found front f so put few = by so.seeks.passing
+  where
+    own : map failing_value (front ++ f ∷ []) ≡ failing_from 0 leaves
+    own = ap (map failing_value) (sym put) ∙ so.failing
+
+    by : (failing_from 0 leaves ≡ []) ⊎ PassToLast leaves → FailsFirst asked at checker f × (f.number < left)
+    by (inl none) = absurd (not_none front f (own ∙ none))
+    by (inr to) =
+        let n : ℕ = 0 + length to.before in
+        let last : failing_from 0 leaves ≡ failing_if n to.last = ap (failing_from 0) to.are ∙ failing_push 0 to.before to.last ∙ ap (λ (vs : List FailingValue). vs ++ failing_if n to.last) to.passing in
+        let one : failing_if n to.last ≡ failing_value f ∷ [] = all_failing n to.last front f (own ∙ last) in
+        let number = number_of n to.last (failing_value f) one in
+        let all = ap (λ (ls : List LeafValue). length ls) to.are ∙ length-append to.before (to.last ∷ []) in
+        let cases = so.cases in (
+          record {
+            leaves = leaves;
+            those = begun_so asked at checker program old new leaves left (f.number + 1) found so (omega (arith, all, number));
+            failing = last ∙ one;
+          },
+          omega (arith, all, number, cases, few),
+        )
+
+-- no leaf fails
+pub all_met : (asked : Losses) (at : CutValue) (checker : CheckerValue) (program : Program) (old new : SearchValue) (leaves : List LeafValue) (left : ℕ) (found : CaseFindings)
+    → SoughtSo asked at checker program old new leaves left found → found.failing.items ≡ [] → found.cases ≤ left → IsFoundAt asked at checker found
+all_met asked at checker program old new leaves left found so none few =
+    let own : Asked = record { at = at; torn = asked.torn; lost = asked.lost } in
+    let cases = so.cases in
+    let ended = so.seeks.ended (omega (arith, cases, few)) (sym so.failing ∙ ap (map failing_value) none) in
+    let all = found_all own program asked.tears old new [] leaves so.asked_is so.tears_is so.whole so.none so.seeks.ran ended in
+    record {
+      leaves = leaves;
+      those =
+          subst (λ (p : Program). FoundCases (subject_of own p) asked.tears at [] leaves found.torn_beyond found.lost_beyond) so.program_is
+          (subst (λ m. FoundCases (subject_of own program) asked.tears at [] leaves m found.lost_beyond) (sym so.torn)
+          (subst (λ m. FoundCases (subject_of own program) asked.tears at [] leaves new.torn_beyond m) (sym so.lost) all));
+      cases = so.cases;
+      failing = so.failing;
+    }
 
 -- more leaves than may be met
-pub passes_most : (checker : CheckerValue) (context : Context) (was : Program) (old now new : SearchValue) (n : ℕ) → context ≡ context_at old.asked.at.log old.asked.at.cut → BeginsAt old
-    → was ≡ program_of checker context → PassedSo (program_of checker context) old now n → EndsWith was now new n None → PassesMost (losses_in old) old.asked.at checker n
-passes_most checker context was old now new n is begins same so ends =
-    let own = subst (λ (p : Program). EndsWith p now new n None) same ends in
-    let long = long_next so.leaves (leaf_at new own.0) n so.many in
-    let begun = begun_all old.asked (program_of checker context) old.tears old new [] (so.leaves ++ leaf_at new own.0 ∷ []) (n + 1) refl refl begins.whole
-    (ran_next (program_of checker context) old now new own.0 n so own.1) (omega (arith, long)) in
+pub most_met : (asked : Losses) (at : CutValue) (checker : CheckerValue) (program : Program) (old new : SearchValue) (leaves : List LeafValue) (left : ℕ) (found : CaseFindings)
+    → SoughtSo asked at checker program old new leaves left found → left < found.cases → PassesMost asked at checker left
+most_met asked at checker program old new leaves left found so past =
+    let cases = so.cases in
+    let few = so.seeks.few in
+    let long : length leaves ≡ left + 1 = omega (arith, cases, few, past) in
+    let to = pass_to_last leaves (omega (arith, long)) so.seeks.passing in
     record {
-      leaves = so.leaves;
-      last = leaf_at new own.0;
-      those = subst (λ (x : Context). BegunCases (subject_of old.asked (program_of checker x)) old.tears old.asked.at [] (so.leaves ++ leaf_at new own.0 ∷ []) (n + 1)) is begun;
-      passing = so.passing;
+      leaves = to.before;
+      last = to.last;
+      those =
+          subst (λ (ls : List LeafValue). BegunCases (subject_at at.log at.way at.cut checker asked.torn asked.lost) asked.tears at [] ls (left + 1)) to.are
+          (begun_so asked at checker program old new leaves left (left + 1) found so long);
+      passing = to.passing;
     }
 
--- no leaf more: all pass
-pub all_pass : (checker : CheckerValue) (context : Context) (was : Program) (old now new : SearchValue) (n left : ℕ) (it : CaseFindings) → context ≡ context_at old.asked.at.log old.asked.at.cut
-    → BeginsAt old → was ≡ program_of checker context → PassedSo (program_of checker context) old now n → n ≤ left → Went (subject_of now.asked was) now new false → IsPassing new n it
-    → IsFoundAt (losses_in old) old.asked.at checker it × (it.failing.items ≡ []) × (it.cases ≤ left)
-all_pass checker context was old now new n left it is begins same so few went passing =
-    let program = program_of checker context in
-    let one : Went (subject_of now.asked program) now new false = subst (λ (p : Program). Went (subject_of now.asked p) now new false) same went in
-    let ran = ran_end program old now new [] so.leaves so.leaves false so.same so.ran one refl refl in
-    let all = found_all old.asked program old.tears old new [] so.leaves refl refl begins.whole begins.none ran (one.ended refl) in
-    let counted = subst (λ m. FoundCases (subject_of old.asked program) old.tears old.asked.at [] so.leaves m it.lost_beyond) (sym passing.torn)
-    (subst (λ m. FoundCases (subject_of old.asked program) old.tears old.asked.at [] so.leaves new.torn_beyond m) (sym passing.lost) all) in
-    let cases = passing.cases in (
-      record {
-        leaves = so.leaves;
-        those = subst (λ (x : Context). FoundCases (subject_of old.asked (program_of checker x)) old.tears old.asked.at [] so.leaves it.torn_beyond it.lost_beyond) is counted;
-        cases = cases ∙ sym so.many;
-        failing = ap (map failing_value) passing.none ∙ sym so.passing;
-      },
-      passing.none,
-      omega (arith, cases, few),
-    )
-
--- what is asked of a search, and with which checker, as it was made
-pub met_of : (asked : Losses) (at : CutValue) (checker own : CheckerValue) (v : SearchValue) (left : ℕ) (m : Met) → v.asked ≡ record { at = at; torn = asked.torn; lost = asked.lost }
-    → v.tears ≡ asked.tears → own ≡ checker → MeetsOne (losses_in v) v.asked.at own left m → MeetsOne asked at checker left m
-met_of asked at checker own v left m same tears is met =
-    subst (λ (c : CheckerValue). MeetsOne asked at c left m) is
-    (subst (λ (b : Bool). MeetsOne (record { tears = b; torn = asked.torn; lost = asked.lost }) at own left m) tears
-    (subst (λ (a : Asked). MeetsOne (record { tears = v.tears; torn = a.torn; lost = a.lost }) a.at own left m) same met))
-
-pub ends_of : (asked : Losses) (at : CutValue) (checker own : CheckerValue) (v : SearchValue) (left : ℕ) (why : SearchFault) → v.asked ≡ record { at = at; torn = asked.torn; lost = asked.lost }
-    → v.tears ≡ asked.tears → own ≡ checker → EndsAtOne (losses_in v) v.asked.at own left why → EndsAtOne asked at checker left why
-ends_of asked at checker own v left why same tears is ends =
-    subst (λ (c : CheckerValue). EndsAtOne asked at c left why) is
-    (subst (λ (b : Bool). EndsAtOne (record { tears = b; torn = asked.torn; lost = asked.lost }) at own left why) tears
-    (subst (λ (a : Asked). EndsAtOne (record { tears = v.tears; torn = a.torn; lost = a.lost }) a.at own left why) same ends))
+-- where the first leaves pass, and there is one more, there are too many
+pub ends_stops : (asked : Losses) (at : CutValue) (checker : CheckerValue) (left : ℕ) (why : SearchFault) → EndsAtOne asked at checker left why → StopsAtOne asked at checker left why
+ends_stops asked at checker left fault.Memory ends = tt
+ends_stops asked at checker left (fault.TooMany cut) ends =
+    (ends.0, record { more = left + 1; begun = record { leaves = ends.1.leaves ++ ends.1.last ∷ []; those = ends.1.those }; past = omega arith })
 
 -- with each checker, and at each cut
 

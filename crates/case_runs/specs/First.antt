@@ -1,32 +1,23 @@
 -- The first failing case of some cuts with some checkers: by cut, by checker, and in the order of the tree.
-use Rattle.std.specs.Prelude.{ℕ, ◌≡◌, ◌+◌, ◌<◌, ◌≤◌, true, false, List, [], ◌∷◌, ◌++◌, map, slice_get, Option, None, Some, All}
+use Rattle.std.specs.Prelude.{ℕ, ◌≡◌, ◌+◌, ◌<◌, ◌≤◌, List, [], ◌∷◌, ◌++◌, map, slice_get, Some, All}
 use Rattle.logfmt.specs.Bounds.{LogValue}
 use Rattle.epochs.specs.declared.part.By.{By}
-use Rattle.machine.specs.Outcome.{Ending}
 use Rattle.checker.specs.Checker.{CheckerValue}
-use Rattle.cases.specs.Cases.{whole_case, representative}
 use Rattle.cases.specs.AtCut.{CutValue}
-use Rattle.cases.specs.Trees.{Program, ending_of}
-use Rattle.cases.specs.Search.{SearchValue, LeafValue, BegunCases, SameSearch, Went, pending, case_in, subject_of}
+use Rattle.cases.specs.Search.{LeafValue, BegunCases}
 use Rattle.losses.specs.declared.found.Losses.{Losses}
 use Rattle.losses.specs.declared.found.CaseFindings.{CaseFindings}
 use Rattle.losses.specs.declared.found.CutFound.{CutFound}
 use Rattle.case_runs.specs.declared.found.SearchFault.{SearchFault}
 use Rattle.case_runs.specs.declared.found.SearchFault.TheVariants as fault
 use Rattle.losses.specs.declared.found.FirstCase.{FirstCase}
-use Rattle.case_runs.specs.declared.first.Next.{Next}
-use Rattle.case_runs.specs.declared.first.Next.TheVariants as next
-use Rattle.case_runs.specs.declared.first.Met.{Met}
-use Rattle.case_runs.specs.declared.first.Met.TheVariants as met
-use Rattle.case_runs.specs.declared.first.MetAt.{MetAt}
-use Rattle.case_runs.specs.declared.first.MetAt.TheVariants as met_at
 use Rattle.case_runs.specs.declared.first.Sought.{Sought}
 use Rattle.case_runs.specs.declared.first.Sought.TheVariants as sought
 use Rattle.losses.specs.declared.found.FailingCase.{FailingCase}
 use Rattle.losses.specs.FoundCases.{failing_value, cases_at, cases_in, most_cases}
-use Rattle.case_runs.specs.Leaves.{failing_if, failing_from}
+use Rattle.case_runs.specs.Leaves.{failing_from}
 use Rattle.case_runs.specs.Laws.{subject_at}
-use Rattle.case_runs.specs.Found.{IsFoundAt, AreFoundAt, AreFoundIn, AreFirstAt, AreFirstIn, KnownCase, known_case}
+use Rattle.case_runs.specs.Found.{IsFoundAt, AreFoundIn, AreFirstAt, AreFirstIn, KnownCase, known_case}
 
 -- no case fails, of those that were found at a cut, and at some cuts
 abbrev pub NoneFailsAt : List CaseFindings → Type 0
@@ -47,47 +38,6 @@ pub record PassesMost (asked : Losses) (at : CutValue) (checker : CheckerValue) 
   pub last : LeafValue
   pub those : BegunCases (subject_at at.log at.way at.cut checker asked.torn asked.lost) asked.tears at [] (leaves ++ last ∷ []) (most + 1)
   pub passing : failing_from 0 leaves ≡ []
-
--- what is asked of a search, and that it begins at all choices of its cut
-abbrev pub losses_in : SearchValue → Losses
-losses_in v = record { tears = v.tears; torn = v.asked.torn; lost = v.asked.lost }
-
-pub record BeginsAt (v : SearchValue) : Type 0 where
-  pub whole : pending v ≡ whole_case v.tears ∷ []
-  pub none : (v.torn_beyond ≡ 0) × (v.lost_beyond ≡ 0)
-
--- a search went to the next leaf, on which the program ends so
-pub record NextLeaf (program : Program) (now new : SearchValue) (ending : Ending) : Type 0 where
-  pub same : SameSearch now new
-  pub went : Went (subject_of now.asked program) now new true
-  pub ends : ending ≡ ending_of (subject_of now.asked program) (representative (case_in new))
-
-abbrev pub leaf_at : SearchValue → Ending → LeafValue
-leaf_at v ending = record { sets = v.sets; ending = ending }
-
--- what is met at a leaf of that number
-abbrev pub IsMetAt : ℕ → LeafValue → Next → Type 0
-IsMetAt n leaf next.Ended = ⊥
-IsMetAt n leaf next.Passing = failing_if n leaf ≡ []
-IsMetAt n leaf (next.Failing f) = failing_if n leaf ≡ failing_value f ∷ []
-
--- a search went to the leaf of that number, at which this is met, or there is none
-abbrev pub GoesTo : Program → SearchValue → SearchValue → ℕ → Next → Type 0
-GoesTo program now new n next.Ended = Went (subject_of now.asked program) now new false
-GoesTo program now new n next.Passing = (ending : Ending) × NextLeaf program now new ending × (failing_if n (leaf_at new ending) ≡ [])
-GoesTo program now new n (next.Failing f) = (ending : Ending) × NextLeaf program now new ending × (failing_if n (leaf_at new ending) ≡ failing_value f ∷ [])
-
--- that many leaves were found, which all pass
-pub record IsPassing (v : SearchValue) (count : ℕ) (found : CaseFindings) : Type 0 where
-  pub cases : found.cases ≡ count
-  pub torn : found.torn_beyond ≡ v.torn_beyond
-  pub lost : found.lost_beyond ≡ v.lost_beyond
-  pub none : found.failing.items ≡ []
-
--- where that many leaves pass, there is no other, or there is one
-abbrev pub EndsWith : Program → SearchValue → SearchValue → ℕ → Option CaseFindings → Type 0
-EndsWith program now new count None = (ending : Ending) × NextLeaf program now new ending
-EndsWith program now new count (Some found) = Went (subject_of now.asked program) now new false × IsPassing new count found
 
 -- the first failing case at a cut, within the first `left` cases there: with the checkers before its own no case fails
 pub record FailsFirstAt (asked : Losses) (at : CutValue) (checkers : List CheckerValue) (left : ℕ) (first : FirstCase) : Type 0 where
@@ -141,39 +91,12 @@ pub record AllPass (asked : Losses) (log : LogValue) (way : By) (cuts : List ℕ
   pub none : NoneFails found
   pub few : cases_in found ≤ most_cases
 
--- what is met at a cut with a checker, of which `left` cases may be met
-abbrev pub MeetsOne : Losses → CutValue → CheckerValue → ℕ → Met → Type 0
-MeetsOne asked at checker left (met.Passing found) = IsFoundAt asked at checker found × (found.failing.items ≡ []) × (found.cases ≤ left)
-MeetsOne asked at checker left (met.Failing f) = FailsFirst asked at checker f × (f.number < left)
-
--- how many cases may still be met after it
-abbrev pub TakesOne : ℕ → ℕ → Met → Type 0
-TakesOne left now (met.Passing found) = left ≡ now + found.cases
-TakesOne left now (met.Failing f) = Unit {0}
-
--- what is met at a cut with some checkers
-abbrev pub MeetsAt : Losses → CutValue → List CheckerValue → ℕ → MetAt → Type 0
-MeetsAt asked at checkers left (met_at.Passing found) = (found.cut ≡ at.cut) × AreFoundAt asked at checkers found.programs.items × NoneFailsAt found.programs.items
-MeetsAt asked at checkers left (met_at.Failing first) = (first.cut ≡ at.cut) × FailsFirstAt asked at checkers left first
-
-abbrev pub TakesAt : ℕ → ℕ → MetAt → Type 0
-TakesAt left now (met_at.Passing found) = left ≡ now + cases_at found.programs.items
-TakesAt left now (met_at.Failing first) = Unit {0}
-
 -- what is found where the first failing case of some cuts is looked for: it, or all cases, of which none fails
 abbrev pub IsSought : Losses → LogValue → By → List ℕ → List CheckerValue → Sought → Type 0
 IsSought asked log way cuts checkers (sought.Passing found) = AllPass asked log way cuts checkers found.items
 IsSought asked log way cuts checkers (sought.Failing first) = IsFirstFailing asked log way cuts checkers first
 
 -- why it wasn't found: for memory, or there are too many before it
-abbrev pub EndsAtOne : Losses → CutValue → CheckerValue → ℕ → SearchFault → Type 0
-EndsAtOne asked at checker left fault.Memory = Unit {0}
-EndsAtOne asked at checker left (fault.TooMany cut) = (cut ≡ at.cut) × PassesMost asked at checker left
-
-abbrev pub EndsAt : Losses → CutValue → List CheckerValue → ℕ → SearchFault → Type 0
-EndsAt asked at checkers left fault.Memory = Unit {0}
-EndsAt asked at checkers left (fault.TooMany cut) = (cut ≡ at.cut) × PassesMostAt asked at checkers left
-
 abbrev pub EndsIn : Losses → LogValue → By → List ℕ → List CheckerValue → SearchFault → Type 0
 EndsIn asked log way cuts checkers fault.Memory = Unit {0}
 EndsIn asked log way cuts checkers (fault.TooMany cut) = PassesMostIn asked log way cuts checkers cut

@@ -7,4 +7,5 @@ pub mod Found
 pub mod Pieces
 pub mod Shares
 pub mod First
+pub mod Walk
 pub mod Cuts

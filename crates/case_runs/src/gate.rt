@@ -1,12 +1,12 @@
 //! Who is told how far a search for cases is.
 
-ghost use Rattle.std.specs.Prelude.{◌≡◌, [], map};
+ghost use Rattle.std.specs.Prelude.{◌≡◌, map, length};
 ghost use Rattle.losses.specs.FoundCases.{failing_value};
 ghost use Rattle.case_runs.specs.Leaves.{failing_from};
 
 use crate::judge::CaseJudge;
-use cases::{Cut, Judge, KnownRows, Parted};
-use losses::found::FailingCase;
+use cases::{Cut, Judge, KnownRows, Parted, Search};
+use losses::found::CaseFindings;
 use std::alloc::AllocError;
 use std::marker::Model;
 
@@ -49,11 +49,20 @@ impl<'c, 'p, 'g, G: CaseGate> Watched<'c, 'p, 'g, G> {
         &self.judge
     }
 
-    /// The leaves that fail, in order.
-    pub(crate) fn into_failing(self) -> Vec<FailingCase>
-        ensures { map failing_value result.items ≡ failing_from 0 self.entry.leaves }
+    /// What it was told of in a search.
+    pub(crate) fn into_findings(self, search: &Search<'_>) -> CaseFindings
+        ensures cases { result.cases ≡ length self.entry.leaves }
+        ensures torn { result.torn_beyond ≡ search.now.torn_beyond }
+        ensures lost { result.lost_beyond ≡ search.now.lost_beyond }
+        ensures failing { map failing_value result.failing.items ≡ failing_from 0 self.entry.leaves }
     {
-        self.judge.into_failing()
+        let cases = self.judge.cases();
+        CaseFindings {
+            cases,
+            torn_beyond: search.torn_beyond(),
+            lost_beyond: search.lost_beyond(),
+            failing: self.judge.into_failing(),
+        }
     }
 }
 

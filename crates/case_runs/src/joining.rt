@@ -2,8 +2,8 @@
 
 ghost use Rattle.std.specs.Prelude.{◌≡◌, ◌≤◌, ◌<◌, ◌+◌, ◌^◌, ◌++◌, ◌∷◌, [], length, map, slice_get, Some, All, IfOk, IfErr, OnOk};
 ghost use Rattle.checker.specs.Checker.{AreFor};
-ghost use Rattle.losses.specs.FoundCases.{failing_value, cases_at, cases_in, most_cases};
-ghost use Rattle.case_runs.specs.Found.{IsFoundAt, AreFoundAt, AreFoundIn, StopsAtOne, StopsAt, StopsIn};
+ghost use Rattle.losses.specs.FoundCases.{failing_value, most_cases};
+ghost use Rattle.case_runs.specs.Found.{IsFoundAt, StopsAtOne};
 ghost use Rattle.case_runs.specs.Pieces.{subject_in, start_case, IsStart, StartsSo, IsStep, RanFrom, later, JoinsSo};
 ghost use Rattle.case_runs.specs.Shares.{cut_in, AreAllOf, IsBegun};
 
@@ -14,21 +14,8 @@ use crate::rounds::whole_piece;
 use crate::work::CaseWork;
 use cases::{Cut, Search};
 use checker::Checker;
-use losses::found::{CaseFindings, CutFound, FailingCase, MOST_CASES};
+use losses::found::{CaseFindings, FailingCase};
 use std::alloc::{AllocError, Global};
-
-/// Nothing was found yet.
-fn nothing(alloc: Global) -> CaseFindings
-    ensures counts { (result.cases ≡ 0) × (result.torn_beyond ≡ 0) × (result.lost_beyond ≡ 0) }
-    ensures failing { result.failing.items ≡ [] }
-{
-    CaseFindings {
-        cases: 0,
-        torn_beyond: 0,
-        lost_beyond: 0,
-        failing: Vec::new(alloc),
-    }
-}
 
 /// Appends failing cases that come after `leaves` others.
 fn put_after(
@@ -131,7 +118,7 @@ fn found_of<G: CaseGate>(
 }
 
 /// What pieces of a cut and a checker come to, if they have no more leaves than a limit.
-fn joined_at<G: CaseGate>(
+pub(crate) fn joined_at<G: CaseGate>(
     alloc: Global,
     gate: &G,
     work: &CaseWork<'_>,
@@ -150,7 +137,12 @@ fn joined_at<G: CaseGate>(
     ensures few { IfOk result (λ found. found.cases ≤ left) }
     ensures many { IfErr result (StopsAtOne work.now.asked (cut_in work.now number) checker.now left) }
 {
-    let mut found = nothing(alloc);
+    let mut found = CaseFindings {
+        cases: 0,
+        torn_beyond: 0,
+        lost_beyond: 0,
+        failing: Vec::new(alloc),
+    };
     for piece in pieces {
         let most = left + 1 - found.cases as u32;
         let more = found_of(alloc, gate, work, number, program, checker, piece, most)?;
@@ -161,33 +153,8 @@ fn joined_at<G: CaseGate>(
     Ok(found)
 }
 
-/// The same, taken from the cases that may still be met.
-fn joined_within<G: CaseGate>(
-    alloc: Global,
-    gate: &G,
-    work: &CaseWork<'_>,
-    number: u32,
-    program: usize,
-    checker: &Checker<'_>,
-    pieces: Vec<Subtree>,
-    left: &mut u32,
-) -> Result<CaseFindings, SearchFault>
-    requires device { AreFor work.now.log.now.sectors work.now.checkers.now }
-    requires cut { number ≤ length work.now.log.now.entries }
-    requires checker { slice_get work.now.checkers.now program ≡ Some checker.now }
-    requires pieces { AreAllOf work.now number program pieces.items }
-    requires few { left.old ≤ most_cases }
-    ensures found { IfOk result (IsFoundAt work.now.asked (cut_in work.now number) checker.now) }
-    ensures taken { IfOk result (λ found. left.old ≡ left.new + found.cases) }
-    ensures many { IfErr result (StopsAtOne work.now.asked (cut_in work.now number) checker.now left.old) }
-{
-    let found = joined_at(alloc, gate, work, number, program, checker, pieces, *left)?;
-    *left -= found.cases as u32;
-    Ok(found)
-}
-
 /// The pieces of a cut and a checker: what was begun, if it is the last of these, or all choices.
-fn pieces_at(
+pub(crate) fn pieces_at(
     alloc: Global,
     work: &CaseWork<'_>,
     begun: &mut Vec<Begun>,
@@ -206,36 +173,12 @@ fn pieces_at(
     whole_piece(alloc, work, number, program)
 }
 
-/// What was begun at a cut comes to, with each checker.
-fn joined_each<G: CaseGate>(
+/// What was begun, the last one first.
+pub(crate) fn reversed(
     alloc: Global,
-    gate: &G,
     work: &CaseWork<'_>,
-    checkers: &[Checker<'_>],
-    number: u32,
-    begun: &mut Vec<Begun>,
-    left: &mut u32,
-) -> Result<Vec<CaseFindings>, SearchFault>
-    requires checkers { work.now.checkers.now ≡ checkers.now }
-    requires device { AreFor work.now.log.now.sectors work.now.checkers.now }
-    requires cut { number ≤ length work.now.log.now.entries }
-    requires begun { All (IsBegun work.now) begun.old.items }
-    requires few { left.old ≤ most_cases }
-    ensures begun { All (IsBegun work.now) begun.new.items }
-    ensures found { IfOk result (λ found. AreFoundAt work.now.asked (cut_in work.now number) checkers.now found.items) }
-    ensures taken { IfOk result (λ found. left.old ≡ left.new + cases_at found.items) }
-    ensures many { IfErr result (StopsAt work.now.asked (cut_in work.now number) checkers.now left.old) }
-{
-    let mut out = Vec::new(alloc);
-    for (program, checker) in checkers.iter().enumerate() {
-        let pieces = pieces_at(alloc, work, begun, number, program)?;
-        out.push(joined_within(alloc, gate, work, number, program, checker, pieces, left)?)?;
-    }
-    Ok(out)
-}
-
-/// The same, the last one first.
-fn reversed(alloc: Global, work: &CaseWork<'_>, begun: Vec<Begun>) -> Result<Vec<Begun>, AllocError>
+    begun: Vec<Begun>,
+) -> Result<Vec<Begun>, AllocError>
     requires { All (IsBegun work.now) begun.items }
     ensures { IfOk result (λ turned. All (IsBegun work.now) turned.items) }
 {
@@ -244,32 +187,6 @@ fn reversed(alloc: Global, work: &CaseWork<'_>, begun: Vec<Begun>) -> Result<Vec
     let mut out = Vec::new(alloc);
     'turning: while let Some(one) = begun.pop() {
         out.push(one)?;
-    }
-    Ok(out)
-}
-
-/// What was begun at some cuts comes to.
-pub(crate) fn joined<G: CaseGate>(
-    alloc: Global,
-    gate: &G,
-    work: &CaseWork<'_>,
-    cuts: &[u32],
-    begun: Vec<Begun>,
-) -> Result<Vec<CutFound>, SearchFault>
-    requires device { AreFor work.now.log.now.sectors work.now.checkers.now }
-    requires cuts { All (λ cut. cut ≤ length work.now.log.now.entries) cuts.now }
-    requires begun { All (IsBegun work.now) begun.items }
-    ensures found { IfOk result (λ found. AreFoundIn work.now.asked work.now.log.now work.now.way cuts.now work.now.checkers.now found.items) }
-    ensures few { IfOk result (λ found. cases_in found.items ≤ most_cases) }
-    ensures refused { IfErr result (StopsIn work.now.asked work.now.log.now work.now.way cuts.now work.now.checkers.now) }
-{
-    let mut begun = reversed(alloc, work, begun)?;
-    let mut out = Vec::new(alloc);
-    let mut left = MOST_CASES;
-    for number in cuts {
-        let cut = *number;
-        let programs = joined_each(alloc, gate, work, work.checkers, cut, &mut begun, &mut left)?;
-        out.push(CutFound { cut, programs })?;
     }
     Ok(out)
 }

@@ -1,7 +1,6 @@
 //! A checker as a judge of cases.
 
 ghost use Rattle.std.specs.Prelude.{◌≡◌, [], map, length, IfOk};
-ghost use Rattle.interp.specs.Ending.{ending_of};
 ghost use Rattle.losses.specs.FoundCases.{failing_value};
 ghost use Rattle.case_runs.specs.Leaves.{failing_from, IsFit};
 
@@ -97,11 +96,12 @@ impl<'c, 'p> CaseJudge<'c, 'p> {
         self.told.len()
     }
 
-    /// What its last run ended in.
-    pub(crate) fn outcome(&self) -> &Outcome
-        ensures { ending_of result.now ≡ self.now.ending }
+    /// How many of these fail.
+    pub(crate) fn failures(&self) -> usize
+        ensures count { result ≡ length self.now.failing }
+        ensures those { self.now.failing ≡ failing_from 0 self.now.leaves }
     {
-        &self.outcome
+        self.failing.len()
     }
 
     /// The leaves that fail, in order.

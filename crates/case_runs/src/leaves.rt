@@ -28,7 +28,7 @@ pub(crate) fn copy_sets(alloc: Global, sets: &[u16]) -> Result<Vec<u16>, AllocEr
 }
 
 /// Appends a leaf, if the checker fails there.
-pub(crate) fn put_failing(
+fn put_failing(
     failing: &mut Vec<FailingCase>,
     number: usize,
     outcome: &Outcome,
@@ -47,25 +47,7 @@ pub(crate) fn put_failing(
     Ok(())
 }
 
-/// Appends a leaf to what was told. The vector is a place for its sets.
-fn put_told(
-    told: &mut Vec<ToldLeaf>,
-    place: &mut Vec<u16>,
-    outcome: &Outcome,
-    sets: &[u16],
-) -> Result<(), AllocError>
-    ensures { OnOk result (map leaf_of told.new.items ≡ map leaf_of told.old.items ++ record { sets = sets.now; ending = ending_of outcome.now } ∷ []) }
-{
-    place.clear();
-    place.extend_from_slice(sets)?;
-    told.push(ToldLeaf {
-        sets: Snapshot::of(place),
-        outcome: Snapshot::of(outcome),
-    })?;
-    Ok(())
-}
-
-/// Appends a leaf to both lists.
+/// Appends a leaf to both lists. The vector is a place for its sets.
 pub(crate) fn put_leaf(
     told: &mut Vec<ToldLeaf>,
     place: &mut Vec<u16>,
@@ -77,5 +59,11 @@ pub(crate) fn put_leaf(
     ensures failing { OnOk result (map failing_value failing.new.items ≡ map failing_value failing.old.items ++ failing_if (length told.old.items) (record { sets = sets.now; ending = ending_of outcome.now })) }
 {
     put_failing(failing, told.len(), outcome, sets)?;
-    put_told(told, place, outcome, sets)
+    place.clear();
+    place.extend_from_slice(sets)?;
+    told.push(ToldLeaf {
+        sets: Snapshot::of(place),
+        outcome: Snapshot::of(outcome),
+    })?;
+    Ok(())
 }

@@ -35,15 +35,17 @@
 //!
 //! # Workers
 //!
-//! One worker goes from cut to cut and from checker to checker (`find_alone`). More of them work in rounds (`rounds.rt`). What was found of a
-//! cut with a checker stands as pieces, in the order of the tree: what was found there (`Told`), or a case that is still to be explored
-//! (`Open`). At first each cut and checker is one open piece, all choices. In a round the workers draw the open pieces one by one from a pile
-//! (`sharing.rt`). A worker explores the tree below a piece, up to 4,096 leaves. Then it brings back what it found, and the cases that are
-//! left, which are the open pieces of the next round, in the place of the piece. So a heavy cut falls into subtrees by itself. Where there are
-//! few pieces they are cut after 128 leaves, so that there are more soon. A worker keeps its cut, and the rows that it knows, as long as the pieces
-//! that it draws are of the same cut and checker. It draws no more in a round after 65,536 leaves, so the first pieces come first.
+//! Cases are found on a walk from cut to cut and from checker to checker (`walk.rt`). `find_first` goes from leaf to leaf on it, and ends at
+//! the first that fails. In `find_failing` one worker explores all choices of each cut with each checker at once. More of them work in
+//! rounds before the walk (`rounds.rt`). What was found of a cut with a checker stands as pieces, in the order of the tree: what was found
+//! there (`Told`), or a case that is still to be explored (`Open`). At first each cut and checker is one open piece, all choices. In a round
+//! the workers draw the open pieces one by one from a pile (`sharing.rt`). A worker explores the tree below a piece, up to 2,048 leaves. Then
+//! it brings back what it found, and the cases that are left, which are the open pieces of the next round, in the place of the piece. So a
+//! heavy cut falls into subtrees by itself. Where there are few pieces they are cut after 128 leaves, so that there are more soon. A worker
+//! keeps its cut, and the rows that it knows, as long as the pieces that it draws are of the same cut and checker. It draws no more in a round
+//! after 65,536 leaves, so the first pieces come first.
 //!
-//! At the end the pieces are put together in their order (`joining.rt`): there a failing case gets its number, and it is seen with
+//! On the walk the pieces are put together in their order (`joining.rt`): there a failing case gets its number, and it is seen with
 //! which cut there are too many. An open piece that is left is explored then. That the text is the same for any number of workers rests on
 //! this order alone. It doesn't matter which worker drew what: an answer names its piece, and takes no other's place.
 //!
@@ -99,6 +101,7 @@ mod pieces;
 mod rounds;
 mod runs;
 mod sharing;
+mod walk;
 mod work;
 
 pub use cuts::{case_cuts, first_wanted, last_wanted};

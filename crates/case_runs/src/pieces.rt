@@ -123,36 +123,6 @@ fn begin_at(
     Ok(())
 }
 
-/// Goes on with a search, up to a limit of leaves.
-fn run_from<G: CaseGate>(
-    alloc: Global,
-    gate: &G,
-    search: &mut Search<'_>,
-    cut: &Cut<'_>,
-    context: Context,
-    checker: &Checker<'_>,
-    asked: Losses,
-    most: u32,
-) -> Result<Ran, AllocError>
-    requires context { context ≡ context_at cut.now.log cut.now.cut }
-    requires fit { IsFit checker.now context }
-    requires search { IsSearchOf asked cut.now search.old }
-    requires none { (search.old.torn_beyond ≡ 0) × (search.old.lost_beyond ≡ 0) }
-    ensures search { IsSearchOf asked cut.now search.new }
-    ensures ran { IfOk result (RanFrom asked cut.now checker.now most (pending search.old)) }
-{
-    let mut judge = Watched::new(CaseJudge::new(alloc, checker, context)?, gate);
-    let _ended = search.run(&mut judge, most)?;
-    let found = CaseFindings {
-        cases: judge.judge().cases(),
-        torn_beyond: search.torn_beyond(),
-        lost_beyond: search.lost_beyond(),
-        failing: judge.into_failing(),
-    };
-    let left = search.take_all(alloc)?;
-    Ok(Ran { found, left })
-}
-
 /// Explores the tree below a start, up to a limit of leaves.
 pub(crate) fn run_start<G: CaseGate>(
     alloc: Global,
@@ -173,7 +143,11 @@ pub(crate) fn run_start<G: CaseGate>(
     ensures ran { IfOk result (RanFrom asked cut.now checker.now most (start_case asked.tears cut.now start.now ∷ [])) }
 {
     begin_at(alloc, search, cut, start, asked)?;
-    run_from(alloc, gate, search, cut, context, checker, asked, most)
+    let mut judge = Watched::new(CaseJudge::new(alloc, checker, context)?, gate);
+    let _ended = search.run(&mut judge, most)?;
+    let found = judge.into_findings(search);
+    let left = search.take_all(alloc)?;
+    Ok(Ran { found, left })
 }
 
 /// The pieces of what a run found, and of what is still to be explored after it.

@@ -3,14 +3,14 @@
 ghost use Rattle.std.specs.Prelude.{◌≡◌, ◌∷◌, ◌++◌, [], List, All, IfOk, OnOk, IfSome, IsTrue};
 ghost use Rattle.checker.specs.Checker.{AreFor};
 ghost use Rattle.case_runs.specs.declared.pieces.Subtree.{Subtree as PieceValue};
-ghost use Rattle.case_runs.specs.Pieces.{told_as, open_as};
+ghost use Rattle.case_runs.specs.Pieces.{open_as};
 ghost use Rattle.case_runs.specs.Shares.{IsAnswer, AreAnswers, IsBegun, AreAllOf, AreBelow, HaveSame};
 
 use crate::gate::CaseGate;
 use crate::pieces::{Begun, Start, Subtree, SubtreeAnswer, all_choices, are_same};
 use crate::sharing::answers;
 use crate::work::CaseWork;
-use losses::found::{CaseFindings, MOST_CASES};
+use losses::found::MOST_CASES;
 use std::alloc::{AllocError, Global};
 use std::thread::Threads;
 
@@ -23,29 +23,6 @@ fn is_of(answer: &SubtreeAnswer, cut: u32, program: usize, start: &Start) -> boo
 {
     let same = are_same(&answer.start, start);
     answer.cut == cut && answer.program == program && same
-}
-
-/// What takes the place of an open piece: what the answer says, if it is that of the piece.
-fn with_answer(
-    alloc: Global,
-    work: &CaseWork<'_>,
-    cut: u32,
-    program: usize,
-    start: Start,
-    answer: Option<SubtreeAnswer>,
-) -> Result<Vec<Subtree>, AllocError>
-    requires { IfSome answer (IsAnswer work.now) }
-    ensures { IfOk result (λ pieces. AreBelow work.now cut program start pieces.items) }
-{
-    let _way = work.way;
-    if let Some(answer) = answer {
-        if is_of(&answer, cut, program, &start) {
-            return Ok(answer.pieces);
-        }
-    }
-    let mut pieces = Vec::new(alloc);
-    pieces.push(Subtree::Open(start))?;
-    Ok(pieces)
 }
 
 /// Takes the next answer, if there is one.
@@ -64,7 +41,7 @@ fn next_answer(
     }
 }
 
-/// Appends what takes the place of an open piece.
+/// Appends what takes the place of an open piece: what the answer says, if it is that of the piece.
 fn put_below(
     work: &CaseWork<'_>,
     out: &mut Vec<Subtree>,
@@ -76,24 +53,15 @@ fn put_below(
     requires { IfSome answer (IsAnswer work.now) }
     ensures same { (rest : List PieceValue) → OnOk result (HaveSame work.now cut program (out.old.items ++ (open_as start ∷ rest)) (out.new.items ++ rest)) }
 {
-    let mut pieces = with_answer(*out.allocator(), work, cut, program, start, answer)?;
-    out.append(&mut pieces)?;
-    Ok(())
-}
-
-/// Appends what was found.
-fn put_told(
-    work: &CaseWork<'_>,
-    out: &mut Vec<Subtree>,
-    cut: u32,
-    program: usize,
-    found: CaseFindings,
-) -> Result<(), AllocError>
-    ensures same { (rest : List PieceValue) → OnOk result (HaveSame work.now cut program (out.old.items ++ (told_as found ∷ rest)) (out.new.items ++ rest)) }
-{
     let _way = work.way;
-    let _of = (cut, program);
-    out.push(Subtree::Told(found))?;
+    if let Some(answer) = answer {
+        if is_of(&answer, cut, program, &start) {
+            let mut pieces = answer.pieces;
+            out.append(&mut pieces)?;
+            return Ok(());
+        }
+    }
+    out.push(Subtree::Open(start))?;
     Ok(())
 }
 
@@ -111,7 +79,10 @@ fn put_piece(
     ensures same { (rest : List PieceValue) → OnOk result (HaveSame work.now cut program (out.old.items ++ (piece ∷ rest)) (out.new.items ++ rest)) }
 {
     match piece {
-        Subtree::Told(found) => put_told(work, out, cut, program, found),
+        Subtree::Told(found) => {
+            out.push(Subtree::Told(found))?;
+            Ok(())
+        }
         Subtree::Open(start) => {
             let answer = next_answer(work, places);
             put_below(work, out, cut, program, start, answer)
@@ -119,18 +90,10 @@ fn put_piece(
     }
 }
 
-/// Whether a piece is still to be explored.
-fn is_open(piece: &Subtree) -> bool {
-    match piece {
-        Subtree::Told(_found) => false,
-        Subtree::Open(_start) => true,
-    }
-}
-
 /// Whether all pieces were found.
 fn is_done(begun: &Begun) -> bool {
     for piece in begun.pieces.as_slice() {
-        if is_open(piece) {
+        if let Subtree::Open(_start) = piece {
             return false;
         }
     }
@@ -186,24 +149,6 @@ fn gone_on(
     })
 }
 
-/// Appends what was begun at a cut with a checker, with the answers in their places.
-fn put_gone_on(
-    work: &CaseWork<'_>,
-    out: &mut Vec<Begun>,
-    begun: Begun,
-    places: &mut Vec<Option<SubtreeAnswer>>,
-) -> Result<(), AllocError>
-    requires places { AreAnswers work.now places.old.items }
-    requires begun { IsBegun work.now begun }
-    requires out { All (IsBegun work.now) out.old.items }
-    ensures places { AreAnswers work.now places.new.items }
-    ensures out { OnOk result (All (IsBegun work.now) out.new.items) }
-{
-    let begun = gone_on(*out.allocator(), work, begun, places)?;
-    out.push(begun)?;
-    Ok(())
-}
-
 /// All that was begun, with the answers in their places.
 fn all_gone_on(
     alloc: Global,
@@ -218,7 +163,8 @@ fn all_gone_on(
     let mut places = places;
     let mut out = Vec::new(alloc);
     for one in begun {
-        put_gone_on(work, &mut out, one, &mut places)?;
+        let gone = gone_on(alloc, work, one, &mut places)?;
+        out.push(gone)?;
     }
     Ok(out)
 }
@@ -288,7 +234,7 @@ pub(crate) fn whole_piece(
     Ok(pieces)
 }
 
-/// What workers find at some cuts with each checker, in rounds.
+/// What workers find at some cuts with each checker, in rounds: nothing, where there is one alone.
 pub(crate) fn explored<G: CaseGate + Sync, R: Threads + Sync>(
     rt: &R,
     alloc: Global,
@@ -300,6 +246,9 @@ pub(crate) fn explored<G: CaseGate + Sync, R: Threads + Sync>(
     requires device { AreFor work.now.log.now.sectors work.now.checkers.now }
     ensures { IfOk result (λ begun. All (IsBegun work.now) begun.items) }
 {
+    if workers < 2 {
+        return Ok(Vec::new(alloc));
+    }
     let mut begun = beginnings(alloc, work, cuts)?;
     for _round in 0..u32::MAX {
         if !is_wanted(begun.as_slice()) {

@@ -148,35 +148,6 @@ impl WorkerAnswers {
         Ok(())
     }
 
-    /// Takes an open piece of a cut and a checker.
-    fn take<G: CaseGate>(
-        &mut self,
-        alloc: Global,
-        gate: &G,
-        search: &mut Search<'_>,
-        cut: &Cut<'_>,
-        context: Context,
-        checker: &Checker<'_>,
-        work: &CaseWork<'_>,
-        job: &OpenSubtree<'_>,
-        place: usize,
-        most: u32,
-    ) -> Result<(), AllocError>
-        requires cut { cut.now ≡ cut_in work.now job.now.cut }
-        requires checker { slice_get work.now.checkers.now job.now.program ≡ Some checker.now }
-        requires context { context ≡ context_at cut.now.log cut.now.cut }
-        requires fit { IsFit checker.now context }
-        requires search { IsSearchOf work.now.asked cut.now search.old }
-        requires answers { All (IsAnswer work.now) self.old.answers.items }
-        ensures search { IsSearchOf work.now.asked cut.now search.new }
-        ensures answers { All (IsAnswer work.now) self.new.answers.items }
-    {
-        let answer = answer_of(
-            alloc, gate, search, cut, context, checker, work, job, place, most,
-        )?;
-        self.put(work, answer)
-    }
-
     /// Takes open pieces of one cut and checker, the first of them at hand, and answers the place of the next.
     fn take_each<G: CaseGate>(
         &mut self,
@@ -208,50 +179,16 @@ impl WorkerAnswers {
             if job.cut != first.cut || job.program != first.program {
                 return Ok(place);
             }
-            self.take(
+            let answer = answer_of(
                 alloc, gate, search, cut, context, checker, work, job, place, pile.most,
             )?;
+            self.put(work, answer)?;
             if self.leaves >= ROUND {
                 return Ok(none);
             }
             place = pile.draw();
         }
         Ok(none)
-    }
-
-    /// The same, of a cut of the log and a checker that is there.
-    fn take_of<G: CaseGate>(
-        &mut self,
-        alloc: Global,
-        gate: &G,
-        checker: &Checker<'_>,
-        work: &CaseWork<'_>,
-        pile: &Pile<'_>,
-        place: usize,
-        first: &OpenSubtree<'_>,
-    ) -> Result<usize, AllocError>
-        requires device { AreFor work.now.log.now.sectors work.now.checkers.now }
-        requires cut { first.now.cut ≤ length work.now.log.now.entries }
-        requires checker { slice_get work.now.checkers.now first.now.program ≡ Some checker.now }
-        requires answers { All (IsAnswer work.now) self.old.answers.items }
-        ensures { All (IsAnswer work.now) self.new.answers.items }
-    {
-        let cut = Cut::new(alloc, work.log, work.way, first.cut)?;
-        let context = work.context(first.cut);
-        let asked = work.asked;
-        let mut search = Search::new(alloc, &cut, asked.tears, asked.torn, asked.lost)?;
-        self.take_each(
-            alloc,
-            gate,
-            &mut search,
-            &cut,
-            context,
-            checker,
-            work,
-            pile,
-            place,
-            first,
-        )
     }
 
     /// The same; no place where there is no such cut or no such checker.
@@ -274,7 +211,22 @@ impl WorkerAnswers {
         if first.cut as usize > work.log.entries().len() {
             return Ok(usize::MAX);
         }
-        self.take_of(alloc, gate, checker, work, pile, place, first)
+        let cut = Cut::new(alloc, work.log, work.way, first.cut)?;
+        let context = work.context(first.cut);
+        let asked = work.asked;
+        let mut search = Search::new(alloc, &cut, asked.tears, asked.torn, asked.lost)?;
+        self.take_each(
+            alloc,
+            gate,
+            &mut search,
+            &cut,
+            context,
+            checker,
+            work,
+            pile,
+            place,
+            first,
+        )
     }
 }
 
@@ -350,22 +302,6 @@ fn put_answer(work: &CaseWork<'_>, places: &mut Vec<Option<SubtreeAnswer>>, answ
     }
 }
 
-/// Puts the answers of a worker in their places.
-fn put_each(
-    work: &CaseWork<'_>,
-    places: &mut Vec<Option<SubtreeAnswer>>,
-    answers: Vec<SubtreeAnswer>,
-)
-    requires places { AreAnswers work.now places.old.items }
-    requires answers { All (IsAnswer work.now) answers.items }
-    ensures { AreAnswers work.now places.new.items }
-{
-    let _work = work.asked;
-    for answer in answers {
-        put_answer(work, places, answer);
-    }
-}
-
 /// Puts the answers of a worker in their places, if it didn't want memory.
 fn put_found(
     work: &CaseWork<'_>,
@@ -377,7 +313,10 @@ fn put_found(
     ensures { AreAnswers work.now places.new.items }
 {
     let _work = work.asked;
-    put_each(work, places, found?);
+    let answers = found?;
+    for answer in answers {
+        put_answer(work, places, answer);
+    }
     Ok(())
 }
 

@@ -17,6 +17,8 @@ pub(crate) struct CaseWork<'x> {
     pub(crate) way: By,
     pub(crate) checkers: &'x [Checker<'x>],
     pub(crate) asked: Losses,
+    /// Whether the first failing case alone is looked for.
+    pub(crate) first: bool,
     pub ghost plan_is: { plan.now.log ≡ log.now },
 }
 

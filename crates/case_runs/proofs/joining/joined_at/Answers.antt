@@ -7,9 +7,9 @@ use Rattle.case_runs.proofs.joining.joined_at.Goals as goal
 
 pub loop-piece-init : goal.loop-piece-init
 loop-piece-init g c = (
-  comes_first c.args.work.now c.args.number c.args.program c.args.checker.now c.nothing-found.result c.args.pieces.items _ c.nothing-found.ensures.counts c.nothing-found.ensures.failing c.requires.checker
+  comes_first c.args.work.now c.args.number c.args.program c.args.checker.now _ c.args.pieces.items _ (refl, refl, refl) c.new.ensures.items c.requires.checker
       c.into_iter-piece-iterator.ensures.into_iter_gives.0 c.requires.pieces,
-  (let none = c.nothing-found.ensures.counts.0 in omega arith),
+  omega arith,
   (let gives = c.into_iter-piece-iterator.ensures.into_iter_gives.1 in
       let ok = c.args.pieces.ok in
       let same = ap length c.into_iter-piece-iterator.ensures.into_iter_gives.0 in

@@ -2,7 +2,7 @@ use Rattle.std.proofs.Common.{◌≡◌, ◌∷◌, length, ap, arith}
 use Rattle.std.specs.Vec.Iter.{into_iter_items}
 use Rattle.std.proofs.lemmas.List.Elements.{All-rest}
 use Rattle.case_runs.specs.Shares.{IsAnswer}
-use Rattle.case_runs.proofs.sharing.put_each.Goals as goal
+use Rattle.case_runs.proofs.sharing.put_found.Goals as goal
 
 pub loop-answer-preserved : goal.loop-answer-preserved
 loop-answer-preserved c =
