@@ -12,8 +12,9 @@ isn't given), each by one check at a time.
 With --listed it tries the edits that FILE names, as the gate does after `rt ci`. There a line `NAME:` begins those of a crate,
 and each stands below it in a line of its own, moved in: EDIT, a colon, and the promise that it guards, in a few words. It works
 on a copy of the crates, over the libraries that `rt ci` kept or left; what isn't there is proved. A check then asks for the
-functions that its edits change, and for no other. Where the crate itself was proved of the same text, it isn't proved once more; else
-these functions are, without an edit. RT_JOBS is N where none is given.
+functions that its edits change, and takes what they call by its contract, where a hole stands in place of the proof. What isn't
+refused so is tried once more with the proofs of what they call. Where the crate itself was proved of the same text, it isn't
+proved once more; else these functions are, without an edit. RT_JOBS is N where none is given.
 
 An edit has the form that `rt must-fail` reads; it may name several files. Edits that change different functions are tried in
 one check. An edit is refused where an error of the proof lies in a function that it changes; where it changes a constant, in
@@ -53,6 +54,7 @@ from concurrent.futures import ThreadPoolExecutor
 
 sys.dont_write_bytecode = True
 
+import holes
 import kit
 import take_kept
 
@@ -65,7 +67,7 @@ CLAUSE = re.compile(r"\s*(requires|ensures|decreases)\b")
 PLACE = re.compile(r"(?:note: )?(?:\./)?((?:src|specs|proofs)/\S+):(\d+):\d+: (error: .*|it is not proved .*|it says .*)")
 VERDICT = re.compile(r"fn (\S+): (?:no proof|not proved)(.*)")
 # The last line of a check that had a verdict, though the crate isn't proved.
-NOT_PROVED = re.compile(r"logic=not-proved|only=\d+ proved=\d+|rattle: no verdict")
+NOT_PROVED = re.compile(r"logic=not-proved|only=\d+ (proved|holes)=\d+|rattle: no verdict")
 # Errors that say nothing of a contract.
 LOST = "a proof names what the edit took away"
 LOST_NAME = re.compile(r"has no field|is not in scope|has no `|was not admitted")
@@ -90,6 +92,11 @@ class Function:
     def __init__(self, path, name, of, trait, first, last):
         self.path, self.name, self.of, self.trait, self.first, self.last = path, name, of, trait, first, last
         self.modules = [module_of(path)]
+
+    def may_call_itself(self, text):
+        """Returns whether its lines in its file's text have its name once more, as a call has it."""
+        lines = "\n".join(text.split("\n")[self.first - 1 : self.last])
+        return len(re.findall(rf"\b{self.name}\s*(?:::<|[(<])", lines)) > 1
 
     def called(self):
         """Returns the name by which a check asks for it."""
@@ -392,8 +399,8 @@ def told_above(rt, above, edit, tell):
 class Trials:
     """The trials of one crate's edits. Those that are quick ask a check for the functions alone that the edits change."""
 
-    def __init__(self, rt, crate, tell, is_quick):
-        self.rt, self.crate, self.tell, self.is_quick, self.room = rt, crate, tell, is_quick, None
+    def __init__(self, rt, crate, sources, tell, is_quick):
+        self.rt, self.crate, self.sources, self.tell, self.is_quick, self.room = rt, crate, sources, tell, is_quick, None
 
     def begin(self, edits):
         """Returns whether the crate, or of it what the edits change, is proved as it stands, and makes a room with what that left."""
@@ -411,21 +418,24 @@ class Trials:
         names.update(dict.fromkeys(edit.law_function for edit in edits if edit.law_function))
         return [word for name in names for word in ("--only", name)]
 
-    def ran(self, texts, flags):
-        """Checks the crate with these texts in place of its own, by a quick trial over what the trials before it left."""
+    def ran(self, texts, flags, crate=None):
+        """Checks the crate with these texts in place of its own, by a quick trial over what the trials before it left.
+
+        The crate at hand may stand in its place, with holes.
+        """
         for _ in range(2):
-            over = f"{self.room}/{'seed' if self.is_quick else 'over'}"
+            over = f"{self.room}/{'holes' if crate else 'seed' if self.is_quick else 'over'}"
             if not self.is_quick:
                 self.rt.linked(f"{self.room}/seed", over)
-            ran = self.rt.checked(self.crate, texts, ["--jobs", "1", *flags], over)
+            ran = self.rt.checked(crate or self.crate, texts, ["--jobs", "1", *flags], over)
             if not self.is_quick:
                 shutil.rmtree(over, ignore_errors=True)
             if ran.returncode != -signal.SIGKILL:
                 break
         return ran
 
-    def checked(self, edits, is_whole):
-        """Returns the output of a check with these edits, and what it came to."""
+    def texts_of(self, edits):
+        """Returns the texts that these edits together make of the crate's, by file."""
         texts = {}
         for path in {path for edit in edits for path, _ in edit.lines}:
             with open(f"{self.crate.folder}/{path}", encoding="utf-8") as it:
@@ -433,6 +443,11 @@ class Trials:
             for number, new in [(at[1], new) for edit in edits for at, new in edit.lines.items() if at[0] == path]:
                 text[number - 1] = new
             texts[path] = "\n".join(text)
+        return texts
+
+    def checked(self, edits, is_whole):
+        """Returns the output of a check with these edits, and what it came to."""
+        texts = self.texts_of(edits)
         ran = self.ran(texts, [] if is_whole else self.asked(edits))
         if ran.returncode == 2 and not is_whole:
             # (it knows one of the functions by another name)
@@ -478,8 +493,36 @@ class Trials:
                 left.append(edit)
         return left
 
+    def hollowed(self, edits):
+        """Returns the crate with holes for the proofs of all functions but those that the edits change, and those of their laws."""
+        kept = {*self.asked(edits)}
+        named = [it for it in self.sources.functions if it.called() not in kept and not it.may_call_itself(self.sources.texts[it.path])]
+        return holes.hollow(self.rt, self.crate, [it.called().split("::") for it in named], f"{self.room}/hollow")
+
+    def over_holes(self, edits):
+        """Tries edits in rounds that take what is called by its contract, and returns those that none refuses."""
+        if not edits:
+            return []
+        crate, left = self.hollowed(edits), []
+        os.mkdir(f"{self.room}/holes")
+        for together in rounds_of(edits):
+            texts = self.texts_of(together)
+            ran = self.ran(texts, [*self.asked(together), "--allow-holes"], crate)
+            said = ran.stdout.rstrip("\n").split("\n")
+            is_read = ran.returncode in (1, 3) and NOT_PROVED.match(said[-1]) and not any(self.rt.unread(it, texts) for it in said)
+            for edit in together:
+                why, _ = edit.refusal(said) if is_read else (None, None)
+                if why:
+                    self.tell(edit, "refused", why[:160])
+                else:
+                    left.append(edit)
+        return left
+
     def run(self, edits):
-        """Tries the edits in rounds: those left of one with what else is left, until that settles none, and then each by itself."""
+        """Tries the edits in rounds: those left of one with what else is left, until that settles none, and then each by itself.
+
+        What is quick begins over holes.
+        """
         for edit in [it for it in edits if it.bad]:
             self.tell(edit, "bad edit", edit.bad)
         left = [it for it in edits if not it.bad]
@@ -488,6 +531,8 @@ class Trials:
                 for edit in left:
                     self.tell(edit, "not tried", "the crate isn't proved as it stands")
                 return
+            quick = [it for it in left if self.is_quick and (it.law_function or not it.law)]
+            left = [it for it in left if it not in quick] + self.over_holes(quick)
             while left:
                 again = [it for edits in rounds_of(left) for it in self.round(edits)]
                 if len(again) == len(left):
@@ -622,7 +667,7 @@ def tried(rt, parts, lanes, named, left):
 
     def work(crate):
         sources = Sources(rt, crate)
-        Trials(rt, crate, tell, bool(left)).run([Edit(rt, crate, sources, it) for it in crates[crate]])
+        Trials(rt, crate, sources, tell, bool(left)).run([Edit(rt, crate, sources, it) for it in crates[crate]])
 
     with rt.ending(), ThreadPoolExecutor(lanes) as pool:
         build(rt, crates, left)
