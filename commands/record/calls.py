@@ -6,6 +6,7 @@ strace is run with the options of `traced.py`: a line begins with the number of 
 A call is one line, or two where lines of others stand between its begin and its end: `write(.. <unfinished ...>` and
 `<... write resumed>) = 5`. Of a text that isn't such a line, or that is cut off, nothing is made: it is refused with its line.
 """
+import binascii
 import re
 from collections import deque
 from dataclasses import dataclass, field
@@ -23,8 +24,8 @@ TOKEN = re.compile(rf'"{HEX}"(?:\.\.\.)?|<{HEX}>(?:\(deleted\))?|/\*.*?\*/|[()\[
 RESULT = re.compile(rf"\) += (0x[0-9a-f]{{1,16}}|-?\d{{1,20}}|\?)(?:<({HEX})>(?:\(deleted\))?)?(?: ([A-Z]\w*) \(.*\))?((?: .*)?)", re.S)
 NAMED = re.compile(rf"(?<![\w\\])(\d{{1,10}}|AT_FDCWD)<({HEX})>(\(deleted\))?")
 STRING = re.compile(rf'"({HEX})"(\.\.\.)?')
-# The most characters of a line, and of one that is shown.
-LINE, SHOWN = 1 << 29, 300
+# The most characters of a line, and of one that is shown; and how many a string has at least that is looked at as a whole.
+LINE, SHOWN, LONG = 1 << 29, 300, 1 << 12
 
 
 class Refused(Exception):
@@ -46,6 +47,15 @@ class Call:
     path: bytes | None = None
     rest: str = ""
     whole: bool = False
+    # the line at which it ended; the call as people write it; the process in which it was made, as it was then
+    ended: int = 0
+    told: str = ""
+    maker: object = None
+    # where a write began; the line of the source that made the call, where the program tells it
+    place: int = 0
+    source: object = None
+    # the line with its last part
+    last: int = 0
 
     def number(self, at):
         """The number that a word is."""
@@ -65,13 +75,13 @@ class Call:
 
     def pieces(self, at):
         """The bytes of the vectors that a word lists."""
-        text = self.word(at)
-        if not re.fullmatch(rf'\[(?:\{{iov_base=(?:"{HEX}"|NULL|0x[0-9a-f]+), iov_len=\d+\}}(?:, )?)*\]', text):
+        parts = self.word(at).split('"')
+        text = '""'.join(parts[::2])
+        if not re.fullmatch(r'\[(?:\{iov_base=(?:""|NULL|0x[0-9a-f]+), iov_len=\d+\}(?:, )?)*\]', text):
             raise Refused(f"{self}: its vectors aren't whole")
-        found = re.findall(rf'iov_base=("{HEX}"|NULL|0x[0-9a-f]+), iov_len=(\d+)', text)
-        if any(it[0] != '"' and length != "0" for it, length in found):
+        if any(length != "0" for length in re.findall(r"iov_base=[N0]\w+, iov_len=(\d+)", text)):
             raise Refused(f"{self}: its vectors can't be read")
-        return b"".join(unhexed(it[1:-1]) for it, _ in found if it[0] == '"')
+        return b"".join(string(f'"{it}"', self) for it in parts[1::2])
 
     def failed(self):
         """Whether it ended without having done anything."""
@@ -94,14 +104,41 @@ def hexed(data):
     return "".join(f"\\x{it:02x}" for it in data)
 
 
+def long_bytes(text):
+    """The bytes of a long text in hex, or nothing where it isn't one. A pattern would take seconds for megabytes."""
+    raw, count = text.encode(), len(text) // 4
+    if len(raw) != 4 * count or raw[0::4] != b"\\" * count or raw[1::4] != b"x" * count:
+        return None
+    digits = bytearray(2 * count)
+    digits[0::2], digits[1::2] = raw[2::4], raw[3::4]
+    try:
+        return binascii.unhexlify(digits)
+    except binascii.Error:
+        return None
+
+
 def string(text, call):
     """Returns the bytes of a string in hex, which strace has to give whole."""
+    if len(text) > LONG and text[0] == text[-1] == '"':
+        found = long_bytes(text[1:-1])
+        if found is not None:
+            return found
     found = STRING.fullmatch(text)
     if not found:
         raise Refused(f"{call}: {text[:40]} is no string in hex")
     if found[2]:
         raise Refused(f"{call}: strace cut its string off")
     return unhexed(found[1])
+
+
+def token_at(text, at):
+    """The token that a text has at a place, or nothing."""
+    if text[at] == '"' and text.find('"', at + 1, at + LONG) < 0:
+        end = text.find('"', at + 1) + 1
+        # (what stands in it is looked at where it is read)
+        return text[at : end + 3 if text.startswith("...", end) else end] or None
+    found = TOKEN.match(text, at)
+    return found and found[0]
 
 
 def shown(text):
@@ -123,10 +160,9 @@ def words_of(text, call, begun):
     hasn't ended, in whose text there is no such bracket."""
     at, depth, words, word = len(call.name) + 1, 1, [], []
     while at < len(text):
-        found = TOKEN.match(text, at)
-        if not found:
+        token = token_at(text, at)
+        if not token:
             raise Refused(f"{call}: it can't be read from {text[at : at + 20]!r} on")
-        token = found[0]
         if token in ")]}":
             depth -= 1
             if depth == 0:
@@ -138,7 +174,7 @@ def words_of(text, call, begun):
             word = []
         else:
             word.append(token)
-        at = found.end()
+        at += len(token)
     if not begun:
         raise Refused(f"{call}: it has no end")
     return [*words, "".join(word).strip()], ""
@@ -215,7 +251,7 @@ def happened(stream, wanted):
             if process in begun:
                 raise Refused(f"calls:{line}: process {process} begins a call within another: {shown(text)}")
             call = Call(process, found[1], text, line)
-        unfinished = call.text.endswith(UNFINISHED)
+        call.last, unfinished = line, call.text.endswith(UNFINISHED)
         if unfinished:
             call.text = call.text[: -len(UNFINISHED)]
             begun[process] = call
@@ -224,6 +260,7 @@ def happened(stream, wanted):
         if not resumed:
             yield "begin", call
         if not unfinished:
+            call.ended = line
             yield "end", call
     if begun:
         raise Refused(f"{next(iter(begun.values()))}: the text ends within this call")
@@ -255,6 +292,11 @@ def makers(stream):
             flags = call.text if call.name.startswith("clone") else call.name
             found.setdefault(child_of(call), deque()).append(Made(call.process, flags, call.line))
     return found
+
+
+def brief(text):
+    """A line without what stands in its strings, where it is long."""
+    return '""'.join(text.split('"')[::2]) if len(text) > LONG else text
 
 
 def named(text):

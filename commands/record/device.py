@@ -5,6 +5,7 @@ blklogwrites logs. It begins as zeros, or with what --base has. When the program
 with the disk: where they differ something was written that the log doesn't have, and there is no log.
 """
 import os
+import shlex
 import shutil
 import signal
 import struct
@@ -16,11 +17,12 @@ from pathlib import Path
 from commands.record.calls import Refused
 from commands.record.disk import SECTOR
 from commands.record.layout import trace_log
+from commands.shared.recording import NAME, Recording
 
 DISK, QEMU, MARKS, TRACE, LOG, DEVICE, NUMBER = "disk.img", "qemu.log", "marks", "trace", "writes.log", "device", "pid"
-MADE = (LOG, QEMU, TRACE, DISK)
+MADE = (LOG, QEMU, TRACE, DISK, NAME)
 # What stands in the folder of a recording that was refused.
-LEFT = (DISK, QEMU, MARKS, TRACE, DEVICE, NUMBER)
+LEFT = (DISK, QEMU, MARKS, TRACE, DEVICE, NUMBER, NAME)
 DISCARD, MARK = 4, 8
 
 
@@ -132,5 +134,5 @@ def record(folder, base, sectors, words, environment):
     if last_image(log, before) != Path(folder, DISK).read_bytes():
         raise Refused("the last image of the log isn't the disk: something was written that the log doesn't have, as a mapped page is")
     trace_log.write_log(os.path.join(folder, LOG), [log])
-    options = f"--sectors {sectors}" + (" --large" if large else "") + (f" --base {base}" if base else "")
-    return status, f"entries {struct.unpack_from('<Q', log, 16)[0]}: crashbpf explore {os.path.join(folder, LOG)} .. {options}"
+    Recording(folder, sectors, large, base and os.path.abspath(base), at=os.getcwd(), program=list(words)).write()
+    return status, f"entries {struct.unpack_from('<Q', log, 16)[0]} sectors {sectors}: crashbpf-each {shlex.quote(os.path.relpath(folder))} -- COMMAND {{}}"

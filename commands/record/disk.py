@@ -26,10 +26,33 @@ class Entry:
     file: object = None
     sector: int = 0
     data: bytes = b""
+    # of a place with a chain: whether the chain begins anew with it
+    anew: bool = field(default=False, compare=False)
+    # the call that made it, and of a change of names which slots it changes
+    call: object = field(default=None, compare=False, repr=False)
+    slots: tuple = field(default=(), compare=False)
 
     @property
     def count(self):
         return 0 if self.kind == MARK else len(self.data) // SECTOR
+
+
+class Entries(list):
+    """Entries in their order. Each is told which call is being followed where it is made, and which slots that changes."""
+
+    call, slots = None, ()
+
+    def append(self, entry):
+        entry.call, entry.slots = self.call, self.slots
+        super().append(entry)
+
+    def extend(self, more):
+        for it in more:
+            self.append(it)
+
+    def __iadd__(self, more):
+        self.extend(more)
+        return self
 
 
 @dataclass
@@ -70,28 +93,42 @@ def runs(sectors):
             yield file, first, b"".join(parts)
 
 
+def keeps_order(place):
+    """Whether the versions of a place stay in their order by themselves, as those of a chain do: what is durable is then written once
+    more, and what came later isn't."""
+    return getattr(place, "keeps_order", False)
+
+
 class Disk:
     """The sectors of all files, and the entries that say what became of them."""
 
     def __init__(self):
-        # (the places of the sectors with versions that aren't durable stand in `unsure`)
-        self.entries, self.sectors, self.unsure = [], {}, set()
+        # (of each file the numbers of the sectors with versions that aren't durable stand in `unsure`)
+        self.entries, self.sectors, self.unsure = Entries(), {}, {}
+
+    def forget(self, file, numbers):
+        """These sectors of a file are durable, or nobody sees them any more."""
+        left = self.unsure.get(file)
+        if left is not None:
+            left.difference_update(numbers)
+            if not left:
+                del self.unsure[file]
 
     def settle(self, file, number, version):
         """Makes durable what a sector held up to a version. Returns the sector, and its bytes where they weren't durable."""
         it = self.sectors[file][number]
         content = it.settle(version)
         if not it.since:
-            self.unsure.discard((file, number))
+            self.forget(file, (number,))
         return it, content
 
     def write(self, file, first, data):
         """Whole sectors of a file are written."""
         self.entries.append(Entry(WRITE, file, first, data))
-        found = self.sectors.setdefault(file, {})
+        found, unsure = self.sectors.setdefault(file, {}), self.unsure.setdefault(file, set())
         for at in range(len(data) // SECTOR):
             found.setdefault(first + at, Sector()).since.append(data[SECTOR * at : SECTOR * (at + 1)])
-            self.unsure.add((file, first + at))
+            unsure.add(first + at)
 
     def force(self, file, first, data):
         """Whole sectors of a file, as they were just written, are durable."""
@@ -102,19 +139,18 @@ class Disk:
     def lay(self, file, first, data):
         """Whole sectors that nothing shows yet are written, and are durable."""
         self.entries.append(Entry(FUA, file, first, data))
-        found = self.sectors.setdefault(file, {})
-        for at in range(len(data) // SECTOR):
+        found, count = self.sectors.setdefault(file, {}), len(data) // SECTOR
+        for at in range(count):
             it = found.setdefault(first + at, Sector())
-            it.since.append(data[SECTOR * at : SECTOR * (at + 1)])
-            self.settle(file, first + at, it.newest)
+            it.durable, it.since, it.held = it.newest + 1, [], data[SECTOR * at : SECTOR * (at + 1)]
+        self.forget(file, range(first, first + count))
 
     def mark(self, text):
         self.entries.append(Entry(MARK, data=text))
 
     def begin_sync(self, files):
         """A sync of these files begins. Returns what it will make durable."""
-        found = {file: self.sectors.get(file, {}) for file in files}
-        return {file: {number: it.newest for number, it in these.items() if it.since} for file, these in found.items()}
+        return {file: {number: self.sectors[file][number].newest for number in self.unsure.get(file, ())} for file in files}
 
     def end_sync(self, begun):
         """The sync has ended: what it was to make durable is."""
@@ -124,10 +160,10 @@ class Disk:
                 it, content = self.settle(file, number, version)
                 if content is not None:
                     settled.setdefault(file, {})[number] = content
-                    for turn, written in enumerate(it.since):
+                    for turn, written in enumerate(() if keeps_order(file) else it.since):
                         later.setdefault(turn, {}).setdefault(file, {})[number] = written
         if not self.unsure:
             self.entries.append(Entry(FLUSH))
             return
-        self.entries += [Entry(FUA, *it) for it in runs(settled)]
+        self.entries += [Entry(FUA, *it, anew=not keeps_order(it[0])) for it in runs(settled)]
         self.entries += [Entry(WRITE, *it) for turn in sorted(later) for it in runs(later[turn])]

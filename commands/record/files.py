@@ -16,8 +16,8 @@ class File:
     def __init__(self, name, content=b""):
         self.name, self.size, self.most, self.initial = name, len(content), len(content), content
         self.content = bytearray(content)
-        # the ranges of sectors that were written, in their order, and how often it has grown
-        self.changed, self.grown, self.unlinked = [], 0, False
+        # the ranges of sectors that were written, in their order, and of those that were copied from; and how often it has grown
+        self.changed, self.copied, self.grown, self.unlinked = [], [], 0, False
 
     def fit(self, end):
         """Makes room up to a byte, in whole sectors."""
@@ -43,6 +43,22 @@ class File:
             self.most = max(self.most, size)
 
 
+@dataclass(frozen=True)
+class Other:
+    """What a name is of that is no file and no folder: a symbolic link with its text, `inside` one whose text is of a path in the
+    folder of the recording, a FIFO or a socket."""
+
+    what: str
+    text: bytes = b""
+
+
+@dataclass(frozen=True)
+class Another:
+    """One more name of the file that has this one."""
+
+    name: bytes
+
+
 @dataclass(eq=False)
 class Opened:
     """What one or more descriptors share: a file that was opened, where it is read and written next, and how."""
@@ -56,6 +72,43 @@ class Opened:
     moved: int = 0
 
 
+class Table(dict):
+    """The descriptors of a process. Of recorded files, and of the marks: number to (what was opened, whether execve closes it).
+    `others` has the same of what isn't recorded: files from outside, and pipes."""
+
+    def __init__(self, recorded=(), others=()):
+        super().__init__(recorded)
+        self.others = dict(others)
+
+    def all(self):
+        return {**self.others, **self}
+
+    def opened(self, number):
+        """What a descriptor is of, recorded or not, or nothing."""
+        return self.all_of(number)[0]
+
+    def all_of(self, number):
+        return self.get(number) or self.others.get(number) or (None, False)
+
+    def put(self, number, opened, closes):
+        """A number is of this from now on; of nothing that is known, where nothing was opened."""
+        self.drop(number)
+        if opened is not None:
+            recorded = opened.file is MARKS or isinstance(opened.file, File)
+            (self if recorded else self.others)[number] = opened, closes
+
+    def drop(self, number):
+        self.pop(number, None)
+        self.others.pop(number, None)
+
+    def copy(self):
+        return Table(self, self.others)
+
+    def kept(self):
+        """What execve leaves of it."""
+        return Table(*({number: it for number, it in these.items() if not it[1]} for these in (self, self.others)))
+
+
 @dataclass
 class Space:
     """Where in the memory of a process recorded files are mapped that could be written there."""
@@ -64,27 +117,42 @@ class Space:
 
     def take(self, start, length):
         """A range isn't what it was."""
-        end, kept = start + length, []
-        for first, last in self.ranges:
-            kept += [(first, min(last, start))] if first < start else []
-            kept += [(max(first, end), last)] if last > end else []
-        self.ranges = kept
+        self.ranges = [part for it in self.ranges for part in it.part(it.first, start) + it.part(start + length, it.last)]
 
     def has(self, start, length):
-        return any(first < start + length and start < last for first, last in self.ranges)
+        return bool(self.within(start, length))
+
+    def within(self, start, length):
+        return [part for it in self.ranges for part in it.part(start, start + length)]
+
+    def move(self, start, length, to, size):
+        """A range is somewhere else, and has another size; of no length, it is there once more."""
+        found = [it for it in self.ranges if it.first <= start < it.last]
+        self.take(start, length)
+        self.take(to, size)
+        self.ranges += [Range(to, to + size, it.file, it.at + start - it.first) for it in found]
 
     def copy(self):
         return Space(list(self.ranges))
+
+
+@dataclass(frozen=True)
+class Maker:
+    """Who makes a call: the number of the process, the words of its program, and who made the process or started the program."""
+
+    process: int
+    words: tuple = ()
+    parent: object = field(default=None, compare=False, repr=False)
 
 
 @dataclass
 class Process:
     """A process or thread: what it may share with others."""
 
-    # descriptors of recorded files: number to (what was opened, whether execve closes it)
-    table: dict
+    table: Table
     folder: list
     space: Space
+    maker: Maker = None
 
 
 @dataclass
@@ -93,14 +161,39 @@ class Flight:
 
     opened: Opened | None = None
     file: object = None
+    # what isn't recorded of its first descriptor
+    other: Opened | None = None
     moved: int = 0
     grown: int = 0
+    # how many changes of the file there were, and how many copies from it
     changes: int = 0
+    copies: int = 0
+    # of a copy: what it reads, how often the place of that was moved, and how many changes of its file there were
+    source: Opened | None = None
+    source_moved: int = 0
+    source_changes: int = 0
     sync: object = None
+    call: object = None
     # of all files, for a call that names one by its path
     all_changes: dict = field(default_factory=dict)
-    # the versions of the sets of names
-    sets: dict = field(default_factory=dict)
+    # how many changes of names there were, and the last version of them; nothing for the one that is the last now
+    turn: int = 0
+    version: int | None = None
+
+
+@dataclass(frozen=True)
+class Range:
+    """A range of memory that shows a recorded file: from where to where, which file, and from which of its bytes on."""
+
+    first: int
+    last: int
+    file: object
+    at: int
+
+    def part(self, first, last):
+        """What is left of it between two places, or nothing."""
+        first, last = max(first, self.first), min(last, self.last)
+        return [Range(first, last, self.file, self.at + first - self.first)] if first < last else []
 
 
 def flags_of(text):

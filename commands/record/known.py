@@ -6,10 +6,10 @@ from commands.record.calls import MAKES
 
 # Calls that write no file, make no descriptor of one, and change no name.
 HARMLESS = set(
-    "access alarm arch_prctl bind chmod chown connect epoll_ctl eventfd2 execveat exit exit_group faccessat faccessat2 fadvise64 "
+    "access alarm arch_prctl chmod chown connect epoll_ctl eventfd2 execveat exit exit_group faccessat faccessat2 fadvise64 "
     "fchmod fchmodat fchown fchownat fgetxattr flistxattr flock fremovexattr fsetxattr fstat fstat64 fstatfs futimesat "
     "getcwd getdents getdents64 getpeername getsockname getsockopt getxattr inotify_add_watch ioprio_set kcmp lchown lgetxattr "
-    "listen listxattr llistxattr lremovexattr lsetxattr lstat msync name_to_handle_at newfstatat pidfd_open pidfd_send_signal "
+    "listen listxattr llistxattr lremovexattr lsetxattr lstat name_to_handle_at newfstatat pidfd_open pidfd_send_signal "
     "pipe pipe2 poll ppoll prctl pread64 preadv readahead readlink readlinkat recvfrom recvmmsg recvmsg removexattr select "
     "pselect6 sendmmsg sendmsg sendto setxattr shutdown signalfd4 socket socketpair stat stat64 statfs statx sync_file_range "
     "sync_file_range2 timerfd_settime umask utime utimensat utimes wait4 waitid accept accept4 epoll_create epoll_create1 "
@@ -36,19 +36,34 @@ OPENS = ("open", "openat", "openat2", "creat")
 WRITES = ("write", "writev", "pwrite64", "pwritev", "pwritev2")
 READS = ("read", "readv")
 SYNCS = ("fsync", "fdatasync", "sync", "syncfs")
+# Calls that copy, and which of their words are the descriptor that is copied from, the place in it, and the same of what is copied to.
+COPIES = {
+    "copy_file_range": (0, 1, 2, 3),
+    "splice": (0, 1, 2, 3),
+    "sendfile": (1, 2, 0, None),
+    "sendfile64": (1, 2, 0, None),
+    "tee": (0, None, 1, None),
+}
 # Errors of a write after which nothing was written.
 NOT_BEGUN = {"EAGAIN", "EINTR", "EBADF", "EINVAL", "EFBIG", "EOPNOTSUPP", "EFAULT", "ESPIPE", "EPERM", "ENOSPC", "EDQUOT", "EPIPE"}
+# Errors of a sync that did nothing, since the descriptor can't be synced.
+NOT_SYNCED = {"EBADF", "EINVAL", "EROFS"}
+# Errors of a copy after which nothing was written.
+NOT_COPIED = NOT_BEGUN | {"ENOSYS", "EXDEV", "ETXTBSY", "EISDIR", "EOVERFLOW"}
 # Flags of pwritev2 that are known.
 RWF = {"RWF_HIPRI", "RWF_NOWAIT", "RWF_DSYNC", "RWF_SYNC", "RWF_APPEND"}
 THROUGH = {"O_DSYNC", "O_SYNC", "__O_SYNC", "RWF_DSYNC", "RWF_SYNC"}
 # Calls on a descriptor that change a file or its place.
 MOVES = ("lseek", "ftruncate", "ftruncate64", "fallocate")
+# Errors of msync after which what it did is to count for nothing.
+NOT_DONE = {"ENOMEM", "EBUSY", "EINVAL"}
 # The calls that are followed, by what is done with them.
 KINDS = {
     "open": OPENS,
     "write": WRITES,
     "read": READS,
     "preadv2": ("preadv2",),
+    "copy": tuple(COPIES),
     "sync": SYNCS,
     "dup": ("dup", "dup2", "dup3"),
     "fcntl": ("fcntl", "fcntl64"),
@@ -63,6 +78,7 @@ KINDS = {
     "munmap": ("munmap",),
     "mprotect": ("mprotect", "pkey_mprotect"),
     "mremap": ("mremap",),
+    "msync": ("msync",),
     "lseek": ("lseek",),
     "truncate": ("truncate", "truncate64", "ftruncate", "ftruncate64"),
     "fallocate": ("fallocate",),
@@ -70,4 +86,6 @@ KINDS = {
     "rename": ("rename", "renameat", "renameat2"),
     "link": ("link", "linkat", "symlink", "symlinkat"),
     "mkdir": ("mkdir", "mkdirat"),
+    "mknod": ("mknod", "mknodat"),
+    "bind": ("bind",),
 }

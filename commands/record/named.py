@@ -6,30 +6,41 @@ What becomes of them, and in which order, says `orders.py`.
 import os
 
 from commands.record.calls import NAMED, Refused, shown, unhexed
-from commands.record.files import MARKS, File, skips_below
-from commands.record.orders import Tree
+from commands.record.files import MARKS, Another, File, Other, skips_below
+from commands.record.orders import FILE, FOLDER, OTHER, Past, Tree
+from commands.record.outside import ADVICE, Unknown
 from commands.record.tracing import Tracing
 
 
-def beginning(table, disk, joined, files, folders):
-    """The tree that stands there before anything is recorded: files with their contents, and folders, by their paths."""
-    tree, numbers = Tree(table, disk, joined), {b"": 0}
+# What a slot holds that is of something new.
+NEW = (FILE, -1)
+
+
+def beginning(table, disk, joined, before, folders):
+    """The tree that stands there before anything is recorded: files with their contents, what else has a name, and folders, by their
+    paths."""
+    tree, numbers, slots = Tree(table, disk, joined), {b"": 0}, {}
     for path in sorted(folders):
         head, _, name = path.rpartition(b"/")
         numbers[path] = tree.begin((numbers[head], name))
-    for path in sorted(files):
+    for path in sorted(before, key=lambda it: (isinstance(before[it], Another), it)):
         head, _, name = path.rpartition(b"/")
-        number = tree.begin((numbers[head], name), files[path])
-        tree.files[number].known = {path}
+        slots[path], it = (numbers[head], name), before[path]
+        if isinstance(it, Other):
+            tree.begin_other(slots[path], tree.new_other(it))
+        elif isinstance(it, Another):
+            tree.begin_other(slots[path], tree.now[slots[it.name]])
+        else:
+            tree.files[tree.begin(slots[path], it)].known = {path}
     return tree
 
 
 class NamedTracing(Tracing):
     """A program that is followed with names and sizes."""
 
-    def __init__(self, folder, tree, skipped, made, at, marks=None):
-        super().__init__(folder, {}, skipped, tree.disk, made, at, marks)
-        self.tree, self.known_folders = tree, set()
+    def __init__(self, folder, tree, skipped, made, at, marks=None, begun=0):
+        super().__init__(folder, {}, skipped, tree.disk, made, at, marks, begun)
+        self.tree, self.known_folders, self.known_others, self.brought, self.moves = tree, set(), set(), [], []
         self.handled["rmdir"] = self.end_unlink
         self.refresh()
 
@@ -40,12 +51,35 @@ class NamedTracing(Tracing):
         return None if name is None or skips_below(name, self.skipped) else name
 
     def refresh(self):
-        """Names have changed."""
+        """Names have changed, perhaps those of folders."""
         self.files, self.folders = self.tree.paths()
         self.known_folders |= set(self.folders)
+        self.places = {number: path for path, number in self.folders.items()}
+        self.others = {path: self.tree.others[number] for path, (kind, number) in self.tree.below() if kind == OTHER}
+        self.known_others |= set(self.others)
         for path, it in self.files.items():
-            it.name = path
-            it.known.add(path)
+            it.is_called(path)
+
+    def changed(self, *slots):
+        """Names have changed, those of these slots alone, which are of no folder that has something in it."""
+        lost = []
+        for folder, name in slots:
+            path, (kind, number) = os.path.join(self.places[folder], name), self.tree.now.get((folder, name), (None, None))
+            lost += [it for it in (self.files.pop(path, None),) if it is not None and it.name == path]
+            self.places.pop(self.folders.pop(path, None), None)
+            self.others.pop(path, None)
+            if kind == OTHER:
+                self.others[path] = self.tree.others[number]
+                self.known_others.add(path)
+            elif kind == FOLDER:
+                self.folders[path], self.places[number] = number, path
+                self.known_folders.add(path)
+            elif kind == FILE:
+                self.files[path] = it = self.tree.files[number]
+                it.is_called(path)
+        for it in lost:
+            if it.names and self.files.get(it.name) is not it:
+                it.name = min(path for path, other in self.files.items() if other is it)
 
     def slot(self, call, name):
         """The folder and the name in it that a path in the folder has."""
@@ -61,47 +95,73 @@ class NamedTracing(Tracing):
             return
         known = process.table.get(int(number), (None, False))[0]
         if known is None or known.file is MARKS or name not in known.file.known:
-            if known is None and name in self.known_folders:
+            if known is None and (name in self.known_folders or name in self.known_others):
                 return
             raise Refused(f"{call}: no call was seen that made descriptor {number} one of {shown(os.fsdecode(name))}")
         if gone and self.files.get(name) is known.file:
             raise Refused(f"{call}: no call was seen that unlinked {shown(os.fsdecode(name))}")
 
-    def agrees_for(self, call, opened):
+    def agrees_for(self, call, opened, at=0):
         """Refuses a call whose descriptor strace calls by no name that its file has had."""
         if opened.file is MARKS:
-            return super().agrees_for(call, opened)
-        found = NAMED.match(call.word(0))
+            return super().agrees_for(call, opened, at)
+        found = NAMED.match(call.word(at))
         if not found or self.name(unhexed(found[2])) not in opened.file.known:
             raise Refused(f"{call}: strace doesn't say that it is of {shown(os.fsdecode(opened.file.name))}")
         return None
+
+    def link(self, call, path):
+        """What a path links to. A link in the folder is what the calls so far made it."""
+        name = self.name(path)
+        if name is None:
+            return super().link(call, path)
+        found = self.others.get(name)
+        if found is None or found.what not in ("symlink", "inside"):
+            return None
+        return found.text if found.what == "symlink" else os.path.join(self.folder, found.text)
 
     # Changes of names
 
     def begin(self, call):
         super().begin(call)
-        self.flights[call.process].sets = {it: self.tree.version(it) for it in self.tree.all_sets()}
+        flight = self.flights[call.process]
+        flight.turn, flight.version = self.tree.turn, self.tree.version(self.tree.one)
 
-    def renamed(self, call, flight, *slots):
-        """Refuses a change of names while which another one was made."""
-        for names in {self.tree.set_of(it) for it in slots}:
-            if flight.sets.get(names, 0) != self.tree.version(names):
-                raise Refused(f"{call}: another call changed names at once, and which was first isn't known")
+    def renamed(self, call, flight, held):
+        """Notes which changes of names were made at once with the one that follows: `held` has what its slots hold then. Those that have
+        something in common with it are refused, since which was first isn't known, and so are more than are remembered."""
+        tree, slots = self.tree, tuple(held)
+        past = Past(0, 0, None, {it: tree.now.get(it) for it in slots}, held, tree.folders_of(slots), call, False)
+        found = [it for it in tree.recent if it.turn > flight.turn]
+        if found and (found[0].turn > flight.turn + 1 or any(it.meets(past) for it in found)):
+            bad = next((it for it in found if it.meets(past)), found[0])
+            raise Refused(f"{call}: another call changed names at once, and which was first isn't known; another try may pass: {bad.call}")
+        tree.call, tree.beside = call, []
+        if tree.table != "strict":
+            self.put_beside(call, found)
+
+    def put_beside(self, call, found):
+        """These changes were made at once with the one that follows: of those that aren't durable a crash may leave it without any."""
+        durable = self.tree.durable_names()
+        self.tree.beside = [it for it in found if it.version > durable]
+        bad = [it for it in self.tree.beside if it.beside]
+        if bad:
+            raise Refused(f"{call}: more than two calls changed names at once, and which was first isn't known; another try may pass: {bad[0].call}")
 
     def make(self, call, name, flight):
         """Makes a file of a new name, and returns it."""
         slot = self.slot(call, name)
-        self.renamed(call, flight, slot)
+        self.renamed(call, flight, {slot: NEW})
         file = self.tree.make_file(slot)
-        self.refresh()
+        self.changed(slot)
         return file
 
     def made_folder(self, call, name, flight):
         """Makes a folder of a new name."""
         slot = self.slot(call, name)
-        self.renamed(call, flight, slot)
+        self.renamed(call, flight, {slot: NEW})
         self.tree.make_folder(slot)
-        self.refresh()
+        self.changed(slot)
 
     def end_unlink(self, call, _process, flight):
         """Takes a name away, of a file or of a folder."""
@@ -110,9 +170,9 @@ class NamedTracing(Tracing):
         name = self.name(self.own_path(call, "unlinkat"))
         if name is not None:
             slot = self.held(call, name)
-            self.renamed(call, flight, slot)
+            self.renamed(call, flight, {slot: None})
             self.tree.remove(slot)
-            self.refresh()
+            self.changed(slot)
 
     def held(self, call, name):
         """The slot of a name that is there."""
@@ -129,37 +189,101 @@ class NamedTracing(Tracing):
         names, flags = [self.name(it) for it in paths], call.word(4) if call.name == "renameat2" else "0"
         if self.folder in paths:
             raise Refused(f"{call}: the folder itself is renamed")
+        self.surroundings.note_renamed(paths)
+        self.moves += [paths, paths[::-1]] if "RENAME_EXCHANGE" in flags else [paths]
         if names == [None, None]:
             return
-        if None in names:
-            known = names[0] or names[1]
-            raise Refused(f"{call}: {shown(os.fsdecode(known))} goes where nothing is recorded, or comes from there")
+        if names[1] is None:
+            raise Refused(f"{call}: {shown(os.fsdecode(names[0]))} goes where nothing is recorded")
+        if names[0] is None:
+            self.bring(call, paths, names[1], flight)
+            return
         if set(flags.split("|")) - {"0", "RENAME_NOREPLACE", "RENAME_EXCHANGE"}:
             raise Refused(f"{call}: its flags aren't known")
         slot, to = self.held(call, names[0]), self.slot(call, names[1])
         exchange = "RENAME_EXCHANGE" in flags
-        self.renamed(call, flight, slot, to)
-        if self.tree.now[slot] != self.tree.now.get(to):
+        self.renamed(call, flight, {slot: None, to: self.tree.now[slot]})
+        moved = [self.tree.now[slot], self.tree.now.get(to)]
+        if moved[0] != moved[1]:
             self.tree.rename(slot, to, exchange)
-            self.refresh()
+            if any(it and it[0] == FOLDER for it in moved):
+                self.refresh()
+            else:
+                self.changed(slot, to)
+
+    def refuse_written(self, path):
+        """Refuses a file from outside that the program may have opened to write it, by one of the paths that it has had: its mtime can be
+        set back."""
+        paths = {path}
+        for old, new in reversed(self.moves):
+            paths |= {old + it[len(new) :] for it in paths if it == new or it.startswith(new + b"/")}
+        if not paths.isdisjoint(self.written):
+            raise Unknown("the program opens it to write it")
+
+    def bring(self, call, paths, name, flight):
+        """A file from outside has a name here. What it holds is read by a path that it has when the program has ended, the second one."""
+        try:
+            self.refuse_written(paths[0])
+            content = self.surroundings.read_moved(paths[1])
+        except Unknown as why:
+            raise Refused(f"{call}: what comes here from outside isn't known: {why}; {ADVICE}") from None
+        slot = self.slot(call, name)
+        self.renamed(call, flight, {slot: NEW})
+        file = self.tree.bring_file(slot, content)
+        self.brought.append((call, file, self.name(paths[1]), paths[0]))
+        self.changed(slot)
+
+    def follow(self, stream):
+        """Follows all that happened. A file that came from outside by a rename has to be found where it came to."""
+        super().follow(stream)
+        for call, file, name, path in self.brought:
+            # (a link from outside leaves the path that it had)
+            is_written = name is None and path in self.written
+            if name is not None and self.files.get(name) is not file or file.changed or is_written:
+                raise Refused(f"{call}: what became of it afterwards leaves it unknown what came here from outside; {ADVICE}")
 
     def end_link(self, call, process, flight):
-        """Gives a file one name more. A symbolic link is refused as without names."""
+        """Gives a file one name more, or makes a symbolic link."""
         if call.failed():
             return
         if call.name not in ("link", "linkat"):
-            return super().end_link(call, process, flight)
+            self.end_symlink(call, process, flight)
+            return
         paths = self.both_paths(call, "link")
+        if call.name == "linkat" and "AT_SYMLINK_FOLLOW" in call.word(4):
+            paths[0] = self.real(call, paths[0])
         names = [self.name(it) for it in paths]
         if names == [None, None]:
-            return None
-        if None in names:
-            return self.refuse_names(call, paths, "gets another name")
+            self.moves += [paths, paths[::-1]]
+            return
+        if names[1] is None:
+            self.refuse_names(call, paths, "gets another name")
+            return
+        if names[0] is None:
+            self.bring(call, [paths[0], paths[0]], names[1], flight)
+            return
         slot, to = self.held(call, names[0]), self.slot(call, names[1])
-        self.renamed(call, flight, to)
+        self.renamed(call, flight, {to: self.tree.now[slot]})
         self.tree.link(slot, to)
-        self.refresh()
-        return None
+        self.changed(to)
+
+    def end_symlink(self, call, process, flight):
+        """Makes a symbolic link: its text is what the name is of. One outside of the folder to what is recorded is refused."""
+        at = call.name == "symlinkat"
+        name, text = self.name(self.path(call, 1 if at else None, 2 if at else 1)), call.data(0)
+        if name is None:
+            super().end_link(call, process, flight)
+        elif text == self.folder or text.startswith(self.prefix):
+            self.made_other(call, name, Other("inside", text[len(self.prefix) :] or b"."), flight)
+        else:
+            self.made_other(call, name, Other("symlink", text), flight)
+
+    def made_other(self, call, name, other, flight):
+        """Makes a name of what is no file and no folder."""
+        slot = self.slot(call, name)
+        self.renamed(call, flight, {slot: (OTHER, -1)})
+        self.tree.make_other(slot, other)
+        self.changed(slot)
 
     # Bytes and sizes
 
@@ -169,6 +293,7 @@ class NamedTracing(Tracing):
         self.landed(call, flight, file, start, start + len(data))
         if start + len(data) > file.size and flight.grown != file.grown:
             raise Refused(f"{call}: another call moved the end at once, and which was first isn't known")
+        self.tree.began = flight.version
         self.tree.write(file, start, data, through)
 
     def resize(self, call, file, size, flight):
@@ -178,6 +303,7 @@ class NamedTracing(Tracing):
         self.landed(call, flight, file, min(size, file.size), max(size, file.size))
         if flight.grown != file.grown:
             raise Refused(f"{call}: another call moved the end at once, and which was first isn't known")
+        self.tree.began = flight.version
         self.tree.resize(file, size)
 
     def end_fallocate(self, call, process, flight):
@@ -197,7 +323,8 @@ class NamedTracing(Tracing):
         flight.opened = process.table.get(call.number(0), (None, False))[0]
         flight.file = flight.opened and flight.opened.file
         found = NAMED.match(call.word(0))
-        path = unhexed(found[2]) if found else b""
+        # (a folder that is gone may have left its name to another one)
+        path = unhexed(found[2]) if found and not found[3] else b""
         if call.name == "syncfs":
             if path == self.folder or path.startswith(self.prefix):
                 flight.sync = self.tree.begin_all()
@@ -208,5 +335,22 @@ class NamedTracing(Tracing):
             if name in self.folders:
                 flight.sync = self.tree.begin_folder(self.folders[name])
 
+    def covers(self, begun):
+        places, laid, some = begun
+        settled = self.tree.disk.sectors
+        return bool(laid) or any(some.values()) or any(version > settled[place][it].durable for place, found in places.items() for it, version in found.items())
+
     def end_synced(self, flight):
         self.tree.end_sync(flight.sync)
+
+    def add_sync(self, found, file, sectors):
+        """As without names. The size and the names are durable as by fdatasync, unless bytes past the durable size stay in flight: a
+        file system may give a file its size with these alone."""
+        places, laid, some = ({}, [], {}) if found is None else found
+        these, more, _ = self.tree.begin_file(file, sectors, data=True)
+        if self.tree.grows_apart(file, sectors):
+            these = {place: it for place, it in these.items() if place is file.rooms[-1]}
+        for place, versions in these.items():
+            held = places.setdefault(place, {})
+            held.update({number: max(it, held.get(number, 0)) for number, it in versions.items()})
+        return places, laid + [it for it in more if it not in laid], some

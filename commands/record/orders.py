@@ -20,7 +20,7 @@ version is left where one write is lost.
 
 Which entries a call makes, a write below being a write entry that is in flight until what makes it durable:
 
-- open with O_CREAT and creat that make a file, mkdir, link, rename, unlink, rmdir: a write of a version of the names; by `strict`
+- open with O_CREAT and creat that make a file, mkdir, link, symlink, mknod, bind, rename, unlink, rmdir: a write of a version of the names; by `strict`
   as many writes as there are versions that the change is the last of.
 - write: of the bytes; where they are in a block that the append begins, by `ordered` a FUA write, since no image shows them before
   the size. Then, where the size grew, a write of the sector of the size: at each multiple of 4,096 bytes that it passed, and at
@@ -43,6 +43,7 @@ docs/RECORDING.md has the tables with their sources. `tests/models/named_model.p
 """
 import functools
 import struct
+from collections import deque
 from dataclasses import dataclass, field
 
 from commands.record.calls import Refused
@@ -52,9 +53,12 @@ from commands.record.files import File
 TABLES = ("ext4", "ordered", "writeback", "strict")
 # A file system gives a file whole blocks. Where a write goes on in one that the file has, nothing orders its bytes.
 BLOCK = 4096
-FILE, FOLDER = 1, 2
+FILE, FOLDER, OTHER = 1, 2, 3
+# The number of the folder of all.
+FOLDER_TOP = 0
 
-
+# How many changes of names are remembered that may have been made at once with another.
+MOST_RECENT = 64
 # In how many ways a crash may leave a set of names, by `strict`.
 MOST_LEFT = 1024
 
@@ -90,15 +94,22 @@ class Size:
     """The sector with the size of a file."""
 
     number: int
+    keeps_order = True
 
 
 @dataclass(eq=False)
 class Names:
     """A set of names: all that it was, the slots that it has, and the last version that touches each folder."""
 
-    states: list = field(default_factory=lambda: [{}])
+    # whether each version follows the one before it, as by all tables but `strict`; what was there at first; and of each version
+    # the slots that it changes, or by `strict` all that is there
+    keeps_order: bool = True
+    initial: dict = field(default_factory=dict)
+    versions: list = field(default_factory=lambda: [{}])
     slots: set = field(default_factory=set)
     touched: dict = field(default_factory=dict)
+    # which change of names was the last of these
+    turn: int = 0
     # by `strict`: its changes that aren't durable, by a bit for each; the names before these; how many there were; and what a crash
     # may leave, as the changes that are there, with the number of its state
     changes: dict = field(default_factory=dict)
@@ -107,7 +118,16 @@ class Names:
     left: dict = field(default_factory=lambda: {0: 0})
 
     def __post_init__(self):
-        self.durable = self.states[0]
+        self.durable = self.versions[0] = self.initial
+
+    def state(self, number):
+        """All names that are there by a version."""
+        if not self.keeps_order:
+            return self.versions[number]
+        found = dict(self.initial)
+        for it in self.versions[1 : number + 1]:
+            found |= it
+        return {slot: held for slot, held in found.items() if held is not None}
 
     def follows(self, slots):
         """The changes that a change of these slots follows: those with a slot in common, and all that these follow."""
@@ -137,8 +157,8 @@ class Names:
             raise Refused(f"a crash may leave names that renames tie together in more than {MOST_LEFT} ways; that is for the guest")
         self.changes[bit], self.count = slots, self.count + 1
         for bits in more:
-            self.left[bits | bit] = len(self.states)
-            self.states.append(self.after(bits | bit))
+            self.left[bits | bit] = len(self.versions)
+            self.versions.append(self.after(bits | bit))
             yield self.left[bits | bit]
 
     def settle(self, bits):
@@ -154,6 +174,28 @@ class Names:
         return [self.left[it] for it in sorted(self.left, key=lambda it: (it != 0, it == every))]
 
 
+@dataclass(frozen=True)
+class Past:
+    """A change of names that was made: which one it was, the version and the set that it made, what its slots held before and after it,
+    the folders that these are in, and who made it. `beside` says whether others were made at once with it."""
+
+    turn: int
+    version: int
+    names: Names
+    before: dict
+    slots: dict
+    folders: frozenset
+    call: object
+    beside: bool
+
+    def meets(self, other):
+        """Whether two changes have a name, or what a name is of, in common, so that their order counts."""
+        things, others = ({it for held in (past.before, past.slots) for it in held.values() if it} for past in (self, other))
+        links = any(kind == OTHER for kind, _ in things | others)
+        inside = any((FOLDER, it) in others for it in self.folders) or any((FOLDER, it) in things for it in other.folders)
+        return links or inside or not things.isdisjoint(others) or not self.slots.keys().isdisjoint(other.slots)
+
+
 class Named(File):
     """A file with its names, its size and its bytes."""
 
@@ -162,11 +204,22 @@ class Named(File):
         self.number, self.rooms, self.place = number, [Bytes(0, content, len(content))], Size(number)
         # up to where it has blocks; the version of the names when its size changed last; how many names it has, and had
         self.blocks, self.stamp, self.names, self.known = len(content), 0, 0, {name}
-        # the version of the names when one of its own changed last
-        self.named = 0
+        # the path that it had first
+        self.first = None
+        # the version of the names when one of its own changed last, and the first that has none of them
+        self.named = self.lost = 0
+        # the sets that have had a name of it, how many sizes it had, and the first of the rooms that a crash may still show
+        self.sets, self.sizes, self.oldest = set(), 0, 0
+
+    def is_called(self, path):
+        """It has this path now."""
+        self.name, self.first = path, path if self.first is None else self.first
+        self.known.add(path)
 
     def size_text(self, size):
-        return struct.pack("<QQ", size, len(self.rooms) - 1).ljust(SECTOR, b"\0")
+        """What stands for one more size of the file: this, where its bytes lie, and which of its sizes it is."""
+        self.sizes += 1
+        return struct.pack("<QQQ", size, len(self.rooms) - 1, self.sizes).ljust(SECTOR, b"\0")
 
 
 class Tree:
@@ -179,17 +232,29 @@ class Tree:
         self.table, self.disk, self.joined = table, disk, joined
         self.one = Names() if table != "strict" or joined is None else None
         self.sets, self.parents = {}, {}
+        # how many changes of names there were; the sets with changes that aren't durable; the rooms with sectors that were laid; and
+        # the files of which no crash may show some bytes that aren't durable
+        self.turn, self.moving, self.laying, self.suspects = 0, {}, {}, {}
         # how many folders there were, and the path that each had first
         self.folders, self.called, self.files, self.now = 1, {0: b""}, {}, {}
+        # what is neither file nor folder, by its number; and the folder that each folder is in
+        self.others, self.above = {}, {}
+        # which permissions files and folders had last, by pairs of a kind and a number
+        self.modes = {}
+        # the last changes; the call that makes the next one, and the changes that were made at once with that; and of each change with
+        # such others the first version of these, and its own first and last
+        self.recent, self.call, self.beside, self.groups = deque(maxlen=MOST_RECENT), None, [], []
+        # the last version of the names when the call that changes a file began, or nothing where it began now
+        self.began = None
 
     # What stands there now
 
     def inside(self, folder):
         return {name: it for (number, name), it in self.now.items() if number == folder}
 
-    def paths(self):
-        """The files by their paths, and the folders by theirs."""
-        inner, files, folders = {}, {}, {b"": 0}
+    def below(self):
+        """Yields what there is: paths with what they are of."""
+        inner = {}
         for (folder, name), it in self.now.items():
             inner.setdefault(folder, []).append((name, it))
         waiting = [(b"", 0)]
@@ -197,12 +262,14 @@ class Tree:
             path, number = waiting.pop()
             for name, (kind, inside) in inner.get(number, ()):
                 below = path + b"/" + name if path else name
-                if kind == FOLDER:
-                    folders[below] = inside
-                    waiting.append((below, inside))
-                else:
-                    files[below] = self.files[inside]
-        return files, folders
+                waiting += [(below, inside)] if kind == FOLDER else []
+                yield below, (kind, inside)
+
+    def paths(self):
+        """The files by their paths, and the folders by theirs."""
+        found = dict(self.below())
+        files = {path: self.files[number] for path, (kind, number) in found.items() if kind == FILE}
+        return files, {b"": 0, **{path: number for path, (kind, number) in found.items() if kind == FOLDER}}
 
     # Sets of names
 
@@ -225,7 +292,8 @@ class Tree:
         if self.one is not None:
             found = self.one
         else:
-            found = self.sets.setdefault(self.joined.get(slot, slot), Names())
+            top = self.joined.get(slot, slot)
+            found = self.sets.get(top) or self.sets.setdefault(top, Names(False))
         found.slots.add(slot)
         return found
 
@@ -241,28 +309,78 @@ class Tree:
         """Slots change, to what they hold now or to nothing. `made` is the number of a folder that is new."""
         sets = {self.set_of(it) for it in slots}
         assert len(sets) == 1
-        changed = [it for slot in slots for it in (self.now.get(slot), slots[slot]) if it is not None]
+        before = {slot: self.now.get(slot) for slot in slots}
+        changed = [it for slot in slots for it in (before[slot], slots[slot]) if it is not None]
         for slot, it in slots.items():
             self.count(self.now.pop(slot, None), -1)
             self.count(it, 1)
             self.now |= {} if it is None else {slot: it}
-        names = sets.pop()
+            self.above |= {it[1]: slot[0]} if it is not None and it[0] == FOLDER else {}
+        names, self.turn = sets.pop(), self.turn + 1
+        names.turn = self.turn
+        for kind, number in changed:
+            if kind == FILE:
+                self.files[number].sets.add(names)
+        self.disk.entries.slots = tuple(slots)
         if self.one is None:
+            self.moving[names] = None
             for number in names.add(slots):
                 self.disk.write(names, 0, copy_text(number))
-            return
-        state = {it: held for it, held in {**names.states[-1], **slots}.items() if held is not None}
-        names.states.append(state)
-        self.disk.write(names, 0, copy_text(len(names.states) - 1))
-        touched = {folder for folder, _ in slots} | ({made} if made is not None and self.table != "strict" else set())
-        names.touched.update(dict.fromkeys(touched, self.version(names)))
-        for held in changed:
-            if held[0] == FILE:
-                self.files[held[1]].named = self.version(names)
+        else:
+            self.follow(names, slots, made, changed)
+        self.disk.entries.slots = ()
+        self.recent.append(self.past(names, before, slots))
+        self.beside = []
+        for kind, number in changed:
+            if kind == FILE:
+                self.suspect(self.files[number])
+
+    def past(self, names, before, slots):
+        """A change as it is remembered."""
+        return Past(self.turn, self.version(names), names, before, slots, self.folders_of(slots), self.call, bool(self.beside))
+
+    def folders_of(self, slots):
+        """The folders that slots are in, and those that these are in."""
+        found = {FOLDER_TOP}
+        for folder, _ in slots:
+            while folder not in found:
+                found.add(folder)
+                folder = self.above.get(folder, FOLDER_TOP)
+        return frozenset(found)
+
+    def durable_names(self):
+        """The last version of the one set of names that is durable."""
+        it = self.disk.sectors.get(self.one, {}).get(0)
+        return it.durable if it is not None else 0
+
+    def follow(self, names, slots, made, changed):
+        """Writes the version of a set that follows the one before it. Where others were made at once with it, a crash may leave it with
+        the first of these, for each number of them, and so as many versions are written: first it alone."""
+        undone = {slot: held for it in reversed(self.beside) for slot, held in it.before.items()}
+        first = len(names.versions)
+        for change in [{**undone, **slots}, *(it.slots for it in self.beside)]:
+            names.versions.append(change)
+            self.disk.write(names, 0, copy_text(len(names.versions) - 1))
+        last, folders = len(names.versions) - 1, {folder for folder, _ in slots}
+        touched = dict.fromkeys(folders | ({made} if made is not None and self.table != "strict" else set()), first)
+        for folder in folders & {folder for it in self.beside for folder, _ in it.slots}:
+            touched[folder] = last
+        names.touched.update(touched)
+        for kind, number in changed:
+            if kind == FILE:
+                file = self.files[number]
+                file.named, file.lost = first, 0 if file.names else last
+        if self.beside:
+            self.groups.append((self.beside[0].version, first, last))
+        for kind, number in (held for it in self.beside for held in it.before.values() if held):
+            if kind == FILE and not self.files[number].names:
+                self.files[number].lost = last
 
     def settle(self, names, bits):
         """Changes of a set are durable, by `strict`. Returns the version of its sector that is, or nothing where none is new."""
         left = names.settle(bits)
+        if not names.changes:
+            self.moving.pop(names, None)
         if left is None:
             return None
         # (all that is left has been written, and so it is again what was written since)
@@ -280,13 +398,31 @@ class Tree:
         """What stands there before anything is recorded: a file with this content, or a folder."""
         if content is None:
             self.now[slot] = FOLDER, self.new_folder(slot)
+            self.above[self.now[slot][1]] = slot[0]
         else:
             file = self.new_file(slot[1], content)
             self.now[slot] = FILE, file.number
             file.names = 1
         names = self.set_of(slot)
-        names.states[0][slot] = self.now[slot]
+        names.initial[slot] = self.now[slot]
+        if content is not None:
+            file.sets.add(names)
         return self.now[slot][1]
+
+    def begin_other(self, slot, held):
+        """Something stands there that is no folder, and no file that has no other name: what it holds is given."""
+        self.now[slot] = held
+        self.count(held, 1)
+        names = self.set_of(slot)
+        names.initial[slot] = held
+        if held[0] == FILE:
+            self.files[held[1]].sets.add(names)
+
+    def new_other(self, other):
+        """What a name holds that is of this."""
+        number = len(self.others)
+        self.others[number] = other
+        return OTHER, number
 
     def new_file(self, name, content=b""):
         file = Named(len(self.files), name, content)
@@ -297,7 +433,13 @@ class Tree:
         """Makes a file of a new name, and returns it."""
         file = self.new_file(slot[1])
         self.change({slot: (FILE, file.number)})
-        file.stamp = self.version(self.set_of(slot)) if self.table != "strict" else 0
+        file.stamp = file.named if self.table != "strict" else 0
+        return file
+
+    def bring_file(self, slot, content):
+        """A file with this content, all of it durable, gets a name here. Returns it."""
+        file = self.new_file(slot[1], content)
+        self.change({slot: (FILE, file.number)})
         return file
 
     def path_of(self, slot):
@@ -326,6 +468,9 @@ class Tree:
     def link(self, slot, to):
         self.change({to: self.now[slot]})
 
+    def make_other(self, slot, other):
+        self.change({slot: self.new_other(other)})
+
     # Bytes and sizes
 
     def write(self, file, start, data, through=False):
@@ -334,13 +479,16 @@ class Tree:
         first, sectors = file.put(start, data)
         file.blocks, room.length = max(file.blocks, file.size), max(room.length, file.size)
         if not self.shown(file):
+            self.stamp(file, file.size > old)
             return
+        self.suspect(file)
         known = min(max(border - first, 0), len(sectors) // SECTOR) if self.table == "ordered" else len(sectors) // SECTOR
         if known:
             self.put(file, first, sectors[: SECTOR * known])
         if sectors[SECTOR * known :]:
             self.disk.lay(room, first + known, sectors[SECTOR * known :])
             room.laid |= set(range(first + known, first + len(sectors) // SECTOR))
+            self.laying[room] = None
         if file.size > old:
             self.sized(file, [*range(up(max(old, start) + 1, BLOCK), file.size, BLOCK), file.size])
         if through:
@@ -350,10 +498,11 @@ class Tree:
         """Whole sectors of a file are written. Where they lie in blocks that it had before it got shorter, a crash may leave them
         there with the size of that time too."""
         self.disk.write(file.rooms[-1], first, data)
-        shown, limit = self.shown_rooms(file), file.rooms[-1].shared
-        for room in reversed(file.rooms[:-1]):
+        limit = file.rooms[-1].shared
+        for number in range(len(file.rooms) - 2, self.oldest_room(file) - 1, -1):
+            room = file.rooms[number]
             count = min(limit, room.sectors) - first
-            if count > 0 and room.number in shown:
+            if count > 0:
                 self.disk.write(room, first, data[: SECTOR * count])
             limit = min(limit, room.shared)
 
@@ -361,7 +510,14 @@ class Tree:
         """A file has these sizes, one after the other."""
         for it in sizes:
             self.disk.write(file.place, 0, file.size_text(it))
-        file.stamp = 0 if self.table == "strict" else self.version(self.one)
+        self.stamp(file, True)
+
+    def stamp(self, file, grew):
+        """Notes which names a sync of a file has to make durable, where its size has changed: also where no crash shows the file."""
+        if grew:
+            # (which of the names that changed meanwhile were first isn't known)
+            now = self.version(self.one) if self.began is None else self.began
+            file.stamp = 0 if self.table == "strict" else max(now, file.stamp)
 
     def resize(self, file, size):
         """A file gets longer or shorter."""
@@ -370,8 +526,8 @@ class Tree:
         else:
             file.grow(size)
         file.rooms[-1].length = max(file.rooms[-1].length, size)
-        if self.shown(file):
-            self.sized(file, [size])
+        self.suspect(file)
+        self.sized(file, [size] if self.shown(file) else [])
 
     def shorten(self, file, size):
         """A file gets new sectors for its bytes, which hold what it keeps. Of the last block that it keeps the rest becomes zeros."""
@@ -411,31 +567,27 @@ class Tree:
         it = self.disk.sectors.get(place, {}).get(0)
         return [first] if it is None else [first if it.held is None else it.held, *it.since]
 
-    def shown_files(self):
-        """The numbers of the files that have a name in something that a crash may leave."""
-        found = set()
-        for names in self.all_sets():
-            for text in self.held(names, bytes(SECTOR)):
-                state = names.states[struct.unpack_from("<Q", text)[0]]
-                found |= {number for kind, number in state.values() if kind == FILE}
-        return found
-
     def shown(self, file):
-        return file.names > 0 or file.number in self.shown_files()
+        """Whether a crash may leave a name of a file."""
+        if file.names > 0:
+            return True
+        if self.one is not None:
+            found = self.disk.sectors.get(self.one)
+            return (found[0].durable if found else 0) < file.lost
+        return any((FILE, file.number) in it.versions[number].values() for it in file.sets for number in it.left.values())
 
-    def shown_rooms(self, file):
-        """Where the bytes may lie that a crash may show of a file."""
-        first = struct.pack("<QQ", len(file.initial), 0)
-        return {struct.unpack_from("<8xQ", it)[0] for it in self.held(file.place, first)}
+    def oldest_room(self, file):
+        """The number of the first room that a crash may show of a file: it is that of its durable size, and all later ones may be."""
+        if file.oldest < len(file.rooms) - 1:
+            it = self.disk.sectors.get(file.place, {}).get(0)
+            return struct.unpack_from("<8xQ", it.held)[0] if it is not None and it.held is not None else 0
+        return file.oldest
 
-    def unseen(self):
-        """The places that no crash shows any more, whatever becomes of them."""
-        files, found = self.shown_files(), set()
-        for it in self.files.values():
-            rooms = self.shown_rooms(it) if it.number in files else set()
-            found |= {room for room in it.rooms if room.number not in rooms}
-            found |= {it.place} if it.number not in files else set()
-        return found
+    def unseen(self, file):
+        """The places of a file that no crash shows any more, whatever becomes of them."""
+        if not self.shown(file):
+            return [*file.rooms[file.oldest :], file.place]
+        return file.rooms[file.oldest : self.oldest_room(file)]
 
     # Syncs
 
@@ -452,17 +604,24 @@ class Tree:
             found[self.one] = {0: stamp}
         return found, laid, {}
 
+    def grows_apart(self, file, sectors):
+        """Whether bytes past the durable size of a file are in flight that aren't in these sectors."""
+        room = file.rooms[-1]
+        durable = struct.unpack_from("<Q", self.held(file.place, struct.pack("<QQ", len(file.initial), 0))[0])[0]
+        flying = room.laid | {number for number, it in self.disk.sectors.get(room, {}).items() if it.since}
+        return any(it >= durable // SECTOR and it not in sectors for it in flying)
+
     def begin_folder(self, folder):
         """A sync of a folder begins."""
         if self.one is None:
-            return {}, [], {it: it.up_to([slot for slot in it.slots if slot[0] == folder]) for it in self.all_sets()}
+            return {}, [], {it: it.up_to([slot for slot in it.slots if slot[0] == folder]) for it in self.moving}
         return {it: {0: it.touched[folder]} for it in self.all_sets() if folder in it.touched}, [], {}
 
     def begin_all(self):
         """Returns what a sync of everything covers as it begins."""
-        sets = self.all_sets() if self.one is None else []
-        found = self.disk.begin_sync([it for it in self.disk.sectors if it not in sets])
-        laid = [(room, it) for file in self.files.values() for room in file.rooms for it in room.laid]
+        sets = list(self.moving) if self.one is None else []
+        found = self.disk.begin_sync([it for it in self.disk.unsure if not isinstance(it, Names) or it is self.one])
+        laid = [(room, it) for room in self.laying for it in room.laid]
         return found, laid, {it: sum(it.changes) for it in sets}
 
     def end_sync(self, begun):
@@ -472,9 +631,45 @@ class Tree:
         places = {**places, **{names: {0: version} for names, version in versions.items() if version is not None}}
         for room, number in laid:
             room.laid.discard(number)
+        for room in {room for room, _ in laid if not room.laid}:
+            self.laying.pop(room, None)
+        if self.one in places:
+            places = {**places, self.one: {0: self.settle_beside(places[self.one][0])}}
         gone = self.gone_with(places)
-        self.disk.unsure = {it for it in self.disk.unsure if it[0] not in gone}
+        for place in gone:
+            self.disk.unsure.pop(place, None)
         self.disk.end_sync({place: it for place, it in places.items() if place not in gone})
+        if self.one is not None:
+            self.one.keeps_order = True
+        self.suspects = {number: None for number in self.suspects if self.is_suspect(self.files[number])}
+
+    def suspect(self, file):
+        """Bytes of a file, or its size, change, and perhaps no crash shows them."""
+        if not file.names or len(file.rooms) > 1:
+            self.suspects[file.number] = None
+
+    def settle_beside(self, version):
+        """A version of the names will be durable. Where it is one of some that were made at once with another, no crash leaves that other
+        with fewer of them any more: what has them stands in the place of the versions that haven't. Returns the version."""
+        it = self.disk.sectors.get(self.one, {}).get(0)
+        for others, first, last in self.groups if it is not None else ():
+            # (as many of the others are durable then)
+            durable = version - others + 1
+            if not others <= version < first or last - first < durable:
+                continue
+            if it.durable >= first:
+                return max(version, first + durable)
+            if version > it.durable:
+                for number in range(first, first + durable):
+                    it.since[number - it.durable - 1] = copy_text(first + durable)
+                self.one.keeps_order = False
+        return version
+
+    def is_suspect(self, file):
+        """Whether some bytes of a file, or its size, aren't durable, and perhaps no crash shows them."""
+        file.oldest = self.oldest_room(file)
+        places = (*file.rooms[file.oldest :], file.place)
+        return (not file.names or len(places) > 2) and any(it in self.disk.unsure for it in places)
 
     def gone_with(self, places):
         """The places that nobody will see once this is durable."""
@@ -484,7 +679,7 @@ class Tree:
                 it = self.disk.sectors[place][number]
                 kept.append((it, it.durable, it.since, it.held))
                 it.settle(version)
-        gone = self.unseen()
+        gone = {place for number in self.suspects for place in self.unseen(self.files[number])}
         for it, it.durable, it.since, it.held in kept:
             pass
         return gone

@@ -4,8 +4,10 @@ Its files lie in FOLDER/files, which is empty when the program begins, or has wh
 matter to FOLDER/calls. When all processes have ended the calls are followed (`tracing.py`), the files as they should be then are
 compared with those that are there, byte by byte, and only where all agree FOLDER gets its log.
 """
+import functools
 import os
 import re
+import shlex
 import shutil
 import signal
 import stat
@@ -14,13 +16,19 @@ from contextlib import suppress
 from pathlib import Path
 
 from commands.record import layout
+from commands.record import listening
+from commands.record import looks
 from commands.record import named_layout
 from commands.record.calls import Refused, makers, shown
 from commands.record.disk import SECTOR, Disk
-from commands.record.files import skips, skips_below
+from commands.record.files import Another, Other, skips, skips_below
 from commands.record.layout import trace_log
+from commands.record.mapped import Mapped
 from commands.record.named import NamedTracing, beginning
+from commands.record.orders import FILE, FOLDER
+from commands.record.told import entries_text, owners
 from commands.record.tracing import Tracing
+from commands.shared.recording import NAME, Recording
 
 # Calls that strace need not stop at: they write no file, move no place in one, and answer no descriptor of one.
 PASSED = (
@@ -33,26 +41,31 @@ PASSED = (
 RAW = "read,readv"
 STRING = 1 << 26
 OPTIONS = ["-f", "-q", "-xx", "-y", "-v", "-s", str(STRING), "-e", f"raw={RAW}"]
-MARKS, FILES, CALLS, BASE, LOG = "marks", "files", "calls", "base.img", "writes.log"
-MADE = (LOG, BASE, "files.txt", "files.h")
+MARKS, FILES, CALLS, LOOKS, BASE, LOG, ENTRIES = "marks", "files", "calls", "looks", "base.img", "writes.log", "entries"
+MAP, HEADER = "files.txt", "files.h"
+MADE = (LOG, BASE, MAP, HEADER, ENTRIES, NAME)
 # What stands in the folder of a recording that was refused.
-LEFT = (MARKS, FILES, CALLS, BASE, "files.txt", "files.h")
+LEFT = (MARKS, FILES, CALLS, LOOKS, BASE, MAP, HEADER, ENTRIES, NAME)
+
+
+def other_at(path, kind):
+    """What a path is that is no file and no folder, or nothing."""
+    if stat.S_ISLNK(kind):
+        return Other("symlink", os.readlink(path))
+    return Other("fifo") if stat.S_ISFIFO(kind) else Other("socket") if stat.S_ISSOCK(kind) else None
 
 
 def files_in(folder):
-    """The regular files below a folder, by their names in it, as paths. What is neither these nor a folder is named apart."""
-    found, others = {}, []
-    for here, _, names in os.walk(os.fsencode(folder)):
-        for name in names:
+    """The regular files below a folder, by their names in it, as paths; and so what is neither these nor a folder."""
+    found, others, top = {}, {}, os.fsencode(folder)
+    for here, folders, names in os.walk(top):
+        for name in names + folders:
             path = os.path.join(here, name)
             kind = os.lstat(path).st_mode
             if stat.S_ISREG(kind):
-                found[os.path.relpath(path, os.fsencode(folder))] = path
-            elif stat.S_ISLNK(kind):
-                others.append(path)
-        for name in _:
-            if os.path.islink(os.path.join(here, name)):
-                others.append(os.path.join(here, name))
+                found[os.path.relpath(path, top)] = path
+            elif other_at(path, kind) is not None:
+                others[os.path.relpath(path, top)] = other_at(path, kind)
     return found, others
 
 
@@ -63,19 +76,46 @@ def folders_in(folder):
 
 
 def contents_of(folder):
-    """The contents of the files below a folder, by their names in it."""
-    found, others = files_in(folder)
-    if others:
-        raise Refused(f"{shown(os.fsdecode(others[0]))} is a symbolic link")
+    """The contents of the files below a folder, by their names in it. Of a file that has several names the others name the first."""
+    found, _ = files_in(folder)
     total = sum(os.path.getsize(it) for it in found.values())
     if total > SECTOR * trace_log.LARGE.sectors:
         raise Refused(f"the files have {total} bytes, and a device has at most {SECTOR * trace_log.LARGE.sectors}")
-    contents = {}
-    for name, path in found.items():
-        if os.stat(path).st_nlink > 1:
-            raise Refused(f"{shown(os.fsdecode(path))} has another name, by which it may be written")
-        contents[name] = Path(os.fsdecode(path)).read_bytes()
+    contents, firsts = {}, {}
+    for name, path in sorted(found.items()):
+        it = os.stat(path)
+        first = firsts.setdefault((it.st_dev, it.st_ino), name)
+        contents[name] = Path(os.fsdecode(path)).read_bytes() if first == name else Another(first)
     return contents
+
+
+def others_of(files, skipped, leaves_out):
+    """What below the folder of a recording is neither file nor folder, and isn't skipped. A link into the folder is one of `inside`."""
+    top = os.fsencode(files)
+    found = {name: it for name, it in files_in(files)[1].items() if not leaves_out(name, skipped)}
+    for name, it in found.items():
+        if it.text == top or it.text.startswith(top + b"/"):
+            found[name] = Other("inside", it.text[len(top) + 1 :] or b".")
+    return found
+
+
+def refuse_links(others):
+    """Refuses a symbolic link in a recording without names."""
+    for name, it in others.items():
+        if it.text:
+            raise Refused(f"{shown(os.fsdecode(name))} is a symbolic link, and names are left out; --files")
+
+
+def link_again(base, files):
+    """Has the files of a folder that are one file in the base be one again."""
+    firsts = {}
+    for name, path in sorted(files_in(base)[0].items()):
+        it = os.stat(path)
+        first = firsts.setdefault((it.st_dev, it.st_ino), name)
+        if first != name:
+            to = os.path.join(os.fsencode(files), name)
+            os.unlink(to)
+            os.link(os.path.join(os.fsencode(files), first), to)
 
 
 def lay_base(base, files):
@@ -83,9 +123,9 @@ def lay_base(base, files):
     if base is None:
         return
     if os.path.isdir(base):
-        shutil.copytree(base, files, symlinks=True, dirs_exist_ok=True, copy_function=shutil.copyfile)
+        shutil.copytree(base, files, symlinks=True, dirs_exist_ok=True, copy_function=shutil.copy)
     else:
-        shutil.copyfile(base, os.path.join(files, os.path.basename(base)))
+        shutil.copy(base, os.path.join(files, os.path.basename(base)))
 
 
 def strace_command(out, words):
@@ -133,26 +173,60 @@ def run(folder, words, environment):
     return status if status >= 0 else 128 - status
 
 
-def follow(calls, files, before, skipped, at, marks=None):
-    """Follows the calls that strace wrote down. Returns the tracing, whose disk has the entries."""
-    with open(calls, "rb") as stream:
-        made = makers(stream)
-    tracing = Tracing(files, before, skipped, Disk(), made, at, marks)
-    with open(calls, "rb") as stream:
-        tracing.follow(stream)
+def surroundings(folder):
+    """The environment of a program that is recorded in a folder: with $RECORDING, and with `mark` on its path."""
+    path = [os.environ.get("PATH", os.defpath), str(Path(__file__).resolve().parent)]
+    return {**os.environ, "RECORDING": folder, "PATH": os.pathsep.join(path)}
+
+
+def run_with_looks(folder, words, environment, leaves_out):
+    """Runs the program, and looks at the files that it has mapped at each of its calls. Returns its status."""
+    calls = os.path.join(folder, CALLS)
+    running, listener = looks.started(strace_command(calls, listening.below(words)), environment)
+    with open(os.path.join(folder, LOOKS), "wb") as out:
+        taken = looks.Looks(environment["FILES"], calls, out, leaves_out)
+        try:
+            taken.serve(listener, running.pid)
+            status = running.wait()
+        except BaseException:
+            # (whoever still waits for an answer gets an error)
+            os.close(listener)
+            end_all(running)
+            raise
+        finally:
+            taken.close()
+    os.close(listener)
+    return status if status >= 0 else 128 - status
+
+
+def with_looks(tracing, calls):
+    """Has a tracing follow what is mapped, where looks were taken. Returns it."""
+    found = os.path.join(os.path.dirname(calls), LOOKS)
+    if os.path.exists(found):
+        tracing.mapped = Mapped(tracing, found, calls)
     return tracing
 
 
-def follow_names(calls, files, before, folders, skipped, at, marks, table):
+def follow(calls, files, before, skipped, at, marks=None, begun=0):
+    """Follows the calls that strace wrote down. Returns the tracing, whose disk has the entries."""
+    with open(calls, "rb") as stream:
+        made = makers(stream)
+    tracing = Tracing(files, before, skipped, Disk(), made, at, marks, begun)
+    with open(calls, "rb") as stream:
+        with_looks(tracing, calls).follow(stream)
+    return tracing
+
+
+def follow_names(calls, files, before, folders, skipped, at, marks, table, begun=0, kind=NamedTracing):
     """Follows the calls of a recording whose names and sizes count, by a table. Which names a rename ties together is known only at
-    the end, so the calls are followed twice where the table asks for it."""
+    the end, so the calls are followed twice where the table asks for it. `kind` says who follows them."""
     joined = None
     for _ in range(2 if table == "strict" else 1):
         with open(calls, "rb") as stream:
             made = makers(stream)
-        tracing = NamedTracing(files, beginning(table, Disk(), joined, before, folders), skipped, made, at, marks)
+        tracing = kind(files, beginning(table, Disk(), joined, before, folders), skipped, made, at, marks, begun)
         with open(calls, "rb") as stream:
-            tracing.follow(stream)
+            with_looks(tracing, calls).follow(stream)
         joined = tracing.tree.ties()
     return tracing
 
@@ -175,6 +249,12 @@ def compare(tracing, after):
             raise Refused(f"the file {called} differs from byte {place} on from what the calls that were seen wrote")
 
 
+def note_modes(tracing, files):
+    """Notes which permissions files and folders have at the end: those that are gone then have no others than new ones have."""
+    there = {(FILE, it.number): name for name, it in tracing.files.items()} | {(FOLDER, number): name for name, number in tracing.folders.items()}
+    tracing.tree.modes = {held: stat.S_IMODE(os.stat(os.path.join(os.fsencode(files), name)).st_mode) for held, name in there.items()}
+
+
 def is_device(tracing, base):
     """Whether a recording is of one file that is a device: of the file `base` alone, which has whole sectors and never got longer."""
     if base is None or os.path.isdir(base):
@@ -184,48 +264,42 @@ def is_device(tracing, base):
 
 
 def recorded(tracing, folder, base=None):
-    """Writes the log and its maps. Returns what is said of them."""
+    """Writes the log and its maps. Returns what the folder knows of itself, what is said of the maps, and the number of entries."""
     sizes = {name: it.most for name, it in tracing.files.items() if it.most}
     found, sectors = layout.places(sizes, is_device(tracing, base))
     firsts = {tracing.files[it.name]: it.first for it in found}
     if not any(it.count for it in tracing.disk.entries):
         raise Refused("the program wrote no file of its folder, $FILES, so nothing was recorded")
     parts, large = layout.log_of(tracing.disk.entries, firsts, sectors)
-    Path(folder, "files.txt").write_text(layout.map_text(found, sectors))
-    Path(folder, "files.h").write_text(layout.header_text(found))
-    options = f"--sectors {sectors}" + (" --large" if large else "")
+    Path(folder, MAP).write_text(layout.map_text(found, sectors))
+    Path(folder, HEADER).write_text(layout.header_text(found))
+    made = Recording(folder, sectors, large, map=MAP)
     initial = {it.name: tracing.files[it.name].initial for it in found}
     if any(any(it) for it in initial.values()):
         Path(folder, BASE).write_bytes(layout.image_of(found, initial, sectors))
-        options += f" --base {Path(folder, BASE)}"
+        made.base = BASE
     trace_log.write_log(str(Path(folder, LOG)), parts)
-    marks = sum(1 for it in tracing.disk.entries if it.kind == layout.MARK)
-    lines = [
-        *(f"{layout.escaped(it.name)}: {it.length} bytes from sector {it.first} on" for it in found),
-        f"entries {len(tracing.disk.entries)} marks {marks}: crashbpf explore {Path(folder, LOG)} .. {options}",
-    ]
-    return "\n".join(lines)
+    Path(folder, ENTRIES).write_text(entries_text(tracing.disk.entries, {}), errors="surrogateescape")
+    return made, [f"{layout.escaped(it.name)}: {it.length} bytes from sector {it.first} on" for it in found], len(tracing.disk.entries)
 
 
 def recorded_names(tracing, folder):
-    """Writes the log and what goes with it of a recording whose names and sizes count."""
+    """Writes the log and what goes with it of a recording whose names and sizes count. Returns as `recorded`."""
     laid = named_layout.Laid(tracing.tree)
     if not any(it.count for it in tracing.disk.entries):
         raise Refused("the program changed no file of its folder, $FILES, so nothing was recorded")
     entries = list(laid.entries())
     parts, large = layout.log_of(entries, laid.firsts, laid.sectors)
-    Path(folder, "files.txt").write_text(laid.map_text())
-    Path(folder, "files.h").write_text(named_layout.header_text(laid))
+    Path(folder, MAP).write_text(laid.map_text())
+    Path(folder, HEADER).write_text(named_layout.header_text(laid))
     Path(folder, BASE).write_bytes(laid.image())
-    options = f"--sectors {laid.sectors}" + (" --large" if large else "") + f" --base {Path(folder, BASE)}"
     trace_log.write_log(str(Path(folder, LOG)), parts)
-    marks = sum(1 for it in tracing.disk.entries if it.kind == layout.MARK)
+    Path(folder, ENTRIES).write_text(entries_text(entries, owners(tracing.tree)), errors="surrogateescape")
     lines = [
         *(f"names: sector {it.sector}" for it in laid.sets),
         *(f"{layout.escaped(it.name)}: its size in sector {it.size}, {it.sectors} sectors from {it.first} on" for it in laid.rooms),
-        f"entries {len(entries)} marks {marks}: crashbpf explore {Path(folder, LOG)} .. {options}",
     ]
-    return "\n".join(lines)
+    return Recording(folder, laid.sectors, large, BASE, MAP, table=tracing.tree.table), lines, len(entries)
 
 
 def notes_of(tracing, before):
@@ -239,36 +313,58 @@ def notes_of(tracing, before):
     return notes + [f"{shown(os.fsdecode(path))} isn't recorded: {call}" for path, call in tracing.written_outside.items()]
 
 
-def record(folder, base, skipped, words, environment, say, table=None):
+def record(folder, base, skipped, words, environment, say, table=None, is_mapped=False):
     """Records a program. Returns its status, and what is said of the log. `say` tells a line of what is left out. With a table
-    names and sizes count."""
+    names and sizes count. With `is_mapped` files may be mapped."""
     files, at = os.path.join(folder, FILES), os.path.realpath(".")
     os.mkdir(files)
     lay_base(base, files)
     Path(folder, MARKS).touch()
     leaves_out = skips if table is None else skips_below
+    if table is not None and base is not None and os.path.isdir(base):
+        link_again(base, files)
     before = {name: it for name, it in contents_of(files).items() if not leaves_out(name, skipped)}
-    folders = [it for it in folders_in(files) if not leaves_out(it, skipped)]
-    status = run(folder, words, {**environment, "FILES": files})
-    calls, marks = os.path.join(folder, CALLS), os.path.join(folder, MARKS)
+    others = others_of(files, skipped, leaves_out)
     if table is None:
-        tracing = follow(calls, files, before, skipped, at, marks)
+        refuse_links(others)
     else:
-        tracing = follow_names(calls, files, before, folders, skipped, at, marks, table)
+        before |= others
+    folders = [it for it in folders_in(files) if not leaves_out(it, skipped)]
+    calls, marks = os.path.join(folder, CALLS), os.path.join(folder, MARKS)
+    begun = os.stat(marks).st_ctime_ns
+    runs = functools.partial(run_with_looks, leaves_out=lambda name: leaves_out(name, skipped)) if is_mapped else run
+    status = runs(folder, words, {**environment, "FILES": files})
+    if table is None:
+        tracing = follow(calls, files, before, skipped, at, marks, begun)
+    else:
+        tracing = follow_names(calls, files, before, folders, skipped, at, marks, table, begun)
     compare(tracing, contents_of_recorded(files, skipped, leaves_out))
+    compare_others(tracing, others_of(files, skipped, leaves_out), table)
     if table is not None and {b"", *(it for it in folders_in(files) if not leaves_out(it, skipped))} != set(tracing.folders):
         raise Refused("other folders are there than the calls that were seen made")
-    told = recorded(tracing, folder, base) if table is None else recorded_names(tracing, folder)
+    if table is not None:
+        note_modes(tracing, files)
+    made, lines, entries = recorded(tracing, folder, base) if table is None else recorded_names(tracing, folder)
+    made.files, made.at, made.begun, made.skipped, made.program = files, at, begun, list(skipped), list(words)
+    made.write()
+    marks = sum(1 for it in tracing.disk.entries if it.kind == layout.MARK)
+    lines.append(f"entries {entries} marks {marks} sectors {made.sectors}: crashbpf-each {shlex.quote(os.path.relpath(folder))} -- COMMAND")
     for line in notes_of(tracing, before):
         say(f"note: {line}")
-    return status, told
+    return status, "\n".join(lines)
 
 
 def contents_of_recorded(files, skipped, leaves_out):
     """The contents of the files that aren't skipped."""
-    found, others = files_in(files)
-    names = {name: path for name, path in found.items() if not leaves_out(name, skipped)}
-    for path in others:
-        if not leaves_out(os.path.relpath(path, os.fsencode(files)), skipped):
-            raise Refused(f"{shown(os.fsdecode(path))} is a symbolic link")
+    names = {name: path for name, path in files_in(files)[0].items() if not leaves_out(name, skipped)}
     return {name: Path(os.fsdecode(path)).read_bytes() for name, path in names.items()}
+
+
+def compare_others(tracing, there, table):
+    """Compares what should be there with what is, but for files and folders."""
+    if table is None:
+        refuse_links(there)
+        return
+    for name in sorted(there.keys() | tracing.others.keys()):
+        if there.get(name) != tracing.others.get(name):
+            raise Refused(f"{shown(os.fsdecode(name))} is {there.get(name)}, and by the calls that were seen {tracing.others.get(name)}")

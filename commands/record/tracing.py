@@ -11,30 +11,43 @@ is refused.
 import os
 import re
 
-from commands.record.calls import NAMED, Refused, child_of, happened, hexed, named, shown, unhexed
+from commands.record.calls import NAMED, Refused, brief, child_of, happened, hexed, named, shown, string, unhexed
+from commands.record import outside
+from commands.record.copies import CLONES, Copying
 from commands.record.disk import SECTOR
-from commands.record.files import MARKS, File, Flight, Opened, Process, Space, flags_of, skips
-from commands.record.known import ASKED, HARMLESS, KINDS, MADE_APART, MOVES, NOT_BEGUN, READS, RWF, SYNCS, THROUGH, UNSEEN, WRITES
+from commands.record.files import MARKS, File, Flight, Maker, Opened, Other, Process, Range, Space, Table, flags_of, skips
+from commands.record.known import ASKED, COPIES, HARMLESS, KINDS, MADE_APART, MOVES, NOT_BEGUN, NOT_DONE, NOT_SYNCED, READS, RWF, SYNCS, THROUGH, UNSEEN, WRITES
+from commands.record.told import told, words_of
 
 # What names the process itself in /proc, and what there leads to a file of a process: its number, the link, a descriptor.
 OWN = (b"/proc/self", b"/proc/thread-self")
 OF_PROCESS = re.compile(rb"/proc/(?:(\d+)|self|thread-self)(?:/task/\d+)?/(cwd|root|exe|fd/(\d+))")
 # (Linux follows as many)
 MOST_LINKS = 40
+PAGE = os.sysconf("SC_PAGESIZE")
+LOOKED_AT = "--mapped looks at such a file at each call"
 
 
-class Tracing:
-    """A program that is followed. `before` has the files of the folder, by their names in it."""
+class Tracing(Copying):
+    """A program that is followed. `before` has the files of the folder, by their names in it; `begun` is when it began, as
+    `outside.py` has it."""
 
-    def __init__(self, folder, before, skipped, disk, made, at, marks=None):
+    def __init__(self, folder, before, skipped, disk, made, at, marks=None, begun=0):
         self.folder, self.skipped, self.disk, self.made, self.at = os.fsencode(folder), skipped, disk, made, os.fsencode(at)
         self.prefix, self.marks = self.folder + b"/", None if marks is None else os.fsencode(marks)
         self.files = {name: File(name, content) for name, content in before.items()}
         self.folders = {b""} | {b"/".join(it.split(b"/")[:end]) for it in before for end in range(1, it.count(b"/") + 1)}
         self.found, self.flights, self.ended, self.notes = {}, {}, None, []
         self.first, self.gone, self.written_outside = None, set(), {}
+        # the paths of what isn't recorded and was opened to be written; and the texts of links that were made where nothing is recorded
+        self.written, self.made_links = set(), {}
+        # what has a name in the folder, and is neither file nor folder
+        self.others = {}
+        self.surroundings = outside.Surroundings(begun)
         # what a line has that names the folder
         self.mentioned = hexed(self.folder)
+        # what looks say of mapped files, where these are recorded
+        self.mapped = None
         self.handled = {name: getattr(self, f"end_{it}") for it, names in KINDS.items() for name in names}
 
     # What is known of names
@@ -86,9 +99,12 @@ class Tracing:
         found = OF_PROCESS.fullmatch(path)
         if not found:
             try:
-                return os.readlink(path)
+                text = os.readlink(path)
             except OSError:
-                return None
+                text = None
+            if self.made_links.get(path, {text}) != {text}:
+                raise Refused(f"{call}: where {shown(os.fsdecode(path))} led then isn't known: the program makes it a link, and it is another at the end")
+            return text
         process = self.found.get(int(found[1])) if found[1] else self.process(call)
         if process is not None and found[2] == b"cwd":
             return process.folder[0]
@@ -106,32 +122,37 @@ class Tracing:
             makers = self.made.get(number)
             if self.first is None:
                 self.first = number
-                self.found[number] = Process({}, [self.at], Space())
+                self.found[number] = Process(Table(), [self.at], Space(), Maker(number))
             elif not makers:
                 raise Refused(f"{call}: no call was seen that made process {number}")
             else:
-                self.found[number] = self.child(makers.popleft())
+                self.found[number] = self.child(makers.popleft(), number)
         return self.found[number]
 
-    def child(self, maker):
-        """What a new process has of the one that made it."""
+    def child(self, maker, number):
+        """What a new process of that number has of the one that made it."""
         parent = self.found.get(maker.parent)
         if parent is None:
             raise Refused(f"calls:{maker.line}: process {maker.parent}, which makes another, isn't known")
         flags = flags_of(maker.flags)
         return Process(
-            parent.table if "CLONE_FILES" in flags else dict(parent.table),
+            parent.table if "CLONE_FILES" in flags else parent.table.copy(),
             parent.folder if "CLONE_FS" in flags else list(parent.folder),
             parent.space if "CLONE_VM" in flags or maker.flags == "vfork" else parent.space.copy(),
+            parent.maker if "CLONE_THREAD" in flags else Maker(number, parent.maker.words, parent.maker),
         )
 
     def follow(self, stream):
         """Follows all that happened."""
         for kind, it in happened(stream, self.handled):
+            self.disk.entries.call = it
             if kind == "begin":
                 self.begin(it)
             elif kind == "end":
+                count = len(self.disk.entries)
                 self.end(it)
+                if len(self.disk.entries) > count or it.name in SYNCS:
+                    it.told = told(self, it)
             elif kind == "over":
                 self.over(it)
             elif kind == "moved":
@@ -144,32 +165,46 @@ class Tracing:
             raise Refused("calls: no process was seen")
         if self.found:
             raise Refused(f"calls: the text ends before process {min(self.found)} did")
+        if self.mapped is not None:
+            self.notes += self.mapped.finish().notes()
 
     # Calls
 
     def begin(self, call):
         """A call begins."""
         process = self.process(call)
+        call.maker = process.maker
+        if self.mapped is not None:
+            self.mapped.before(call)
         if self.mentioned in call.text:
             self.agree(call, process, call.text)
-        flight = self.flights[call.process] = Flight()
+        flight = self.flights[call.process] = Flight(call=call)
         if call.name in SYNCS:
             self.begin_sync(call, process, flight)
+        elif call.name == "msync" and self.mapped is not None:
+            flight.sync = self.mapped.begin_sync(call, process)
         elif call.name in ("truncate", "truncate64"):
-            flight.all_changes = {it: (len(it.changed), it.grown) for it in self.files.values()}
+            flight.all_changes = {it: (len(it.changed), it.grown, len(it.copied)) for it in self.files.values()}
         elif call.name in (*WRITES, *READS, *MOVES, "preadv2"):
             flight.opened = process.table.get(call.number(0), (None, False))[0]
+            flight.other = process.table.others.get(call.number(0), (None, False))[0]
             flight.file = flight.opened and flight.opened.file
-        if flight.opened is not None:
-            flight.moved = flight.opened.moved
+        elif call.name in COPIES or call.name == "ioctl" and CLONES.search(call.text):
+            self.begin_copy(call, process, flight)
+        if flight.opened is not None or flight.other is not None:
+            flight.moved = (flight.opened or flight.other).moved
         if isinstance(flight.file, File):
-            flight.grown, flight.changes = flight.file.grown, len(flight.file.changed)
+            flight.grown, flight.changes, flight.copies = flight.file.grown, len(flight.file.changed), len(flight.file.copied)
 
     def end(self, call):
         """A call has ended."""
         process = self.process(call)
+        if self.mapped is not None:
+            self.mapped.before_end(call)
         flight = self.flights.pop(call.process, None) or Flight()
         handler = self.handled.get(call.name)
+        if flight.other is not None and call.name not in COPIES:
+            self.move_other(call, flight)
         if handler is not None:
             handler(call, process, flight)
         elif call.name in UNSEEN:
@@ -187,7 +222,7 @@ class Tracing:
     def over(self, call):
         """The process of a call ended within it."""
         flight = self.flights.pop(call.process, None)
-        if call.name in WRITES + MOVES and flight and flight.file is not None and flight.opened and call.name not in ("lseek",):
+        if call.name in (*WRITES, *MOVES, *COPIES, "ioctl") and flight and flight.file is not None and call.name not in ("lseek",):
             raise Refused(f"{call}: the process ended within the call, so what it wrote isn't known")
         if call.name in UNSEEN:
             raise Refused(f"{call}: {UNSEEN[call.name]}")
@@ -196,7 +231,7 @@ class Tracing:
 
     def agree(self, call, process, text):
         """Compares the files of descriptors that a line names with what the calls before it say."""
-        for number, path, gone in named(re.split(r"\) += ", text)[0]):
+        for number, path, gone in named(re.split(r"\) += ", brief(text))[0]):
             self.agrees(call, process, number, path, gone)
 
     def agrees(self, call, process, number, path, gone):
@@ -206,7 +241,7 @@ class Tracing:
             return
         known = process.table.get(int(number), (None, False))[0]
         if known is None or known.file is MARKS or known.file.name != name:
-            if known is None and os.path.isdir(path):
+            if known is None and (os.path.isdir(path) or name in self.others):
                 return
             raise Refused(f"{call}: no call was seen that made descriptor {number} one of {shown(os.fsdecode(name))}")
         if gone and not known.file.unlinked:
@@ -249,13 +284,16 @@ class Tracing:
         if call.path is None:
             raise Refused(f"{call}: strace doesn't say which file it opened")
         flags = flags_of(call.text) | ({"O_WRONLY", "O_CREAT", "O_TRUNC"} if call.name == "creat" else set())
-        process.table.pop(call.result, None)
-        writable = bool(flags & {"O_WRONLY", "O_RDWR"})
+        process.table.drop(call.result)
+        writable, closes = bool(flags & {"O_WRONLY", "O_RDWR"}), "O_CLOEXEC" in flags
         if self.marks is not None and call.path == self.marks:
-            process.table[call.result] = (Opened(MARKS, False, False, writable), "O_CLOEXEC" in flags)
+            process.table.put(call.result, Opened(MARKS, False, False, writable), closes)
             return
         name = self.name(call.path)
         if name is None:
+            process.table.put(call.result, Opened(outside.File(call.path), "O_APPEND" in flags, False, writable), closes)
+            if writable:
+                self.written.add(call.path)
             if writable and not call.path.startswith((self.prefix, b"/dev/", b"/proc/", b"pipe:", b"socket:")):
                 self.written_outside.setdefault(call.path, call)
             if writable and re.fullmatch(rb"/proc/\d+/(task/\d+/)?mem", call.path):
@@ -266,6 +304,9 @@ class Tracing:
                 raise Refused(f"{call}: a file without a name isn't followed")
             if name not in self.files:
                 return
+        if name in self.others:
+            process.table.put(call.result, Opened(outside.File(call.path), "O_APPEND" in flags, False, writable), closes)
+            return
         file = self.files.get(name)
         if file is None or file.unlinked:
             if "O_CREAT" not in flags:
@@ -275,9 +316,8 @@ class Tracing:
             file = self.make(call, name, flight)
         # (Linux cuts the file off even where it is opened for reading alone, and looks at no other flag beside O_PATH)
         if "O_TRUNC" in flags and "O_PATH" not in flags:
-            self.resize(call, file, 0, Flight(grown=file.grown, changes=len(file.changed)))
-        through = bool(flags & THROUGH)
-        process.table[call.result] = (Opened(file, "O_APPEND" in flags, through, writable), "O_CLOEXEC" in flags)
+            self.resize(call, file, 0, Flight(grown=file.grown, changes=len(file.changed), copies=len(file.copied), version=flight.version))
+        process.table.put(call.result, Opened(file, "O_APPEND" in flags, bool(flags & THROUGH), writable), closes)
 
     def make(self, call, name, _flight):
         """A file is made."""
@@ -289,42 +329,40 @@ class Tracing:
         """Gives a descriptor one number more, by dup, dup2 and dup3."""
         if call.failed() or call.result is None:
             return
-        from_ = process.table.get(call.number(0))
         if call.name == "dup2" and call.number(0) == call.number(1):
             return
-        process.table.pop(call.result, None)
-        if from_ is not None:
-            process.table[call.result] = (from_[0], "O_CLOEXEC" in call.text)
+        process.table.put(call.result, process.table.opened(call.number(0)), "O_CLOEXEC" in call.text)
 
     def end_fcntl(self, call, process, _flight):
         """Follows what fcntl makes of a descriptor: a copy, whether exec closes it, whether writes append."""
         if call.failed() or call.result is None:
             return
-        known, command = process.table.get(call.number(0)), call.word(1)
+        known, command = process.table.opened(call.number(0)), call.word(1)
         if command in ("F_DUPFD", "F_DUPFD_CLOEXEC"):
-            process.table.pop(call.result, None)
-            if known is not None:
-                process.table[call.result] = (known[0], command == "F_DUPFD_CLOEXEC")
-        elif known is not None and command == "F_SETFD":
-            process.table[call.number(0)] = (known[0], "FD_CLOEXEC" in call.word(2))
+            process.table.put(call.result, known, command == "F_DUPFD_CLOEXEC")
+        elif command == "F_SETFD":
+            process.table.put(call.number(0), known, "FD_CLOEXEC" in call.word(2))
         elif known is not None and command == "F_SETFL":
-            known[0].append = "O_APPEND" in call.word(2)
-            known[0].moved += 1
+            known.append = "O_APPEND" in call.word(2)
+            known.moved += 1
 
-    def end_ioctl(self, call, process, _flight):
-        """Follows the ioctls of close-on-exec, and refuses those that may write a recorded file."""
-        known = process.table.get(call.number(0))
-        if call.failed() or call.result is None or known is None or known[0].file is MARKS:
+    def end_ioctl(self, call, process, flight):
+        """Follows the ioctls of close-on-exec and reflinks, and refuses others that may write a recorded file."""
+        if call.failed() or call.result is None:
             return
-        asked = call.word(1)
+        known, asked = process.table.opened(call.number(0)), call.word(1)
         if asked in ("FIOCLEX", "FIONCLEX"):
-            process.table[call.number(0)] = (known[0], asked == "FIOCLEX")
-        elif asked not in ASKED:
-            raise Refused(f"{call}: this ioctl isn't followed, and may write {shown(os.fsdecode(known[0].file.name))}")
+            process.table.put(call.number(0), known, asked == "FIOCLEX")
+        elif known is None or not isinstance(known.file, File) or asked in ASKED:
+            return
+        elif CLONES.search(asked):
+            self.end_clone(call, flight)
+        else:
+            raise Refused(f"{call}: this ioctl isn't followed, and may write {shown(os.fsdecode(known.file.name))}")
 
     def end_close(self, call, process, _flight):
         # (Linux closes it, whatever the error but EBADF)
-        process.table.pop(call.number(0), None)
+        process.table.drop(call.number(0))
 
     def end_close_range(self, call, process, _flight):
         """Closes a range of descriptors, or marks them to be closed by exec."""
@@ -332,18 +370,17 @@ class Tracing:
             return
         first, last = call.number(0), call.number(1)
         if "CLOSE_RANGE_UNSHARE" in call.text:
-            process.table = dict(process.table)
-        for number in [it for it in process.table if first <= it <= last]:
-            if "CLOSE_RANGE_CLOEXEC" in call.text:
-                process.table[number] = (process.table[number][0], True)
-            else:
-                del process.table[number]
+            process.table = process.table.copy()
+        for number, (opened, _) in process.table.all().items():
+            if first <= number <= last:
+                process.table.put(number, opened if "CLOSE_RANGE_CLOEXEC" in call.text else None, True)
 
     def end_execve(self, call, process, _flight):
         """Closes what exec closes, and forgets the mappings of the program before."""
         if call.failed():
             return
-        process.table = {number: it for number, it in process.table.items() if not it[1]}
+        process.table = process.table.kept()
+        process.maker = Maker(process.maker.process, words_of(call, self.folder), process.maker)
         process.space = Space()
         process.folder = list(process.folder)
 
@@ -366,7 +403,7 @@ class Tracing:
         if "CLONE_NEWNS" in call.text:
             raise Refused(f"{call}: {MADE_APART['CLONE_NEWNS']}")
         if "CLONE_FILES" in call.text:
-            process.table = dict(process.table)
+            process.table = process.table.copy()
         if "CLONE_FS" in call.text:
             process.folder = list(process.folder)
 
@@ -381,37 +418,46 @@ class Tracing:
         child = child_of(call)
         makers = self.made.get(child)
         if makers and makers[0].line == call.line:
-            self.found[child] = self.child(makers.popleft())
+            self.found[child] = self.child(makers.popleft(), child)
 
     # Memory
 
     def end_mmap(self, call, process, _flight):
-        """Refuses a shared mapping that may be written, and notes one that mprotect could make so."""
+        """Takes in a shared mapping that may be written, or that mprotect could make so. Where nobody looks at it, one that may be
+        written is refused."""
         if call.failed() or call.result is None:
             return
-        length = call.number(1)
+        length = -(-call.number(1) // PAGE) * PAGE
         process.space.take(call.result, length)
         if "MAP_ANONYMOUS" in call.word(3) or call.word(4).startswith("-1"):
             return
         known = process.table.get(call.number(4), (None, False))[0]
         if known is None or known.file is MARKS or "MAP_PRIVATE" in call.word(3):
             return
-        if "PROT_WRITE" in call.word(2):
-            raise Refused(f"{call}: a shared mapping can be written unseen; --skip takes a file that recovery doesn't need")
+        if "PROT_WRITE" in call.word(2) and self.mapped is None:
+            raise Refused(f"{call}: a shared mapping can be written unseen; {LOOKED_AT}; --skip takes a file that recovery doesn't need")
         if known.writable:
-            process.space.ranges.append((call.result, call.result + length))
+            if self.mapped is not None:
+                self.mapped.map(call, known.file)
+            process.space.ranges.append(Range(call.result, call.result + length, known.file, call.number(5)))
 
     def end_munmap(self, call, process, _flight):
         if not call.failed():
-            process.space.take(call.number(0), call.number(1))
+            process.space.take(call.number(0), -(-call.number(1) // PAGE) * PAGE)
 
     def end_mprotect(self, call, process, _flight):
-        if not call.failed() and "PROT_WRITE" in call.word(2) and process.space.has(call.number(0), call.number(1)):
-            raise Refused(f"{call}: a shared mapping of a recorded file can be written unseen")
+        """Refuses a mapping that may be written from now on, where nobody looks at it."""
+        if call.failed() or "PROT_WRITE" not in call.word(2):
+            return
+        for it in process.space.within(call.number(0), call.number(1)):
+            if self.mapped is None or not self.mapped.is_watched(it.file):
+                raise Refused(f"{call}: a shared mapping of a recorded file can be written unseen; {LOOKED_AT}")
 
     def end_mremap(self, call, process, _flight):
-        if not call.failed() and call.result is not None and process.space.has(call.number(0), max(call.number(1), 1)):
-            process.space.ranges.append((call.result, call.result + call.number(2)))
+        """Follows a mapping that gets another place or size."""
+        if not call.failed() and call.result is not None:
+            kept = 0 if "MREMAP_DONTUNMAP" in call.word(3) else -(-call.number(1) // PAGE) * PAGE
+            process.space.move(call.number(0), kept, call.result, -(-call.number(2) // PAGE) * PAGE)
 
     # Writes
 
@@ -421,6 +467,8 @@ class Tracing:
         for other, until in file.changed[flight.changes :]:
             if other < last and first < until:
                 raise Refused(f"{call}: another call wrote the same sectors at once, and which was first isn't known")
+        if any(other < last and first < until for other, until in file.copied[flight.copies :]):
+            raise Refused(f"{call}: another call copied the same sectors at once, and which was first isn't known")
 
     def end_write(self, call, process, flight):
         """Writes what a call of the write family wrote; refuses one whose end isn't known."""
@@ -446,9 +494,9 @@ class Tracing:
             self.put(call, flight, opened, start, data, opened.through or bool(flags & THROUGH))
         return None
 
-    def agrees_for(self, call, opened):
-        """Wants that strace names the file of the call's first word."""
-        found = NAMED.match(call.word(0))
+    def agrees_for(self, call, opened, at=0):
+        """Wants that strace names the file of a word of the call."""
+        found = NAMED.match(call.word(at))
         wanted = self.marks if opened.file is MARKS else self.prefix + opened.file.name
         if not found or unhexed(found[2]) != wanted:
             raise Refused(f"{call}: strace doesn't say that it is of {shown(os.fsdecode(wanted))}")
@@ -475,6 +523,7 @@ class Tracing:
         start = file.size if append else opened.at if offset == -1 else offset
         if offset == -1:
             opened.at, opened.moved = start + call.result, opened.moved + 1
+        call.place = start
         return start
 
     def put(self, call, flight, opened, start, data, through):
@@ -543,11 +592,13 @@ class Tracing:
             return
         file = flight.file
         if not call.name.startswith("f"):
-            name = self.name(self.real(call, self.path(call, None, 0)))
+            path = self.real(call, self.path(call, None, 0))
+            name = self.name(path)
+            self.written |= {path} if name is None else set()
             file = self.files.get(name)
             if name is not None and file is None:
                 raise Refused(f"{call}: no call was seen that made {shown(os.fsdecode(name))}")
-            flight.changes, flight.grown = flight.all_changes.get(file, (0, 0))
+            flight.changes, flight.grown, flight.copies = flight.all_changes.get(file, (0, 0, 0))
         if file is MARKS or file is None:
             return
         if call.result is None:
@@ -594,16 +645,37 @@ class Tracing:
         """Ends a sync that began, and refuses one that failed."""
         if flight.sync is None or (call.error or "").startswith("ERESTART") or call.result is None:
             return
+        if call.error in NOT_SYNCED or call.failed() and not self.covers(flight.sync):
+            return
         if call.failed():
             raise Refused(f"{call}: a sync that fails leaves nothing that is known")
         if flight.opened is not None and call.name != "syncfs":
             self.agrees_for(call, flight.opened)
         self.end_synced(flight)
 
+    def covers(self, begun):
+        """Whether a sync had anything to make durable when it began."""
+        return any(begun.values())
+
+    def end_msync(self, call, process, flight):
+        """Ends a sync of what is mapped, and refuses one that failed, where it began something."""
+        if flight.sync is None or (call.error or "").startswith("ERESTART") or call.result is None or call.error in NOT_DONE:
+            return
+        if call.failed():
+            raise Refused(f"{call}: a sync that fails leaves nothing that is known")
+        self.end_synced(flight)
+
     def end_synced(self, flight):
         """A sync has ended."""
         if self.ended is None:
             self.disk.end_sync(flight.sync)
+
+    def add_sync(self, found, file, sectors):
+        """Adds some sectors of a file to what a sync covers as it begins. Returns all of it."""
+        found = {} if found is None else found
+        these = self.disk.begin_sync([file])[file]
+        found.setdefault(file, {}).update({number: it for number, it in these.items() if number in sectors})
+        return found
 
     # Names
 
@@ -617,15 +689,19 @@ class Tracing:
             return
         name = self.name(self.own_path(call, "unlinkat"))
         file = self.files.get(name)
+        self.others.pop(name, None)
         if file is not None and not file.unlinked:
             file.unlinked = True
             if file.most:
                 self.close_log(call, f"{shown(os.fsdecode(name))} is unlinked")
 
     def end_rename(self, call, _process, _flight):
+        """Refuses a rename of a recorded name."""
         if call.failed():
             return
-        self.refuse_names(call, self.both_paths(call, "rename"), "is renamed")
+        paths = self.both_paths(call, "rename")
+        self.refuse_names(call, paths, "is renamed")
+        self.surroundings.note_renamed(paths)
 
     def both_paths(self, call, plain):
         """The two paths of a call that ties a name to another. The one named `plain` takes no descriptors of folders."""
@@ -641,6 +717,7 @@ class Tracing:
             at = call.name == "symlinkat"
             made = self.path(call, 1 if at else None, 2 if at else 1)
             paths = [made, self.real(call, os.path.join(os.path.dirname(made), call.data(0)))]
+            self.made_links.setdefault(made, set()).add(call.data(0))
         self.refuse_names(call, paths, "gets another name")
 
     def refuse_names(self, call, paths, what):
@@ -662,3 +739,32 @@ class Tracing:
     def made_folder(self, _call, name, _flight):
         """A folder was made."""
         self.folders.add(name)
+
+    def end_mknod(self, call, _process, flight):
+        """Takes in a FIFO or a socket that was made, or an empty file, and refuses a device."""
+        if call.failed():
+            return
+        at = call.name == "mknodat"
+        name, kind = self.name(self.own_path(call, "mknodat")), call.word(2 if at else 1).split("|")[0]
+        if name is None:
+            return
+        if kind in ("S_IFIFO", "S_IFSOCK"):
+            self.made_other(call, name, Other("fifo" if kind == "S_IFIFO" else "socket"), flight)
+        elif kind == "S_IFREG":
+            self.make(call, name, flight)
+        else:
+            raise Refused(f"{call}: such a file isn't followed")
+
+    def end_bind(self, call, process, flight):
+        """Takes in the name of a socket."""
+        found = re.search(r'\{sa_family=AF_UNIX, sun_path=("[^"]*"(?:\.\.\.)?)\}', call.word(1))
+        if call.failed() or not found:
+            return
+        head, tail = os.path.split(os.path.join(process.folder[0], string(found[1], call)))
+        name = self.name(os.path.join(self.real(call, head), tail))
+        if name is not None:
+            self.made_other(call, name, Other("socket"), flight)
+
+    def made_other(self, _call, name, other, _flight):
+        """A name was made that is of no file and no folder: without names it doesn't count."""
+        self.others[name] = other

@@ -139,8 +139,8 @@ def allowed_by(folder, name, table):
     out = Path(folder, f"{name}.{table}")
     kinds = {MARK: "mark", FLUSH: "flush", FUA: "fua", 0: "write"}
     entries = [(kinds[it.flags], it.sector, it.data) for it in entries_of((out / "writes.log").read_bytes())]
-    sets, _, _ = named_layout.read_map((out / "files.txt").read_text())
-    return entries, (out / "base.img").read_bytes(), [(it.sector, it.folders) for it in sets]
+    sets, *_ = named_layout.read_map((out / "files.txt").read_text())
+    return entries, (out / "base.img").read_bytes(), [(it.sector, it.slots) for it in sets]
 
 
 def less(box, other):

@@ -321,7 +321,7 @@ def traced(folder, row):
             shutil.rmtree(base, ignore_errors=True)
             base.mkdir()
             row.base(base, row.kind)
-        options = [*(["--base", base] if row.base else []), *(["--skip", row.skip] if row.skip else []), *(["--files", row.orders] if row.orders else [])]
+        options = [*(["--base", base] if row.base else []), *(["--skip", row.skip] if row.skip else []), *(["--files", row.orders] if row.orders else []), *(["--mapped"] if row.kind == "WRITEMAP" else [])]
         done = subprocess.run([RECORD / "crashbpf-record", *options, out, "--", "sh", "-c", row.command], capture_output=True, text=True)
         if done.returncode:
             print(f"| {row.name} | refused: {done.stderr.strip().splitlines()[-1]} |", flush=True)

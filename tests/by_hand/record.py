@@ -163,11 +163,21 @@ def data(most):
     return bytes([chance.randrange(256)]) * chance.randrange(most)
 
 
+def copy(own, fd, other):
+    size = own.randrange(1, 900)
+    if own.randrange(2):
+        os.sendfile(fd, other, own.choice((None, own.randrange(3000))), size)
+    else:
+        os.copy_file_range(other, fd, size, own.choice((None, own.randrange(3000))), own.choice((None, own.randrange(3000))))
+
+
 def work(seed, path, flags):
     own = random.Random(seed)
     fd = os.open(path, os.O_RDWR | os.O_CREAT | flags)
+    # a file from outside
+    other = os.open(sys.argv[2], os.O_RDONLY)
     for _ in range(40):
-        kind = own.randrange(12)
+        kind = own.randrange(15)
         if kind < 3:
             os.pwrite(fd, data(900), own.randrange(6000))
         elif kind < 5:
@@ -186,6 +196,12 @@ def work(seed, path, flags):
             more = os.dup(fd)
             os.write(more, data(100))
             os.close(more)
+        elif kind == 11 and not flags & os.O_APPEND:
+            copy(own, fd, other)
+        elif kind == 12 and not flags & os.O_APPEND and os.fstat(fd).st_size > 1000:
+            os.copy_file_range(fd, fd, 500, 0, 5000)
+        elif kind == 13:
+            own.choice((lambda: os.read(other, 100), lambda: os.lseek(other, own.randrange(2000), 0)))()
         elif os.fstat(fd).st_size < 9000:
             os.posix_fallocate(fd, 0, os.fstat(fd).st_size + own.randrange(1, 900))
     os.close(fd)
@@ -275,8 +291,8 @@ SAID = {
     0: None,
     1: "mmap(NULL, 4096, PROT_READ|PROT_WRITE, MAP_SHARED, ",
     2: "PROT_READ|PROT_WRITE) = 0: a shared mapping of a recorded file",
-    3: "copy_file_range(",
-    4: "sendfile(",
+    3: None,
+    4: None,
     5: "splice(",
     6: "io_uring_setup(",
     7: "db is renamed, and names are left out",
@@ -301,7 +317,7 @@ def traced(folder, seed):
     """What is wrong with a recording of files that are written at random, over what a first one left."""
     out, base = Path(folder, f"traced_{seed}"), Path(folder, f"traced_{seed - 1}", "files")
     options = ["--base", base] if base.exists() else []
-    done = subprocess.run([RECORD, *options, out, "--", sys.executable, "-c", WRITES_ALL, str(seed)], capture_output=True, text=True)
+    done = subprocess.run([RECORD, *options, out, "--", sys.executable, "-c", WRITES_ALL, str(seed), __file__], capture_output=True, text=True)
     if done.returncode:
         return f"written at random, {seed}: status {done.returncode}, {done.stderr}"
     found = files_of(out)
@@ -311,7 +327,7 @@ def traced(folder, seed):
 
 # A program that makes, renames, unlinks, cuts off and writes files in folders, at random.
 CHANGES_NAMES = """\
-import os, random, sys
+import os, random, shutil, subprocess, sys
 chance = random.Random(int(sys.argv[1]))
 os.chdir(os.environ["FILES"])
 
@@ -325,13 +341,13 @@ def free():
     return name if not os.path.lexists(name) else None
 
 
-for turn in range(150):
+def step(turn):
     # (by `strict` a crash leaves too many sets of names where no folder is synced for long)
     for it in [".", *found(True)] if turn % 10 == 9 else ():
         fd = os.open(it, os.O_RDONLY)
         os.fsync(fd)
         os.close(fd)
-    kind, files, folders, new = chance.randrange(16), found(False), found(True), free()
+    kind, files, folders, new = chance.randrange(20), found(False), found(True), free()
     if kind < 2 and new:
         os.close(os.open(new, os.O_WRONLY | os.O_CREAT | os.O_EXCL))
     elif kind < 6 and files:
@@ -366,29 +382,53 @@ for turn in range(150):
             if not os.listdir(it):
                 os.rmdir(it)
                 break
+    elif kind == 18 and new:
+        os.symlink(chance.choice([*files, *folders, "nowhere", "../a", "."]), new)
+    elif kind == 19 and new:
+        os.mkfifo(new)
+        os.rename(new, new + "f")
+        os.unlink(new + "f")
+    elif kind == 16 and files:
+        shutil.copyfile(chance.choice([*files, sys.argv[2]]), new or chance.choice(files) + "x")
+    elif kind == 17 and len(files) > 1:
+        one, two = chance.sample(files, 2)
+        if not os.path.samefile(one, two):
+            subprocess.run(chance.choice((["cp", one, two], ["install", one, two], ["sh", "-c", 'cat "$0" >"$1"', one, two])))
     elif kind == 15:
         fd = os.open(chance.choice([".", *folders]), os.O_RDONLY)
         os.fsync(fd)
         os.close(fd)
+
+
+for turn in range(150):
+    try:
+        step(turn)
+    except OSError:
+        pass
 """
 
 
+def what(path):
+    """What a path is of: a link's text, nothing for a folder, the bytes of a file."""
+    return os.readlink(path) if path.is_symlink() else None if path.is_dir() else path.read_bytes()
+
+
 def below(folder):
-    """What a folder holds: a map of paths to contents, where a folder has none."""
-    return {str(it.relative_to(folder)): None if it.is_dir() else it.read_bytes() for it in Path(folder).rglob("*")}
+    """What a folder holds: a map of paths to what they are of."""
+    return {str(it.relative_to(folder)): what(it) for it in Path(folder).rglob("*")}
 
 
 def named(folder, seed, table):
     """What is wrong with a recording of names and sizes that are changed at random, over what an earlier one left."""
     out, base = Path(folder, f"named_{table}_{seed}"), Path(folder, f"named_{table}_{seed - 1}", "files")
-    options = ["--base", base] if base.exists() and all(it.stat().st_nlink == 1 for it in base.rglob("*") if it.is_file()) else []
-    words = [RECORD, "--files", table, *options, out, "--", sys.executable, "-c", CHANGES_NAMES, str(seed)]
+    options = ["--base", base] if base.exists() else []
+    words = [RECORD, "--files", table, *options, out, "--", sys.executable, "-c", CHANGES_NAMES, str(seed), __file__]
     done = subprocess.run(words, capture_output=True, text=True)
     if done.returncode:
         return f"names at random, {seed}, {table}: status {done.returncode}, {done.stderr}"
     image, seen = out / "image", out / "seen"
     image.write_bytes(image_of(entries_of((out / "writes.log").read_bytes()), (out / "base.img").read_bytes()))
-    show = [RECORD.parent / "crashbpf-files", out / "files.txt", image, "--", "cp", "-r", ".", seen]
+    show = [RECORD.parent / "crashbpf-files", out / "files.txt", image, "--", "cp", "-a", ".", seen]
     done = subprocess.run(show, capture_output=True, text=True)
     if done.returncode:
         return f"names at random, {seed}, {table}: crashbpf-files, status {done.returncode}, {done.stderr}"

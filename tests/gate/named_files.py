@@ -35,11 +35,14 @@ RECORD = TOP / "commands/record"
 from commands.record import disk
 from commands.record import layout
 from commands.record import named_layout
+from commands.record import told as told_entries
 from commands.record import traced
 from commands.record.calls import Refused
-from commands.record.orders import FOLDER, TABLES, Names, Size, Tree
+from commands.record.orders import FILE, FOLDER, OTHER, TABLES, Names, Size, Tree
 
 KINDS = {disk.WRITE: "write", disk.FLUSH: "flush", disk.FUA: "fua", disk.MARK: "mark"}
+# What stands before the number of what a name is of.
+SIGNS = {FILE: "", FOLDER: "/", OTHER: "@"}
 BY_TABLE = ("ordered", "writeback", "strict", "ext4")
 # What a table allows a weaker one allows too.
 WEAKER = (("ordered", "writeback"), ("ext4", "writeback"), ("writeback", "strict"))
@@ -48,12 +51,12 @@ WEAKER = (("ordered", "writeback"), ("ext4", "writeback"), ("writeback", "strict
 # The calls, by each table
 
 
-def followed(text, table, before=None, folders=()):
+def followed(text, table, before=None, folders=(), begun=0):
     """What is followed of a text of strace. Raises Refused."""
     with tempfile.NamedTemporaryFile() as file:
         file.write(text)
         file.flush()
-        return traced.follow_names(file.name, FILES, before or {}, folders, (), HERE, MARKS, table)
+        return traced.follow_names(file.name, FILES, before or {}, folders, (), HERE, MARKS, table, begun)
 
 
 def told(entry):
@@ -62,8 +65,8 @@ def told(entry):
         return KINDS[entry.kind]
     kind = {disk.WRITE: "", disk.FUA: "fua "}[entry.kind]
     if isinstance(entry.file, Names):
-        state = entry.file.states[struct.unpack_from("<Q", entry.data)[0]]
-        slots = [f"{f'{folder}/' if folder else ''}{name.decode()}={'/' if it == FOLDER else ''}{number}" for (folder, name), (it, number) in state.items()]
+        state = entry.file.state(struct.unpack_from("<Q", entry.data)[0])
+        slots = [f"{f'{folder}/' if folder else ''}{name.decode()}={SIGNS[it]}{number}" for (folder, name), (it, number) in state.items()]
         return kind + " ".join(["names", *sorted(slots)])
     if isinstance(entry.file, Size):
         size, room = struct.unpack_from("<QQ", entry.data)
@@ -79,6 +82,7 @@ TOP_FOLDER = "openat(AT_FDCWD</elsewhere>, '/r/files', O_RDONLY|O_DIRECTORY) = 9
 IN = "mkdir('/r/files/in', 0777) = 0\n"
 WRITE = "write(3<a>, 'A*512', 512) = 512\n"
 THREAD = "clone(child_stack=0x7f, flags=CLONE_VM|CLONE_FILES|CLONE_THREAD) = 101\n"
+TWO_AT_ONCE = THREAD + "openat(AT_FDCWD</elsewhere>, '/r/files/b', O_RDWR|O_CREAT, 0644 <unfinished ...>\n101 " + OPEN + "<... openat resumed>) = 4<b>\n101 +++ exited with 0 +++\n"
 SYNCED = OPEN + WRITE + TOP_FOLDER + "fsync(9</r/files>) = 0\nfsync(3<a>) = 0\n"
 MADE = ["names a=0"]
 # The bytes that are written after the unlink are seen only where it is lost.
@@ -115,18 +119,27 @@ ROWS = [
     ("rename to another folder", OPEN + IN + "renameat(AT_FDCWD</r/files>, 'a', 9<in>, 'b') = 0", *[[*MADE, "names a=0 in=/1", "names 1/b=0 in=/1"]] * 2, ["names a=0", "names in=/1", "names 1/b=0"]),
     ("renameat2", OPEN + B + "renameat2(AT_FDCWD</r/files>, 'a', AT_FDCWD</r/files>, 'b', RENAME_EXCHANGE) = 0", *[[*MADE, "names a=0 b=1", "names a=1 b=0"]] * 2, [*MADE, "names b=1", "names a=0 b=1", "names a=1 b=0"]),
     ("a folder gets another name", IN + OPEN.replace("files/a", "files/in/a").replace("<a>", "<in/a>") + "rename('/r/files/in', '/r/files/out') = 0\nwrite(3<out/a>, 'A*512', 512) = 512", ["names in=/1", "names 1/a=0 in=/1", "names 1/a=0 out=/1", "fua bytes 0", "size 0 512"], ["names in=/1", "names 1/a=0 in=/1", "names 1/a=0 out=/1", "bytes 0", "size 0 512"], ["names in=/1", "names 1/a=0", "names out=/1", "bytes 0", "size 0 512"]),
-    ("fsync after a rename", OPEN + "rename('/r/files/a', '/r/files/b') = 0\nfsync(3<b>) = 0", *[[*MADE, "names b=0", "fua names a=0", "names b=0"]] * 2, [*MADE, "names b=0"], [*MADE, "names b=0", "flush"]),
-    ("fdatasync after a rename", OPEN + "rename('/r/files/a', '/r/files/b') = 0\nfdatasync(3<b>) = 0", *[[*MADE, "names b=0", "fua names a=0", "names b=0"]] * 2, [*MADE, "names b=0"]),
+    ("fsync after a rename", OPEN + "rename('/r/files/a', '/r/files/b') = 0\nfsync(3<b>) = 0", *[[*MADE, "names b=0", "fua names a=0"]] * 2, [*MADE, "names b=0"], [*MADE, "names b=0", "flush"]),
+    ("fdatasync after a rename", OPEN + "rename('/r/files/a', '/r/files/b') = 0\nfdatasync(3<b>) = 0", *[[*MADE, "names b=0", "fua names a=0"]] * 2, [*MADE, "names b=0"]),
     ("fsync after a rename of another file", OPEN + "fsync(3<a>) = 0\n" + B + "rename('/r/files/b', '/r/files/c') = 0\nfsync(3<a>) = 0", *[[*MADE, "flush", "names a=0 b=1", "names a=0 c=1"]] * 2, [*MADE, "names b=1", "names c=1"], [*MADE, "flush", "names a=0 b=1", "names a=0 c=1"]),
-    ("link", OPEN + "link('/r/files/a', '/r/files/b') = 0\nunlink('/r/files/a') = 0\n" + "fsync(3<a>(deleted)) = 0", *[[*MADE, "names a=0 b=0", "names b=0", "fua names a=0", "names a=0 b=0", "names b=0"]] * 2, [*MADE, "names b=0", "names"], [*MADE, "names a=0 b=0", "names b=0", "flush"]),
+    ("link", OPEN + "link('/r/files/a', '/r/files/b') = 0\nunlink('/r/files/a') = 0\n" + "fsync(3<a>(deleted)) = 0", *[[*MADE, "names a=0 b=0", "names b=0", "fua names a=0"]] * 2, [*MADE, "names b=0", "names"], [*MADE, "names a=0 b=0", "names b=0", "flush"]),
+    ("a symbolic link", OPEN + "symlink('a', '/r/files/b') = 0\nrename('/r/files/b', '/r/files/c') = 0\nunlink('/r/files/c') = 0", *[[*MADE, "names a=0 b=@0", "names a=0 c=@0", "names a=0"]] * 2, [*MADE, "names b=@0", "names c=@0", "names"]),
+    ("a path through a link", IN + "symlinkat('in', AT_FDCWD</r/files>, 'l') = 0\n" + OPEN.replace("<a>", "<in/a>") + "rename('/r/files/l/a', '/r/files/b') = 0", *[["names in=/1", "names in=/1 l=@0", "names 1/a=0 in=/1 l=@0", "names b=0 in=/1 l=@0"]] * 2, ["names in=/1", "names l=@0", "names 1/a=0", "names b=0"]),
+    ("a path through a link that was replaced", IN + "symlink('/elsewhere', '/r/files/l') = 0\nunlink('/r/files/l') = 0\nsymlink('/r/files/in', '/r/files/l') = 0\nmkdir('/r/files/l/x', 0777) = 0", *[["names in=/1", "names in=/1 l=@0", "names in=/1", "names in=/1 l=@1", "names 1/x=/2 in=/1 l=@1"]] * 2, ["names in=/1", "names l=@0", "names", "names l=@1", "names 1/x=/2"]),
+    ("one more name of a link", "symlink('a', '/r/files/b') = 0\nlink('/r/files/b', '/r/files/c') = 0", *[["names b=@0", "names b=@0 c=@0"]] * 2, ["names b=@0", "names c=@0"]),
+    ("a FIFO and a socket", "mknodat(AT_FDCWD</r/files>, 'a', S_IFIFO|0600) = 0\nopenat(AT_FDCWD</elsewhere>, '/r/files/a', O_RDWR) = 3<a>\nwrite(3<a>, 'A*512', 512) = 512\nbind(4<socket:[1]>, {sa_family=AF_UNIX, sun_path='/r/files/b'}, 110) = 0\nunlink('/r/files/b') = 0\nbind(5<socket:[2]>, {sa_family=AF_UNIX, sun_path='elsewhere'}, 110) = 0", *[["names a=@0", "names a=@0 b=@1", "names a=@0"]] * 2, ["names a=@0", "names b=@1", "names"]),
+    ("two that make files at once", TWO_AT_ONCE, *[["names a=0", "names b=1", "names a=0 b=1"]] * 2, ["names a=0", "names b=1"]),
+    ("two at once, of which one is durable first", "openat(AT_FDCWD</elsewhere>, '/r/files/c', O_RDWR|O_CREAT, 0644) = 5<c>\n" + THREAD + "unlink('/r/files/c' <unfinished ...>\n101 " + OPEN + "101 fsync(3<a>) = 0\n<... unlink resumed>) = 0\n101 +++ exited with 0 +++", *[["names c=0", "names a=1 c=0", "flush", "names a=1"]] * 2, ["names c=0", "names a=1", "names"]),
+    ("a file by mknod", "mknod('/r/files/a', S_IFREG|0600) = 0", MADE),
+    ("a long name", OPEN.replace("files/a", "files/" + "n" * 255).replace("<a>", "<" + "n" * 255 + ">"), ["names " + "n" * 255 + "=0"]),
     ("mkdir and rmdir", IN + "rmdir('/r/files/in') = 0", ["names in=/1", "names"]),
     ("unlinkat of a folder", IN + "unlinkat(9</r/files>, 'in', AT_REMOVEDIR) = 0", ["names in=/1", "names"]),
     ("fsync of a new file", OPEN + WRITE + "fsync(3<a>) = 0", [*MADE, "fua bytes 0", "size 0 512", "flush"], [*MADE, "bytes 0", "size 0 512", "flush"], [*MADE, "bytes 0", "size 0 512", "fua bytes 0", "fua size 0 512"]),
     ("fdatasync", AGAIN + WRITE + "lseek(3<a>, 0, SEEK_END) = 600\n" + WRITE + "fdatasync(3<a>) = 0", ["bytes 0", "bytes 1-2", "size 0 1112", "flush"], {b"a": b"x" * 600}),
     ("fsync of the folder", OPEN + TOP_FOLDER + "fsync(9</r/files>) = 0", [*MADE, "flush"]),
     ("fsync of the folder alone", OPEN + WRITE + TOP_FOLDER + "fsync(9</r/files>) = 0", [*MADE, "fua bytes 0", "size 0 512", "fua names a=0"], [*MADE, "bytes 0", "size 0 512", "fua names a=0"]),
-    ("fsync of another folder", IN + OPEN + "openat(AT_FDCWD</elsewhere>, '/r/files/in', O_RDONLY|O_DIRECTORY) = 9<in>\nfsync(9<in>) = 0", *[["names in=/1", "names a=0 in=/1", "fua names in=/1", "names a=0 in=/1"]] * 2, ["names in=/1", "names a=0"]),
-    ("fsync of a file, and names after it", OPEN + WRITE + B + "fsync(3<a>) = 0", [*MADE, "fua bytes 0", "size 0 512", "names a=0 b=1", "fua size 0 512", "fua names a=0", "names a=0 b=1"], [*MADE, "bytes 0", "size 0 512", "names a=0 b=1", "fua bytes 0", "fua size 0 512", "fua names a=0", "names a=0 b=1"], [*MADE, "bytes 0", "size 0 512", "names b=1", "fua bytes 0", "fua size 0 512"]),
+    ("fsync of another folder", IN + OPEN + "openat(AT_FDCWD</elsewhere>, '/r/files/in', O_RDONLY|O_DIRECTORY) = 9<in>\nfsync(9<in>) = 0", *[["names in=/1", "names a=0 in=/1", "fua names in=/1"]] * 2, ["names in=/1", "names a=0"]),
+    ("fsync of a file, and names after it", OPEN + WRITE + B + "fsync(3<a>) = 0", [*MADE, "fua bytes 0", "size 0 512", "names a=0 b=1", "fua size 0 512", "fua names a=0"], [*MADE, "bytes 0", "size 0 512", "names a=0 b=1", "fua bytes 0", "fua size 0 512", "fua names a=0"], [*MADE, "bytes 0", "size 0 512", "names b=1", "fua bytes 0", "fua size 0 512"]),
     ("sync", OPEN + WRITE + "sync() = 0", [*MADE, "fua bytes 0", "size 0 512", "flush"], [*MADE, "bytes 0", "size 0 512", "flush"]),
     ("syncfs", OPEN + "syncfs(3<a>) = 0", [*MADE, "flush"]),
     ("replaced by rename, without fsync of the folder", AGAIN + B + "write(4<b>, 'B*512', 512) = 512\nfsync(4<b>) = 0\nrename('/r/files/b', '/r/files/a') = 0", ["names a=0 b=1", "fua bytes 0", "size 1 512", "flush", "names a=1"], ["names a=0 b=1", "bytes 0", "size 1 512", "flush", "names a=1"], ["names a=0 b=1", "bytes 0", "size 1 512", "fua bytes 0", "fua size 1 512", "names a=1"], {b"a": b"x"}),
@@ -135,17 +148,23 @@ ROWS = [
 # The name, the text, and what is said, with the line of the text that shows it.
 REFUSED = [
     ("a rename out of the folder", OPEN + "rename('/r/files/a', '/elsewhere/a') = 0", "calls:2: .*a goes where nothing is recorded"),
-    ("a rename into the folder", "rename('/elsewhere/a', '/r/files/a') = 0", "calls:1: .*a goes where nothing is recorded"),
+    ("a rename into the folder", "rename('/elsewhere/a', '/r/files/a') = 0", "calls:1: .*what comes here from outside isn't known"),
     ("a whiteout", OPEN + "renameat2(AT_FDCWD</r/files>, 'a', AT_FDCWD</r/files>, 'b', RENAME_WHITEOUT) = 0", "calls:2: .*its flags aren't known"),
     ("a rename of a file that nobody made", "rename('/r/files/a', '/r/files/b') = 0", "calls:1: .*no call was seen that made a"),
     ("an unlink of a file that nobody made", "unlink('/r/files/a') = 0", "calls:1: .*no call was seen that made a"),
     ("a folder that nobody made", OPEN.replace("files/a", "files/in/a").replace("<a>", "<in/a>"), "calls:1: .*no call was seen that made the folder in"),
-    ("a link from outside", "link('/elsewhere/x', '/r/files/a') = 0", "calls:1: .*another name"),
-    ("a symbolic link", OPEN + "symlink('a', '/r/files/b') = 0", "calls:2: .*another name"),
-    ("two changes of names at once", THREAD + "rename('/r/files/x', '/r/files/y' <unfinished ...>\n101 " + OPEN + "<... rename resumed>) = 0\n101 +++ exited with 0 +++", "calls:2: .*(at once|made x)"),
-    ("two that make files at once", THREAD + "openat(AT_FDCWD</elsewhere>, '/r/files/b', O_RDWR|O_CREAT, 0644 <unfinished ...>\n101 " + OPEN + "<... openat resumed>) = 4<b>\n101 +++ exited with 0 +++", "calls:2: .*another call changed names at once"),
+    ("a link from outside", "link('/elsewhere/x', '/r/files/a') = 0", "calls:1: .*what comes here from outside isn't known"),
+    ("a link to outside", OPEN + "link('/r/files/a', '/elsewhere/x') = 0", "calls:2: .*a gets another name"),
+    ("a symbolic link from outside", OPEN + "symlink('/r/files/a', '/elsewhere/x') = 0", "calls:2: .*another name"),
+    ("links that lead nowhere", "symlink('l', '/r/files/l') = 0\nunlink('/r/files/l/a') = 0", "calls:2: .*leads through more than 40 links"),
+    ("a device", "mknod('/r/files/a', S_IFCHR|0666, makedev(0x1, 0x3)) = 0", "calls:1: .*such a file isn't followed"),
+    ("two changes of a name at once", OPEN + THREAD + "rename('/r/files/a', '/r/files/y' <unfinished ...>\n101 unlink('/r/files/y') = -1 ENOENT (No such file or directory)\n101 link('/r/files/a', '/r/files/x') = 0\n<... rename resumed>) = 0\n101 +++ exited with 0 +++", "calls:3: .*another call changed names at once.*another try may pass: calls:5: 101 link"),
+    ("a folder that goes while something is made in it", IN + THREAD + "openat(AT_FDCWD</elsewhere>, '/r/files/in/a', O_RDWR|O_CREAT, 0644 <unfinished ...>\n101 rename('/r/files/in', '/r/files/out') = 0\n<... openat resumed>) = 4<in/a>\n101 +++ exited with 0 +++", "calls:3: .*(no call was seen that made the folder in|another call changed names at once)"),
+    ("a symbolic link at once", THREAD + "openat(AT_FDCWD</elsewhere>, '/r/files/b', O_RDWR|O_CREAT, 0644 <unfinished ...>\n101 symlink('x', '/r/files/a') = 0\n<... openat resumed>) = 4<b>\n101 +++ exited with 0 +++", "calls:2: .*another call changed names at once"),
     ("two that make a file longer at once", OPEN + THREAD + "pwrite64(3<a>, 'A*512', 512, 0 <unfinished ...>\n101 pwrite64(3<a>, 'B*512', 512, 4096) = 512\n<... pwrite64 resumed>) = 512\n101 +++ exited with 0 +++", None),
     ("two that write past the end at once", OPEN + THREAD + "pwrite64(3<a>, 'A*512', 512, 8192 <unfinished ...>\n101 pwrite64(3<a>, 'B*512', 512, 4096) = 512\n<... pwrite64 resumed>) = 512\n101 +++ exited with 0 +++", "calls:3: .*moved the end at once"),
+    ("fsync that fails", SYNCED + "sync() = 0\nfsync(3<a>) = -1 EIO (Input/output error)", None),
+    ("fsync that fails with bytes in flight", OPEN + WRITE + "fsync(3<a>) = -1 EIO (Input/output error)", "calls:3: .*a sync that fails"),
     ("a file without a name", "openat(AT_FDCWD</elsewhere>, '/r/files', O_RDWR|O_TMPFILE, 0600) = 3</r/files/#1>", "calls:1: .*"),
     ("a shared writable mapping", OPEN + "mmap(NULL, 4096, PROT_READ|PROT_WRITE, MAP_SHARED, 3<a>, 0) = 0x700000", "calls:2: .*can be written unseen"),
     ("a descriptor of another name", OPEN + B + "write(3<b>, 'A*512', 512) = 512", "calls:3: .*no call was seen that made descriptor 3 one of b"),
@@ -167,6 +186,36 @@ def row_faults(name, text, *wanted):
     return found
 
 
+# A file from outside, `source` in `outside`, which gets a name in the folder. The name, the text, and the entries, or what is said.
+COMES = [
+    ("a link", "link('source', '/r/files/a') = 0", ["names a=0"]),
+    ("a rename", "rename('elsewhere', '/r/files/a') = 0", "it isn't there any more"),
+    ("a link of a file that is written", "openat(AT_FDCWD</elsewhere>, 'x', O_RDWR) = 3<source>\nlink('source', '/r/files/a') = 0", "the program opens it to write it"),
+    ("a link of a file that is written then", "link('source', '/r/files/a') = 0\nopenat(AT_FDCWD</elsewhere>, 'x', O_RDWR) = 3<a>\nwrite(3<a>, 'B', 1) = 1", "what became of it afterwards leaves it unknown"),
+]
+
+
+def comes_faults():
+    """What is wrong with files that come from outside: the entries, and what they hold; what was written late is refused."""
+    found = []
+    with tempfile.TemporaryDirectory() as folder:
+        source = Path(os.path.realpath(folder), "source")
+        source.write_bytes(b"x" * 700)
+        begun = source.stat().st_mtime_ns + 1
+        late = ("a file that was written as late", COMES[0][1], "it was written after the recording began")
+        for name, text, wanted, when in [*((*it, begun) for it in COMES), (*late, begun - 1)]:
+            text = text.replace("<source>", f"<{source}>").replace("'source'", f"'{source}'")
+            try:
+                tracing = followed(strace(text), "ext4", begun=when)
+                made = [told(it) for it in tracing.disk.entries]
+                good = made == wanted and bytes(tracing.files[b"a"].content) == b"x" * 700
+            except Refused as refused:
+                made = str(refused)
+                good = isinstance(wanted, str) and re.search(wanted, made)
+            found += [] if good else [f"from outside, {name}: {made}"]
+    return found
+
+
 def refused_faults(name, text, says):
     """What is wrong with how a text is refused, by each table; nothing is said where it isn't to be."""
     found = []
@@ -178,6 +227,39 @@ def refused_faults(name, text, says):
         good = said is None if says is None else said is not None and re.match(says, said)
         found += [] if good else [f"{name}, {table}: {said}"]
     return found
+
+
+# What the file `entries` says of a text, by `ext4`: the calls as people write them, of two processes and a thread.
+SHELL = "execve('/bin/sh', ['sh', '-c', 'mv it'], 0x7f /* 9 vars */) = 0\n"
+CHILD = "fork() = 101\n101 execve('/bin/mv', ['mv', '/r/files/a', 'to b'], 0x7f /* 9 vars */) = 0\n101 rename('/r/files/a', '/r/files/to b') = 0\n101 +++ exited with 0 +++\n"
+MARKED = "openat(AT_FDCWD</elsewhere>, '/r/marks', O_WRONLY|O_APPEND) = 5</r/marks>\nwrite(5</r/marks>, '0 it is there@', 14) = 14\n"
+THREADED = THREAD + "101 pwrite64(3<to b>, 'B*512', 512, 4096 <unfinished ...>\nfsync(9</r/files>) = 0\n101 <... pwrite64 resumed>) = 512\nsync() = 0\n101 +++ exited with 0 +++\n"
+TOLD = SHELL + TOP_FOLDER + OPEN + WRITE + "ftruncate(3<a>, 100) = 0\n" + CHILD + MARKED + THREADED + "unlinkat(9</r/files>, 'to b', 0) = 0\n"
+ENTRIES = """\
+0 open("a", O_RDWR|O_CREAT); the names; sh -c "mv it", process 100; calls:3
+1 write("a", 512 bytes at 0); its bytes; sh -c "mv it", process 100; calls:4
+2 write("a", 512 bytes at 0); its size; sh -c "mv it", process 100; calls:4
+3 ftruncate("a", 100); its bytes; sh -c "mv it", process 100; calls:5
+4 ftruncate("a", 100); its bytes; sh -c "mv it", process 100; calls:5
+5 ftruncate("a", 100); its size; sh -c "mv it", process 100; calls:5
+6 rename("a", "to b"); the names; mv $FILES/a "to b", process 101; calls:8
+7 mark it is there; sh -c "mv it", process 100; calls:11
+8 fsync($FILES); the names, durable; sh -c "mv it", process 100; calls:14
+9 pwrite("to b", 512 bytes at 4096); its bytes; sh -c "mv it", process 100 thread 101; calls:13
+10 pwrite("to b", 512 bytes at 4096); its size; sh -c "mv it", process 100 thread 101; calls:13
+11 sync(); a flush; sh -c "mv it", process 100; calls:16
+12 unlink("to b"); the names; sh -c "mv it", process 100; calls:18
+"""
+
+
+def entries_fault():
+    """What is wrong with the file `entries` of a text."""
+    with tempfile.NamedTemporaryFile() as file:
+        file.write(strace(TOLD).replace(rb"\x40", rb"\x0a"))
+        file.flush()
+        tracing = traced.follow_names(file.name, FILES, {}, (), (), HERE, MARKS, "ext4")
+    text = told_entries.entries_text(list(named_layout.Laid(tracing.tree).entries()), told_entries.owners(tracing.tree))
+    return None if text == ENTRIES else f"entries: {text}"
 
 
 # Random runs
@@ -360,7 +442,7 @@ def laid_of(steps, table):
 def log_states(laid):
     """Every state of the files that an image of a log has, with the number of marks."""
     entries = [(KINDS[it.kind], 0 if it.file is None else laid.firsts[it.file] + it.sector, it.data) for it in laid.entries()]
-    return named_model.log_leaves(entries, laid.image(), [(it.sector, it.folders) for it in laid.sets])
+    return named_model.log_leaves(entries, laid.image(), [(it.sector, it.slots) for it in laid.sets])
 
 
 A, D = (0, b"a"), (0, b"d")
@@ -374,6 +456,7 @@ PLANS = {
     "a size after names": [("make", A), ("make", D), ("write", 0, 0, b"x" * 100), ("sync", 0), ("mark",)],
     "names that a rename ties together later": [("make", A), ("make", D), ("sync", 1), ("mark",), ("rename", A, D), ("sync folder", 0)],
     "names after a size": [("make", A), ("write", 0, 0, b"x" * 100), ("make", D), ("sync", 0), ("mark",)],
+    "a sync of a file that nobody shows": [("base", A, 512), ("remove", A), ("through", 0, 312, b"x" * 700), ("make", A), ("write", 0, 1012, b"y" * 100), ("sync", 0), ("mark",)],
     "replaced": [("base", A, 100), ("make", D), ("write", 0, 0, b"x" * 50), ("write", 1, 0, b"x" * 600), ("sync", 1), ("rename", D, A), ("mark",), ("sync folder", 0)],
 }
 
@@ -392,8 +475,7 @@ def plan_faults(name, steps):
         allowed[table] = wanted
         if made != wanted:
             found.append(f"{name}, {table}: {len(wanted - made)} states are missing, {len(made - wanted)} impossible: {steps}")
-        sets, rooms, sectors = named_layout.read_map(laid.map_text())
-        if (sets, rooms, sectors) != (laid.sets, laid.rooms, laid.sectors):
+        if named_layout.read_map(laid.map_text()) != (laid.sets, laid.rooms, laid.sectors, [], {}):
             found.append(f"{name}, {table}: the map is read as another")
     for strong, weak in WEAKER:
         more = allowed[strong] - allowed[weak]
@@ -402,9 +484,52 @@ def plan_faults(name, steps):
     return found
 
 
+# What is left of names of which b was made at once with some others, by all tables but `strict`: how many others, what is done then,
+# and the names that a crash leaves at the end. x was there.
+AT_ONCE = [
+    (1, (), "x ax bx abx"),
+    (1, ("a",), "ax abx"),
+    (1, ("b",), "bx abx"),
+    (1, ("a", "b"), "abx"),
+    (1, ("b", "a"), "abx"),
+    (1, ("folder",), "abx"),
+    (1, ("e",), "x ax bx abx abex"),
+    (1, ("e", "a"), "ax abx abex"),
+    (1, ("e", "b"), "bx abx abex"),
+    (1, ("all",), "abx"),
+    (2, (), "x ax acx bx abx abcx"),
+    (2, ("a",), "ax acx abx abcx"),
+    (2, ("c",), "acx abcx"),
+    (2, ("b", "a"), "abx abcx"),
+    (2, ("a", "c", "b"), "abcx"),
+    (2, ("b", "c"), "abcx"),
+]
+
+
+def at_once_fault(others, then, wanted):
+    """What is wrong with the names that a crash leaves of changes that were made at once."""
+    for table in ("ext4", "ordered", "writeback"):
+        tree = Tree(table, disk.Disk())
+        files = {"x": tree.make_file((0, b"x"))}
+        tree.end_sync(tree.begin_all())
+        files |= {name: tree.make_file((0, name.encode())) for name in "ac"[:others]}
+        tree.beside = list(tree.recent)[-others:]
+        files["b"] = tree.make_file((0, b"b"))
+        for what in then:
+            if what == "e":
+                files["e"] = tree.make_file((0, b"e"))
+            else:
+                tree.end_sync(tree.begin_folder(0) if what == "folder" else tree.begin_all() if what == "all" else tree.begin_file(files[what]))
+        tree.disk.mark(b"")
+        left = {b"".join(sorted(path for path, _ in tree)).decode() for marks, tree in log_states(named_layout.Laid(tree)) if marks}
+        if left != set(wanted.split()):
+            return f"{others} at once, then {then}, {table}: {sorted(left)}"
+    return None
+
+
 def once_fault(laid):
     """What is wrong with the versions of chains that are left where at most one write is lost: all that may be left are."""
-    names = [(it.sector, it.folders) for it in laid.sets]
+    names = [(it.sector, it.slots) for it in laid.sets]
     chains = {*(it.sector for it in laid.sets), *(it.size for it in laid.rooms)}
     entries = [(KINDS[it.kind], 0 if it.file is None else laid.firsts[it.file] + it.sector, it.data) for it in laid.entries()]
     for cut in range(len(entries) + 1):
@@ -433,7 +558,7 @@ def long_fault():
             if it.count:
                 first = laid.firsts[it.file] + it.sector
                 image[SECTOR * first : SECTOR * (first + it.count)] = it.data
-                row = 0 if first == size else row + (size < first <= size + 200)
+                row = 0 if first == size else row + (it.kind == disk.WRITE and size < first <= size + 200)
                 most = max(most, row)
         ((length, _),) = named_model.Reader(bytes(image), {}, []).chain(size)
         if length != 20000 or most > named_layout.LONG + 1:
@@ -467,7 +592,7 @@ def image_fault(laid, chance):
         if it.count and chance.random() < 0.8:
             first = laid.firsts[it.file] + it.sector
             image[SECTOR * first : SECTOR * (first + it.count)] = it.data
-    (wanted,) = named_model.Reader(bytes(image), {}, [(it.sector, it.folders) for it in laid.sets]).trees()
+    (wanted,) = named_model.Reader(bytes(image), {}, [(it.sector, it.slots) for it in laid.sets]).trees()
     with tempfile.TemporaryDirectory() as folder:
         try:
             named_layout.Image(io.BytesIO(image), named_layout.read_map(laid.map_text())).lay_out(folder)
@@ -486,50 +611,57 @@ def bytes_faults(seed, count):
     return found
 
 
-MAP = "crashbpf files 3\norders strict\nsectors 32\nnames 0 changes 1 folders 0,0,1\nsize 3 changes 1 first 8 sectors 2 name in/a\\x20b\nend\n"
+MAP = "crashbpf files 4\norders strict\nsectors 32\nnames 0 changes 1 places 3\nname a folder 0\nname b folder 0\nname a\\x20b folder 1\nsize 3 changes 1 first 8 sectors 2 name in/a\\x20b\nend\n"
 # What is wrong with a map, and the line of it.
 MAPS = [
     ("", "1:"),
-    (MAP.replace("files 3", "files 2"), "1:"),
-    (MAP.replace("files 3", "files 4"), "1:"),
+    (MAP.replace("files 4", "files 3"), "1:"),
+    (MAP.replace("files 4", "files 5"), "1:"),
     (MAP.replace("strict", "loose"), "1:"),
-    (MAP[:-1], "6:"),
-    (MAP.replace("end\n", ""), "6:"),
+    (MAP[:-1], "9:"),
+    (MAP.replace("end\n", ""), "9:"),
     (MAP.replace("names 0", "names 32"), "4:"),
-    (MAP.replace("0,0,1", "0,,1"), "4:"),
+    (MAP.replace("places 3", "places 4"), "4:"),
+    (MAP.replace("places 3", "places 2"), "7:"),
+    (MAP.replace("name b", "name a"), "4:"),
+    (MAP.replace("name b", "name .."), "4:"),
+    (MAP.replace("name b", "name ../b"), "4:"),
+    (MAP.replace("name b", "name b\\x00"), "4:"),
+    (MAP.replace("b folder 0", "b folder x"), "4:"),
     (MAP.replace("names 0 changes 1", "names 0 changes 31"), "4:"),
     (MAP.replace("names 0 changes 1 ", "names 0 "), "4:"),
-    (MAP.replace("size 3 ", "size 32 "), "5:"),
-    (MAP.replace("size 3 changes 1", "size 3 changes 28"), "5:"),
-    (MAP.replace("first 8", "first 31"), "5:"),
-    (MAP.replace("name in", "nam in"), "5:"),
+    (MAP.replace("size 3 ", "size 32 "), "8:"),
+    (MAP.replace("size 3 changes 1", "size 3 changes 28"), "8:"),
+    (MAP.replace("first 8", "first 31"), "8:"),
+    (MAP.replace("name in", "nam in"), "8:"),
+    (MAP.replace("end\n", "other symlink\nend\n"), "9:"),
+    (MAP.replace("end\n", "other fifo x\nend\n"), "9:"),
+    (MAP.replace("end\n", "other device\nend\n"), "9:"),
+    (MAP.replace("end\n", "mode 800 size 3\nend\n"), "9:"),
+    (MAP.replace("end\n", "mode 700 name 3\nend\n"), "9:"),
 ]
-SLOT = struct.Struct("<II56s")
 
 
-def image_of(pointer=16, size=3, first=8, slots=((1, 3, b"a"),)):
-    """An image of MAP with one sector of names in its first folder. Of both chains the change is there."""
+def image_of(copy=16, size=3, first=8, held=((1, 3),), place=0):
+    """An image of MAP, with a copy of its names. Of both chains the change is there; that of the names changes `place`."""
     image = bytearray(SECTOR * 32)
     struct.pack_into("<QQ", image, 0, 0, 31)
-    struct.pack_into("<QQ", image, SECTOR, 1, pointer)
+    struct.pack_into("<QQIII", image, SECTOR, 1, copy, place, 1, 3)
     struct.pack_into("<QQQ", image, SECTOR * 3, 1, size, first)
     image[SECTOR * 8 : SECTOR * 8 + 3] = b"abc"
-    for at, it in enumerate(slots):
-        SLOT.pack_into(image, SECTOR * 16 + 64 * at, *it)
+    for at, it in enumerate(held):
+        struct.pack_into("<II", image, SECTOR * 16 + 8 * at, *it)
     return bytes(image)
 
 
 # What is wrong with an image, and what is said of it.
 IMAGES = [
-    (image_of(pointer=30), "sector 32 isn't there"),
+    (image_of(copy=32), "sector 32 isn't there"),
     (image_of(size=1025), "the file of sector 3 has 1025 bytes, and no room for them"),
     (image_of(first=9), "the file of sector 3 has 3 bytes, and no room for them"),
-    (image_of(slots=((3, 3, b"a"),)), "the name a is of nothing"),
-    (image_of(slots=((1, 4, b"a"),)), "the name a is of nothing"),
-    (image_of(slots=((1, 3, b"../a"),)), "a folder has no such name"),
-    (image_of(slots=((1, 3, b".."),)), "a folder has no such name"),
-    (image_of(slots=((1, 3, b""),)), "a folder has no such name"),
-    (image_of(slots=((1, 3, b"a"), (1, 3, b"a"))), "a folder has no such name"),
+    (image_of(held=((4, 3),)), "the name a is of nothing"),
+    (image_of(held=((1, 4),)), "the name a is of nothing"),
+    (image_of(place=4), "the set of sector 0 has no name 4"),
 ]
 
 
@@ -543,12 +675,13 @@ def map_faults():
             found += [] if str(refused).startswith(says) else [f"a map is refused so: {text!r}: {refused}"]
     with tempfile.TemporaryDirectory() as folder:
         names, image = Path(folder, "files.txt"), Path(folder, "image")
-        names.write_text(MAP)
-        rows = [(image_of(slots=((1, 3, b"a"), (2, 1, b"in"), (1, 3, b"b"))), 7, "a b in\nabcabc", "")]
+        names.write_text(MAP.replace("end\n", "other symlink a\nother inside a\nother fifo\nother socket\nmode 640 size 3\nmode 711 folder 0\nmode 700 folder 1\nend\n"))
+        rows = [(image_of(held=((1, 3), (0, 0)), place=2), 7, "a b\nabcabc", "711\n640\n"), (image_of(held=((1, 3), (3, 0))), 7, "a b\nabcabc", "711\n640\n")]
+        rows += [(image_of(held=((1, 3), (3, 1))), 7, "a b\nabcabc", ""), (image_of(held=((1, 3), (3, 2))), 7, "a b\nabc", ""), (image_of(held=((3, 4),)), 2, "", f"crashbpf-files: {image}: the name a is of nothing")]
         rows += [(content, 2, "", f"crashbpf-files: {image}: {says}") for content, says in IMAGES]
         for content, *wanted in rows:
             image.write_bytes(content)
-            words = [sys.executable, RECORD / "crashbpf-files", names, image, "--", "sh", "-c", "echo *; cat a b; exit 7"]
+            words = [sys.executable, RECORD / "crashbpf-files", names, image, "--", "sh", "-c", "echo *; cat a; test -p b || cat b; stat -c %a . a >&2; exit 7"]
             done = subprocess.run(words, capture_output=True, text=True)
             good = [done.returncode, done.stdout] == wanted[:2] and done.stderr.startswith(wanted[2])
             found += [] if good else [f"crashbpf-files, where {wanted}: {done}"]
@@ -559,7 +692,8 @@ def main(words):
     seed, count = (int(it) for it in (*words, *("1", "250")[len(words) :]))
     rows = [row_faults(*it) for it in ROWS] + [refused_faults(*it) for it in REFUSED]
     rows += [plan_faults(*it) for it in PLANS.items()]
-    rows += [map_faults(), bytes_faults(seed, count), [it for it in [long_fault()] if it]]
+    rows += [comes_faults(), map_faults(), bytes_faults(seed, count), [it for it in [long_fault(), entries_fault()] if it]]
+    rows += [[it for it in [at_once_fault(*row)] if it] for row in AT_ONCE]
     rows.append([it for turn in range(count) for it in run_faults(seed + turn)])
     for line in [it for these in rows for it in these]:
         print("FAILED", line)

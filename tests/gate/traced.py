@@ -37,12 +37,12 @@ A, B, C = (bytes([it]) * SECTOR for it in b"ABC")
 KINDS = {disk.WRITE: "w", disk.FLUSH: "f", disk.FUA: "fua", disk.MARK: "m"}
 
 
-def followed(text, before=None, skipped=()):
+def followed(text, before=None, skipped=(), begun=0):
     """What is followed of a text of strace. Raises Refused."""
     with tempfile.NamedTemporaryFile() as file:
         file.write(text)
         file.flush()
-        return traced.follow(file.name, FILES, before or {}, skipped, HERE, MARKS)
+        return traced.follow(file.name, FILES, before or {}, skipped, HERE, MARKS, begun)
 
 
 def entries_of(tracing):
@@ -104,16 +104,28 @@ FOLLOWED = [
     ("a file that is skipped", OPEN.replace("<db>", "<lock>") + "mmap(NULL, 4096, PROT_READ|PROT_WRITE, MAP_SHARED, 3<lock>, 0) = 0x7f0000\nwrite(3<lock>, 'A*512', 512) = 512\nunlink('/r/files/lock') = 0", [], {}, None, ["lo*"]),
     ("mappings that are read", OPEN + "mmap(NULL, 4096, PROT_READ, MAP_SHARED, 3<db>, 0) = 0x700000\nmunmap(0x700000, 4096) = 0\nmprotect(0x700000, 4096, PROT_READ|PROT_WRITE) = 0\nmmap(NULL, 4096, PROT_READ|PROT_WRITE, MAP_PRIVATE, 3<db>, 0) = 0x700000\nmprotect(0x700000, 4096, PROT_READ|PROT_WRITE) = 0", []),
     ("calls that fail", OPEN + "write(3<db>, 'A*512', 512) = -1 ENOSPC (No space left on device)\nrename('/r/files/db', '/r/files/x') = -1 ENOENT (No such file or directory)\nio_uring_setup(8, {flags=0}) = -1 ENOSYS (Function not implemented)\nsyscall_0x1d7(0, 0) = -1 ENOSYS (Function not implemented)\nioctl(3<db>, FICLONE, 5</x>) = -1 EOPNOTSUPP (Operation not supported)", []),
+    ("syncs that fail and had nothing to do", OPEN + "fsync(3<db>) = -1 EIO (Input/output error)\nwrite(3<db>, 'A*512', 512) = 512\nopenat(AT_FDCWD</elsewhere>, 'x', O_RDONLY|O_PATH) = 4<db>\nfsync(4<db>) = -1 EBADF (Bad file descriptor)\nfsync(9) = -1 EBADF (Bad file descriptor)", [("w", "db", 0, A)]),
     ("a last unlink", OPEN + "write(3<db>, 'A*512', 512) = 512\nfsync(3<db>) = 0\nunlink('/r/files/db') = 0\nfsync(3<db>(deleted)) = 0\nclose(3<db>(deleted)) = 0", [("w", "db", 0, A), ("f",)]),
     ("an empty file that comes and goes", OPEN + "unlinkat(5</r/files>, 'db', 0) = 0\nclose(3<db>(deleted)) = 0\n" + OPEN + "write(3<db>, 'A*512', 512) = 512", [("w", "db", 0, A)]),
     ("a last truncate", OPEN + "write(3<db>, 'A*512', 512) = 512\nftruncate(3<db>, 0) = 0", [("w", "db", 0, A)]),
     ("other files and folders", "openat(AT_FDCWD</elsewhere>, 'y', O_WRONLY|O_CREAT|O_TRUNC, 0644) = 3</elsewhere/y>\nwrite(3</elsewhere/y>, 'A*512', 512) = 512\nrename('/elsewhere/y', '/elsewhere/z') = 0\nmkdir('/r/files/in', 0777) = 0\nopenat(AT_FDCWD</elsewhere>, 'x', O_RDONLY|O_DIRECTORY) = 4<in>\nfsync(4<in>) = 0\nopenat(AT_FDCWD</elsewhere>, 'x', O_RDWR|O_CREAT, 0644) = 5<in/db>\nwrite(5<in/db>, 'A*512', 512) = 512", [("w", "in/db", 0, A)]),
+    ("a copy", OPEN + WAL + "write(3<db>, 'A*700', 700) = 700\nlseek(3<db>, 0, SEEK_SET) = 0\ncopy_file_range(3<db>, NULL, 4<wal>, NULL, 9223372035781033984, 0) = 700\ncopy_file_range(3<db>, NULL, 4<wal>, NULL, 9223372035781033984, 0) = 0\nwrite(4<wal>, 'A*324', 324) = 324",
+     [("w", "db", 0, A + A[:188] + bytes(324)), ("w", "wal", 0, A + A[:188] + bytes(324)), ("w", "wal", 1, A)]),
+    ("a copy from place to place", OPEN + WAL + "write(3<db>, 'A*512', 512) = 512\nwrite(3<db>, 'B*512', 512) = 512\ncopy_file_range(3<db>, [512], 4<wal>, [0], 512, 0) = 512\nsendfile(4<wal>, 3<db>, [0] => [512], 512) = 512\nwrite(3<db>, 'C*512', 512) = 512\nwrite(4<wal>, 'C*512', 512) = 512",
+     [("w", "db", 0, A), ("w", "db", 1, B), ("w", "wal", 0, B), ("w", "wal", 0, A), ("w", "db", 2, C), ("w", "wal", 1, C)]),
+    ("a copy within a file", OPEN + "write(3<db>, 'A*512', 512) = 512\ncopy_file_range(3<db>, [0], 3<db>, NULL, 512, 0) = 512", [("w", "db", 0, A), ("w", "db", 1, A)]),
+    ("a copy through O_DSYNC", OPEN + "write(3<db>, 'A*512', 512) = 512\n" + WAL.replace("O_CREAT", "O_CREAT|O_DSYNC") + "copy_file_range(3<db>, [0], 4<wal>, [0], 512, 0) = 512", [("w", "db", 0, A), ("w", "wal", 0, A)]),
+    ("copies to what isn't recorded move the place", OPEN + "sendfile(7<socket:[1]>, 3<db>, NULL, 512) = 512\nsplice(3<db>, NULL, 8<pipe:[2]>, NULL, 512, 0) = 512\nwrite(3<db>, 'C*512', 512) = 512\nsendfile(7<socket:[1]>, 3<db>, [0] => [9], 9) = 9\nwrite(3<db>, 'C*512', 512) = 512\ntee(8<pipe:[2]>, 9<pipe:[3]>, 512, 0) = 512",
+     [("w", "db", 2, C), ("w", "db", 3, C)], {b"db": A + B}),
+    ("a reflink", OPEN + WAL + "ioctl(4<wal>, BTRFS_IOC_CLONE or FICLONE, 3) = 0\nioctl(4<wal>, BTRFS_IOC_CLONE_RANGE or FICLONERANGE, {src_fd=3<db>, src_offset=512, src_length=0, dest_offset=0}) = 0", [("w", "wal", 0, A + B), ("w", "wal", 0, B)], {b"db": A + B}),
+    ("a file that is copied after its reader closed it", OPEN + WAL + "close(3<db>) = 0\n" + OPEN + "copy_file_range(3<db>, NULL, 4<wal>, NULL, 512, 0) = 512", [("w", "wal", 0, A)], {b"db": A}),
     ("signals and remarks", OPEN + "--- SIGCHLD {si_signo=SIGCHLD, si_code=CLD_EXITED} ---\nwrite(3<db>, 'A*512', 512) = 512", [("w", "db", 0, A)]),
 ]
 
 MARKED = OPEN + "write(3<db>, 'A*512', 512) = 512\nopenat(AT_FDCWD</elsewhere>, 'm', O_WRONLY|O_APPEND) = 5</r/marks>\n"
 MAPPED = "mmap(NULL, 4096, PROT_READ, MAP_SHARED, 3<db>, 0) = 0x700000\n"
 THREAD = "clone(child_stack=0x7f, flags=CLONE_VM|CLONE_FILES|CLONE_THREAD) = 101\n"
+FULL = OPEN + WAL + "pwrite64(3<db>, 'A*512', 512, 0) = 512\n"
 
 # The name, the text, and what is said, with the line of the text that shows it.
 REFUSED = [
@@ -129,14 +141,28 @@ REFUSED = [
     ("a truncate through a descriptor's link", OPEN + "write(3<db>, 'A*512', 512) = 512\ntruncate('/dev/fd/3', 0) = 0\nwrite(3<db>, 'B*512', 512) = 512", "calls:4: .*after a name or a size was changed"),
     ("a path through a descriptor of a folder", OPEN + "write(3<db>, 'A*512', 512) = 512\nunlink('/proc/self/fd/7/db') = 0", "calls:3: .*what /proc/self/fd/7 is to the process isn't known"),
     ("a path through another process", OPEN + "unlink('/proc/7/cwd/db') = 0", "calls:2: .*what /proc/7/cwd is to the process isn't known"),
-    ("copy_file_range", OPEN + "copy_file_range(5</other>, NULL, 3<db>, NULL, 512, 0) = 512", "calls:2: .*isn't followed"),
-    ("sendfile", OPEN + "sendfile(3<db>, 5</other>, NULL, 512) = 512", "calls:2: .*isn't followed"),
-    ("splice", OPEN + "splice(5<pipe:[1]>, NULL, 3<db>, NULL, 512, 0) = 512".replace("5<pipe:[1]>", "5"), "calls:2: .*isn't followed"),
-    ("FICLONE", OPEN + "ioctl(3<db>, FICLONE, 5</other>) = 0", "calls:2: .*this ioctl isn't followed"),
-    ("FICLONERANGE", OPEN + "ioctl(3<db>, FICLONERANGE, {src_fd=5</other>, src_offset=0, src_length=0, dest_offset=0}) = 0", "calls:2: .*this ioctl isn't followed"),
+    ("a copy from a place that isn't known", OPEN + "copy_file_range(5</other>, NULL, 3<db>, NULL, 512, 0) = 512", "calls:2: .*from where in /other it copied isn't known; have it in .FILES by --base"),
+    ("a copy of a file that isn't there", OPEN + "sendfile(3<db>, 5</no/other>, [0] => [512], 512) = 512", "calls:2: .*what /no/other held isn't known"),
+    ("a copy from a pipe", OPEN + "splice(5<pipe:[1]>, NULL, 3<db>, NULL, 512, 0) = 512", "calls:2: .*what came from there isn't known; that is for the guest"),
+    ("a copy from nowhere", OPEN + "splice(5, NULL, 3<db>, NULL, 512, 0) = 512", "calls:2: .*what came from there isn't known"),
+    ("a copy of the marks", MARKED + "sendfile(3<db>, 5</r/marks>, [0] => [5], 5) = 5", "calls:4: .*what came from there isn't known"),
+    ("a copy to the marks", MARKED + "sendfile(5</r/marks>, 3<db>, [0] => [5], 5) = 5", "calls:4: .*a copy to there isn't followed"),
+    ("a copy of more than there is", OPEN + WAL + "copy_file_range(3<db>, NULL, 4<wal>, NULL, 512, 0) = 512", "calls:3: .*it copied more than db has"),
+    ("a copy that fails badly", OPEN + WAL + "copy_file_range(3<db>, NULL, 4<wal>, NULL, 512, 0) = -1 EIO (Input/output error)", "calls:3: .*what it wrote isn't known"),
+    ("a copy that never ended", OPEN + WAL + "copy_file_range(3<db>, NULL, 4<wal>, NULL, 512, 0 <unfinished ...>", "calls:3: .*ended within the call"),
+    ("a reflink that never ended", OPEN + WAL + "ioctl(4<wal>, BTRFS_IOC_CLONE or FICLONE, 3 <unfinished ...>", "calls:3: .*ended within the call"),
+    ("a write of what is copied", FULL + THREAD + "copy_file_range(3<db>, [0], 4<wal>, [0], 512, 0 <unfinished ...>\n101 pwrite64(3<db>, 'B*9', 9, 9) = 9\n<... copy_file_range resumed>) = 512\n101 +++ exited with 0 +++", "calls:5: .*wrote at once what it copied"),
+    ("a copy within a write of it", FULL + THREAD + "pwrite64(3<db>, 'B*9', 9, 9 <unfinished ...>\n101 copy_file_range(3<db>, [0], 4<wal>, [0], 512, 0) = 512\n<... pwrite64 resumed>) = 9\n101 +++ exited with 0 +++", "calls:5: .*another call copied the same sectors at once"),
+    ("a copy within a write that begins first", FULL + THREAD + "pwrite64(3<db>, 'B*9', 9, 9 <unfinished ...>\n101 copy_file_range(3<db>, [0], 4<wal>, [0], 512, 0 <unfinished ...>\n<... pwrite64 resumed>) = 9\n101 <... copy_file_range resumed>) = 512\n101 +++ exited with 0 +++", "calls:6: .*wrote at once what it copied"),
+    ("a copy within a truncate by the name", FULL + THREAD + "truncate('/r/files/db', 9 <unfinished ...>\n101 copy_file_range(3<db>, [0], 4<wal>, [0], 512, 0) = 512\n<... truncate resumed>) = 0\n101 +++ exited with 0 +++", "calls:5: .*another call copied the same sectors at once"),
+    ("a copy from a place that moves", FULL + THREAD + "copy_file_range(3<db>, NULL, 4<wal>, [0], 512, 0 <unfinished ...>\n101 read(0x3, 0x7f, 0x9) = 0x9\n<... copy_file_range resumed>) = 512\n101 +++ exited with 0 +++", "calls:5: .*moved the place at once"),
+    ("a copy to a place that moves", FULL + THREAD + "copy_file_range(3<db>, [0], 4<wal>, NULL, 512, 0 <unfinished ...>\n101 read(0x4, 0x7f, 0x9) = 0x9\n<... copy_file_range resumed>) = 512\n101 +++ exited with 0 +++", "calls:5: .*moved the place at once"),
+    ("FICLONE", OPEN + "ioctl(3<db>, FICLONE, 5</other>) = 0", "calls:2: .*how much of the file it took isn't known"),
+    ("FICLONERANGE", OPEN + "ioctl(3<db>, FICLONERANGE, {src_fd=5</other>, src_offset=0, src_length=0, dest_offset=0}) = 0", "calls:2: .*how much of the file it took isn't known"),
+    ("another ioctl", OPEN + "ioctl(3<db>, BTRFS_IOC_DEFRAG, NULL) = 0", "calls:2: .*this ioctl isn't followed"),
     ("io_uring", OPEN + "io_uring_setup(8, {flags=0}) = 5", "calls:2: .*what a ring writes isn't seen"),
     ("io_submit", OPEN + "io_submit(0x7f, 1, [{aio_data=0, aio_lio_opcode=IOCB_CMD_PWRITE, aio_fildes=3<db>}]) = 1", "calls:2: .*isn't followed"),
-    ("fsync that fails", OPEN + "fsync(3<db>) = -1 EIO (Input/output error)", "calls:2: .*a sync that fails"),
+    ("fsync that fails", OPEN + "write(3<db>, 'A*512', 512) = 512\nfsync(3<db>) = -1 EIO (Input/output error)", "calls:3: .*a sync that fails"),
     ("a write that fails badly", OPEN + "write(3<db>, 'A*512', 512) = -1 EIO (Input/output error)", "calls:2: .*leaves nothing that is known"),
     ("a call that nobody knows", OPEN + "syscall_0x1d7(0x3, 0x7f) = 0", "calls:2: .*this strace doesn't know the call"),
     ("a call that isn't followed", OPEN + "vmnew(3<db>, 0x7f) = 0", "calls:2: .*this call isn't followed, and may write db"),
@@ -203,6 +229,48 @@ def refused_fault(name, text, says):
     except Refused as refused:
         return None if re.match(says, str(refused)) else f"{name}: {refused}"
     return f"{name}: it isn't refused: {found}"
+
+
+# Copies of a file from outside, `source`, which has A, B and C. The name, the text after the opens of it as 5 and of db as 3; the
+# entries, or what is said.
+SOURCE = [
+    ("a copy", "copy_file_range(5<source>, NULL, 3<db>, NULL, 9999, 0) = 1536", [("w", "db", 0, A + B + C)]),
+    ("a copy after a read", "read(0x5, 0x7f, 0x200) = 0x200\ncopy_file_range(5<source>, NULL, 3<db>, NULL, 512, 0) = 512\nsendfile(3<db>, 5<source>, NULL, 512) = 512", [("w", "db", 0, B), ("w", "db", 1, C)]),
+    ("a copy after lseek, by another descriptor", "dup(5<source>) = 6<source>\nlseek(6<source>, 1024, SEEK_SET) = 1024\nsendfile(3<db>, 5<source>, NULL, 512) = 512", [("w", "db", 0, C)]),
+    ("a child shares the place", "fork() = 101\n101 read(0x5, 0x7f, 0x200) = 0x200\n101 +++ exited with 0 +++\nsendfile(3<db>, 5<source>, NULL, 512) = 512", [("w", "db", 0, B)]),
+    ("another that opens it has a place of its own", "read(0x5, 0x7f, 0x200) = 0x200\nopenat(AT_FDCWD</elsewhere>, 'x', O_RDONLY) = 6<source>\nsendfile(3<db>, 6<source>, NULL, 512) = 512", [("w", "db", 0, A)]),
+    ("readv and preadv2", "readv(0x5, 0x7f, 0x1) = 0x200\npreadv2(5<source>, [{iov_base='A*512', iov_len=512}], 1, -1, 0) = 512\npreadv2(5<source>, [{iov_base='A*512', iov_len=512}], 1, 0, 0) = 512\nsendfile(3<db>, 5<source>, NULL, 512) = 512", [("w", "db", 0, C)]),
+    ("a place of its own", "copy_file_range(5<source>, [512], 3<db>, [0], 512, 0) = 512\ncopy_file_range(5<source>, NULL, 3<db>, [0], 512, 0) = 512", [("w", "db", 0, B), ("w", "db", 0, A)]),
+    ("FICLONERANGE", "ioctl(3<db>, BTRFS_IOC_CLONE_RANGE or FICLONERANGE, {src_fd=5<source>, src_offset=512, src_length=512, dest_offset=0}) = 0", [("w", "db", 0, B)]),
+    ("a read at once", "clone(child_stack=0x7f, flags=CLONE_VM|CLONE_FILES|CLONE_THREAD) = 101\nsendfile(3<db>, 5<source>, NULL, 512 <unfinished ...>\n101 read(0x5, 0x7f, 0x10) = 0x10\n<... sendfile resumed>) = 512\n101 +++ exited with 0 +++", "from where in .*/source it copied isn't known; have it in .FILES by --base"),
+    ("a read and an lseek at once", "clone(child_stack=0x7f, flags=CLONE_VM|CLONE_FILES|CLONE_THREAD) = 101\nread(0x5, 0x7f, 0x10 <unfinished ...>\n101 lseek(5<source>, 512, SEEK_SET) = 512\n<... read resumed>) = 0x10\nsendfile(3<db>, 5<source>, NULL, 512) = 512\n101 +++ exited with 0 +++", "from where in .*/source it copied isn't known"),
+    ("an append moves the place", "fcntl(5<source>, F_SETFL, O_RDWR|O_APPEND) = 0\nwrite(5<source>, 'A*9', 9) = 9\nsendfile(3<db>, 5<source>, NULL, 512) = 512", "from where in .*/source it copied isn't known"),
+    ("more than it has", "copy_file_range(5<source>, NULL, 3<db>, NULL, 9999, 0) = 1537", "it hasn't as many bytes"),
+    ("an unlinked file", "sendfile(3<db>, 5<source>(deleted), NULL, 512) = 512", "held isn't known: it is unlinked"),
+    ("a file that is renamed", "rename('x', 'source') = 0\nsendfile(3<db>, 5<source>, NULL, 512) = 512", "held isn't known: the program renames it"),
+    ("a folder that is renamed", "sendfile(3<db>, 5<source>, NULL, 512) = 512\nrename('/r', 'folder') = 0\nsendfile(3<db>, 5<source>, NULL, 512) = 512", "held isn't known: the program renames it"),
+]
+
+
+def source_faults():
+    """What is wrong with copies from outside: what they are made of, and what is refused, for instance a file that was changed late."""
+    found = []
+    with tempfile.TemporaryDirectory() as folder:
+        source = Path(os.path.realpath(folder), "source")
+        source.write_bytes(A + B + C)
+        begun = source.stat().st_ctime_ns + 1
+        late = ("a file that was changed as late", SOURCE[0][1], "held isn't known: (it was changed after the recording began|by its file system)")
+        for name, text, wanted, when in [*((*it, begun) for it in SOURCE), (*late, begun - 1), (*late, 0)]:
+            text = OPEN + "openat(AT_FDCWD</elsewhere>, 'x', O_RDONLY) = 5<source>\n" + text
+            text = text.replace("<source>", f"<{source}>").replace("'source'", f"'{source}'").replace("'folder'", f"'{source.parent}'")
+            try:
+                made = entries_of(followed(strace(text), begun=when))
+                good = made == wanted
+            except Refused as refused:
+                made = str(refused)
+                good = isinstance(wanted, str) and re.search(wanted, made)
+            found += [] if good else [f"from outside, {name}: {made}"]
+    return found
 
 
 def whole_text():
@@ -376,7 +444,7 @@ def files_faults():
 def main(words):
     seed, count = (int(it) for it in (*words, *("1", "3000")[len(words) :]))
     found = [row_fault(*it) for it in FOLLOWED] + [refused_fault(*it) for it in REFUSED] + [log_fault()]
-    several = [cut_faults(), damage_faults(seed, count // 2), map_faults(), files_faults()]
+    several = [source_faults(), cut_faults(), damage_faults(seed, count // 2), map_faults(), files_faults()]
     several.append([it for it in (model_fault(seed + turn) for turn in range(count)) if it])
     wrong = [it for it in found if it] + [it for these in several for it in these]
     for line in wrong:

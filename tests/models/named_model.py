@@ -252,8 +252,8 @@ def kept_at(entries, base, cut):
 
 
 class Reader:
-    """Reads the files of all images of a cut. `names` are pairs of the first sector of a chain and the folders of the sectors of its
-    set."""
+    """Reads the files of all images of a cut. `names` are pairs of the first sector of a chain and the names of its set, each with its
+    folder."""
 
     def __init__(self, base, kept, names):
         self.base, self.kept, self.names = base, kept, names
@@ -274,18 +274,41 @@ class Reader:
                     break
                 number, *words = struct.unpack_from("<QQQ", *there)
 
+    def links(self, first):
+        """The sectors of a chain up to each version that may be in force."""
+        for text in self.sector(first):
+            number, row = struct.unpack_from("<Q", text)[0], [text]
+            while True:
+                after = self.sector(first + number + 1)
+                there = [it for it in after if struct.unpack_from("<Q", it)[0] == number + 1]
+                if len(there) < len(after):
+                    yield row
+                if not there:
+                    break
+                number, row = number + 1, [*row, *there]
+
+    def held(self, row, slots):
+        """What the names of a set hold by the sectors of its chain."""
+        found = {}
+        for text in row:
+            _, copy, *words = struct.unpack_from("<QQ12I", text)
+            if copy:
+                (content,) = self.bytes(copy, 8 * len(slots))
+                found = {slot: struct.unpack_from("<II", content, 8 * at) for at, slot in enumerate(slots)}
+            for at in range(0, 12, 3):
+                if words[at]:
+                    found[slots[words[at] - 1]] = tuple(words[at + 1 : at + 3])
+        return {slot: held for slot, held in found.items() if held[0]}
+
+    def bytes(self, first, length):
+        """The bytes of sectors that are never written."""
+        yield b"".join(it for at in range(-(-length // SECTOR)) for it in self.sector(first + at))
+
     def states(self):
         """Yields what the names are in each image."""
-        for chosen in itertools.product(*(list(self.chain(it)) for it, _ in self.names)):
-            held = {}
-            for (copy, _), (_, folders) in zip(chosen, self.names):
-                for at, folder in enumerate(folders):
-                    (sector,) = self.sector(copy + at)
-                    for slot in range(8):
-                        kind, number, name = struct.unpack_from("<II56s", sector, 64 * slot)
-                        if kind:
-                            held[folder, name.rstrip(b"\0")] = kind, number
-            yield held
+        each = [[self.held(row, slots) for row in self.links(first)] for first, slots in self.names]
+        for chosen in itertools.product(*each):
+            yield {slot: held for it in chosen for slot, held in it.items()}
 
     def contents(self, number):
         """Returns the contents that a file has in the images."""

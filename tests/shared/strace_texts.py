@@ -16,7 +16,7 @@ def strace(text, last="100 +++ exited with 0 +++"):
         return f'"{hexed((times[1] * int(times[2]) if times else found[1]).encode())}"'
 
     def path(found):
-        name = found[1] if found[1].startswith("/") else f"{FILES}/{found[1]}"
+        name = found[1] if found[1].startswith(("/", "pipe:", "socket:")) else f"{FILES}/{found[1]}"
         return f"<{hexed(name.encode())}>"
 
     lines = [it.strip() for it in text.strip().splitlines()] + ([last] if last else [])
