@@ -272,11 +272,6 @@ INLINED int popcount_(u64 x)
 	return x * 0x0101010101010101 >> 56;
 }
 
-INLINED int low_zeros_(u64 x)
-{
-	return popcount_((x & -x) - 1);
-}
-
 #define __builtin_bswap32(x) swapped_(x)
 #define __builtin_bswap64(x) swapped_word_(x)
 #define __builtin_popcountll(x) popcount_(x)
@@ -285,8 +280,40 @@ INLINED int low_zeros_(u64 x)
 #define __builtin_parityll(x) (popcount_(x) & 1)
 #define __builtin_parityl(x) (popcount_(x) & 1)
 #define __builtin_parity(x) (popcount_((u32)(x)) & 1)
+#endif
+
+/* clang 14 breaks off on these, gcc calls a library. Of 0 the first two are 64, or 32. */
+#ifndef CHECKER_NATIVE
+INLINED int low_zeros_(u64 x)
+{
+	return __builtin_popcountll((x & -x) - 1);
+}
+
+INLINED int high_zeros_(u64 x)
+{
+	x |= x >> 1;
+	x |= x >> 2;
+	x |= x >> 4;
+	x |= x >> 8;
+	x |= x >> 16;
+	x |= x >> 32;
+	return 64 - __builtin_popcountll(x);
+}
+
+INLINED int first_one_(u64 x)
+{
+	return x ? 1 + low_zeros_(x) : 0;
+}
+
 #define __builtin_ctzll(x) low_zeros_(x)
-#define __builtin_ctz(x) low_zeros_((u32)(x))
+#define __builtin_ctzl(x) low_zeros_(x)
+#define __builtin_ctz(x) low_zeros_((u32)(x) | 1ull << 32)
+#define __builtin_clzll(x) high_zeros_(x)
+#define __builtin_clzl(x) high_zeros_(x)
+#define __builtin_clz(x) (high_zeros_((u32)(x)) - 32)
+#define __builtin_ffsll(x) first_one_(x)
+#define __builtin_ffsl(x) first_one_(x)
+#define __builtin_ffs(x) first_one_((u32)(x))
 #endif
 
 /*

@@ -21,6 +21,10 @@ POINTED = ("is called by a pointer, and a program calls functions by their names
 TOO_MANY = ("a function that is LOCAL and takes more than five numbers, or a struct", "INLINED in place of LOCAL, or fewer parameters")
 ANSWERED = ("a function that is LOCAL and answers more than one number", "INLINED in place of LOCAL, or the other numbers in static variables")
 SIZED = ("an array whose length is a variable", "an array of the greatest length, and a test of the length")
+JUMPED = ("a goto to a place that is computed, which a program hasn't", "a switch, with a goto for each label where it needs one")
+THREADED = ("a variable of a thread, which a program hasn't", "static without __thread")
+ENDED = ("an end by abort or a trap, which a program hasn't", "a return, with an answer that says why")
+MAPPED = ("a map or a variable of a processor, which a program hasn't", "a static variable or array: a run has 65536 bytes for these")
 NO_LIBRARY = "a checker has no library: write it as a function of the file"
 RECURSIVE = "a loop, with a stack of its own in a static array where one is needed: no function calls itself, also by way of others"
 MEMORY_CALLS = "memcmp, memcpy, memset and memmove are those of checker.h; else set, copy and compare field by field"
@@ -32,23 +36,30 @@ LIBRARY = [
     (re.compile(r"__(float\w*|fix\w*|[a-z]+[sdtxh]f[a-z]*\d?)$"), FLOATING),
     (re.compile(r"(fmod|floor|ceil|trunc|round|sqrt|pow|fabs|rint|fma|fmin|fmax|exp|log|log2|log10|sin|cos)[fl]?$"), FLOATING),
     (re.compile(r"__[a-z]*ti[a-z]*\d?$"), WIDE),
+    (re.compile(r"__emutls\w*$"), THREADED),
+    (re.compile(r"(abort|_?exit|__builtin_trap)$"), ENDED),
 ]
 # What a compiler says, without a name of its library; in which order doesn't matter.
 SAYINGS = [
     (re.compile(r"VarArgs|variable argument lists|va_start"), VARIABLE),
-    (re.compile(r"indirect call|[Cc]annot select.*brind"), POINTED),
+    (re.compile(r"indirect jump|[Cc]annot select.*brind"), JUMPED),
+    (re.compile(r"indirect call"), POINTED),
+    (re.compile(r"[Tt]hread-local storage"), THREADED),
     (re.compile(r"too many args|too many function arguments|pass by value not supported|arguments on the stack"), TOO_MANY),
     (re.compile(r"StructRet|small returns|only integer returns"), ANSWERED),
     (re.compile(r"dynamic stack allocation|dynamic_stackalloc"), SIZED),
     (re.compile(r"[Aa]tomic(_|\w*Swap|Load|RMW|CmpSwap)"), ATOMIC),
 ]
-ERROR = re.compile(r"(?m)^(?:(.+?):(\d+):\d+: )?(?:fatal )?error: (.*)$")
+ERROR = re.compile(r"(?m)^(?:(.+?):(\d+):\d+: )?(?:(?:fatal )?error|sorry, unimplemented): (.*)$")
 # Where the compiler knows no file of the text, the place that it means comes in a note after the error.
 MEANT = re.compile(r"could not determine the original source location for (.+):(\d+):\d+")
 CALLED = re.compile(r"built-in function '(\w+)'")
 # Instructions of atomics (of 32 and of 64 bits), and a call through a register.
 ATOMICS, BY_REGISTER = (0xC3, 0xDB), 0x8D
 SHOWN = 8
+# The words of atomics in a source, and the sections that Linux takes for maps and for variables of each processor.
+ATOMIC_WORD = re.compile(r"__(sync|atomic|c11_atomic)_\w+$|_Atomic$")
+MAPS = re.compile(r"\.?maps$|\.data\.\.percpu|\.percpu$")
 # Locals of as many bytes aren't named.
 SMALL = 16
 
@@ -141,11 +152,27 @@ class Causes:
             return [(place, f"{called[1]} is called", MEMORY_CALLS if called[1].startswith("mem") else NO_LIBRARY)]
         if "inlin" in text:
             return self.recursion() if VARIABLE is not kind else list(self.variable())
-        if kind in (VARIABLE, ANSWERED) and list(self.variable()):
-            return list(self.variable())
+        if kind in (VARIABLE, ANSWERED):
+            return list(self.variable()) or [(place, *ANSWERED)]
         if kind is POINTED:
             return list(self.pointed()) or [(place, f"a function {POINTED[0]}", POINTED[1])]
+        if kind is JUMPED:
+            return self.at_words(lambda at: self.source.word(at) == "goto" and self.source.word(at + 1) == "*", kind) or list(self.pointed())
+        if kind is ATOMIC and place is None:
+            return self.at_words(lambda at: ATOMIC_WORD.match(self.source.word(at)), kind) or [(None, *kind)]
         return [(place, *kind)] if kind else None
+
+    def at_words(self, is_one, kind):
+        """A cause at each line of the functions that are needed, or outside of functions, in which a token is one."""
+        text, needed = self.source, self.reached()
+        inner = {at for it in text.functions if it not in needed for at in range(it.declared, it.end)}
+        places = dict.fromkeys(text.place(at) for at in range(len(text.tokens)) if at not in inner and is_one(at))
+        return [(place, *kind) for place in places]
+
+    def mapped(self, sections):
+        """The refusal of variables in sections that Linux takes for maps, or none."""
+        names = {it for it in sections if MAPS.match(it)}
+        return refusal(self.at_words(lambda at: self.source.word(at)[1:-1] in names, MAPPED) or [(None, *MAPPED)]) if names else None
 
     def of_compiler(self, said):
         """The refusal for what a compiler says, or none where one of its errors isn't known."""

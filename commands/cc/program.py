@@ -13,6 +13,8 @@ FUNCTION, LOCAL = 2, 0
 LDDW, CALL, EXIT, JA, JA32 = 0x18, 0x85, 0x95, 0x05, 0x06
 JEQ, JNE = 0x15, 0x55
 AGAIN = 3
+# What a run answers that spent the turns of a plain loop, and one that would read outside of a table.
+SPENT, OUTSIDE = 1000000, 1000001
 # How deep cycles are told apart: the others are found once these have turns.
 MOST_NESTED = 64
 

@@ -66,8 +66,8 @@ class Work:
             self.child.wait()
         self.child = None
 
-    def run(self, words, text=""):
-        """Runs a program with this text as its input."""
+    def run(self, words, text="", seconds=None):
+        """Runs a program with this text as its input, for so many seconds in place of the usual ones."""
         words = [str(it) for it in words]
         pipes = dict.fromkeys(("stdin", "stdout", "stderr"), subprocess.PIPE)
         # A source may be in any encoding: its bytes come out as they went in.
@@ -75,10 +75,10 @@ class Work:
         try:
             with self.undivided():
                 self.child = subprocess.Popen(words, **pipes, **coding, start_new_session=True)
-            out, said = self.child.communicate(text, timeout=self.seconds)
+            out, said = self.child.communicate(text, timeout=seconds or self.seconds)
             return subprocess.CompletedProcess(words, self.child.returncode, out, said)
         except subprocess.TimeoutExpired:
-            raise NotRun(f"{words[0]} took more than {self.seconds} seconds", "--timeout SECONDS allows more") from None
+            raise NotRun(f"{words[0]} took more than {seconds or self.seconds} seconds", "--timeout SECONDS allows more") from None
         except OSError as it:
             raise NotRun(f"{words[0]} can't be run: {it.strerror}") from None
         finally:

@@ -7,11 +7,11 @@ import socket
 import tempfile
 import time
 
-from commands.each.faults import Refusal
 from commands.each.runner import ANSWER, TOLD, serve
 from commands.each.stream import RECORD
-from commands.each.verdicts import Verdict
 from commands.shared.ends import SIGNALS
+from commands.shared.faults import Refusal
+from commands.shared.verdicts import Verdict
 
 # A folder in memory, where there is one with room; at least a half of it is left to others.
 MEMORY = "/dev/shm"

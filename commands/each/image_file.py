@@ -3,8 +3,8 @@ import errno
 import fcntl
 import os
 
-from commands.each.faults import Refusal
 from commands.each.stream import RECORD, SECTOR
+from commands.shared.faults import Refusal
 
 # The request of Linux by which a file shares the blocks of another, where its file system can do that.
 FICLONE = 0x40049409

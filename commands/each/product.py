@@ -6,8 +6,8 @@ import subprocess
 import tempfile
 from pathlib import Path
 
-from commands.each.faults import Refusal
 from commands.each.words import FLAGS, OF_LOG, VALUED
+from commands.shared.faults import Refusal
 
 # A program of one instruction, `exit`: with `--checked 0` it takes no step, so that crashbpf tells what a run is without one.
 EXIT = b"\x95" + bytes(7)

@@ -10,27 +10,15 @@ import struct
 import sys
 from pathlib import Path
 
-from commands.each.faults import Refusal
 from commands.each.image_file import ImageFile
-from commands.each.program import Gone, run
+from commands.shared.faults import Refusal
+from commands.shared.program import Gone, adopt, run, tidy
 
 # Of an image its number, cut and marks, the lengths of the choice and of the mark's text, and the number of bytes of records.
 TOLD = struct.Struct("<QQQIIQ")
 # Whether it is a refusal, the kind and the number of the verdict, whether processes were left, and the length of words.
 ANSWER = struct.Struct("<?BQ?I")
-# By which a process becomes the parent of those that its children leave.
-PR_SET_CHILD_SUBREAPER = 36
 SAYS_MORE = b"\n[crashbpf-each: %d bytes more were printed]\n"
-
-
-def adopt():
-    """Lets what the program leaves running become a child of this process, so that it can be ended."""
-    try:
-        import ctypes
-
-        ctypes.CDLL(None).prctl(PR_SET_CHILD_SUBREAPER, 1, 0, 0, 0)
-    except (ImportError, OSError, AttributeError):
-        pass
 
 
 def exactly(file, size):
@@ -80,7 +68,7 @@ class Runner:
             self.image.test_unchanged(number)
         if self.given.keep and not ended.verdict.is_good():
             self.keep(number, ended)
-        self.tidy()
+        tidy(self.room, ["image"] if self.given.read_only else [])
         return ended
 
     def keep(self, number, ended):
@@ -95,16 +83,6 @@ class Runner:
             begun.rename(image)
         finally:
             begun.unlink(missing_ok=True)
-
-    def tidy(self):
-        """Takes away what the program left beside the image, and its copy."""
-        for it in os.scandir(self.room):
-            if self.given.read_only and it.name == "image":
-                continue
-            if it.is_dir(follow_symlinks=False):
-                shutil.rmtree(it.path)
-            else:
-                os.unlink(it.path)
 
 
 def serve(folder, given, channel):

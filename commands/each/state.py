@@ -15,8 +15,8 @@ import hashlib
 import os
 import re
 
-from commands.each.faults import Refusal
-from commands.each.verdicts import EXIT, OUT_OF_TIME, SIGNAL, Verdict
+from commands.shared.faults import Refusal
+from commands.shared.verdicts import EXIT, OUT_OF_TIME, SIGNAL, Verdict
 
 TITLE = "crashbpf-each state 1"
 LINE = re.compile(r"image (0|[1-9]\d*) (?:answer (\d+) codes -|signal (\d+)|(out of time))", re.A)

@@ -11,7 +11,7 @@ names the first image with the same bytes and as many marks.
 import re
 from typing import NamedTuple
 
-from commands.each.faults import Refusal
+from commands.shared.faults import Refusal
 
 SECTOR = 512
 RECORD = 8 + SECTOR

@@ -1,11 +1,15 @@
 """The words of the command line: options of this program, LOG with the options of its images, and the program that judges."""
 import os
 import re
+import shutil
 import stat
+from pathlib import Path
 
-from commands.each.faults import Refusal
+from commands.shared import recording
+from commands.shared.faults import Refusal
 
 USAGE = "usage: crashbpf-each [-j N] [--first] [--keep DIR] [--timeout S] [--resume] [--read-only] LOG --sectors N .. -- PROGRAM {} .."
+USAGE += ", or with the folder of a recording in place of LOG --sectors N"
 # The options of `crashbpf images` that say which images there are, with a value and without one.
 VALUED = ("--sectors", "--flush", "--base", "--cuts", "--from", "--to", "--bound", "--by")
 FLAGS = ("--large", "--tears")
@@ -16,6 +20,8 @@ OWN_VALUED = {"-j": "runners", "--keep": "keep", "--timeout": "seconds"}
 OWN_FLAGS = {"--first": "first", "--resume": "resume", "--read-only": "read_only"}
 MOST_RUNNERS, MOST_SECONDS, MOST_SECTORS = 64, 86400, 33554432
 SECTOR = 512
+# What runs a program on the files of an image.
+FILES = str(Path(__file__).resolve().parents[1] / "record/crashbpf-files")
 NUMBER, DECIMAL = re.compile(r"0|[1-9]\d{0,18}", re.A), re.compile(r"\d{1,9}(\.\d{1,9})?", re.A)
 
 
@@ -105,11 +111,32 @@ def split(words):
     return found
 
 
+def of_recording(pairs, folder, program):
+    """Returns the words with what the folder of a recording knows in its place: the log, its options but for those that are given, and
+    the program, which is run on the files of an image where the folder has their map."""
+    try:
+        it = recording.read(folder)
+    except recording.Unknown as unknown:
+        raise Refusal(str(unknown)) from None
+    given = [name for name, _value in pairs]
+    known = [pair for pair in (*it.options(), ("--by", "write")) if pair[0] not in given]
+    if it.map:
+        if shutil.which(program[0]) is None:
+            raise Refusal(f"there is no program {program[0]}")
+        # (it is run in another folder)
+        program = [os.path.abspath(program[0]) if "/" in program[0] else program[0], *program[1:]]
+        program = [shutil.which("crashbpf-files") or FILES, it.path(it.map), "{}", "--", *program]
+    return [(name, it.log()) if name == "" else (name, value) for name, value in pairs] + known, program
+
+
 def parse(words):
     """Returns what the words ask for."""
     before, program = halves(words)
     pairs = split(before)
     logs = [value for name, value in pairs if name == ""]
+    if len(logs) == 1 and os.path.isdir(logs[0]):
+        pairs, program = of_recording(pairs, logs[0], program)
+        logs = [value for name, value in pairs if name == ""]
     names = [name for name, _value in pairs if name]
     if len(logs) != 1 or "--sectors" not in names:
         raise Refusal(USAGE)

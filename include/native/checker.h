@@ -26,6 +26,25 @@
  * Each judgement begins with the variables as the source gives them. So all files but
  * the last are judged by children of this process; the last, or the only one, is judged
  * by this process itself.
+ *
+ * A source may have a function `mend_sums`, which gives a changed image the checksums that
+ * its writer would give it:
+ *
+ *     #ifdef CHECKER_NATIVE
+ *     void mend_sums(u8 *image, u64 bytes)
+ *     {
+ *             u32 sum = ~crc32c_memory(CRC32C_START, image, 508);
+ *
+ *             memcpy(image + 508, &sum, 4);
+ *     }
+ *     #endif
+ *
+ * The helpers and u32_at() see the image as it stands. `./check --mend FILE` changes a file
+ * so, and judges nothing; the status is 3 where the source has no such function.
+ * `crashbpf-cc --against` mends most of its mutants by it.
+ *
+ * `./check --reads FILE` prints in front of the answer the places of the first 20,000 reads,
+ * as `read 512 8` for 8 bytes from byte 512 on.
  */
 #ifndef NATIVE_CHECKER_H
 #define NATIVE_CHECKER_H
@@ -98,16 +117,20 @@ static int again_(struct passed_ *passed, unsigned long long times) __attribute_
 
 #include "../checker.h"
 
+void mend_sums(u8 *image, u64 bytes) __attribute__((weak));
+
 #define SECTOR_BYTES_ 512
 #define CODES_ 16
+#define SHOWN_ 20000
 
-/* The device, what was reported, and the number of the run. */
+/* The device, what was reported, the number of the run, and of how many reads the place is still printed. */
 static struct {
 	u64 sectors;
 	u8 **bytes;
 	u64 codes[CODES_];
 	u64 reported;
 	u64 run;
+	u64 shown;
 } device_;
 
 static void fail_(const char *what, const char *name)
@@ -128,9 +151,25 @@ static int again_(struct passed_ *passed, unsigned long long times)
 	return 1;
 }
 
-static const void *sector(u64 n)
+static u8 *sector_(u64 n)
 {
 	return n < device_.sectors ? device_.bytes[n] : 0;
+}
+
+/* Prints the place of a read, where that is asked for. */
+static void show_(u64 at, u64 length)
+{
+	if (device_.shown) {
+		device_.shown--;
+		printf("read %llu %llu\n", at, length);
+	}
+}
+
+static const void *sector(u64 n)
+{
+	if (n < device_.sectors)
+		show_(SECTOR_BYTES_ * n, SECTOR_BYTES_);
+	return sector_(n);
 }
 
 static u64 copy(u64 at, void *to, u64 length)
@@ -139,8 +178,9 @@ static u64 copy(u64 at, void *to, u64 length)
 
 	if (length < 1 || length > SECTOR_BYTES_)
 		fail_("copy takes 1 to 512 bytes", "");
+	show_(at, length);
 	for (u64 i = 0; i < length; i++) {
-		const u8 *bytes = at + i < at ? 0 : sector((at + i) / SECTOR_BYTES_);
+		const u8 *bytes = at + i < at ? 0 : sector_((at + i) / SECTOR_BYTES_);
 
 		((u8 *)to)[i] = bytes ? bytes[(at + i) % SECTOR_BYTES_] : 0;
 		past |= !bytes;
@@ -333,11 +373,42 @@ static int judge_apart_(const struct context *context)
 	return WEXITSTATUS(status);
 }
 
+/* Gives the file of an image its sums. */
+static int mend_(const char *name)
+{
+	u8 *image;
+	FILE *file;
+
+	if (!mend_sums)
+		return 3;
+	read_device_(name);
+	image = malloc(SECTOR_BYTES_ * device_.sectors);
+	if (!image)
+		fail_("out of memory", name);
+	for (u64 i = 0; i < device_.sectors; i++) {
+		memcpy(image + SECTOR_BYTES_ * i, device_.bytes[i], SECTOR_BYTES_);
+		device_.bytes[i] = image + SECTOR_BYTES_ * i;
+	}
+	device_.run++;
+	mend_sums(image, SECTOR_BYTES_ * device_.sectors);
+	file = fopen(name, "wb");
+	if (!file || fwrite(image, SECTOR_BYTES_, device_.sectors, file) != device_.sectors || fclose(file))
+		fail_("can't be written", name);
+	return 0;
+}
+
 int main(int count, char **words)
 {
 	struct context context = { 0 };
 	int failing = 0, judged = 0;
 
+	if (count == 3 && strcmp(words[1], "--mend") == 0)
+		return mend_(words[2]);
+	if (count == 3 && strcmp(words[1], "--reads") == 0) {
+		device_.shown = SHOWN_;
+		words++;
+		count--;
+	}
 	for (int i = 1; i < count; i++) {
 		u64 *number = strcmp(words[i], "--marks") == 0 ? &context.marks
 			    : strcmp(words[i], "--epoch") == 0 ? &context.epoch : 0;
@@ -352,7 +423,7 @@ int main(int count, char **words)
 		judged = 1;
 	}
 	if (!judged)
-		fail_("usage: [--marks N] [--epoch N] IMAGE..", words[0]);
+		fail_("usage: [--marks N] [--epoch N] IMAGE.. | --mend IMAGE | --reads IMAGE", words[0]);
 	return failing;
 }
 

@@ -39,13 +39,15 @@ import rooms
 
 rooms.enter()
 
+from commands.cc.mutants import Drawer, filled_sectors
+from commands.cc.native import answers, command
+from commands.cc.program import OUTSIDE, SPENT
 from notation import SECTOR, TOP, F, M, S, log
 from rows import checkers, whole_formats
 
 CC = TOP / "commands/cc/crashbpf-cc"
-NATIVE = TOP / "include/native/checker.h"
 SECTORS = checkers.SECTORS
-SPENT, OUTSIDE, STRAY = "1000000", "1000001", "stray"
+STRAY = "stray"
 # What a native build answers that was ended by a signal or a sanitizer.
 STRAYED = ("strayed", "")
 STRAYS = 25
@@ -116,62 +118,15 @@ class Images:
     """Draws images for a source."""
 
     def __init__(self, checker, rng):
-        self.rng, self.count = rng, checker.sectors
-        text = checker.source.read_text()
-        text = re.sub(r"/\*.*?\*/|//[^\n]*", "", text, flags=re.S)
-        self.numbers = sorted({int(it, 0) for it in re.findall(r"\b(?:0x[0-9a-fA-F]+|[1-9][0-9]*|0)(?=[uUlL]*\b)", text)})
-        self.texts = [it.encode().decode("unicode_escape").encode("latin-1") for it in re.findall(r'"((?:\\.|[^"\\\n])+)"', re.sub(r"'(?:\\.|[^'\\\n])'", "", text))]
-        self.texts = [it for it in self.texts if not it.endswith(b".h")]
-        self.sectors = [it for it in self.numbers if it < self.count] or [0]
+        self.rng = rng
         seeds = checker.seeds or [bytes(SECTOR * SECTORS), *(checkers.device(it[0]) for it in checker.devices)]
         self.pool = {f"seed {i}": it for i, it in enumerate(seeds)}
         # Of a whole format most sectors are zeros.
-        self.filled = sorted({at for it in checker.seeds for at in range(self.count) if any(it[SECTOR * at : SECTOR * at + SECTOR])})
-
-    def place(self):
-        """Returns a place that a checker is likely to look at."""
-        rng = self.rng
-        likely = [0, 0, 0, 0, 1, 1, 1, 2, 3, self.count - 1, self.count // 2, self.count // 2 + 1]
-        likely += rng.choices(self.filled, k=32) if self.filled else []
-        sector = rng.choice([*likely, rng.randrange(self.count), rng.randrange(12), rng.choice(self.sectors)])
-        offset = rng.choice([0, 0, 4, 8, rng.randrange(0, 32, 4), rng.randrange(0, 64, 8), rng.randrange(0, 504, 2), 504, 508])
-        return sector * SECTOR + min(offset, SECTOR - 8)
-
-    def number(self):
-        rng = self.rng
-        near = rng.choice(self.numbers) + rng.choice([0, 0, 0, 0, -1, 1])
-        return max(0, rng.choice([near, near, rng.randrange(8), rng.randrange(64), 1 << rng.randrange(64), rng.getrandbits(64)]))
-
-    def changed(self, image):
-        """Returns an image with some numbers, texts and pieces changed."""
-        rng = self.rng
-        content = bytearray(image)
-        for _ in range(rng.choice([1, 1, 2, 3, 5, 8])):
-            at = self.place()
-            kind = rng.randrange(10)
-            size = rng.choice([1, 2, 4, 4, 8, 8])
-            if kind < 5:
-                number = self.number() & (1 << 8 * size) - 1
-                content[at : at + size] = number.to_bytes(size, rng.choice(["little", "little", "little", "big"]))
-            elif kind == 5 and self.texts:
-                text = rng.choice(self.texts)
-                at = min(at, len(content) - len(text))
-                content[at : at + len(text)] = text
-            elif kind == 6:
-                number = int.from_bytes(content[at : at + size], "little") + rng.choice([1, -1])
-                content[at : at + size] = (number & (1 << 8 * size) - 1).to_bytes(size, "little")
-            elif kind == 7:
-                one, other = at // SECTOR * SECTOR, rng.randrange(self.count) * SECTOR
-                content[other : other + SECTOR] = content[one : one + SECTOR]
-            elif kind == 8:
-                start = at // SECTOR * SECTOR
-                content[start : start + SECTOR] = rng.choice([bytes(SECTOR), rng.randbytes(SECTOR)])
-            else:
-                content[at : at + size] = rng.randbytes(size)
-        return bytes(content)
+        filled = sorted({at for it in checker.seeds for at in filled_sectors(it)})
+        self.drawer = Drawer(checker.source.read_text(), checker.sectors, filled)
 
     def draw(self, count):
-        return [self.changed(self.rng.choice(list(self.pool.values()))) for _ in range(count)]
+        return [self.drawer.changed(self.rng.choice(list(self.pool.values())), self.rng) for _ in range(count)]
 
     def keep(self, images, answers):
         for image, answer in zip(images, answers):
@@ -192,16 +147,14 @@ class Cut:
 def native(checker, folder, *options):
     """Builds the native program, and answers a function that judges images with it."""
     program = folder / f"native{len(options)}"
-    words = ["cc", "-Og", "-w", "-fsigned-char", *options, f"-DCHECKER={checker.function}", "-include", NATIVE]
-    words += ["-I", TOP / "include", checker.source, "-o", program]
-    done = subprocess.run(words, capture_output=True, text=True)
+    done = subprocess.run(command(checker.source, checker.function, program, options), capture_output=True, text=True)
     if done.returncode != 0:
         raise SystemExit(done.stderr)
     environment = {**os.environ, "ASAN_OPTIONS": "exitcode=99:detect_leaks=0"}
 
     def judge_some(words):
         done = subprocess.run([program, *words], capture_output=True, text=True, timeout=SECONDS, env=environment)
-        return [tuple(it.split(" codes ")) for it in done.stdout.replace("answer ", "").split("\n")[:-1]]
+        return answers(done.stdout)
 
     def judge(cuts):
         """The answers, with STRAYED for an image at which the program ended."""
@@ -248,7 +201,7 @@ def logged(images, rng):
 
 def differing(found, wanted):
     """Whether a program answers otherwise than its native build; codes aren't told of a good image."""
-    if found[0] in (SPENT, OUTSIDE, STRAY):
+    if found[0] in (str(SPENT), str(OUTSIDE), STRAY):
         return False
     return found[0] != wanted[0] or (found[1] is not None and found[1] != wanted[1])
 
@@ -271,7 +224,7 @@ def compare(program, checker, code, count, folder):
         entries, cuts = logged(drawn, rng)
         for cut, found, wanted in zip(cuts, judged(program, checker, entries, cuts, folder), judge(cuts)):
             answers[found[0]] += 1
-            if found[0] in (OUTSIDE, STRAY) and answers[found[0]] <= STRAYS and strays([cut]) != [STRAYED]:
+            if found[0] in (str(OUTSIDE), STRAY) and answers[found[0]] <= STRAYS and strays([cut]) != [STRAYED]:
                 wrong.append(f"{checker.name()}: the program answers {found}, and the native build reads nothing outside")
             if differing(found, wanted):
                 wrong.append(f"{checker.name()}: the program answers {found}, the native build {wanted} ({cut.marks} marks)")

@@ -32,14 +32,17 @@ from notation import TOP, program
 
 from commands.cc.calls import MADE, copy_code, expanded, set_code
 from commands.cc.data import ROOM, Memory, with_data
+from commands.cc.functions import edits_of, function_tables
 from commands.cc.locals import Moved, can_be_told, circular, locals_of
+from commands.cc.mutants import Drawer
 from commands.cc.program import LDDW, SLOT, NoProgram, Object, slots_of
+from commands.cc.shrinking import smallest
 from commands.cc.source import Source
 
 CC = TOP / "commands/cc/crashbpf-cc"
 CHANGED = 3000
 # How long a row waits for what has to come at once.
-SECONDS = 30
+SECONDS = 90
 
 # By the last way of compiling it hands out another object file, where there is one.
 CLANG = """\
@@ -303,9 +306,10 @@ def gone(pid):
     return False
 
 
-def hanging(place, name, stop):
-    """What is wrong with the end of the tool while its compiler hangs; `stop` answers the words, and what to do then."""
-    (place.folder / "hang").touch()
+def hanging(place, name, stop, flag="hang"):
+    """What is wrong with the end of the tool while what it runs hangs, its compiler as a rule; `stop` answers the words, and what to do
+    then."""
+    (place.folder / flag).touch()
     asleep = place.folder / "asleep"
     asleep.unlink(missing_ok=True)
     words, end, wanted = stop
@@ -323,7 +327,7 @@ def hanging(place, name, stop):
         found.append("the compiler's child goes on")
     for it in (place.folder / "tmp").iterdir():
         shutil.rmtree(it)
-    (place.folder / "hang").unlink()
+    (place.folder / flag).unlink()
     return name, found
 
 
@@ -500,7 +504,10 @@ u64 check(void)
 {
 	down(1);
 	return some(1) + first(2);
+	goto *(&&a);
+	a: __atomic_fetch_add(0);
 }
+static u64 unneeded(void) { __sync_synchronize(); goto *0; }
 """
 NOTED = "source.c:5:5: note: could not determine the original source location for source.c:7:2"
 SAYINGS = [
@@ -514,6 +521,13 @@ SAYINGS = [
     ("source.c:4:12: error: inlining failed in call to 'always_inline' 'down': recursive inlining", "cc: source.c:4: down calls itself"),
     ("source.c:2:12: error: too many function arguments for eBPF", "cc: source.c:2: a function that is LOCAL and takes more"),
     ("fatal error: error in backend: Unsupported dynamic stack allocation", "cc: an array whose length is a variable"),
+    ("source.c:3:1: error: functions with StructRet are not supported", "cc: source.c:3: some has variable arguments"),
+    ("fatal error: error in backend: Cannot select: 0x1: ch = brind 0x2", "cc: source.c:9: a goto to a place that is computed"),
+    ("source.c:8:1: sorry, unimplemented: indirect jumps are not available on this target", "cc: source.c:9: a goto to a place that is computed"),
+    ("fatal error: error in backend: Cannot select: 0x1: i64 = AtomicLoadAdd", "cc: source.c:10: an atomic operation"),
+    ("source.c:8:3: error: thread-local storage is not supported for the current target", "cc: source.c:8: a variable of a thread"),
+    ("source.c:8:3: error: A call to built-in function 'abort' is not supported.", "cc: source.c:8: an end by abort or a trap"),
+    ("PLEASE submit a bug report\nerror: no more", "cc: clang broke off on source.c"),
     ("source.c:8:2: error: something else", "cc: source.c:8:2: error: something else"),
     ("source.c:5:1: error: A call to built-in function '__muldf3' is not.\nsource.c:8:2: error: else", "cc: source.c:5: floating point"),
 ]
@@ -682,6 +696,174 @@ def counted(place, words, wanted):
     return [] if found == wanted else [f"{found}, wanted {wanted}: {said[-300:]}"]
 
 
+# In place of what cc makes: it answers 1 where the first byte isn't 0, or where `wrong` is 7 if the second isn't. It makes the third the first.
+NATIVE = """\
+#!/bin/sh
+bytes() { set -- $(od -An -tu1 -N3 "$1"); one=$1 two=$2; }
+for it; do last=$it; done
+case $1 in
+--mend) [ -e mends ] || exit 3
+    bytes "$2"; printf "\\\\$(printf %o "$one")" | dd of="$2" bs=1 seek=2 conv=notrunc status=none; exit ;;
+--reads) echo "read 0 2"; exit ;;
+esac
+bytes "$last"
+[ "$one" = 0 ] || one=1
+[ ! -e wrong ] || [ "$two" = 0 ] || one=7
+echo "answer $one codes -"
+[ "$one" = 0 ]
+"""
+MAKES = "#!/bin/sh\nfor it; do last=$it; done\ncp native.sh \"$last\"; chmod +x \"$last\"\n"
+# It asks that the first two bytes are 0; or with `sums` that the third is the first.
+JUDGES = """\
+#!/bin/sh
+[ ! -e slow ] || { sleep 1000 & echo $! > sleeping; mv sleeping asleep; wait; }
+set -- $(od -An -tu1 -N3 "$1")
+if [ -e sums ]; then [ "$1" = "$3" ]; else echo "bytes $1 $2"; [ "$1$2" = 00 ]; fi
+"""
+FIRST_BYTE = "mov64 r1, 0; call 1; jne r0, 0, +2; mov64 r0, 9; exit; ldxb r0, [r0+0]; jeq r0, 0, +1; mov64 r0, 1; exit"
+AGAINST = ["source.c", "check", "out.bpf", "--mutants", "16", "--timeout", "60", "--against"]
+
+
+def against(place, crashbpf):
+    """What is said of a checker that is compared with a tool."""
+    code = assembled(crashbpf, place.folder, FIRST_BYTE)
+    place.holds("u64 check(void)\n{\n\treturn 0;\n}\n", elf([("check", code, False)]), listing_of(code))
+    place.tool("cc", MAKES)
+    place.tool("judge", JUDGES)
+    (place.folder / "native.sh").write_text(NATIVE)
+    (place.folder / "a.img").write_bytes(bytes(1024))
+    (place.folder / "b.img").write_bytes(bytes(1000) + b"\5" * 24)
+    yield from compared(place)
+    yield from not_compared(place)
+    for words, flag, end in (("kill -9 $$; true {}", None, "signal 9"), ("judge {}", "slow", "no answer in time")):
+        (place.folder / (flag or "nothing")).touch()
+        status, out, _ = place.run(*AGAINST[:3], "--mutants", "0", "--timeout", "5", "--against", words, "a.img")
+        line = f"good by the checker alone (checker: answer 0, tool: {end}): 1 of 1\n    1: a.img as it is\n"
+        yield f"a tool that ends with {end}", [] if status == 1 and out.endswith(line) and not place.left() else [f"{status} {out}"]
+        (place.folder / (flag or "nothing")).unlink()
+    stop = ((*AGAINST[3:], "judge {}", "a.img", "-j", "2"), lambda child: child.send_signal(signal.SIGTERM), (-signal.SIGTERM, ""))
+    yield hanging(place, "SIGTERM at a tool", stop, "slow")
+
+
+def compared(place):
+    """What is found by comparisons, and that it is the same by one process as by several."""
+    head = r"compared on 2 images and 16 mutants, seed 1(?:, most with their sums mended)?\n"
+    alone = head + r"good by both \d+, bad by both [1-9]\d*, good by the checker alone (\d+), good by the tool alone 0\n"
+    alone += r"good by the checker alone \(checker: answer 0, tool: status 1\): \1 of 18\n(    \d: [ab].img byte 1 \(sector 0\+1\) 00 -> ..; the tool: bytes 0 \d+\n)+$"
+    differ = head + r".*\n(?:.*\n)*the program and the native build differ \(answer 0, answer 7\): \d+ of 18\n"
+    differ += r"(    \d+: [ab].img byte 1 \(sector 0\+1\) 00 -> ..; the program: answer 0; the native build: answer 7 codes -\n)+"
+    differ += r"good by the checker alone \(checker: answer 0, tool: status 1\): \d+ of 18\n(    \d+: [ab].img byte 1 \(sector 0\+1\) 00 -> ..; the tool: bytes 0 \d+\n)+$"
+    mended = head + r".*, good by the tool alone (\d+)\n(.*\n)*good by the tool alone \(checker: answer 1, tool: status 0\): \1 of 18\n    \d: [ab].img byte 0 \(sector 0\+0\) 00 -> (..), mended byte 2 \(sector 0\+2\) 00 -> \3; the program: answer 1 codes -\n"
+    for name, flags, pattern, wanted in (
+        ("a tool that sees more", [], alone, 1),
+        ("a native build that answers otherwise", ["wrong"], differ, 1),
+        ("sums that are mended", ["mends", "sums"], mended, 1),
+    ):
+        for it in flags:
+            (place.folder / it).touch()
+        runs = [place.run(*AGAINST, "judge {}", "a.img", "b.img", "-j", it, "--keep", "kept") for it in ("2" if flags else "13")]
+        accepted_, _, out = runs[0][1].partition("\n")
+        good = runs[0] == runs[-1] and runs[0][0] == wanted and accepted_.startswith("accepted budget") and re.match(pattern, out)
+        kept = place.written("kept/1.img") or b""
+        good = good and len(kept) == 1024 and place.written("out.bpf")
+        yield f"compared: {name}", [] if good and not place.left() else [f"{it[0]} {it[1]} {it[2]}" for it in runs]
+        for it in flags:
+            (place.folder / it).unlink()
+    status, out, said = place.run(*AGAINST, "od -An -tu1 -N1 {} | grep -qx ' *0'", "a.img")
+    good = status == 0 and re.search(r"good by both \d+, bad by both \d+, good by the checker alone 0, good by the tool alone 0\n$", out)
+    yield "compared: a tool that agrees", [] if good and not said and place.written("out.bpf") else [f"{status} {out} {said}"]
+    drawn = [random.Random(f"{it} 0") for it in "112"]
+    first, again, other = (Drawer("1 2 3", 2, [0]).changed(bytes(1024), it) for it in drawn)
+    yield "compared: the seed tells the mutants", [] if first == again != other and len(other) == 1024 else ["others"]
+
+
+def not_compared(place):
+    """What isn't compared, and why."""
+    (place.folder / "odd.img").write_bytes(bytes(1000))
+    (place.folder / "out.bpf").write_bytes(bytes(512))
+    for words, line in (
+        (["judge", "a.img"], "cc: the command of --against has no {}: judge"),
+        (["judge {}"], "cc: --against has no image after its command"),
+        (["judge {}", "odd.img"], "cc: the image odd.img has 1000 bytes, and has to be 1 to 16384 sectors of 512"),
+        (["judge {}", "no.img"], "cc: the image no.img can't be read: No such file"),
+        (["judge {}", "."], "cc: the image . "),
+        (["juge {}", "a.img"], "cc: the command of --against can't be run: sh: 1: juge: not found"),
+    ):
+        status, out, said = place.run(*AGAINST, *words)
+        good = status == 2 and said.startswith(line) and not place.written("out.bpf") and not place.left()
+        yield f"not compared: {' '.join(words)}", [] if good else [f"{status} {out} {said}"]
+    (place.folder / "checker.img").write_bytes(bytes(512))
+    found = place.run(*AGAINST[:2], "checker.img", *AGAINST[3:], "judge {}", "checker.img")
+    yield "an image that would be overwritten", [] if found[0] == 2 and "cc: checker.img is an image of --against" in found[2] else [str(found)]
+    for words in ("--mutants 5", "-j 2", "--seed x", "--keep x", "--marks 1"):
+        found = place.run(*AGAINST[:3], *words.split())
+        yield f"{words} without a tool", [] if found[0] == 2 and "stand beside --against" in found[2] else [str(found)]
+    for words in ("-j 0", "--mutants x", "--epoch 10001"):
+        found = place.run(*AGAINST, "judge {}", "a.img", *words.split())
+        yield f"{words} with a tool", [] if found[0] == 2 and "isn't a number from" in found[2] else [str(found)]
+
+
+def smallest_parts():
+    """What is wrong with the smallest parts that are found: those of which no change can be left out, by trying all of them."""
+    rng = random.Random("parts")
+    for number in range(200):
+        changes = list(range(rng.randrange(1, 14)))
+        wanted = [set(rng.sample(changes, rng.randrange(len(changes) + 1))) for _ in range(rng.randrange(3))] + [set(changes)]
+        by_more = rng.random() < 0.5
+        holds = lambda part: any(it <= set(part) if by_more else it == set(part) for it in wanted)
+        search = smallest(changes, 1000)
+        try:
+            parts = next(search)
+            while True:
+                parts = search.send([holds(it) for it in parts])
+        except StopIteration as end:
+            part, known = end.value
+        less = [it for it in range(len(part)) if holds(part[:it] + part[it + 1 :])]
+        if not (known and holds(part) and not less):
+            yield "smallest parts", [f"{part} of {changes}, {wanted}"]
+    yield "smallest parts", []
+
+
+# A text, and what becomes of its calls by a table of functions, where I is the index and A the argument of a number; or none. In front of
+# it stand the functions f, g and h.
+THREE = "T f(u64 n) { } T g(u64 n) { } T h(u64 n) { } "
+OTHER = "({ END (__typeof__(f(GIVEN)))0; })"
+TABLES = [
+    ("T (*const t[])(u64) = { f, &g, (h), }; T k() { return t[x](y + 1); }", "({ I = (x); A0 = (y + 1); I == 2 ? h(A0) : I == 1 ? g(A0) : I == 0 ? f(A0) : OTHER; })", "A0"),
+    ("F t[9] = { [B] = f, g, [7 ... 9] = h, 0 }; T k() { t[x](); }", "({ I = (x); I == (9) + 1 ? OTHER : I >= (7) && I <= (9) ? h() : I == (B) + 1 ? g() : I == (B) ? f() : OTHER; })", ""),
+    ("T k() { static F t[] = { f }; return (*t[x])(y, p(1, 2), z); }", "({ I = (x); A0 = (y); A1 = ( p(1, 2)); A2 = ( z); I == 0 ? f(A0, A1, A2) : OTHER; })", "A0, A1, A2"),
+    ("F t[] = { f }; T k() { return t[t[1](2)](3); }", "({ I = (({ I = (1); A0 = (2); I == 0 ? f(A0) : OTHER; })); A0 = (3); I == 0 ? f(A0) : OTHER; })", "A0"),
+    ("F t[] = { f }; T k() { if (x < sizeof(t) / sizeof t[0]) return t[x](y); }", "({ I = (x); A0 = (y); I == 0 ? f(A0) : OTHER; })", "A0"),
+    *((text, None, "") for text in (
+        "F t[] = { f }; T k() { F p = t[x]; return p(y); }",
+        "F t[] = { f }; T k() { return t[x](y) + p(t); }",
+        "F t[] = { f }; T k() { return t[x](y) + s->t[x](y) + *t; }",
+        "F t[] = { f }; T k(u64 t) { return t[x](y); }",
+        "F t[] = { f }; T k() { T (*t[4])(u64); return t[x](y); }",
+        "F t[] = { f }; T k() { return x * (*t[x])(y); }",
+        "F t[] = { f, (F)g }; T k() { return t[x](y); }",
+        "F t[] = { f, 3 }; T k() { return t[x](y); }",
+        "F t[] = { 0 }; T k() { return t[x](y); }",
+        "F t[2][1] = { { f }, { g } }; T k() { return t[x][0](y); }",
+        "F t[] = { f }, *p = t; T k() { return t[x](y); }",
+        "F t[] = { f }; T k() { return s.t[x](y); }",
+    )),
+]
+
+
+def tables():
+    """What becomes of calls by tables of functions."""
+    for text, wanted, given in TABLES:
+        source = Source(THREE + text)
+        found = function_tables(source)
+        edited = source.edited(list(edits_of(source, found, lambda table: "END"))).removeprefix(THREE)
+        for old, new in (("unsigned long long crashbpf_index_", "I"), ("__auto_type ", ""), ("crashbpf_index_", "I")):
+            edited = edited.replace(old, new)
+        edited = re.sub(r"crashbpf_argument_(\d+)_", r"A\1", edited).replace(OTHER.replace("GIVEN", given), "OTHER")
+        good = wanted in edited and "END" not in edited if wanted else edited == text
+        yield f"a table of functions: {text}", [] if good else [edited]
+
+
 def outputs(place, code):
     """Names of sources and outputs."""
     text, object_ = "u64 check(void)\n{\n\treturn 0;\n}\n", elf([("check", code, False)])
@@ -714,6 +896,8 @@ def rows(crashbpf, folder):
     yield from calls(crashbpf, folder)
     yield from divisions(crashbpf, folder)
     yield from statics()
+    yield from smallest_parts()
+    yield from tables()
     place = Place(folder, crashbpf)
     yield from memory(place, crashbpf)
     yield from lines_of_calls(place, crashbpf)
@@ -723,6 +907,7 @@ def rows(crashbpf, folder):
     yield from stopped(place, code)
     yield from accepted(place, crashbpf)
     yield from ways(place, crashbpf)
+    yield from against(place, crashbpf)
     yield from outputs(place, code)
 
 

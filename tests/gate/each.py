@@ -29,7 +29,8 @@ import rooms
 rooms.enter()
 
 import report_model
-from commands.each import faults, stream
+from commands.each import stream
+from commands.shared import faults, recording
 from designs import DESIGNS
 from model import Run, escaped
 from notation import MARK, TOP, D, F, M, S, W, log
@@ -165,6 +166,38 @@ def tells_verdicts(folder):
         found += ended(f"--first {limit}", done, 1, report(SMALL, program, lambda of: "answer 1 codes -" if of.cut >= limit else None, True))
     done = each(folder, ["--first", *words], ["true"])
     return found + ended("--first", done, 0, report(SMALL, ["true"], lambda of: None, True))
+
+
+# A map of one file, of 700 bytes, on a device of four sectors.
+MAP = "crashbpf files 1\nsectors 4\nfirst 0 sectors 2 length 700 name db\nend\n"
+
+
+def takes_recordings(folder):
+    """What is wrong where a folder of a recording stands in place of a log, with a map of files and without one."""
+    run, found = Run([W(0, 2, 1), F, M("one"), W(0, 1, 2)], by="write", base=bytes(range(256)) * 4), []
+    put(folder, run)
+    Path(folder, "it").mkdir()
+    for name, to in (("disk.log", recording.LOG), ("base", "base.img")):
+        shutil.move(Path(folder, name), Path(folder, "it", to))
+    Path(folder, "it/files.txt").write_text(MAP)
+    text = 'od -A n -t x1 -N 1 -j 512 "$1"; [ "$(wc -c < "$1")" = 2048 ]'
+    for given, judge, options in (
+        (None, sh_words(text), run),
+        ("files.txt", ["sh", "-c", '[ "$(wc -c < db)" = 700 ] && [ "$PWD" = "$FILES" ]'], run),
+        ("files.txt", ["./false"], Run(run.recorded, by="write", base=run.base, bound=2)),
+    ):
+        recording.Recording(str(Path(folder, "it")), 4, base="base.img", map=given).write()
+        Path(folder, "false").write_text("#!/bin/sh\nexit 1\n")
+        Path(folder, "false").chmod(0o755)
+        done = each(folder, ["it", *(["--bound", "2"] if options.bound == 2 else [])], judge)
+        words = [re.search(r"outside (\S+)", done.stdout)[1], "it/files.txt", "{}", "--", *judge] if given else judge
+        words = [f"{folder}/false" if it == "./false" else it for it in words]
+        says = "answer 1 codes -" if judge == ["./false"] else None
+        found += ended(f"{judge}", done, 1 if says else 0, report(options, words, lambda of: says))
+    for text, says in (("", "it/recording.json can't be read"), ("{}", "it/recording.json is of another version"), ('{"version": 1, "sectors": 4}', "it/recording.json can't be read")):
+        Path(folder, "it/recording.json").write_text(text)
+        found += refused(repr(text), each(folder, ["it"], ["true"]), says)
+    return found
 
 
 def image_blocks(path):
@@ -453,7 +486,7 @@ REFUSED = {
     "disk.log --sectors base --base . -- true": "--sectors base wants a file of whole sectors of 512 bytes after --base",
     "disk.log --sectors=base --base /dev/null -- true": "--sectors base wants a file of whole sectors of 512 bytes after --base",
     "absent --sectors 4 -- true": ".*No such file.*absent",
-    ". --sectors 4 -- true": "",
+    ". --sectors 4 -- true": r"\. is no folder of crashbpf-record: it has no recording\.json",
     "/dev/null --sectors 4 -- true": "/dev/null is no regular file",
     "-j 0 disk.log --sectors 4 -- true": "-j is 1 to 64",
     "-j 65 disk.log --sectors 4 -- true": "-j is 1 to 64",
@@ -545,6 +578,7 @@ def rows():
     yield "a run without images", lambda folder: gives_images_of_none(folder)
     yield "images of a large device", gives_large
     yield "images of a device as large as its base", gives_sized
+    yield "folders of recordings", takes_recordings
     yield "verdicts", tells_verdicts
     yield "a log of two slots", gives_design
     yield "reports that go back to why, page and cure", goes_back

@@ -2,18 +2,21 @@
 import contextlib
 import os
 import select
+import shutil
 import signal
 import time
 from typing import NamedTuple
 
-from commands.each.faults import Refusal
-from commands.each.verdicts import TIMED_OUT, Verdict
+from commands.shared.faults import Refusal
+from commands.shared.verdicts import TIMED_OUT, Verdict
 
 # How much of what a program prints is kept, and how long the end of what it left running may take.
 MOST_SAID = 1 << 16
 PATIENCE = 10.0
 # These are at their default in a program, though this one, or what started it, has them otherwise.
 RESET = (signal.SIGINT, signal.SIGTERM, signal.SIGHUP, signal.SIGQUIT, signal.SIGPIPE, signal.SIGXFSZ)
+# By which a process becomes the parent of those that its children leave.
+PR_SET_CHILD_SUBREAPER = 36
 
 
 class Ended(NamedTuple):
@@ -27,6 +30,16 @@ class Ended(NamedTuple):
 
 class Gone(Exception):
     """Nobody waits for the verdict any more."""
+
+
+def adopt():
+    """Lets what the program leaves running become a child of this process, so that it can be ended."""
+    try:
+        import ctypes
+
+        ctypes.CDLL(None).prctl(PR_SET_CHILD_SUBREAPER, 1, 0, 0, 0)
+    except (ImportError, OSError, AttributeError):
+        pass
 
 
 def start(words, surroundings, output, nothing):
@@ -142,3 +155,14 @@ def run(words, surroundings, seconds, hang_up, nothing):
         return Ended(verdict, said.kept, said.more, left and in_time)
     finally:
         os.close(reading)
+
+
+def tidy(folder, kept=()):
+    """Takes away what a program left in a folder, but what has one of these names."""
+    for it in os.scandir(folder):
+        if it.name in kept:
+            continue
+        if it.is_dir(follow_symlinks=False):
+            shutil.rmtree(it.path)
+        else:
+            os.unlink(it.path)
