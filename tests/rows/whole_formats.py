@@ -4,6 +4,7 @@ their logs, each a trace beside its report, and what those of databases answer w
 The reports are by model.py and machine_model.py; stored.py writes them. Places and answers of changes were written down by hand.
 """
 import struct
+import zlib
 from dataclasses import dataclass, replace
 
 import machine_model
@@ -55,6 +56,13 @@ FORMATS = {
         7,
         4400,
         {"right": {"bound": 2, "first": 4}, "entry_first": {"first": 4}, "freed_first": {"first": 4}},
+    ),
+    # Entry 4 is the mark that the table is there.
+    "gpt": Format(
+        10_838_310,
+        8,
+        2048,
+        {"right": {"bound": 2, "first": 5}, "no_flush": {"bound": 2, "first": 5}, "headers_first": {"first": 5}},
     ),
 }
 
@@ -229,6 +237,42 @@ def changed(name):
         run = Run([S(0, bytes(device)), *marks], it.sectors, cuts="mark", bound=0, first=1 + len(marks))
         wanted = explored(run, [Checker(about(name), lambda image, found=(answer, codes.split(",")): found)])
         yield explore(f"checkers/{name}, change {number}", f"{run.options()} --guards", run.recorded, code, wanted, int(answer != 0))
+
+
+def with_sums(first, entries):
+    """Changes of both copies of a partition table: of bytes of the headers, by place, and of entries, by number: the first and the last
+    sector of a partition. All sums are right."""
+    content = last_image("gpt")
+    for header, table in GPT_COPIES:
+        for number, places in entries.items():
+            content[table + 128 * number : table + 128 * number + 48] = b"\1" * 32 + struct.pack("<2Q", *places)
+        for place, piece in first.items():
+            content[header + place : header + place + len(piece)] = piece
+        content[header + 88 : header + 92] = u32(zlib.crc32(content[table : table + TABLE]))
+        content[header + 16 : header + 20] = bytes(4)
+        content[header + 16 : header + 20] = u32(zlib.crc32(content[header : header + 92]))
+    return {at: bytes(content[at : at + size]) for it in GPT_COPIES for at, size in zip(it, (SECTOR, TABLE))}
+
+
+# Sector 1 with its table from sector 2 on, and sector 2,047 with one from 2,015 on.
+GPT_COPIES, TABLE = ((SECTOR, 2 * SECTOR), (2047 * SECTOR, 2015 * SECTOR)), 128 * 128
+(FIRST, FIRST_TABLE), (SECOND, SECOND_TABLE) = GPT_COPIES
+
+# Of each with an answer sgdisk -v says that no copy is whole, or what is wrong with its partitions or its sectors for them; but not that
+# the last of these is that of the second header. Of each with 0 it says that a copy is whole.
+CHANGED["gpt"] = [
+    ({}, 0, "-"),
+    ({FIRST: b"e", SECOND + 100: b"e"}, 0, "-"),
+    ({FIRST: b"e", SECOND + 56: b"e"}, 1, "-"),
+    ({FIRST: b"e", SECOND_TABLE + TABLE - 1: b"e"}, 1, "-"),
+    ({FIRST_TABLE + 200: b"e"}, 0, "-"),
+    (with_sums({}, {1: (33, 1535)}), 4, "2"),
+    (with_sums({}, {1: (1024, 1023)}), 4, "2"),
+    (with_sums({}, {0: (64, 1024)}), 5, "2"),
+    (with_sums({40: u64(33)}, {}), 3, "-"),
+    (with_sums({48: u64(2047)}, {}), 3, "-"),
+    (with_sums({8: u32(0x10001)}, {}), 2, "-"),
+]
 
 
 def zeros(marks):
