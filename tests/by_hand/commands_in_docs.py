@@ -22,7 +22,7 @@ its blocks run.
 
 For each block a line says the document, its line, with which status it ended and after how many seconds, or why it wasn't run: NOT_RUN
 has the reasons. It failed where a command of it did, or where a line that is shown wasn't printed. A status of 1 of crashbpf,
-crashbpf-each or a native checker is no failure, as that is their verdict on images. The last line is `N passed, M failed`.
+crashbpf-each, crashbpf-test, crashbpf-cc --against or a native checker is no failure: it is their verdict on images. The last line is `N passed, M failed`.
 """
 import argparse
 import base64
@@ -54,7 +54,7 @@ KERNEL = ["--kernel", "qemu-system-x86_64", "busybox", "cpio", "mkfs.ext4", "dms
 FUSE = ["qemu-storage-daemon", "/dev/fuse", *(["fusermount3"] if os.getuid() else [])]
 # What a copy of the repository has, and which of its folders are on the path, as a package has what is in them.
 COPIED = ("commands", "include", "examples", "tools")
-ON_PATH = ("crates/crashbpf/out", "commands/cc", "commands/each", "commands/record")
+ON_PATH = ("crates/crashbpf/out", "commands/cc", "commands/each", "commands/record", "commands/test")
 # Why blocks with these words aren't run, and the programs with which they are all the same: none, where nothing here suffices. Of several
 # rows that fit a block the first one counts.
 NOT_RUN = {
@@ -70,6 +70,7 @@ NOT_RUN = {
     r"recovery/lmdb": ("it needs strace and Debian's python3-lmdb", ["strace", "import lmdb"]),
     r"saving/|loose": ("it needs strace", ["strace"]),
     r"crashbpf-record|recorded/|named/": ("it needs strace and sqlite3", ["strace", "sqlite3"]),
+    r"--against": ("it needs clang, its llvm-objdump, cc and e2fsck", ["clang", "llvm-objdump", "cc", "e2fsck"]),
     r"e2fsck": ("it needs e2fsck", ["e2fsck"]),
     r"crashbpf-cc|\bcc -g": ("it needs clang and its llvm-objdump", ["clang", "llvm-objdump"]),
 }
@@ -124,7 +125,7 @@ sed -i "s/ORDER/$order/" guest/init && chmod +x guest/init
 GUEST="-m 256 -nodefaults -display none -no-reboot -kernel $(echo kernel/boot/vmlinuz-*) -initrd guest.initrd -append panic=-1"
 """
 # Where a command fails: 1 is what a judge says of failing images.
-JUDGES = r"(^|[ (;])crashbpf(-each)? |^\./check "
+JUDGES = r"(^|[ (;])crashbpf(-each|-test)? |^crashbpf-cc .* --against |^\./check "
 ON_FAILURE = """\
 last=$?
 [[ $last = 1 && $BASH_COMMAND =~ $judges ]] || {{ worst=$last; echo "status $last of $BASH_COMMAND" >> "{said}/$at.wrong"; }}

@@ -117,7 +117,7 @@ def holds(made):
         begin = "./usr/" if kind == ".deb" else f"{path.name.removesuffix('.tar.gz')}/"
         names[kind] = {it.name.removeprefix(begin).replace("vendor-completions", "site-functions") for it in members if it.isfile()}
     found += differs("what one of both alone holds", names[".deb"] ^ names[".gz"], {"README.md"})
-    wanted = {"bin/crashbpf", "bin/crashbpf-cc", "bin/crashbpf-record", "bin/crashbpf-files", "share/man/man1/crashbpf.1.gz", "share/doc/crashbpf/copyright"}
+    wanted = {"bin/crashbpf", "bin/crashbpf-cc", "bin/crashbpf-record", "bin/crashbpf-files", "bin/crashbpf-test", "share/man/man1/crashbpf.1.gz", "share/doc/crashbpf/copyright"}
     wanted |= {"share/bash-completion/completions/crashbpf", "share/fish/vendor_completions.d/crashbpf.fish", "share/zsh/site-functions/_crashbpf"}
     shown = ("README.md", "CONTRIBUTING.md", "docs/COMMANDS.md", "docs/OUTPUT.md", "docs/REFUSALS.md", "docs/page.png", "include/checker.h", "examples/tree/root.c", "examples/tree/wrong.log", "examples/saving/save.sh", "commands/record/trace_log.py")
     shown += tuple(f"examples/many_machines/{it}" for it in ("README.md", "lay_out", "run_part", "join_all", "array.sh"))
@@ -253,6 +253,12 @@ def runs(path, install, prefix, folder):
     return found + wrong + differs("what is told with the checker compiled anew", slots.sub("", again), slots.sub("", told))
 
 
+def shown_of_settings():
+    """The lines that README.md shows of the program that saves settings, in the form of `unprinted`."""
+    block = (TOP / "README.md").read_text().partition("    crashbpf-test --check ")[2].partition("```\n")[2].partition("```")[0]
+    return [re.sub(r" \.\.\.$", "..", it) for it in block.splitlines() if it.strip(".")]
+
+
 # What of the system the package's own README.md may use.
 NEEDED = ("sh", "python3", "strace", "cp", "dirname", "readlink", "env", "yes", "head", "mv", "sync", "tr", "cmp", "cat")
 
@@ -287,7 +293,7 @@ def begins(path, folder):
                 found += [f"{command} says {done.stderr[-300:]}"] if done.returncode > 1 else []
                 told += done.stdout
         told += (empty / "report").read_text()
-    return found + unprinted(column("It prints"), told)
+    return found + unprinted(shown_of_settings(), told)
 
 
 # What bash completes after words, the last of which is begun; as the help of the commands has it.
