@@ -20,8 +20,8 @@ from commands.cc.shrinking import smallest
 AGREE, DISAGREE = 0, 1
 MUTANTS, MOST_MUTANTS, MOST_PROCESSES = 500, 1000000, 256
 SMALL_DEVICE, LARGE_DEVICE = 16384, 33554432
-# Of so many kinds of differences some mutants are made small, and of each so many. At most so many parts of one are tried; fewer where each
-# takes as long as may be.
+# The most kinds of differences of which mutants are made small, the most mutants of each, and the most parts of one that are tried; fewer
+# where each takes as long as may be.
 KINDS, SHRUNK, MOST_TRIED, MOST_SLOW = 12, 6, 400, 20
 # What a shell ends with where it finds no command, or one that can't be run.
 NOT_FOUND = ("status 126", "status 127")

@@ -13,7 +13,7 @@ from commands.cc.work import NotRun
 from commands.record.trace_log import MAGIC, header
 
 FLUSH, MARK = 1, 8
-# A log may have 65,536 entries and 64 MiB. No image is added after so many, or so many bytes of data.
+# A log may have 65,536 entries and 64 MiB. No image is added after these numbers of entries, and of bytes of data.
 MOST_ENTRIES, MOST_BYTES = 45000, 32 << 20
 LINE = re.compile(r"^image \d+ cut (\d+) program 0 (.*) choice ", re.M)
 SLOT = re.compile(r"stray at slot (\d+)")

@@ -35,7 +35,7 @@ def filled_sectors(image):
 
 
 class Drawer:
-    """Draws changes for a checker of this source, of images of so many sectors. Most is done to sectors that are `filled`, and where the
+    """Draws changes for a checker of this source, of images that have `sectors` sectors. Most is done to sectors that are `filled`, and where the
     checker reads: `reads` are such places with their lengths, in the order in which it does."""
 
     def __init__(self, source, sectors, filled, reads=()):

@@ -67,7 +67,7 @@ class Work:
         self.child = None
 
     def run(self, words, text="", seconds=None):
-        """Runs a program with this text as its input, for so many seconds in place of the usual ones."""
+        """Runs a program with this text as its input. `seconds` is how long it may run, in place of the usual time."""
         words = [str(it) for it in words]
         pipes = dict.fromkeys(("stdin", "stdout", "stderr"), subprocess.PIPE)
         # A source may be in any encoding: its bytes come out as they went in.

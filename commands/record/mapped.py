@@ -16,7 +16,7 @@ from dataclasses import replace
 from commands.record.calls import Call, Refused, shown
 from commands.record.disk import SECTOR
 from commands.record.files import Flight, Opened
-from commands.record.known import OPENS, READS, SYNCS, WRITES
+from commands.record.known import COPIES, OPENS, READS, SYNCS, WRITES
 from commands.record.looks import MOST, PAGE, RECORD
 from commands.record.listening import NUMBER
 from commands.record.told import quoted
@@ -24,7 +24,6 @@ from commands.record.told import quoted
 CHUNK = 1 << 20
 # Calls on a descriptor that change no byte of its file, and those that may write a file that isn't the one of their first descriptor.
 QUIET = {*READS, *SYNCS, "preadv2", "lseek", "msync"}
-COPIES = ("copy_file_range", "sendfile", "sendfile64", "splice")
 FOREIGN = f"writes to its descriptor {NUMBER}, where --mapped has strace's text, so strace doesn't see it; a setting with fewer open files; the guest"
 TOO_LARGE = f"the mapped files have more than {MOST >> 20} MiB, holes left out; a smaller map; --skip takes a file that recovery doesn't need; the guest"
 

@@ -142,7 +142,7 @@ def words_of(call):
 
 
 def short(words):
-    """Words of a program, so many as a line has room for."""
+    """Words of a program, cut off where a line has no room for more."""
     return words if len(words) <= SHORT else f"{words[: SHORT - 2]}.."
 
 
