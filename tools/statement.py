@@ -59,7 +59,7 @@ PROMISES = [
     (
         "`why` counts just these images, and names the fewest flushes for all that flushes help against.",
         [
-            ("runs", "why", "explained"),
+            ("runs", "run_with", "told"),
             ("losses", "places_are_fewest", ""),
             ("losses", "flush_takes_away", ""),
             ("losses", "no_flush_helps", ""),
@@ -98,7 +98,7 @@ LEFT_OUT = [
         "parts of a run (`--images`), added flushes (`--flush`) and the number of the initial content",
         [
             ("report", "Part", "span_report"),
-            ("runs", "Inputs", "inputs_number"),
+            ("request", "Inputs", "inputs_number"),
             ("logfmt", "Flushed", "with_flushes"),
             ("epochs", "Flushes", "places_of"),
             ("images", "Number", "initial_number"),
@@ -119,6 +119,11 @@ LEFT_OUT = [
         "the page, and the groups of `why` with what they end in",
         [("runs", "Paged", "IsPageOf"), ("losses", "CountedGroups", "AreGrouped ends_as"), ("losses", "ProgramOutcomes", "outcomes_failing")],
         "no promise of the list is of them",
+    ),
+    (
+        "cures, run by run",
+        [("runs", "Cured", "IsCured IsCasesCured")],
+        "the call that answers `why` answers these too, where they are asked for. The fifth promise is of `why`",
     ),
 ]
 # The crates whose definitions say what the program answers, and what its words ask for.

@@ -23,6 +23,8 @@ class Report:
 
     def __init__(self):
         self.lines, self.count, self.first = tempfile.TemporaryFile(), 0, None
+        # The number that says of which log and options it is. The report of the first failing image alone doesn't say that.
+        self.inputs = None
 
     def add(self, number, cut, choice, verdict):
         """Adds the failing line of an image."""
@@ -37,7 +39,8 @@ class Report:
         else:
             last = f"images {total} failing {self.count} lines {self.count}\n"
         out = sys.stdout.buffer
-        out.write(f"{TITLE}{options}\nprogram 0 outside {told(given.program)}\n".encode())
+        said = "" if given.first else f"inputs {self.inputs} programs 1\n"
+        out.write(f"{TITLE}{said}{options}\nprogram 0 outside {told(given.program)}\n".encode())
         self.lines.seek(0)
         shutil.copyfileobj(self.lines, out)
         out.write(last.encode())

@@ -1,5 +1,7 @@
-"""The text of `crashbpf export`: a line for each image, and of each new one what it changes on the device.
+"""The text of `crashbpf export`: of which log and options it is, a line for each image, and of each new one what it changes on the device.
 
+    inputs 15231894031046571253
+    ..
     image 13 cut 4 epoch 0 marks 1 choice 2.0:drop new 3
     (three records: a sector's number, 8 bytes with the lowest first, and its 512 bytes)
     image 14 cut 4 epoch 0 marks 1 choice 2.1:drop same 13
@@ -17,6 +19,7 @@ SECTOR = 512
 RECORD = 8 + SECTOR
 LONGEST = 4096
 N = rb"(0|[1-9]\d*)"
+HEAD = re.compile(rb"inputs %s\n" % N)
 LINE = re.compile(rb"image %s cut %s epoch %s marks %s choice ([!-~]+) (new|same) %s\n" % ((N,) * 5))
 LAST = re.compile(rb"total %s new %s\n" % (N, N))
 
@@ -47,8 +50,16 @@ def records_of(file, count, sectors, number):
     return found
 
 
+def inputs(file):
+    """Returns the number that says of which log and options an export is: its first line has it, as digits."""
+    found = HEAD.fullmatch(file.readline(LONGEST))
+    if found is None:
+        raise cut_off(0)
+    return found[1].decode()
+
+
 def images(file, sectors, total):
-    """Yields the images of an export, and after them tests its last line, which has to count all that were there."""
+    """Yields the images of an export after its first line, and after them tests its last line, which has to count all that were there."""
     number, marks_of = 0, {}
     while True:
         line = file.readline(LONGEST)

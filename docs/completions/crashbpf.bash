@@ -11,7 +11,7 @@ _crashbpf() {
     *\ explore\ --by) words='sector write' ;;
     *\ explore\ --base) : ;;
     *\ explore\ --sectors|*\ explore\ --flush|*\ explore\ --from|*\ explore\ --to|*\ explore\ --bound|*\ explore\ --workers|*\ explore\ --cache|*\ explore\ --checked|*\ explore\ --torn|*\ explore\ --at-most|*\ explore\ --images) return ;;
-    *\ explore\ *) [[ $word != -* ]] || words='--sectors --large --flush --base --cuts --from --to --bound --tears --by --workers --cache --checked --guards --progress --torn --at-most --first --images -h --help' ;;
+    *\ explore\ *) [[ $word != -* ]] || words='--sectors --large --flush --base --cuts --from --to --bound --tears --by --workers --cache --checked --guards --progress --torn --at-most --first --inputs --images -h --help' ;;
     *\ why\ --cuts) words='all flush mark' ;;
     *\ why\ --by) words='sector write' ;;
     *\ why\ --base|*\ why\ --report) : ;;

@@ -37,6 +37,7 @@ complete -c crashbpf -n '__fish_seen_subcommand_from explore' -l progress -d 'Sa
 complete -c crashbpf -n '__fish_seen_subcommand_from explore' -l torn -x -d 'With --bound any and --tears, how many of them may be torn, 1 to 3 [default: 1]'
 complete -c crashbpf -n '__fish_seen_subcommand_from explore' -l at-most -x -d 'With --bound any, how many of them may be lost or torn, 1 to 64 [default: any number]'
 complete -c crashbpf -n '__fish_seen_subcommand_from explore' -l first -d 'Report the first failing image, or with --bound any case, alone'
+complete -c crashbpf -n '__fish_seen_subcommand_from explore' -l inputs -d 'Say in the report\'s second line of which log, options and number of programs it is, so that --report takes it with these alone'
 complete -c crashbpf -n '__fish_seen_subcommand_from explore' -l images -x -d 'Judge the images from A to below B alone, and print the text of a part, for \'join\''
 complete -c crashbpf -n '__fish_seen_subcommand_from explore' -s h -l help -d 'Print help'
 complete -c crashbpf -n '__fish_seen_subcommand_from explore' -F

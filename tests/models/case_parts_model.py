@@ -32,7 +32,7 @@ from parts_model import NUMBER, NUMBERS, below, is_program, joined
 FIRST = "crash cases 1"
 INPUTS = re.compile(f"inputs ({NUMBER})")
 OPTIONS = re.compile(
-    f"(?P<device>sectors (?P<sectors>{NUMBER}) entries (?P<entries>{NUMBER}) cuts (?:all|flush|mark) bound any tears (?:no|yes torn (?P<torn>[123])))"
+    f"(?P<device>sectors (?P<sectors>{NUMBER}) entries (?P<entries>{NUMBER}) cuts (?P<cuts>all|flush|mark) bound any tears (?:no|yes torn (?P<torn>[123])))"
     f"(?: at-most (?P<most>{NUMBER}))?(?P<by> by write)?(?: flush (?P<flush>{NUMBERS}))?(?: from (?P<from>{NUMBER}))?(?: to (?P<to>{NUMBER}))?"
     f"(?: base (?P<base>{NUMBER}))?"
 )
@@ -41,7 +41,7 @@ CASE = re.compile(
     f"(?:answer (?P<answer>{NUMBER}) codes (?P<codes>-|{NUMBERS})|fault 8[0-8] slot (?P<slot>{NUMBER})|stray at slot (?P<stray>{NUMBER})|out of steps)"
     f" choice (?P<choice>[^ ]+) kept (?P<kept>[^ ]+)(?: among (?P<among>[^ ]+))? free (?P<free>{NUMBER}) flush (?:(?P<first>{NUMBER})[.][.](?P<last>{NUMBER})|none)"
 )
-TOTALS = re.compile(f"cuts ({NUMBER}) cases ({NUMBER}) failing ({NUMBER}) torn beyond ({NUMBER}) lost beyond ({NUMBER})( complete)?")
+TOTALS = re.compile(f"cuts ({NUMBER}) cases ({NUMBER}) failing ({NUMBER}) torn beyond ({NUMBER}) lost beyond ({NUMBER})( complete| of these cuts)?")
 MOST_CASES = 1 << 24
 MOST_FILES, MOST_BYTES = 4096, 1 << 30
 
@@ -129,14 +129,21 @@ def read_options(line):
     return found if right and first <= last <= entries and len(flushes) <= 64 and all(it < entries for it in flushes) else None
 
 
-def read_totals(line, lines, span):
+def extent_of(cuts, given, torn, lost):
+    """What the last line says where no case was left out: whether each cut of the log was asked for, by the kind of the cuts and their range."""
+    if torn or lost:
+        return ""
+    return " complete" if cuts == "all" and given == (None, None) else " of these cuts"
+
+
+def read_totals(line, lines, options, span):
     """The numbers of the last line, where they are such as these lines may have."""
     found = TOTALS.fullmatch(line)
     if not found:
         return None
     cuts, total, failing, torn, lost = map(int, found.groups()[:5])
     right = failing == len(lines) <= total <= MOST_CASES and cuts <= span[1] - span[0] + 1 and below(64, torn, lost)
-    enough = cuts >= len({int(it["cut"]) for it in lines}) and (found[6] is not None) == (torn == lost == 0)
+    enough = cuts >= len({int(it["cut"]) for it in lines}) and (found[6] or "") == extent_of(options["cuts"], (options["from"], options["to"]), torn, lost)
     return (cuts, total, failing, torn, lost) if right and enough else None
 
 
@@ -165,7 +172,7 @@ def read_cases(text):
     marks = [tuple(int(it[word]) for word in ("cut", "program", "case")) for it in found]
     places = {(it["cut"], it["epoch"], it["marks"]) for it in found}
     rising = all(one < other for one, other in zip(marks, marks[1:])) and len(places) == len({cut for cut, _epoch, _marks in places})
-    totals = read_totals(lines[-2], found, span)
+    totals = read_totals(lines[-2], found, options, span)
     if not rising or not totals:
         return None
     without = re.sub(r" (?:from|to) [0-9]+", "", lines[1])
@@ -177,8 +184,8 @@ def text_of(inputs, options, given, programs, lines, totals):
     words = "".join(f" {word} {it}" for word, it in zip(("from", "to"), given) if it is not None)
     before, base, number = options.partition(" base ")
     cuts, total, failing, torn, lost = totals
-    complete = "" if torn or lost else " complete"
-    last = f"cuts {cuts} cases {total} failing {failing} torn beyond {torn} lost beyond {lost}{complete}"
+    extent = extent_of(OPTIONS.fullmatch(options)["cuts"], given, torn, lost)
+    last = f"cuts {cuts} cases {total} failing {failing} torn beyond {torn} lost beyond {lost}{extent}"
     return "".join(f"{it}\n" for it in (FIRST, *([] if inputs is None else [f"inputs {inputs}"]), before + words + base + number, *programs, *lines, last))
 
 

@@ -290,7 +290,8 @@ def cases(run, checkers, losses=ANY, inputs=None):
                 lines += "" if good else case_line(case, program, number, ending)
                 failing += not good
             total, torn, lost = total + len(found.leaves), torn + found.torn_beyond, lost + found.lost_beyond
-    complete = "" if torn or lost else " complete"
+    is_whole = run.cuts == "all" and run.first is None and run.last is None
+    complete = "" if torn or lost else " complete" if is_whole else " of these cuts"
     totals = f"cuts {len(cuts)} cases {total} failing {failing} torn beyond {torn} lost beyond {lost}{complete}\n"
     text = head(run, checkers, losses) + lines + totals
     if run.first is None and run.last is None:

@@ -17,7 +17,7 @@ import rooms
 
 rooms.enter()
 
-from model import Run
+from model import Run, number_of_report
 from notation import FLUSH, FUA, SECTOR, random_entry
 
 # A record: the number of a sector, and its bytes.
@@ -44,7 +44,7 @@ def initial(run):
 def exported(run, first=0, last=None):
     """The text of the images from `first` to before `last`."""
     images = list(run.images())[first:last]
-    shown, told, text = initial(run), [], b""
+    shown, told, text = initial(run), [], f"inputs {number_of_report(run)}\n".encode()
     for image in images:
         content, marks = image.content(), image.marks()
         text += f"image {image.number} cut {image.cut} epoch {image.epoch()} marks {marks} choice {image.choice()}".encode()
@@ -76,6 +76,8 @@ def read(text, device):
         end = text.index(b"\n", at)
         words = text[at:end].decode().split(" ")
         at = end + 1
+        if words[0] == "inputs":
+            continue
         if words[0] == "total":
             yield words, None
             continue

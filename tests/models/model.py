@@ -5,10 +5,11 @@ test. It is slow and keeps everything in lists; rows use it where a report is to
 answer isn't worked out: a checker is a function of an image that stands for a program of the folder programs/.
 """
 import functools
+import re
 import struct
 from dataclasses import dataclass, field, replace
 
-from notation import DISCARD, FIRST_LINE, FLUSH, FUA, MARK, SECTOR
+from notation import DISCARD, FIRST_LINE, FLUSH, FUA, MARK, SECTOR, log
 
 ZEROS = bytes(SECTOR)
 HEADS = [f"head{eighths}" for eighths in range(1, 8)]
@@ -240,6 +241,37 @@ def head(run, checkers, first):
     text += f" tears {'yes' if run.tears else 'no'} first {'yes' if first else 'no'}"
     text += (" by write" if run.by == "write" else "") + run.told() + run.told_of_base() + "\n"
     return text + "".join(f"program {number} {it.about}\n" for number, it in enumerate(checkers))
+
+
+# By which the bytes of a run's inputs are joined to one number.
+INPUT_FACTOR = 1099511628211
+
+
+def number_of(files):
+    """A number of the bytes of a run's log and programs, file by file."""
+    number = 0
+    for content in files:
+        plain = content.rstrip(b"\0")
+        for byte in plain:
+            number = (number * INPUT_FACTOR + byte + 1) % 2**64
+        # zeros at the end, all at once
+        factor = pow(INPUT_FACTOR, len(content) - len(plain), (INPUT_FACTOR - 1) << 64)
+        number = (number * factor + (factor - 1) // (INPUT_FACTOR - 1)) % 2**64
+        for byte in len(content).to_bytes(8, "little"):
+            number = (number * INPUT_FACTOR + byte + 1) % 2**64
+    return number
+
+
+def number_of_report(run):
+    """The number of the log of a run and of the line of its options, as a report has that line."""
+    return number_of([log(run.recorded), head(run, [], False).encode()])
+
+
+def marked(run, report, programs=None):
+    """A report that says in its second line of which log and options it is, and of how many programs."""
+    title, rest = report[: len(FIRST_LINE)], report[len(FIRST_LINE) :]
+    count = len(re.findall(r"(?m)^program ", rest)) if programs is None else programs
+    return f"{title}inputs {number_of_report(run)} programs {count}\n{rest}"
 
 
 def explored(run, checkers, first=False):

@@ -11,46 +11,70 @@ import itertools
 import struct
 
 SECTOR, BLOCK = 512, 4096
+# What a new block holds that no file had, by `writeback`.
+TEXT = (b"bytes of another file, which isn't recorded\n" * BLOCK)[:BLOCK]
+# Tables by which a name is by itself, and those by which fsync of a file has names durable.
+APART, OWN = ("btrfs", "strict"), ("ext4", "xfs", "btrfs")
+
+
+def chosen_of(kept, size, looked, unit=SECTOR):
+    """Yields each content of that size of which each sector is one of some. With `looked` those sectors alone count, and the size."""
+    parts = [[it[: size - unit * at] for it in these] if looked is None or at in looked else [b""] for at, these in enumerate(kept)]
+    for chosen in itertools.product(*(set(it) for it in parts)):
+        yield b"".join(chosen) if looked is None else (size, b"".join(chosen))
 
 
 class File:
-    """A file: each size that it had, with the number of the time since it was made shorter; its sectors in each such time."""
+    """A file: each size that it had, with the number of the time since it was made shorter; its sectors in each such time. A sector has
+    `unit` bytes: 512, or 4,096 where whole pages are written."""
 
-    def __init__(self, content=b""):
-        self.sizes, self.sure, self.needs = [(0, len(content))], 0, [{}]
-        self.sectors = [{at: Sector(content[SECTOR * at :][:SECTOR]) for at in range(-(-len(content) // SECTOR))}]
+    def __init__(self, content=b"", unit=SECTOR):
+        self.sizes, self.sure, self.needs, self.unit = [(0, len(content))], 0, [{}], unit
+        self.sectors = [{at: Sector(content[unit * at :][:unit], unit) for at in range(-(-len(content) // unit))}]
         self.blocks = len(content)
         # of each time how many sectors lie in blocks that it has from the time before
         self.shared = [0]
         # how many changes of names there were when its size changed last, or when it was made; and when a name of its own did
         self.stamp = self.named = 0
+        # by `writeback`: the blocks that it has, each with who has had it, as the numbers of a file, of a time, and of a block in it;
+        # those of zeros that were there at first; those that are freed hold something
+        self.has = {at: [[self, 0, at]] for at in range(-(-len(content) // BLOCK))}
+        self.holes = {at for at in self.has if not content[BLOCK * at :][:BLOCK].strip(b"\0")}
+        # the blocks that are reserved, and show zeros
+        self.unwritten = set()
 
     @property
     def size(self):
         return self.sizes[-1][1]
 
     def sector(self, at):
-        return self.sectors[-1].setdefault(at, Sector(b""))
+        return self.sectors[-1].setdefault(at, Sector(b"", self.unit))
 
-    def put(self, at, content):
+    def put(self, at, content, time=None):
         """A sector has this content, in each time that has its block."""
-        time, limit = len(self.sectors) - 1, None
+        time, limit = len(self.sectors) - 1 if time is None else time, None
         while limit is None or time >= 0 and at < limit:
-            self.sectors[time].setdefault(at, Sector(b"")).versions.append(content)
+            self.sectors[time].setdefault(at, Sector(b"", self.unit)).versions.append(content)
             limit = self.shared[time] if limit is None else min(limit, self.shared[time])
             time -= 1
 
 
 class Sector:
-    def __init__(self, content):
-        self.versions, self.sure = [content.ljust(SECTOR, b"\0")], 0
+    def __init__(self, content, unit):
+        self.versions, self.sure = [content.ljust(unit, b"\0")], 0
 
 
 class Model:
     """What became of names, sizes and sectors, step by step."""
 
-    def __init__(self, table):
-        self.table, self.marks, self.left = table, 0, set()
+    def __init__(self, table, looked=None, unit=SECTOR):
+        self.table, self.marks, self.left, self.looked, self.unit = table, 0, set(), looked, unit
+        # how many sectors a block has
+        self.each = BLOCK // unit
+        # what renames will tie together
+        self.later = []
+        # by `writeback`: the blocks that are free, in the order in which they were freed, with what they held
+        self.free = []
         # each change of names: the slots that it changes, and what they hold then; the numbers of those that are durable
         self.changes, self.sure, self.base, self.files, self.folders = [], set(), {}, [], 1
 
@@ -67,7 +91,7 @@ class Model:
     def chosen(self):
         """Which changes a crash may leave. By `strict` each slot has its first changes, some number of them, and a change is there
         for all of its slots or for none."""
-        if self.table != "strict":
+        if self.table not in APART:
             yield from (range(count) for count in range(max(self.sure, default=-1) + 1, len(self.changes) + 1))
             return
         slots = {slot for change in self.changes for slot in change}
@@ -89,10 +113,10 @@ class Model:
                     for at, version in file.needs[earlier].items():
                         needs[at] = max(needs.get(at, 0), version)
             kept = []
-            for at in range(-(-size // SECTOR)):
+            for at in range(-(-size // self.unit)):
                 it = file.sectors[time].get(at)
-                kept.append(it.versions[max(it.sure, needs.get(at, 0)) :] if it else [bytes(SECTOR)])
-            found |= {b"".join(it)[:size] for it in itertools.product(*kept)}
+                kept.append(it.versions[max(it.sure, needs.get(at, 0)) :] if it else [bytes(self.unit)])
+            found |= set(chosen_of(kept, size, self.looked, self.unit))
         return found
 
     def crash(self):
@@ -126,10 +150,43 @@ class Model:
             for kind, number in (it for it in (now.get(slot), held) if it):
                 if kind == "file":
                     self.files[number].named = len(self.changes)
+        there = [held for held in self.names_now().values() if held]
+        for number in dict.fromkeys(held[1] for held in (now.get(slot) for slot in slots) if held and held[0] == "file"):
+            if ("file", number) not in there:
+                self.freed(self.files[number])
         self.crash()
 
+    def names_now(self):
+        """What each slot holds."""
+        return {slot: held for change in [self.base, *self.changes] for slot, held in change.items()}
+
+    # Blocks that are used again, by `writeback`
+
+    def freed(self, file, kept=0):
+        """A file has these many blocks from now on."""
+        gone = [file.has.pop(at) for at in sorted(file.has) if at >= kept]
+        file.holes = {it for it in file.holes if it < kept}
+        self.free += [(it, [file.sector(self.each * it[-1][2] + at).versions[-1] for at in range(self.each)]) for it in gone]
+
+    def show(self, places, sectors):
+        """These places may hold these sectors, and hold what they held."""
+        for file, time, number in places:
+            for at, it in enumerate(sectors):
+                own = file.sectors[time].setdefault(self.each * number + at, Sector(b"", self.unit)).versions[-1]
+                file.put(self.each * number + at, it, time)
+                file.put(self.each * number + at, own, time)
+
+    def take(self, number):
+        """A block for one of this number, with what it held."""
+        same = [it for it in self.free if it[0][-1][2] == number]
+        if not self.free:
+            return [], [TEXT[self.unit * at : self.unit * (at + 1)] for at in range(self.each)]
+        found = (same or self.free)[-1]
+        self.free = [it for it in self.free if it is not found]
+        return found
+
     def make_file(self, slot):
-        self.files.append(File())
+        self.files.append(File(unit=self.unit))
         self.files[-1].stamp = len(self.changes) + 1
         self.change({slot: ("file", len(self.files) - 1)})
 
@@ -138,44 +195,70 @@ class Model:
         self.change({slot: ("folder", self.folders - 1)})
 
     def write(self, number, start, data):
-        """Bytes are written: versions of sectors, and sizes. Returns the sectors."""
-        file = self.files[number]
-        old, end, border = file.size, start + len(data), -(-max(file.blocks, file.size) // BLOCK) * BLOCK // SECTOR
-        needs, sectors = {}, range(start // SECTOR, -(-end // SECTOR))
+        """Bytes are written: versions of sectors, and sizes. Returns the sectors, without those of new blocks that have no bytes of it."""
+        file, unit, each = self.files[number], self.unit, self.each
+        old, end, border = file.size, start + len(data), -(-max(file.blocks, file.size) // BLOCK) * BLOCK // unit
+        needs, own = {}, range(start // unit, -(-end // unit))
+        sectors = own
+        touched = range(start // BLOCK, -(-end // BLOCK))
+        fresh = [it for it in touched if it not in file.has or it in file.holes] if self.table == "writeback" else []
+        if fresh:
+            sectors = range(min(sectors[0], each * fresh[0]), max(sectors[-1] + 1, each * (fresh[-1] + 1)))
+        before = {at: file.sector(at).versions[-1] for at in sectors}
+        for number in fresh:
+            places, held = self.take(number)
+            file.has[number] = [*places, [file, len(file.sectors) - 1, number]]
+            file.holes.discard(number)
+            for at, it in enumerate(held) if number not in file.unwritten else ():
+                file.put(each * number + at, it)
+            file.unwritten.discard(number)
         for at in sectors:
             it = file.sector(at)
-            content = bytearray(it.versions[-1])
-            for place in range(max(start, SECTOR * at), min(end, SECTOR * at + SECTOR)):
-                content[place - SECTOR * at] = data[place - start]
+            content = bytearray(before[at])
+            for place in range(max(start, unit * at), min(end, unit * at + unit)):
+                content[place - unit * at] = data[place - start]
             file.put(at, bytes(content))
             if at >= border:
                 needs[at] = len(it.versions) - 1
+        for it in touched if self.table == "writeback" else ():
+            self.show(file.has[it][:-1], [file.sector(self.each * it + at).versions[-1] for at in range(self.each)])
         file.blocks = max(file.blocks, end)
         if end > old:
             for size in [it for it in range(BLOCK, end, BLOCK) if it > max(old, start)] + [end]:
                 self.sized(file, (len(file.sectors) - 1, size), needs)
         self.crash()
-        return sectors
+        return own
 
     def sized(self, file, size, needs):
         file.sizes.append(size)
         file.needs.append(needs)
         file.stamp = len(self.changes)
 
+    def allocate(self, number, size):
+        """Gives a file blocks up to a larger size, and this size."""
+        self.resize(number, size)
+        file = self.files[number]
+        file.blocks = max(file.blocks, size)
+        file.unwritten |= set(range(-(-size // BLOCK))) - file.has.keys()
+
     def resize(self, number, size):
         """Gives a file another size: what it holds from then on, and how large it is."""
-        file = self.files[number]
+        file, unit = self.files[number], self.unit
         if size < file.size:
+            self.freed(file, -(-size // BLOCK))
             kept = {}
-            for at in range(size // SECTOR, -(-size // BLOCK) * BLOCK // SECTOR):
-                file.put(at, file.sector(at).versions[-1][: max(size - SECTOR * at, 0)].ljust(SECTOR, b"\0"))
-            for at in range(-(-size // SECTOR)):
-                old, keep = file.sector(at), min(size - SECTOR * at, SECTOR)
-                kept[at] = Sector(b"")
-                kept[at].versions = [it[:keep].ljust(SECTOR, b"\0") for it in old.versions[old.sure :]]
+            for at in range(size // unit, -(-size // BLOCK) * BLOCK // unit):
+                file.put(at, file.sector(at).versions[-1][: max(size - unit * at, 0)].ljust(unit, b"\0"))
+            for at in range(-(-size // unit)):
+                old, keep = file.sector(at), min(size - unit * at, unit)
+                kept[at] = Sector(b"", unit)
+                kept[at].versions = [it[:keep].ljust(unit, b"\0") for it in old.versions[old.sure :]]
             file.sectors.append(kept)
-            file.shared.append(-(-size // BLOCK) * BLOCK // SECTOR)
+            file.shared.append(-(-size // BLOCK) * BLOCK // unit)
             file.blocks = size
+            file.unwritten = {it for it in file.unwritten if BLOCK * it < size}
+            for at, it in file.has.items():
+                it[-1] = [file, len(file.sectors) - 1, at]
         self.sized(file, (len(file.sectors) - 1, size), {})
         self.crash()
 
@@ -185,7 +268,7 @@ class Model:
         """The numbers of the changes among the first `count` that are wanted, and of those that stand before them: of all, or by
         `strict` of those of the same slots."""
         found = {number for number in range(count) if wanted(self.changes[number])}
-        if self.table != "strict":
+        if self.table not in APART:
             return set(range(max(found, default=-1) + 1))
         for number in reversed(range(count)):
             if any(later > number and set(self.changes[later]) & set(self.changes[number]) for later in found):
@@ -193,20 +276,58 @@ class Model:
         return found
 
     def seen(self, number, sectors=None, data=False):
-        """What a sync of a file, that begins now, has to make durable: its sectors, its size, names. By `ext4` fsync has the names up
-        to the last change of the file's own, and fdatasync, which is `data`, hasn't."""
+        """What a sync of a file, that begins now, has to make durable: its sectors, its size, names. By `ext4` and `xfs` fsync has the names
+        up to the last change of the file's own, by `btrfs` its own; fdatasync, which is `data`, hasn't."""
         file = self.files[number]
         time = len(file.sectors) - 1
         these = {(number, time, at): len(it.versions) - 1 for at, it in file.sectors[time].items() if sectors is None or at in sectors}
-        count = max(file.stamp, file.named) if self.table == "ext4" and not data else file.stamp
-        names = self.names_up_to(count, lambda _: True) if self.table != "strict" else set()
+        own = self.table in OWN and not data
+        if self.table in APART:
+            names = self.own_names(number) if own else set()
+        else:
+            names = self.names_up_to(max(file.stamp, file.named) if own else file.stamp, lambda _: True)
         return these, {number: len(file.sizes) - 1}, names
 
+    def own_names(self, number):
+        """By `btrfs` the changes that gave a file the names that it has, and that made the folders of these, each with all that stand before it
+        in the same slots. Of slots that renames tie together none counts where what isn't durable of these changes leaves something else there."""
+        now, count = self.names_now(), len(self.changes)
+        names = [slot for slot, held in now.items() if held == ("file", number)]
+        folders = {folder for folder, _ in names}
+        while True:
+            more = {slot[0] for slot, held in now.items() if held and held[0] == "folder" and held[1] in folders} - folders
+            if not more:
+                break
+            folders |= more
+        wanted = [(("file", number), self.names_up_to(count, lambda change, slot=slot: slot in change)) for slot in names]
+        for folder in folders:
+            made = [at for at, change in enumerate(self.changes) if ("folder", folder) in change.values()]
+            wanted += [(("folder", folder), self.names_up_to(made[0] + 1, lambda change, last=made[0]: change is self.changes[last]))] if made else []
+        found = set()
+        for tied in self.tied():
+            mine = [(held, {it for it in changes if set(self.changes[it]) <= tied} - self.sure) for held, changes in wanted]
+            changes = set().union(*(its for _, its in mine))
+            state = dict(self.base)
+            for it in sorted(changes | self.sure):
+                state.update(self.changes[it])
+            if {state[slot] for it in changes for slot in self.changes[it] if state[slot]} <= {held for held, its in mine}:
+                found |= changes
+        return found
+
+    def tied(self):
+        """The slots in sets that renames tie together, in all of the run."""
+        found = []
+        for slots in (set(it) for it in [*self.changes, *self.later]):
+            found = [*(it for it in found if not it & slots), set().union(slots, *(it for it in found if it & slots))]
+        return found
+
     def seen_folder(self, folder):
-        """Returns what a sync of a folder makes sure."""
+        """Returns what a sync of a folder makes sure: the names in it, and where names aren't by themselves that it was made. That it got
+        another name is no change of a name in it."""
+        made = next((it for it in self.changes if ("folder", folder) in it.values()), None) if self.table not in APART else None
+
         def wanted(change):
-            made = [held[1] for held in change.values() if held and held[0] == "folder"] if self.table != "strict" else []
-            return any(it == folder for it, _ in change) or folder in made
+            return any(it == folder for it, _ in change) or change is made
 
         return {}, {}, self.names_up_to(len(self.changes), wanted)
 
@@ -255,8 +376,8 @@ class Reader:
     """Reads the files of all images of a cut. `names` are pairs of the first sector of a chain and the names of its set, each with its
     folder."""
 
-    def __init__(self, base, kept, names):
-        self.base, self.kept, self.names = base, kept, names
+    def __init__(self, base, kept, names, looked=None):
+        self.base, self.kept, self.names, self.looked = base, kept, names, looked
 
     def sector(self, number):
         return self.kept.get(number) or {self.base[SECTOR * number :][:SECTOR]}
@@ -314,8 +435,7 @@ class Reader:
         """Returns the contents that a file has in the images."""
         found = set()
         for size, first in self.chain(number):
-            kept = [self.sector(first + at) for at in range(-(-size // SECTOR))]
-            found |= {b"".join(it)[:size] for it in itertools.product(*kept)}
+            found |= set(chosen_of([self.sector(first + at) for at in range(-(-size // SECTOR))], size, self.looked))
         return found
 
     def paths(self, held):
@@ -361,12 +481,44 @@ class Reader:
                 yield frozenset((path, None if it is None else content[it]) for path, it in tree.items())
 
 
-def log_leaves(entries, base, names):
+def pages_at(entries, base, cut):
+    """The contents that a cut leaves of each page of a device, by the number of its first sector, where an entry is lost as a whole."""
+    last, size = max((at for at in range(cut) if entries[at][0] == "flush"), default=0), BLOCK // SECTOR
+    kept = {}
+    for number, (kind, first, data) in enumerate(entries[:cut]):
+        start, end = first // size * size, first + len(data) // SECTOR
+        for page in range(start, end, size) if kind in ("write", "fua") else ():
+            before = kept.get(page) or {base[SECTOR * page :][:BLOCK]}
+            at, until = SECTOR * (max(first, page) - page), SECTOR * (min(end, page + size) - page)
+            part = data[SECTOR * (max(first, page) - first) :][: until - at]
+            after = {it[:at] + part + it[until:] for it in before}
+            kept[page] = after if kind == "fua" or number < last else before | after
+    return kept
+
+
+class PageReader(Reader):
+    """Reads the files of all images of a cut, of which each page is as one entry or another left it."""
+
+    def __init__(self, base, kept, names, pages):
+        super().__init__(base, kept, names)
+        self.pages = pages
+
+    def contents(self, number):
+        """Returns the contents that a file has in the images."""
+        found = set()
+        for size, first in self.chain(number):
+            kept = [self.pages.get(first + at) or {self.base[SECTOR * (first + at) :][:BLOCK]} for at in range(0, -(-size // SECTOR), BLOCK // SECTOR)]
+            found |= {b"".join(it)[:size] for it in itertools.product(*kept)}
+        return found
+
+
+def log_leaves(entries, base, names, looked=None, by_pages=False):
     """The files of each image of a log, with the number of marks before its cut."""
     found = set()
     for cut in range(len(entries) + 1):
-        marks = sum(it[0] == "mark" for it in entries[:cut])
-        found |= {(marks, it) for it in Reader(base, kept_at(entries, base, cut), names).trees()}
+        marks, kept = sum(it[0] == "mark" for it in entries[:cut]), kept_at(entries, base, cut)
+        reader = PageReader(base, kept, names, pages_at(entries, base, cut)) if by_pages else Reader(base, kept, names, looked)
+        found |= {(marks, it) for it in reader.trees()}
     return found
 
 

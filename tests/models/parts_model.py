@@ -11,13 +11,10 @@ from functools import cache, lru_cache
 from itertools import accumulate, takewhile
 from math import comb
 
-from model import LOST, LOST_OR_TORN, Image, Run, failing_lines, head
+from model import LOST, LOST_OR_TORN, Image, Run, failing_lines, head, number_of
 from notation import FIRST_LINE, FLUSH, FUA, SECTOR, log
 
 PART_LINE = "crash part 1\n"
-
-# By which the bytes of a run's inputs are joined to one number.
-INPUT_FACTOR = 1099511628211
 
 # How many images a process judges, and how many parts a run is laid out in.
 MOST_JUDGED = 1 << 24
@@ -40,15 +37,6 @@ class WideRun(Run):
     def volatile(self, cut):
         durable = max((number for number in range(cut) if self.entries[number].flags & FLUSH), default=0)
         return [it for it in self.parts if durable <= it.entry < cut and not self.entries[it.entry].flags & FUA]
-
-
-def number_of(files):
-    """A number of the bytes of a run's log and programs, file by file."""
-    number = 0
-    for content in files:
-        for byte in content + len(content).to_bytes(8, "little"):
-            number = (number * INPUT_FACTOR + byte + 1) % 2**64
-    return number
 
 
 def fates_of(run):

@@ -4,12 +4,13 @@ import re
 from dataclasses import dataclass
 from itertools import takewhile
 
-from model import head, missing_flushes, window_of
+from model import head, missing_flushes, number_of_report, window_of
 from why_model import Failing, cut_text
 
 NUMBER = "(0|[1-9][0-9]*)"
 CHECKER = re.compile(f"program {NUMBER} slots {NUMBER} (budget|limit) {NUMBER}( guards {NUMBER})?")
 OWN = re.compile("program 0 outside [ -~]+")
+INPUTS = re.compile(f"inputs {NUMBER} programs ([1-8])")
 LINE = re.compile(f"image {NUMBER} cut {NUMBER} program {NUMBER} (.*) choice (.*)")
 VERDICT = re.compile(f"answer {NUMBER} codes (-|{NUMBER}(,{NUMBER}){{0,15}})")
 FAULT = re.compile(f"fault (8[0-8]) slot {NUMBER}")
@@ -92,12 +93,16 @@ def read(run, data):
     options = head(run, [], False)
     if not ended or ended[0] != "crash report 2":
         raise Fault(1)
-    if len(ended) < 2 or ended[1] + "\n" != options:
-        raise Fault(2)
-    programs, outside = programs_of(ended[2:])
+    says = len(ended) > 1 and INPUTS.fullmatch(ended[1])
+    says = says if says and int(says[1]) == number_of_report(run) else None
+    begun = 2 if says else 1
+    if len(ended) < begun + 1 or ended[begun] + "\n" != options:
+        raise Fault(begun + 1)
+    begun += 1
+    programs, outside = programs_of(ended[begun:])
     if programs == 0:
-        raise Fault(3)
-    at, lines, last = 2 + programs, [], (-1, -1)
+        raise Fault(begun + 1)
+    at, lines, last = begun + programs, [], (-1, -1)
     while at < len(ended) and (line := line_of(images, programs, outside, ended[at])):
         if (line.image.number, line.program) <= last:
             raise Fault(at + 1)
@@ -105,7 +110,9 @@ def read(run, data):
     totals = f"images {len(images)} failing {len({it.image.number for it in lines})} lines {len(lines)}\n"
     if "\n".join(whole[at:]) != totals:
         raise Fault(at + 1)
-    return Report(options + "".join(f"{it}\n" for it in ended[2:2 + programs]), programs, lines, totals)
+    if says and int(says[2]) != programs:
+        raise Fault(begun + programs + 1)
+    return Report(options + "".join(f"{it}\n" for it in ended[begun : begun + programs]), programs, lines, totals)
 
 
 def flushes_of(report):

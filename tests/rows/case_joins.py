@@ -175,8 +175,9 @@ BROKEN = {
     "with more cases than a run may have": with_match(LAST, r"cases \d+", f"cases {MOST_CASES + 1}"),
     "with fewer cuts than its lines have": with_match(LAST, r"cuts \d+", "cuts 0"),
     "with more cuts than its range": with_match(LAST, r"cuts \d+", "cuts 99"),
-    "with cases left out, and complete": with_match(LAST, r" torn beyond .*", " torn beyond 1 lost beyond 0 complete"),
-    "with no case left out, and not complete": with_match(LAST, r" torn beyond .*", " torn beyond 0 lost beyond 0"),
+    "with cases left out, and none of these cuts": with_match(LAST, r" torn beyond .*", " torn beyond 1 lost beyond 0 of these cuts"),
+    "with no case left out, and no word of it": with_match(LAST, r" torn beyond .*", " torn beyond 0 lost beyond 0"),
+    "of a range, and complete": with_match(LAST, r" torn beyond .*", " torn beyond 0 lost beyond 0 complete"),
     "with its last line twice": changed(MIDDLE, f"\n{LAST}\n", f"\n{LAST}\n{LAST}\n"),
     "the text of a part of images": IMAGES,
 }
@@ -213,7 +214,7 @@ def misused(name, texts, number, place, some=False):
 def many(first, last, total):
     """The text of a part of which no line is shown, with that many cases."""
     head = re.sub(r"from \d+ to \d+", f"from {first} to {last}", OPTIONS)
-    return "".join(f"{it}\n" for it in ("crash cases 1", "inputs 5", head, *PROGRAMS, f"cuts 1 cases {total} failing 0 torn beyond 0 lost beyond 0 complete")).encode()
+    return "".join(f"{it}\n" for it in ("crash cases 1", "inputs 5", head, *PROGRAMS, f"cuts 1 cases {total} failing 0 torn beyond 0 lost beyond 0 of these cuts")).encode()
 
 
 END = len(RUN.entries)

@@ -177,7 +177,7 @@ WRITTEN = [
         """
         sectors 4 entries 4 cuts all bound any tears no flush 1 from 3 to 3
         program 0 slots 12 budget 10
-        cuts 1 cases 2 failing 0 torn beyond 0 lost beyond 0 complete
+        cuts 1 cases 2 failing 0 torn beyond 0 lost beyond 0 of these cuts
         """,
     ),
     # forced_in_flight of docs/CRASH-MODEL.md, of which no image of `--bound 1` fails
@@ -198,7 +198,7 @@ WRITTEN = [
         """
         sectors 4 entries 2 cuts all bound any tears yes torn 1 from 2
         program 0 slots 11 budget 9
-        cuts 1 cases 1 failing 0 torn beyond 0 lost beyond 0 complete
+        cuts 1 cases 1 failing 0 torn beyond 0 lost beyond 0 of these cuts
         """,
     ),
     written(
@@ -223,7 +223,7 @@ WRITTEN = [
         """
         sectors 4 entries 2 cuts mark bound any tears no
         program 0 slots 3 budget 3
-        cuts 0 cases 0 failing 0 torn beyond 0 lost beyond 0 complete
+        cuts 0 cases 0 failing 0 torn beyond 0 lost beyond 0 of these cuts
         """,
     ),
     written(
@@ -452,16 +452,22 @@ def noted_beside(name, options, entries, notes):
     checked = Checker("slots 6 budget 6", lambda view: (0 * len(view.sector(0) + view.sector(1)), ()))
     looks = program("mov64 r1, 0; call 5; mov64 r1, 1; call 5; mov64 r0, 0; exit")
     words = dict(zip(*[iter(options.split())] * 2))
-    run = Run(entries, 4, tears="tears" in name)
+    ends = {"--from": "first", "--to": "last"}
+    run = Run(entries, 4, words.get("--cuts", "all"), tears="tears" in name, **{it: int(words[word]) for word, it in ends.items() if word in words})
     losses = Losses(int(words["--torn"]) if "--torn" in words else None, int(words["--at-most"]) if "--at-most" in words else None)
     row = told(f"notes, {name}", run, looks, [checked], losses)
     return replace(row, notes=notes)
 
 
+NO_FLUSH = "no entry is a flush, so --cuts flush has the one cut at the end; ask without --cuts"
 NOTED = [
     noted_beside("complete", "", BOTH, []),
     noted_beside("tears, complete", "--torn 2", BOTH, []),
     noted_beside("tears", "", BOTH, ["cases with more torn parts than 1 are left out: 196", "every loss is covered, with at most 1 of the parts torn"]),
+    # of some of the cuts nothing is said but what was left out
+    noted_beside("tears, of some cuts", "--from 1", BOTH, ["cases with more torn parts than 1 are left out: 196"]),
+    noted_beside("tears, of the cuts before flushes", "--cuts flush", BOTH, ["cases with more torn parts than 1 are left out: 196", NO_FLUSH]),
+    noted_beside("lost, of some cuts", "--at-most 1 --to 2", BOTH, ["cases with more lost or torn parts than 1 are left out: 1"]),
     noted_beside("lost", "--at-most 1", BOTH, ["cases with more lost or torn parts than 1 are left out: 1", "without --at-most every loss is covered"]),
 ]
 

@@ -174,6 +174,9 @@ PAIRS["progress"] = {
     it: dict(two=[f"{words} --sectors 4", f"{words} --sectors 4 --progress"], statuses=(1, 1), differ=("error",), holds=(SAID,))
     for it, words in RUNS.items()
 }
+PAIRS["inputs"] = {
+    "explore": dict(two=["explore log p0 --sectors 4", "explore log p0 --sectors 4 --inputs"], statuses=(1, 1), differ=("out 2",), holds=(" programs 1\n",))
+}
 PAIRS["first"] = {"explore": dict(two=["explore log p0 --sectors 4", "explore log p0 --sectors 4 --first"], statuses=(1, 1), differ=("out 2", "out -1"))}
 
 # Of all losses, how many parts may be torn, and how many not whole.

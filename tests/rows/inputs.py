@@ -5,7 +5,7 @@ import os
 from dataclasses import replace
 
 from export_model import exported
-from model import Checker, Run, explored, zero
+from model import Checker, Run, explored, head, number_of, zero
 from notation import SECTOR, F, Folder, Hole, Link, Locked, Long, Row, W, code, log, refused
 from parts_model import PART_LINE, layout, part, report
 
@@ -112,6 +112,15 @@ def filled(begun, length):
     return Hole(length - len(begun), b"", begun)
 
 
+def padded(row, what, length):
+    """A run of a row with a log that zeros follow, which answers the same; what is exported says of which file it is."""
+    found = answered(row, what, "log", filled(log(RUN.recorded), length))
+    if not row.words.startswith("export "):
+        return found
+    number = number_of([log(RUN.recorded).ljust(length, b"\0"), head(RUN, [], False).encode()])
+    return replace(found, out=f"inputs {number}\n".encode() + row.out.partition(b"\n")[2])
+
+
 # Logs
 
 NO_LOG = {it: "refused 2 at 0" for it in ["an assembly text", "a program", "a part", "a report"]}
@@ -130,10 +139,10 @@ AS_LOG = [
     for row in [
         *unreadable(it, "log", "refused 14 at 0"),
         *of_kinds(it, "log", NO_LOG),
-        answered(it, "64 MiB", "log", filled(log(RUN.recorded), MOST_LOG)),
-        answered(it, "a byte less than 64 MiB", "log", filled(log(RUN.recorded), MOST_LOG - 1)),
+        padded(it, "64 MiB", MOST_LOG),
+        padded(it, "a byte less than 64 MiB", MOST_LOG - 1),
         no_answer(it, "64 MiB and a byte", "log", filled(log(RUN.recorded), MOST_LOG + 1), "refused 10 at 0"),
-        answered(large(it), "64 MiB and a byte, large,", "log", filled(log(RUN.recorded), MOST_LOG + 1)),
+        padded(large(it), "64 MiB and a byte, large,", MOST_LOG + 1),
     ]
 ]
 AS_LOG += [

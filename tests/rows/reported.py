@@ -1,9 +1,10 @@
 """Reports that are given in place of programs: what `why`, `page` and `cure` tell of reports of checkers and of programs that are given
 images as files, compared with the models (report_model.py, page_model.py), and at which line each damaged report is refused."""
+from dataclasses import replace
 from functools import cache
 
 from designs import two_slots
-from model import Checker, Run, explored, one, two_slots as slots
+from model import Checker, Run, explored, marked, number_of_report, one, two_slots as slots
 from notation import F, M, Long, Printable, Row, W, log, refused
 from page_model import page, page_of_report
 from report_model import Fault, causes, places, read
@@ -22,6 +23,8 @@ SLOTS = Checker("slots 39 budget 87", slots)
 PAIRS = Run([it for byte in range(1, 66) for it in (W(0, 1, byte), W(1, 1, byte), F)], 4)
 HALF = Checker("slots 9 budget 9", lambda image: (int(image.sector(0)[0] < image.sector(1)[0]), ()))
 
+
+NEVER = Checker("slots 39 budget 87", lambda _image: (0, []))
 
 # What each command tells of a report.
 TELLS = {"why": causes, "page": page_of_report, "cure": places}
@@ -50,7 +53,13 @@ def told(name, command, run, text, status):
         {"log": log(run.recorded), "r": text if isinstance(text, Long) else text.encode()},
         Long(lambda: tell(run, read(run, made(text)))),
         status,
+        notes=None,
     )
+
+
+# The notes of the mark of RUN, which promises what nothing made durable, and of a report that doesn't say of what it is.
+PROMISES = ["marks that promise what nothing made durable: entries 4", "a write before each of them may still be lost there: it has no flush after it, and isn't FUA"]
+UNMARKED = "the report doesn't say of which log it is; explore --inputs and crashbpf-each write one that does"
 
 
 def made(text):
@@ -132,6 +141,16 @@ def damages():
         yield damaged(f"{new!r} for {old!r}", RUN, text.replace(old, new, 1))
     other = Run(RUN.recorded, 4, bound=1)
     yield damaged("with another bound", other, text)
+    yield damaged("that says to be of other options", other, marked(RUN, text))
+    yield damaged("that says to be of another log", Run([*RUN.recorded[:-1], M("over")], 4, bound=2), marked(RUN, text))
+    said = f"inputs {number_of_report(RUN)} programs 1"
+    for new in (said.replace("inputs ", "inputs 1"), said.replace("programs 1", "programs 2"), said.replace("programs 1", "programs 0"), said.replace("programs 1", "programs 9"), said.removesuffix(" programs 1"), said + " ", said.replace(" programs", "  programs")):
+        yield damaged(f"with {new!r}", RUN, marked(RUN, text).replace(said, new, 1))
+    yield damaged("that says of what it is after its options", RUN, text.replace("first no\n", f"first no\n{said}\n", 1))
+    yield damaged("that says twice of what it is", RUN, marked(RUN, text).replace(said, f"{said}\n{said}", 1))
+    yield damaged("that says of what it is, with a line less", RUN, "".join([line for line in marked(RUN, text).splitlines(keepends=True) if not line.startswith("image 1 ")]))
+    two = marked(WRONG, explored(WRONG, [SLOTS, NEVER]))
+    yield damaged("without the program that never fails", WRONG, two.replace(f"program 1 {NEVER.about}\n", "", 1))
     yield damaged("refused by cure as well", other, text, "cure")
     yield damaged("refused by page as well", other, text, "page")
 
@@ -157,6 +176,12 @@ ROWS = [
     told("a program of one's own", "why", RUN, own(), 1),
     told("a program of one's own", "cure", RUN, own(), 1),
     told("a program of one's own, in other ways", "why", RUN, own(1), 1),
+    # beside a report that says of what it is nothing is noted of that
+    replace(told("that says of what it is", "why", RUN, marked(RUN, own()), 1), notes=PROMISES),
+    replace(told("that doesn't say of what it is", "why", RUN, own(2), 1), notes=[*PROMISES, UNMARKED]),
+    told("that says of what it is", "cure", RUN, marked(RUN, own()), 1),
+    told("that says of what it is", "page", RUN, marked(RUN, own()), 1),
+    told("of two programs, and says so", "why", WRONG, marked(WRONG, explored(WRONG, [SLOTS, NEVER])), 1),
     told("two_slots, wrong", "cure", WRONG, explored(WRONG, [SLOTS]), 1),
     told("no failing line", "cure", WRONG, explored(WRONG, [Checker("slots 39 budget 87", lambda _image: (0, []))]), 0),
     told("more flushes than the option takes", "cure", PAIRS, explored(PAIRS, [HALF]), 1),

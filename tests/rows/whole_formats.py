@@ -3,11 +3,13 @@ their logs, each a trace beside its report, and what those of databases answer w
 
 The reports are by model.py and machine_model.py; stored.py writes them. Places and answers of changes were written down by hand.
 """
+import hashlib
 import struct
 import zlib
 from dataclasses import dataclass, replace
 
 import machine_model
+from commands.cc.mutants import filled_sectors
 from commands.record import trace_log
 from model import Checker, Run, explored
 from notation import SECTOR, TOP, Long, M, Row, S, explore
@@ -15,6 +17,8 @@ from rows.checkers import by_rule, u16, u32, u64
 from rows.recording import entries_of
 
 FOLDER = TOP / "examples/checkers"
+# The most sectors of a device without `--large`.
+USUAL = 16384
 
 
 @dataclass(frozen=True)
@@ -25,6 +29,10 @@ class Format:
     guards: int
     sectors: int
     runs: dict
+
+    def options(self):
+        """What a command takes for such a checker."""
+        return "--guards --large" if self.sectors > USUAL else "--guards"
 
 
 FORMATS = {
@@ -63,6 +71,38 @@ FORMATS = {
         8,
         2048,
         {"right": {"bound": 2, "first": 5}, "no_flush": {"bound": 2, "first": 5}, "headers_first": {"first": 5}},
+    ),
+    # Entry 5 is the mark that the header is there.
+    "luks2": Format(
+        638_703_857,
+        178,
+        2048,
+        {
+            "right": {"bound": 2, "by": "write", "first": 6},
+            "no_flush": {"bound": 2, "cuts": "flush", "by": "write", "first": 6},
+            "texts_first": {"by": "write", "first": 6},
+        },
+    ),
+    "xfs": Format(
+        558_719_980,
+        1,
+        32768,
+        {
+            "right": {"by": "write"},
+            "no_flush": {"cuts": "flush", "by": "write"},
+            "super_first": {"cuts": "flush", "by": "write"},
+        },
+    ),
+    # Entry 27 is the mark that the file system is there.
+    "btrfs": Format(
+        596_184_851,
+        115,
+        32768,
+        {
+            "right": {"by": "write", "bound": 2, "first": 28},
+            "no_flush": {"by": "write", "first": 28},
+            "reused": {"by": "write", "first": 28},
+        },
     ),
 }
 
@@ -110,14 +150,14 @@ def verified(name):
     it, code = FORMATS[name], code_of(name)
     rule = by_rule(code)
     answer = f"accepted budget {it.budget} guards {it.guards}\n" if rule == it.budget else f"the rule says {rule}\n"
-    return Row(f"verify checkers/{name}", f"verify p --sectors {it.sectors} --guards", {"p": code}, answer)
+    return Row(f"verify checkers/{name}", f"verify p --sectors {it.sectors} {it.options()}", {"p": code}, answer)
 
 
 def reported(name, which):
     """A row of `explore`."""
-    run = run_of(name, which)
+    run, more = run_of(name, which), FORMATS[name].options()
     wanted = Long(lambda: (FOLDER / name / f"{which}.report").read_bytes())
-    row = explore(f"checkers/{name}, {which}", f"{run.options()} --guards", log_of(name, which), code_of(name), wanted, int(which != "right"))
+    row = explore(f"checkers/{name}, {which}", f"{run.options()} {more}", log_of(name, which), code_of(name), wanted, int(which != "right"))
     return replace(row, files={**row.files, **({"base": run.base} if run.base else {})})
 
 
@@ -226,7 +266,7 @@ def last_image(name):
 
 
 def changed(name):
-    """A row for each change, on a device that was written at once, with as many marks as commits."""
+    """A row for each change, on a device that was written before all marks, of which there are as many as commits."""
     it, content, code = FORMATS[name], last_image(name), code_of(name)
     right = run_of(name, "right")
     marks = [M("commit")] * right.marks(len(right.entries))
@@ -234,9 +274,10 @@ def changed(name):
         device = bytearray(content)
         for place, piece in pieces.items():
             device[place : place + len(piece)] = piece
-        run = Run([S(0, bytes(device)), *marks], it.sectors, cuts="mark", bound=0, first=1 + len(marks))
+        written = [S(0, bytes(device))] if it.sectors <= USUAL else [S(at, bytes(device[SECTOR * at : SECTOR * (at + 1)])) for at in filled_sectors(device)]
+        run = Run([*written, *marks], it.sectors, cuts="mark", bound=0, first=len(written) + len(marks))
         wanted = explored(run, [Checker(about(name), lambda image, found=(answer, codes.split(",")): found)])
-        yield explore(f"checkers/{name}, change {number}", f"{run.options()} --guards", run.recorded, code, wanted, int(answer != 0))
+        yield explore(f"checkers/{name}, change {number}", f"{run.options()} {it.options()}", run.recorded, code, wanted, int(answer != 0))
 
 
 def with_sums(first, entries):
@@ -272,6 +313,97 @@ CHANGED["gpt"] = [
     (with_sums({40: u64(33)}, {}), 3, "-"),
     (with_sums({48: u64(2047)}, {}), 3, "-"),
     (with_sums({8: u32(0x10001)}, {}), 2, "-"),
+]
+
+
+# The copies of a header, each with a text from byte 4,096 of it on.
+LUKS2_COPIES, LUKS2_COPY, LUKS2_TEXT = (0, 16384), 16384, 4096
+
+
+def with_text(*pairs, copies=LUKS2_COPIES):
+    """Changes of the texts of a header's copies: in each pair the first is replaced by the second. The sums are right."""
+    content = last_image("luks2")
+    for copy in copies:
+        own = memoryview(content)[copy : copy + LUKS2_COPY]
+        text = bytes(own[LUKS2_TEXT:]).rstrip(b"\0")
+        for old, new in pairs:
+            text = text.replace(old, new, 1)
+        own[LUKS2_TEXT:] = text.ljust(LUKS2_COPY - LUKS2_TEXT, b"\0")
+        own[448:512] = bytes(64)
+        own[448:480] = hashlib.sha256(own).digest()
+    return {it: bytes(content[it : it + LUKS2_COPY]) for it in copies}
+
+
+def place_of(piece):
+    """Where that stands in the first copy's text, as a code."""
+    return str(last_image("luks2").index(piece, LUKS2_TEXT))
+
+
+OTHER_SUM = {448: b"e", LUKS2_COPY + 448: b"e"}
+STRIPES = (b'"stripes":4000', b'"stripes":"4000"')
+FAR = (b'"offset":"1048576"', b'"offset":"104857600"')
+
+# cryptsetup luksDump fails on each with an answer, and on no other.
+CHANGED["luks2"] = [
+    ({}, 0, "-"),
+    ({448: OTHER_SUM[448]}, 0, "-"),
+    (OTHER_SUM, 1, "-"),
+    ({0: b"l"}, 0, "-"),
+    ({6: b"\0\3"}, 2, "-"),
+    ({LUKS2_COPY + 6: b"\0\3"}, 0, "-"),
+    (with_text((b'"config"', b'"config')), 3, "-"),
+    (with_text((b"}}", b"}},")), 3, "-"),
+    (with_text((b'"tokens"', b'"token"')), 4, "4096"),
+    (with_text((b'"tokens"', b'"token"'), copies=LUKS2_COPIES[:1]), 0, "-"),
+    (with_text((b'"tokens"', b'"\\u0074okens"')), 0, "-"),
+    (with_text(STRIPES), 4, place_of(b'{"type":"luks1"')),
+    (with_text((b'"json_size"', b'"json_size":"5","json_size"')), 0, "-"),
+    (with_text((b'"segments":["0"]', b'"segments":[]')), 4, place_of(b'{"type":"crypt"')),
+    (with_text((b'"offset":"32768"', b'"offset":"28672"')), 5, place_of(b'{"type":"raw"')),
+    (with_text((b'"size":"65536"', b'"size":"65537"')), 5, place_of(b'{"0":{"type":"luks2"')),
+    (with_text((b'"keyslots_size":"393216"', b'"keyslots_size":"1048576"')), 5, place_of(b'{"0":{"type":"crypt"')),
+    (with_text(FAR, (b'"keyslots_size":"393216"', b'"keyslots_size":"1015808"')), 0, "-"),
+    (with_text(FAR, (b'"keyslots_size":"393216"', b'"keyslots_size":"1019904"')), 6, "-"),
+]
+
+
+def summed(pieces):
+    """Changes of a btrfs, by place; the blocks in which they lie have their CRC-32C."""
+    content = last_image("btrfs")
+    for place, piece in pieces.items():
+        content[place : place + len(piece)] = piece
+    blocks = sorted({place // NODE_BYTES * NODE_BYTES for place in pieces})
+    for it in blocks:
+        content[it : it + 4] = u32(~machine_model.summed(0x82F63B78, 2**32 - 1, content[it + 32 : it + NODE_BYTES]) % 2**32)
+    return {it: bytes(content[it : it + NODE_BYTES]) for it in blocks}
+
+
+# The super block, and the leaves of the trees as the last commit left them; where their items and the data of these begin.
+NODE_BYTES, SUPER, ITEM_LIST, ITEM_BYTES = 4096, 65536, 101, 25
+CHUNK_LEAF, FILE_LEAF, ROOT_LEAF, DEVICE_LEAF, EXTENT_LEAF, CSUM_LEAF = 1052672, 5246976, 5251072, 5259264, 5263360, 5279744
+
+# Of each with an answer `btrfs check` has another status than 0, but of those with CHUNK_LEAF and DEVICE_LEAF, of which it says that they
+# don't fit the chunks.
+CHANGED["btrfs"] = [
+    ({}, 0, "-"),
+    (summed({SUPER + 299: b"two"}), 0, "-"),
+    ({SUPER + 64: b"x"}, 1, "-"),
+    ({SUPER + 4000: b"x"}, 1, "-"),
+    (summed({SUPER + 136: u64(2)}), 2, "-"),
+    (summed({SUPER + 148: u32(512)}), 3, "-"),
+    (summed({SUPER + 112: u64(16777216 - 4096)}), 3, "-"),
+    (summed({CHUNK_LEAF + ITEM_LIST + 3657 + 40: u32(512)}), 4, f"{CHUNK_LEAF}"),
+    (summed({SUPER + 80: u64(12582912)}), 5, "12582912"),
+    ({FILE_LEAF + 300: b"x"}, 6, f"{FILE_LEAF}"),
+    (summed({FILE_LEAF + 80: u64(4)}), 7, f"{FILE_LEAF}"),
+    (summed({CSUM_LEAF + 88: u64(8)}), 7, f"{CSUM_LEAF}"),
+    (summed({FILE_LEAF + ITEM_LIST + ITEM_BYTES + 17: u32(3822)}), 8, f"{FILE_LEAF}"),
+    (summed({FILE_LEAF + ITEM_LIST: u64(257)}), 9, f"{FILE_LEAF}"),
+    (summed({ROOT_LEAF + ITEM_LIST + 7 * ITEM_BYTES: u64(6)}), 10, "-"),
+    (summed({EXTENT_LEAF + ITEM_LIST + 3881: u64(2)}), 11, f"{EXTENT_LEAF}"),
+    (summed({EXTENT_LEAF + ITEM_LIST + 3914: u64(0)}), 12, "5242880"),
+    (summed({SUPER + 120: u64(0)}), 12, "-"),
+    (summed({DEVICE_LEAF + ITEM_LIST + 3899 + 24: u64(4096)}), 13, f"{DEVICE_LEAF}"),
 ]
 
 

@@ -103,7 +103,7 @@ WRITTEN = [
         """
         sectors 4 entries 4 cuts all bound any tears no flush 1 from 3 to 3
         program 0 slots 12 budget 10
-        cuts 1 cases 2 failing 0 torn beyond 0 lost beyond 0 complete
+        cuts 1 cases 2 failing 0 torn beyond 0 lost beyond 0 of these cuts
         program 0 failing 0 uncured 0
         """,
     ),

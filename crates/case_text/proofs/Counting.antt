@@ -1,5 +1,5 @@
 -- Totals, program by program.
-use Rattle.std.proofs.Common.{ℕ, ◌≡◌, ◌+◌, ◌≤◌, List, [], ◌∷◌, ◌++◌, length, take, codes, refl, sym, ◌∙◌, ap, arith, append-nil, append_assoc}
+use Rattle.std.proofs.Common.{ℕ, ◌≡◌, ◌+◌, ◌≤◌, Bool, List, [], ◌∷◌, ◌++◌, length, take, codes, refl, sym, ◌∙◌, ap, arith, append-nil, append_assoc}
 use Rattle.std.specs.List.{sum_by}
 use Rattle.std.proofs.lemmas.Grind.{flat_map-append}
 use Rattle.std.proofs.lemmas.Int.{clamps}
@@ -81,13 +81,13 @@ are_totals cs t is = record {
   lost = ap (λ (x : Totals). x.lost_beyond) is;
 }
 
-pub totals_told : (cs : List CutFound) (count cases failing torn lost : ℕ) (old a b c new : List ℕ)
+pub totals_told : (all : Bool) (cs : List CutFound) (count cases failing torn lost : ℕ) (old a b c new : List ℕ)
     → count ≡ length cs → cases ≡ count_cases cs → failing ≡ count_failing cs → torn ≡ count_torn_beyond cs → lost ≡ count_lost_beyond cs
-    → a ≡ old ++ counts_text count cases failing → b ≡ a ++ beyond_text torn lost → c ≡ b ++ complete_word torn lost → new ≡ c ++ codes "\n" → new ≡ old ++ totals_text cs
+    → a ≡ old ++ counts_text count cases failing → b ≡ a ++ beyond_text torn lost → c ≡ b ++ complete_word all torn lost → new ≡ c ++ codes "\n" → new ≡ old ++ totals_text all cs
 unfolding totals_text
-totals_told cs count cases failing torn lost old a b c new count_is cases_is failing_is torn_is lost_is one two three four =
+totals_told all cs count cases failing torn lost old a b c new count_is cases_is failing_is torn_is lost_is one two three four =
     let first : a ≡ old ++ counts_text (length cs) (count_cases cs) (count_failing cs) = one ∙ (λ i. old ++ counts_text (count_is i) (cases_is i) (failing_is i)) in
     let second = two ∙ joined old _ _ a first ∙ (λ i. old ++ (counts_text (length cs) (count_cases cs) (count_failing cs) ++ beyond_text (torn_is i) (lost_is i))) in
     let third = three ∙ joined old _ _ b second
-    ∙ (λ i. old ++ (counts_text (length cs) (count_cases cs) (count_failing cs) ++ beyond_text (count_torn_beyond cs) (count_lost_beyond cs) ++ complete_word (torn_is i) (lost_is i))) in
+    ∙ (λ i. old ++ (counts_text (length cs) (count_cases cs) (count_failing cs) ++ beyond_text (count_torn_beyond cs) (count_lost_beyond cs) ++ complete_word all (torn_is i) (lost_is i))) in
     four ∙ joined old _ _ c third

@@ -1,9 +1,11 @@
 -- The text of the failing cases of a run (docs/OUTPUT.md, The text of cases). Each line ends with one newline; numbers are decimal.
-use Rattle.std.specs.Prelude.{ℕ, ◌+◌, ◌-◌, ◌^◌, ◌==◌, min, Bool, not, ◌&&◌, ◌||◌, if◌then◌else◌, List, [], ◌∷◌, ◌++◌, length, sum_by, Option, None, Some, is_some, codes}
+use Rattle.std.specs.Prelude.{ℕ, ◌+◌, ◌-◌, ◌^◌, ◌==◌, min, Bool, true, false, not, ◌&&◌, ◌||◌, if◌then◌else◌, List, [], ◌∷◌, ◌++◌, length, sum_by, Option, None, Some, is_some, codes}
 use Rattle.std.specs.Fmt.{decimal}
 use Rattle.std.specs.List.{flat_map, list_any}
 use Rattle.logfmt.specs.Bounds.{LogValue}
 use Rattle.epochs.specs.declared.cuts.Cuts.{Cuts}
+use Rattle.epochs.specs.declared.cuts.CutKind.{CutKind}
+use Rattle.epochs.specs.declared.cuts.CutKind.TheVariants.{All, BeforeFlush, AfterMark}
 use Rattle.epochs.specs.declared.part.Part.{Part}
 use Rattle.epochs.specs.declared.part.By.{By}
 use Rattle.epochs.specs.Units.{epoch_at, marks_at}
@@ -159,9 +161,21 @@ count_torn_beyond found = in_word (sum_by (λ (f : CaseFindings). f.torn_beyond)
 abbrev pub count_lost_beyond : List CutFound → ℕ
 count_lost_beyond found = in_word (sum_by (λ (f : CaseFindings). f.lost_beyond) (all_found found))
 
--- no case was left out
-abbrev pub complete_word : ℕ → ℕ → List ℕ
-complete_word torn lost = if (torn == 0) && (lost == 0) then codes " complete" else []
+-- each cut of the log was asked for
+abbrev pub is_each_cut : CutKind → Bool
+is_each_cut All = true
+is_each_cut BeforeFlush = false
+is_each_cut AfterMark = false
+
+abbrev pub are_all_cuts : Cuts → Bool
+are_all_cuts cuts = is_each_cut cuts.kind && not (has_range cuts)
+
+-- no case was left out: of any cut of the log, or of those that were asked for
+abbrev pub extent_words : Bool → List ℕ
+extent_words all = if all then codes " complete" else codes " of these cuts"
+
+abbrev pub complete_word : Bool → ℕ → ℕ → List ℕ
+complete_word all torn lost = if (torn == 0) && (lost == 0) then extent_words all else []
 
 unfoldable pub counts_text : ℕ → ℕ → ℕ → List ℕ
 counts_text cuts cases failing = codes "cuts " ++ decimal cuts ++ codes " cases " ++ decimal cases ++ codes " failing " ++ decimal failing
@@ -169,15 +183,15 @@ counts_text cuts cases failing = codes "cuts " ++ decimal cuts ++ codes " cases 
 unfoldable pub beyond_text : ℕ → ℕ → List ℕ
 beyond_text torn lost = codes " torn beyond " ++ decimal torn ++ codes " lost beyond " ++ decimal lost
 
-unfoldable pub totals_text : List CutFound → List ℕ
-totals_text found =
+unfoldable pub totals_text : Bool → List CutFound → List ℕ
+totals_text all found =
     counts_text (length found) (count_cases found) (count_failing found) ++ beyond_text (count_torn_beyond found) (count_lost_beyond found)
-    ++ complete_word (count_torn_beyond found) (count_lost_beyond found) ++ codes "\n"
+    ++ complete_word all (count_torn_beyond found) (count_lost_beyond found) ++ codes "\n"
 
 -- the text of the cases of a log, by a number of the run's inputs
 unfoldable pub cases_bytes : ℕ → HeadValue → Losses → LogValue → List CutFound → List ℕ
 cases_bytes inputs h asked log found =
-    cases_head (inputs_told h.cuts inputs) h asked ++ flat_map (cut_cases log h.by asked.tears) found ++ totals_text found
+    cases_head (inputs_told h.cuts inputs) h asked ++ flat_map (cut_cases log h.by asked.tears) found ++ totals_text (are_all_cuts h.cuts) found
 
 -- a program fails on some case
 abbrev pub fails_in : CaseFindings → Bool

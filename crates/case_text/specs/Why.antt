@@ -22,7 +22,7 @@ use Rattle.losses.specs.declared.found.CutFound.{CutFound}
 use Rattle.losses.specs.FoundCases.{FailingValue, failing_value}
 use Rattle.case_text.specs.Known.{KnownValue, known_of}
 use Rattle.case_text.specs.Window.{case_window}
-use Rattle.case_text.specs.Text.{window_text, options_text, totals_text}
+use Rattle.case_text.specs.Text.{window_text, options_text, are_all_cuts, totals_text}
 use Rattle.case_text.specs.Causes.{cause_text}
 
 -- a failing case: its number, its window, why it fails, and with what the line of its group ends
@@ -114,7 +114,7 @@ all_failures log way tears found = flat_map (cut_failures log way tears) found
 
 -- title, options, programs and totals
 unfoldable pub begin_text : HeadValue → Losses → List CutFound → List ℕ
-begin_text h asked found = codes "crash why cases 1\n" ++ options_text h asked ++ totals_text found
+begin_text h asked found = codes "crash why cases 1\n" ++ options_text h asked ++ totals_text (are_all_cuts h.cuts) found
 
 -- the whole text, by the failures, the flushes and the lines of the cuts
 unfoldable pub parts_bytes : HeadValue → Losses → List CutFound → List Failure → List MissingFlush → List ℕ → List ℕ

@@ -7,7 +7,7 @@ ghost use Rattle.losses.specs.Places.{AreWindows};
 ghost use Rattle.losses.specs.FailureWindows.{windows_in, HoldNoFlush};
 ghost use Rattle.cases.specs.AtCut.{parts_of, case_of};
 ghost use Rattle.losses.specs.FoundCases.{failing_value};
-ghost use Rattle.case_text.specs.Text.{case_line, totals_text};
+ghost use Rattle.case_text.specs.Text.{are_all_cuts, case_line, totals_text};
 ghost use Rattle.case_text.specs.Window.{case_window};
 ghost use Rattle.case_text.specs.Why.{by_program, failure_of, told_of, program_failures, found_failures, cut_failures, all_failures};
 ghost use Rattle.case_text.specs.Cured.{line_without, uncured_line, program_uncured, found_uncured, cut_uncured, all_uncured, none_text, begin_text, cure_begin};
@@ -16,7 +16,7 @@ use crate::head::put_options;
 use crate::known::KnownParts;
 use crate::lines::put_case;
 use crate::site::Site;
-use crate::totals::put_totals;
+use crate::totals::{are_all_cuts, put_totals};
 use epochs::{By, Plan};
 use logfmt::Log;
 use losses::cure::{Failure, put_programs};
@@ -282,11 +282,11 @@ fn begin_of(
 }
 
 /// The last line of the text of cases.
-fn last_of(alloc: Global, found: &[CutFound]) -> Result<String, AllocError>
-    ensures { IfOk result (λ last. string_bytes last ≡ totals_text found.now) }
+fn last_of(alloc: Global, head: &Head, found: &[CutFound]) -> Result<String, AllocError>
+    ensures { IfOk result (λ last. string_bytes last ≡ totals_text (are_all_cuts head.now.cuts) found.now) }
 {
     let mut last = String::new(alloc);
-    put_totals(&mut last, found)?;
+    put_totals(&mut last, are_all_cuts(&head.cuts), found)?;
     Ok(last)
 }
 
@@ -312,11 +312,11 @@ pub fn cure_of_cases(
     ensures inside { IfOk result (λ cure. AreWindows (length log.now.entries) (windows_in cure.failures.items)) }
     ensures calm { IfOk result (λ cure. HoldNoFlush log.now.entries (windows_in cure.failures.items)) }
     ensures begin { IfOk result (λ cure. cure.begin.items ≡ cure_begin head.now asked log.now found.now) }
-    ensures last { IfOk result (λ cure. string_bytes cure.last ≡ totals_text found.now) }
+    ensures last { IfOk result (λ cure. string_bytes cure.last ≡ totals_text (are_all_cuts head.now.cuts) found.now) }
 {
     let all = gather(alloc, head, log, plan, asked.tears, found)?;
     let begin = begin_of(alloc, head, asked, all.failures.as_slice(), &all.uncured)?;
-    let last = last_of(alloc, found)?;
+    let last = last_of(alloc, head, found)?;
     Ok(CasesCure {
         failures: all.failures,
         begin,

@@ -21,7 +21,7 @@
 //! | `among` | the parts of which more than one fate is possible, and not all |
 //! | `free` | how many parts at risk may have any fate |
 //! | `flush` | the window: a flush before any of these entries takes all images of the case away |
-//! | `complete` | in the last line, where no case was left out |
+//! | `complete` | in the last line, where no case of any cut was left out; `of these cuts` where the run was asked for some of the cuts |
 //!
 //! `why` says of each case in words what was lost while something later was there, or by which image it is shown where no flush helps:
 //!
@@ -48,6 +48,7 @@
 //! | `cure_of_cases(alloc, head, log, plan, asked, found)` | the cases as failures, and how the text of a cure begins and ends |
 //! | `is_any_failing(found)` | whether a program fails on some case |
 //! | `left_out(found)` | how many cases were left out |
+//! | `are_all_cuts(cuts)` | whether a run was asked for each cut of its log |
 //! | `put_opening`, `put_options`, `put_place`, `put_number`, `put_fates`, `put_window`, `put_counts`, `put_beyond`, `put_complete` | append one part of these texts, which `join` prints from what it read of a text |
 //!
 //! # The definitions
@@ -125,6 +126,6 @@ pub use laws::{case_is_shown, flush_takes_case_away, nothing_is_lost, window_is_
 pub use lines::{put_number, put_place};
 pub use said::{put_fates, put_window};
 pub use site::Site;
-pub use totals::{is_any_failing, left_out, put_beyond, put_complete, put_counts};
+pub use totals::{are_all_cuts, is_any_failing, left_out, put_beyond, put_complete, put_counts};
 pub use why::write_why;
 pub use writer::write_cases;

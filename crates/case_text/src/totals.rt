@@ -1,9 +1,11 @@
 //! What the cases of a run come to.
 
 ghost use Rattle.std.specs.Prelude.{◌≡◌, ◌++◌, OnOk, string_bytes};
-ghost use Rattle.case_text.specs.Text.{count_cases, count_failing, count_torn_beyond, count_lost_beyond, fails_at, is_any_failing, complete_word, counts_text, beyond_text, totals_text};
+ghost use Rattle.case_text.specs.Text.{count_cases, count_failing, count_torn_beyond, count_lost_beyond, fails_at, is_any_failing, is_each_cut, are_all_cuts, extent_words, complete_word, counts_text, beyond_text, totals_text};
 ghost use Rattle.case_text.specs.Counts.{with_found, with_all};
 
+use crate::head::has_range;
+use epochs::{CutKind, Cuts};
 use losses::found::{CaseFindings, CutFound};
 use std::alloc::AllocError;
 
@@ -58,16 +60,37 @@ fn totals_of(found: &[CutFound]) -> Totals
     all
 }
 
-/// Appends a word, where no case was left out.
+/// Whether a run was asked for each cut of its log.
+pub fn are_all_cuts(cuts: &Cuts) -> bool
+    ensures { result ≡ are_all_cuts cuts.now }
+{
+    match cuts.kind {
+        CutKind::All => !has_range(cuts),
+        CutKind::BeforeFlush | CutKind::AfterMark => false,
+    }
+}
+
+/// Appends where no case was left out: of any cut of the log, or of those that were asked for.
+fn put_extent(out: &mut String, all: bool) -> Result<(), AllocError>
+    ensures { OnOk result (string_bytes out.new ≡ string_bytes out.old ++ extent_words all) }
+{
+    if all {
+        write!(out, " complete")
+    } else {
+        write!(out, " of these cuts")
+    }
+}
+
+/// Appends whether all cuts of the log are told of, where no case was left out.
 ///
 /// # Errors
 ///
 /// Memory was refused.
-pub fn put_complete(out: &mut String, torn: u64, lost: u64) -> Result<(), AllocError>
-    ensures { OnOk result (string_bytes out.new ≡ string_bytes out.old ++ complete_word torn lost) }
+pub fn put_complete(out: &mut String, all: bool, torn: u64, lost: u64) -> Result<(), AllocError>
+    ensures { OnOk result (string_bytes out.new ≡ string_bytes out.old ++ complete_word all torn lost) }
 {
     if torn == 0 && lost == 0 {
-        write!(out, " complete")?;
+        put_extent(out, all)?;
     }
     Ok(())
 }
@@ -96,14 +119,18 @@ pub fn put_beyond(out: &mut String, torn: u64, lost: u64) -> Result<(), AllocErr
     write!(out, " torn beyond {torn} lost beyond {lost}")
 }
 
-/// Appends the last line.
-pub(crate) fn put_totals(out: &mut String, found: &[CutFound]) -> Result<(), AllocError>
-    ensures { OnOk result (string_bytes out.new ≡ string_bytes out.old ++ totals_text found.now) }
+/// Appends the last line of a run that was asked for each cut of its log, or for some.
+pub(crate) fn put_totals(
+    out: &mut String,
+    all_cuts: bool,
+    found: &[CutFound],
+) -> Result<(), AllocError>
+    ensures { OnOk result (string_bytes out.new ≡ string_bytes out.old ++ totals_text all_cuts found.now) }
 {
     let all = totals_of(found);
     put_counts(out, found.len() as u64, all.cases, all.failing)?;
     put_beyond(out, all.torn_beyond, all.lost_beyond)?;
-    put_complete(out, all.torn_beyond, all.lost_beyond)?;
+    put_complete(out, all_cuts, all.torn_beyond, all.lost_beyond)?;
     write!(out, "\n")?;
     Ok(())
 }

@@ -14,7 +14,7 @@ use crate::head::put_options;
 use crate::known::KnownParts;
 use crate::site::Site;
 use crate::told::{ToldFailing, all_told, push_failures};
-use crate::totals::put_totals;
+use crate::totals::{are_all_cuts, put_totals};
 use epochs::{By, Plan};
 use logfmt::Log;
 use losses::cure::{Failure, missing_of, put_flushes};
@@ -149,7 +149,8 @@ fn put_begin(
 {
     write!(out, "crash why cases 1\n")?;
     put_options(out, head, asked)?;
-    put_totals(out, found)
+    put_totals(out, are_all_cuts(&head.cuts), found)?;
+    Ok(())
 }
 
 /// The whole text, of its parts.

@@ -7,7 +7,7 @@ ghost use Rattle.case_text.specs.Text.{cut_cases, cases_bytes};
 use crate::head::put_cases_head;
 use crate::known::KnownParts;
 use crate::lines::put_cut;
-use crate::totals::put_totals;
+use crate::totals::{are_all_cuts, put_totals};
 use epochs::{By, Plan};
 use logfmt::Log;
 use losses::found::{CutFound, Losses};
@@ -61,6 +61,6 @@ pub fn write_cases(
     let mut known = KnownParts::new(alloc);
     put_cases_head(&mut out, inputs, head, asked)?;
     put_cuts(&mut out, &mut known, log, plan, head.by, asked.tears, found)?;
-    put_totals(&mut out, found)?;
+    put_totals(&mut out, are_all_cuts(&head.cuts), found)?;
     Ok(out.into_bytes())
 }

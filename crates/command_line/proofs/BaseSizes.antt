@@ -11,7 +11,7 @@ use Rattle.request.specs.declared.settings.Retelling.TheVariants as retelling
 use Rattle.command_line.specs.declared.parsed.Parsed.{Parsed}
 use Rattle.command_line.specs.declared.parsed.Verb.{Verb}
 use Rattle.command_line.specs.declared.parsed.Verb.TheVariants as verb
-use Rattle.command_line.specs.Parsed.{Asks, AsksAny, AsksBounded, AsksTold, AreOptionsWith, IsWhich, asks_losses, counted, cured, explained, explored, losses_named, paged}
+use Rattle.command_line.specs.Parsed.{Asks, AsksAny, AsksBounded, AsksReport, AsksTold, AreOptionsWith, IsWhich, asks_losses, counted, cured, explained, explored, losses_named, paged}
 use Rattle.command_line.specs.Words.{options_on, request_on}
 use Rattle.command_line.specs.Sized.{numbered, SizedIsNumbered}
 
@@ -45,9 +45,14 @@ told_so : (p : Parsed) (n : ℕ) (told : Retelling) (before after : OptionWords 
 told_so p n told before after alike true r (w, are, same) = (options_on w n, options_so _ p n w are, ap (λ x. request_on x n) same)
 told_so p n told before after alike false r (w, are, same) = (options_on w n, options_so 0 p n w are, ap (λ x. request_on x n) same ∙ alike w)
 
-pub alike : SizedIsNumbered
-alike p n (Some verb.Explore) r (w, are, same) =
+-- a report that says of what it is, or another
+report_so : (p : Parsed) (n : ℕ) (inputs : Bool) (r : Request) → AsksReport p inputs r → AsksReport (numbered p n) inputs (request_on r n)
+report_so p n true r (w, are, same) = (options_on w n, options_so _ p n w are, ap (λ x. request_on x n) same)
+report_so p n false r (w, are, same) =
     (options_on w n, options_so 0 p n w are, ap (λ x. request_on x n) same ∙ either_on (asks_losses p) (asks.Cases w (losses_named p telling.Cases)) (asks.Explore w) n)
+
+pub alike : SizedIsNumbered
+alike p n (Some verb.Explore) r asked = report_so p n p.inputs r asked
 alike p n (Some verb.Why) r asked =
     told_so p n retelling.Causes (explained p) (explained (numbered p n)) (λ w. either_on (asks_losses p) (asks.Cases w (losses_named p telling.Causes)) (asks.Why w) n) (is_some p.report) r asked
 alike p n (Some verb.Cure) r asked =

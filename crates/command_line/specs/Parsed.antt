@@ -170,6 +170,11 @@ losses_named p telling = record { any = p.any; torn = p.torn; at_most = p.at_mos
 abbrev pub explored : Parsed → OptionWords → Request
 explored p options = if asks_losses p then asks.Cases options (losses_named p telling.Cases) else asks.Explore options
 
+-- what it asks for with --inputs, which asks for a number of losses, and without
+abbrev pub AsksReport : Parsed → Bool → Request → Type 0
+AsksReport p true r = (options : OptionWords) × AreOptions p options × (r ≡ asks.Marked options)
+AsksReport p false r = (options : OptionWords) × AreOptionsWith 0 p options × (r ≡ explored p options)
+
 -- what `why` asks for, with these options, of programs
 abbrev pub explained : Parsed → OptionWords → Request
 explained p options = if asks_losses p then asks.Cases options (losses_named p telling.Causes) else asks.Why options
@@ -221,7 +226,7 @@ trial_asked p = record { limits = limits_named p.large; epoch = unwrap_or p.epoc
 
 -- what a command asks for: its options, and the image that it means
 abbrev pub Asks : Parsed → Option Verb → Request → Type 0
-Asks p (Some verb.Explore) r = (options : OptionWords) × AreOptionsWith 0 p options × (r ≡ explored p options)
+Asks p (Some verb.Explore) r = AsksReport p p.inputs r
 Asks p (Some verb.Why) r = AsksTold p retelling.Causes (explained p) (is_some p.report) r
 Asks p (Some verb.Cure) r = AsksTold p retelling.Places (cured p) (is_some p.report) r
 Asks p (Some verb.Page) r = AsksTold p retelling.Page (paged p) (is_some p.report) r
@@ -303,6 +308,7 @@ pub record IsRead (found : Found) (p : Parsed) : Type 0 where
   pub checked : IsNumberOf found (codes "checked") p.checked
   pub guards : IsFlagOf found (codes "guards") p.guards
   pub first : IsFlagOf found (codes "first") p.first
+  pub inputs : IsFlagOf found (codes "inputs") p.inputs
   pub progress : IsFlagOf found (codes "progress") p.progress
   pub number : IsNumberOf found (codes "number") p.number
   pub cut : IsNumberOf found (codes "cut") p.cut

@@ -26,6 +26,7 @@ pub record WordsValue : Type 0 where
 abbrev pub sectors_asked : Request → ℕ
 sectors_asked asks.StoredRun = 0
 sectors_asked (asks.Explore w) = w.settings.sectors
+sectors_asked (asks.Marked w) = w.settings.sectors
 sectors_asked (asks.Cases w losses) = w.settings.sectors
 sectors_asked (asks.Why w) = w.settings.sectors
 sectors_asked (asks.Cure w) = w.settings.sectors
@@ -50,6 +51,7 @@ sectors_asked (asks.Join part) = 0
 abbrev pub limits_asked : Request → Limits
 limits_asked asks.StoredRun = limits.Usual
 limits_asked (asks.Explore w) = w.settings.limits
+limits_asked (asks.Marked w) = w.settings.limits
 limits_asked (asks.Cases w losses) = w.settings.limits
 limits_asked (asks.Why w) = w.settings.limits
 limits_asked (asks.Cure w) = w.settings.limits
@@ -78,6 +80,7 @@ options_on w n = record w { settings = record w.settings { sectors = n } }
 abbrev pub request_on : Request → ℕ → Request
 request_on asks.StoredRun n = asks.StoredRun
 request_on (asks.Explore w) n = asks.Explore (options_on w n)
+request_on (asks.Marked w) n = asks.Marked (options_on w n)
 request_on (asks.Cases w losses) n = asks.Cases (options_on w n) losses
 request_on (asks.Why w) n = asks.Why (options_on w n)
 request_on (asks.Cure w) n = asks.Cure (options_on w n)

@@ -4,7 +4,7 @@ ghost use Rattle.std.specs.Prelude.{◌≡◌, ◌<◌, ◌++◌, codes, length,
 ghost use Rattle.clap.specs.Words.{first_value, found_of};
 ghost use Rattle.command_line.specs.Number.{NoNumber as NoNumberText};
 ghost use Rattle.request.specs.declared.settings.Retelling.TheVariants as retelling;
-ghost use Rattle.command_line.specs.Parsed.{Asks, AsksBounded, AsksImage, AsksTold, AreFlushes, AreOptions, AreOptionsWith, IsBoundOf, IsExtent, any_named, asks_losses, base_named, bound_named, choice_named, command_named, counted, cured, cuts_named, explained, explored, files_named, first_file, program_files, limits_named, losses_named, no_flushes, paged, parts_named, sectors_named, settings_named, trial_asked, unnamed_in, word_bytes, IsFlagOf, IsNumberOf, IsRead, IsSizeOf, IsWhich};
+ghost use Rattle.command_line.specs.Parsed.{Asks, AsksBounded, AsksImage, AsksReport, AsksTold, AreFlushes, AreOptions, AreOptionsWith, IsBoundOf, IsExtent, any_named, asks_losses, base_named, bound_named, choice_named, command_named, counted, cured, cuts_named, explained, explored, files_named, first_file, program_files, limits_named, losses_named, no_flushes, paged, parts_named, sectors_named, settings_named, trial_asked, unnamed_in, word_bytes, IsFlagOf, IsNumberOf, IsRead, IsSizeOf, IsWhich};
 
 use crate::extents::extent_in;
 use crate::flush_list::flushes_in;
@@ -76,6 +76,8 @@ pub struct Parsed<'a> {
     pub guards: bool,
     /// Whether `--first` stands there.
     pub first: bool,
+    /// Whether `--inputs` stands there.
+    pub inputs: bool,
     /// Whether `--progress` stands there.
     pub progress: bool,
     /// The number of an image.
@@ -371,6 +373,7 @@ impl<'a> Parsed<'a> {
             checked: number_of(matches, "checked")?,
             guards: flag_of(matches, "guards"),
             first: flag_of(matches, "first"),
+            inputs: flag_of(matches, "inputs"),
             progress: flag_of(matches, "progress"),
             number: number_of(matches, "number")?,
             cut: number_of(matches, "cut")?,
@@ -502,6 +505,17 @@ impl<'a> Parsed<'a> {
             Request::Cases(options, self.losses(CaseTelling::Cases))
         } else {
             Request::Explore(options)
+        }
+    }
+
+    /// What `explore` asks for. A report that says of what it is is of a number of losses: with `any` the bound has none.
+    fn explore(&self) -> Request
+        ensures { AsksReport self.now self.now.inputs result }
+    {
+        if self.inputs {
+            Request::Marked(self.options())
+        } else {
+            self.explored(self.options_by(0))
         }
     }
 
@@ -648,7 +662,7 @@ impl<'a> Parsed<'a> {
         ensures { Asks self.now (command_named self.now.command.now) result }
     {
         match verb_of(self.command) {
-            Some(Verb::Explore) => self.explored(self.options_by(0)),
+            Some(Verb::Explore) => self.explore(),
             Some(Verb::Why) => self.why(),
             Some(Verb::Cure) => self.cure(),
             Some(Verb::Page) => self.page(),

@@ -25,6 +25,7 @@ pub(crate) fn request_on(request: &Request, sectors: u64) -> Request
 {
     match request {
         Request::Explore(words) => Request::Explore(options_on(words, sectors)),
+        Request::Marked(words) => Request::Marked(options_on(words, sectors)),
         Request::Cases(words, losses) => Request::Cases(options_on(words, sectors), *losses),
         Request::Why(words) => Request::Why(options_on(words, sectors)),
         Request::Cure(words) => Request::Cure(options_on(words, sectors)),

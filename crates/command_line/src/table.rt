@@ -294,6 +294,15 @@ const FIRST: Item = Item {
     ..FLAG
 };
 
+/// Says of what the report is.
+const INPUTS: Item = Item {
+    id: "inputs",
+    option: Some("inputs"),
+    help: "Say in the report's second line of which log, options\nand number of programs it is, so that --report takes it\nwith these alone",
+    excludes: &["torn", "at-most", "first", "images"],
+    ..FLAG
+};
+
 /// The images that are judged.
 const SOME_IMAGES: Item = Item {
     id: "images",
@@ -511,7 +520,7 @@ Examples: crashbpf explore disk.log check.bpf --sectors 64 --bound 2 --tears
 
 Exit status: 0 where no image fails, 1 where one does, 2 for a refusal.",
     shares: Shares::OfRun,
-    own: &[TORN, AT_MOST, FIRST, SOME_IMAGES, PROGRAMS],
+    own: &[TORN, AT_MOST, FIRST, INPUTS, SOME_IMAGES, PROGRAMS],
 };
 
 /// The command `why`.

@@ -18,7 +18,7 @@ use Rattle.commands.specs.Acting.{join_refusal, most_texts, RefusesTexts, Refuse
 use Rattle.commands.specs.Acting.{second_held, lines_held, RefusesCheck, for_program_file, for_image_file, for_lines_file}
 use Rattle.request.specs.declared.settings.Retelling.{Retelling}
 use Rattle.commands.specs.Acting.{RefusesReportOf, for_log_of_report, for_report_file, for_base_of_report}
-use Rattle.commands.specs.Acting.{Files, first_held, initial_of, unread, RefusesFile, for_file, RefusesRecording, for_log_file, for_base_file, for_recording, RefusesFiles, for_unread, for_base, for_memory}
+use Rattle.commands.specs.Acting.{Files, first_file, first_held, initial_of, unread, RefusesFile, for_file, RefusesRecording, for_log_file, for_base_file, for_recording, RefusesFiles, for_unread, for_base, for_memory}
 
 -- the first file can't be read
 pub unread_file : (files : Files) (Rest : List ℕ → Refusal → Type 0) (r : Refusal) → (first_held files ≡ None) × (r ≡ file_refusal 0) → RefusesFile files Rest r
@@ -225,3 +225,20 @@ pub parts_refused : {V : Type 0} {choice : List ℕ} {part : Bool} (items : V �
     → position is_none files ≡ None → texts ≡ filter_map (option_map items) files → RefusesTexts part texts r → RefusesParts part (record { named = map (option_map items) files; base = base; choice = choice }) r
 parts_refused items files texts base r few readable all why =
     let long = texts_long items files texts readable all in for_parts texts r (texts_read items files texts readable all) (omega (arith, long, few)) why
+
+-- files that were read can be
+all_there : (xs : List (List ℕ)) → position_or_len is_none (map Some xs) ≡ length (map Some xs)
+all_there [] = refl
+all_there (x ∷ xs) =
+    let rest = all_there xs in
+    let longer : 1 + position_or_len is_none (map Some xs) ≡ suc (length (map Some xs)) = omega (arith, rest) in
+    longer
+
+same_end : (q n : ℕ) → q ≡ n → cond (nat_lt q n) (Some q) None ≡ None
+same_end q n same = let less : nat_lt q n ≡ false = grind (arith, nat_tests, same) in rw less refl
+
+pub files_readable : (files : Files) (log : List ℕ) (programs : List (List ℕ)) → files.named ≡ map Some (log ∷ programs) → unread files.named ≡ None
+files_readable files log programs is = ap unread is ∙ same_end (position_or_len is_none (map Some (log ∷ programs))) (length (map Some (log ∷ programs))) (all_there (log ∷ programs))
+
+pub has_first : (files : Files) (log : List ℕ) (programs : List (List ℕ)) → files.named ≡ map Some (log ∷ programs) → first_held files ≡ None → ⊥
+has_first files log programs is none = let bad : Some log ≡ None = sym (ap first_file is) ∙ none in cc

@@ -51,7 +51,7 @@ use Rattle.request.proofs.Logs.{bounds_of}
 use Rattle.runs.specs.Cases.{TellsCases, IsTextOf, IsCases, IsLosses}
 use Rattle.runs.specs.CaseCuts.{losses_of}
 use Rattle.runs.specs.Explore.{AreCheckersOf, head_of}
-use Rattle.runs.specs.Inputs.{inputs_number}
+use Rattle.request.specs.Inputs.{inputs_number}
 use Rattle.runs.specs.Why.{with_first}
 use Rattle.commands.specs.CaseParts.{CasesAreText}
 use Rattle.commands.proofs.CaseFates.{first_so, second_so, IsFair, cases_fair, IsOneOf, failing_are, failing_rise, failing_few, NumbersRise}

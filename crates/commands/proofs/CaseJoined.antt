@@ -1,5 +1,5 @@
 -- Texts of ranges of cuts of a run, joined, are what the run answers of the whole range.
-use Rattle.std.proofs.Common.{ℕ, zero, suc, ◌≡◌, ◌↔◌, IsTrue, ◌+◌, ◌<◌, ◌≤◌, ◌==◌, ◌&&◌, nat_le, nat_lt, bytes_eq, Bool, true, false, if◌then◌else◌, List, [], ◌∷◌, ◌++◌, length, map, filter, get_or, slice_get, All, Option, None, Some, unwrap_or, refl, sym, subst, ◌∙◌, ap, arith}
+use Rattle.std.proofs.Common.{ℕ, zero, suc, ◌≡◌, ◌↔◌, IsTrue, ◌+◌, ◌<◌, ◌≤◌, ◌==◌, ◌&&◌, nat_le, nat_lt, bytes_eq, Bool, true, false, if◌then◌else◌, List, [], ◌∷◌, ◌++◌, length, map, filter, slice_get, Option, None, Some, unwrap_or, refl, sym, subst, ◌∙◌, ap, arith}
 use Rattle.std.specs.List.{flat_map, sum_by, range_with_len}
 use Rattle.std.proofs.lemmas.Bool.Decides.{nat_tests}
 use Rattle.std.proofs.lemmas.List.Sorted.{sum_by-IsPermutation}
@@ -7,7 +7,6 @@ use Rattle.logfmt.specs.declared.entry.Entry.{Entry}
 use Rattle.logfmt.specs.Bounds.{LogValue}
 use Rattle.logfmt.specs.Laws.{TextOfOneLog}
 use Rattle.epochs.specs.declared.cuts.Cuts.{Cuts}
-use Rattle.epochs.specs.declared.flushes.Flushes.{Flushes}
 use Rattle.epochs.specs.declared.part.By.{By}
 use Rattle.epochs.specs.Cuts.{is_of_kind, is_after_first, is_before_last, is_wanted}
 use Rattle.epochs.specs.Flushes.{places_of}
@@ -38,7 +37,7 @@ use Rattle.request.specs.OptionWords.{AskFor}
 use Rattle.request.specs.Source.{Recording, cut_past, lacking, IsLogOf, HasImages}
 use Rattle.request.proofs.Logs.{bounds_of}
 use Rattle.runs.specs.declared.explore_command.WantedAnswer.TheVariants as wanted
-use Rattle.runs.specs.Inputs.{inputs_number}
+use Rattle.request.specs.Inputs.{inputs_number}
 use Rattle.runs.specs.CaseCuts.{losses_of}
 use Rattle.runs.specs.Cases.{IsTextOf, IsCases, IsLosses}
 use Rattle.runs.specs.Explore.{IsProgramCount, AreCheckersOf, head_of}

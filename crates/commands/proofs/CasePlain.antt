@@ -18,7 +18,7 @@ use Rattle.report.specs.Report.{HeadValue, device_text, given_text, program_line
 use Rattle.losses.specs.declared.flushes.window.Window.{Window}
 use Rattle.losses.proofs.Plain.{both, number, is_plain, digit_plain, ascii}
 use Rattle.losses.specs.declared.found.Losses.{Losses}
-use Rattle.case_text.specs.Text.{torn_words, at_most_words, losses_text, opening_text, options_text, cases_head, fate_word, next_fate, fates_text, place_text, number_text, window_text, counts_text, beyond_text, complete_word}
+use Rattle.case_text.specs.Text.{torn_words, at_most_words, losses_text, opening_text, options_text, cases_head, fate_word, next_fate, fates_text, place_text, number_text, window_text, counts_text, beyond_text, are_all_cuts, extent_words, complete_word}
 use Rattle.join.specs.declared.case_parts.names.PartName.{PartName}
 use Rattle.join.specs.declared.case_parts.front.CaseFront.{CaseFront}
 use Rattle.join.specs.declared.case_parts.totals.CaseTotals.{CaseTotals}
@@ -187,16 +187,17 @@ plain_line way t own =
     let pb : IsPlain b = more a (said_text way t) pa (plain_said way t) in
     more (b ++ window_text t.window) (codes "\n") (more b (window_text t.window) pb (plain_window t.window)) refl
 
-plain_complete : (torn lost : ℕ) → IsPlain (complete_word torn lost)
-plain_complete torn lost = by_test ((torn == 0) && (lost == 0))
+plain_complete : (all : Bool) (torn lost : ℕ) → IsPlain (complete_word all torn lost)
+plain_complete all torn lost = by_test ((torn == 0) && (lost == 0)) all
   where
-    by_test : (b : Bool) → IsPlain (if b then codes " complete" else [])
-    by_test true = refl
-    by_test false = refl
+    by_test : (b a : Bool) → IsPlain (if b then extent_words a else [])
+    by_test true true = refl
+    by_test true false = refl
+    by_test false a = refl
 
-plain_totals : (t : CaseTotals) → IsPlain (totals_line t)
+plain_totals : (all : Bool) (t : CaseTotals) → IsPlain (totals_line all t)
 unfolding totals_line counts_text beyond_text
-plain_totals t =
+plain_totals all t =
     let a : List ℕ = codes "cuts " ++ decimal t.cuts in
     let pa : IsPlain a = more (codes "cuts ") (decimal t.cuts) refl (plain_number t.cuts) in
     let b : List ℕ = a ++ codes " cases " ++ decimal t.cases in
@@ -207,7 +208,7 @@ plain_totals t =
     let pe : IsPlain e = more (codes " torn beyond ") (decimal t.torn) refl (plain_number t.torn) in
     let g : List ℕ = e ++ codes " lost beyond " ++ decimal t.lost in
     let pg : IsPlain g = more (e ++ codes " lost beyond ") (decimal t.lost) (more e (codes " lost beyond ") pe refl) (plain_number t.lost) in
-    more (d ++ g ++ complete_word t.torn t.lost) (codes "\n") (more (d ++ g) (complete_word t.torn t.lost) (more d g pd pg) (plain_complete t.torn t.lost)) refl
+    more (d ++ g ++ complete_word all t.torn t.lost) (codes "\n") (more (d ++ g) (complete_word all t.torn t.lost) (more d g pd pg) (plain_complete all t.torn t.lost)) refl
 
 -- THE WHOLE TEXT
 
@@ -224,6 +225,6 @@ pub cases_are_text : (c : CasesValue) → HavePlain c.told → IsUtf8 (told_text
 unfolding told_text
 cases_are_text c each =
     let lines : List ℕ = flat_map (told_line c.head.by) c.told in
-    let rest : IsPlain (lines ++ totals_line c.totals) = more lines (totals_line c.totals) (plain_lines c.head.by c.told each) (plain_totals c.totals) in
-    let all : IsPlain (cases_head c.inputs c.head c.asked ++ (lines ++ totals_line c.totals)) = more (cases_head c.inputs c.head c.asked) (lines ++ totals_line c.totals) (plain_head c.inputs c.head c.asked) rest in
-    IsUtf8-from_ascii (cases_head c.inputs c.head c.asked ++ (lines ++ totals_line c.totals)) (ascii (cases_head c.inputs c.head c.asked ++ (lines ++ totals_line c.totals)) all)
+    let rest : IsPlain (lines ++ totals_line (are_all_cuts c.head.cuts) c.totals) = more lines (totals_line (are_all_cuts c.head.cuts) c.totals) (plain_lines c.head.by c.told each) (plain_totals (are_all_cuts c.head.cuts) c.totals) in
+    let all : IsPlain (cases_head c.inputs c.head c.asked ++ (lines ++ totals_line (are_all_cuts c.head.cuts) c.totals)) = more (cases_head c.inputs c.head c.asked) (lines ++ totals_line (are_all_cuts c.head.cuts) c.totals) (plain_head c.inputs c.head c.asked) rest in
+    IsUtf8-from_ascii (cases_head c.inputs c.head c.asked ++ (lines ++ totals_line (are_all_cuts c.head.cuts) c.totals)) (ascii (cases_head c.inputs c.head c.asked ++ (lines ++ totals_line (are_all_cuts c.head.cuts) c.totals)) all)

@@ -16,7 +16,7 @@ use Rattle.losses.specs.declared.found.Losses.{Losses}
 use Rattle.losses.specs.declared.found.CaseFindings.{CaseFindings}
 use Rattle.losses.specs.declared.found.CutFound.{CutFound}
 use Rattle.losses.specs.FoundCases.{most_cases, cases_at, cases_in, failing_value}
-use Rattle.case_text.specs.Text.{in_word, has_range, inputs_told, cases_head, case_line, program_cases, programs_cases, cut_cases, all_found, count_cases, count_failing, count_torn_beyond, count_lost_beyond, totals_text, cases_bytes}
+use Rattle.case_text.specs.Text.{in_word, has_range, are_all_cuts, inputs_told, cases_head, case_line, program_cases, programs_cases, cut_cases, all_found, count_cases, count_failing, count_torn_beyond, count_lost_beyond, totals_text, cases_bytes}
 use Rattle.join.specs.declared.case_parts.totals.CaseTotals.{CaseTotals}
 use Rattle.join.specs.Heads.{IsPrintedHead}
 use Rattle.join.specs.Printable.{has_program_and_cut}
@@ -94,17 +94,17 @@ lines_are log way tears (c ∷ found) =
     ∙ ap (λ (bs : List ℕ). bs ++ flat_map (told_line way) (told_of_all log way tears found)) one
     ∙ ap (λ (bs : List ℕ). cut_cases log way tears c ++ bs) rest
 
-totals_are : (found : List CutFound) → totals_line (totals_of found) ≡ totals_text found
+totals_are : (all : Bool) (found : List CutFound) → totals_line all (totals_of found) ≡ totals_text all found
 unfolding totals_line totals_text
-totals_are found = refl
+totals_are all found = refl
 
 pub text_is : (inputs : ℕ) (h : HeadValue) (asked : Losses) (log : LogValue) (found : List CutFound) → cases_bytes inputs h asked log found ≡ told_text (printed_cases inputs h asked log found)
 unfolding cases_bytes told_text
 text_is inputs h asked log found =
     let lines = lines_are log h.by asked.tears found in
-    let totals = totals_are found in
-    append_assoc (cases_head (inputs_told h.cuts inputs) h asked) (flat_map (cut_cases log h.by asked.tears) found) (totals_text found)
-    ∙ ap (λ (bs : List ℕ). cases_head (inputs_told h.cuts inputs) h asked ++ (bs ++ totals_text found)) (sym lines)
+    let totals = totals_are (are_all_cuts h.cuts) found in
+    append_assoc (cases_head (inputs_told h.cuts inputs) h asked) (flat_map (cut_cases log h.by asked.tears) found) (totals_text (are_all_cuts h.cuts) found)
+    ∙ ap (λ (bs : List ℕ). cases_head (inputs_told h.cuts inputs) h asked ++ (bs ++ totals_text (are_all_cuts h.cuts) found)) (sym lines)
     ∙ ap (λ (bs : List ℕ). cases_head (inputs_told h.cuts inputs) h asked ++ (flat_map (told_line h.by) (told_of_all log h.by asked.tears found) ++ bs)) (sym totals)
 
 -- EACH LINE IS ONE OF A RUN

@@ -1,5 +1,5 @@
 -- The report of checkers is a report of the log, and what is told of it is told of their failing lines.
-use Rattle.std.proofs.Common.{ℕ, zero, suc, ◌≡◌, ◌≢◌, ◌+◌, ◌-◌, ◌<◌, ◌≤◌, ◌^◌, ◌==◌, ◌↔◌, Bool, true, false, IsTrue, if◌then◌else◌, List, [], ◌∷◌, ◌++◌, codes, length, map, filter, flat_map, append_assoc, append-nil, slice_get, None, Some, refl, sym, ◌∙◌, ap, subst, arith}
+use Rattle.std.proofs.Common.{ℕ, zero, suc, ◌≡◌, ◌≢◌, ◌-◌, ◌==◌, ◌↔◌, Bool, true, false, IsTrue, if◌then◌else◌, List, [], ◌∷◌, ◌++◌, codes, length, map, filter, flat_map, append_assoc, append-nil, slice_get, None, Some, refl, sym, ◌∙◌, ap, subst, arith}
 use Rattle.std.specs.Fmt.{decimal}
 use Rattle.std.specs.List.{list_all, range_with_len}
 use Rattle.std.specs.Str.{IsUtf8}
@@ -18,10 +18,8 @@ use Rattle.report.specs.Images.{distinct_count, failing_images}
 use Rattle.report.specs.Line.{FailingLine}
 use Rattle.report.specs.LineText.{ending_text, choice_text, line_text}
 use Rattle.report.specs.Marks.{mark_of, marks_of}
-use Rattle.report.specs.Report.{device_text, choices_text, given_text, options_line, options_text, program_lines, totals_line, findings_text, report_bytes}
+use Rattle.report.specs.Report.{device_text, choices_text, given_text, options_line, options_text, program_lines, totals_line, report_bytes}
 use Rattle.losses.proofs.Plain.{both, number, is_plain, digit_plain, ascii, lines_are_text}
-use Rattle.losses.specs.declared.flushes.counted.MissingFlush.{MissingFlush}
-use Rattle.losses.specs.declared.cure.failure.Failure.{Failure}
 use Rattle.losses.specs.declared.why.cut.CutFailures.{CutFailures}
 use Rattle.losses.specs.Failures.{AreCuts}
 use Rattle.losses.specs.FailureWindows.{AreFailuresAt}
@@ -30,7 +28,7 @@ use Rattle.losses.specs.CureText.{missing_text}
 use Rattle.losses.specs.Causes.{causes_from}
 use Rattle.page_parts.specs.Judges.{judge_text}
 use Rattle.crash_page.specs.Failing.{IsFailing as FailsOn}
-use Rattle.join.specs.Given.{ToldLine, IsTold, AreToldOf, GivenValue, IsReport, told_body, told_line, told_totals, chosen_told, marks_told, images_told}
+use Rattle.join.specs.Given.{ToldLine, IsTold, AreToldOf, GivenValue, IsReport, told_line, told_totals, marks_told, images_told}
 use Rattle.join.specs.Laws.{IsRun}
 use Rattle.join.specs.Order.{in_order}
 use Rattle.join.specs.Printable.{IsPrintable, EachLine}
@@ -48,13 +46,14 @@ use Rattle.request.specs.declared.settings.Settings.{Settings}
 use Rattle.request.specs.Extents.{first_meant, end_meant}
 use Rattle.request.specs.Source.{Recording, images_of}
 use Rattle.runs.specs.Explore.{subject_of, program_head, head_of, images_text, report_of}
-use Rattle.runs.specs.Inputs.{inputs_number}
-use Rattle.runs.specs.Why.{images_failing, starts_of, IsMissing, why_head, why_text, TellsCauses, PageOfLines, with_first}
+use Rattle.request.specs.Inputs.{inputs_number}
+use Rattle.runs.specs.Why.{images_failing, starts_of, why_head, why_text, TellsCauses, PageOfLines, with_first}
 use Rattle.runs.specs.Paged.{IsSaid}
 use Rattle.runs.proofs.Missed.{failures_are}
 use Rattle.retold.specs.Told.{is_of, images_told_of, outcomes_told_of, opening_told, TellsWhy, TellsPage, of_checker, of_own}
 use Rattle.retold.specs.Told.{IsSaid as GivenSaid}
-use Rattle.retold.specs.Retold.{head_given, options_given, starts_given}
+use Rattle.request.specs.Inputs.{head_given, options_given}
+use Rattle.retold.specs.Retold.{starts_given}
 use Rattle.commands.proofs.RunOf.{run_of, IsGiven, is_run}
 
 -- the same settings but for what changes no image
@@ -240,7 +239,7 @@ text_grouped s value checkers =
 
 pub is_report : (text : Recording) (files : List (List ℕ)) (s : Settings) (value : LogValue) (checkers : List CheckerValue) (report : List ℕ) → IsGiven text files s value checkers
     → s.extent ≡ extent.Whole → s.first ≡ false → report ≡ report_of (inputs_number text.text files) s value checkers
-    → IsReport (options_given (set_images s) value) (starts_given (set_images s) value) (length (images_of (set_images s) value)) report (given_of s value checkers)
+    → IsReport (codes "crash report 2\n") (options_given (set_images s) value) (starts_given (set_images s) value) (length (images_of (set_images s) value)) report (given_of s value checkers)
 unfolding head_of
 is_report text files s value checkers report given whole all is =
     let inputs : ℕ = inputs_number text.text files in

@@ -1,5 +1,5 @@
 -- Of the report of checkers `why --report` says what `why` says of the checkers, and `page --report` shows what `page` shows of them.
-use Rattle.std.proofs.Common.{ℕ, ◌≡◌, ◌≢◌, ◌≤◌, ◌^◌, ◌↔◌, ◌∷◌, [], Bool, false, IsTrue, List, length, map, Option, None, Some, option_map, refl, sym, ◌∙◌, ap, subst, arith}
+use Rattle.std.proofs.Common.{ℕ, ◌≡◌, ◌≢◌, ◌≤◌, ◌^◌, ◌↔◌, ◌∷◌, [], codes, Bool, false, IsTrue, List, length, map, Option, None, Some, option_map, refl, sym, ◌∙◌, ap, subst, arith}
 use Rattle.std.specs.Option.{option_map_or}
 use Rattle.base.specs.Check.{first_failing}
 use Rattle.base.specs.declared.causes.RequestCause.TheVariants as asked
@@ -12,7 +12,6 @@ use Rattle.join.specs.Given as reports
 use Rattle.join.specs.Given.{GivenValue}
 use Rattle.workers.specs.Failing.{failing_lines}
 use Rattle.request.specs.declared.command.OptionWords.{OptionWords}
-use Rattle.request.specs.declared.extent.Extent.{Extent}
 use Rattle.request.specs.declared.extent.Extent.TheVariants as extent
 use Rattle.request.specs.declared.settings.OptionPlace.{OptionPlace}
 use Rattle.request.specs.declared.settings.Retelling.{Retelling}
@@ -25,21 +24,22 @@ use Rattle.request.specs.Settings.{option_checks, option_refusal, settings_refus
 use Rattle.request.specs.Source.{Recording, IsLogOf, HasImages, images_of}
 use Rattle.request.specs.Source as source
 use Rattle.runs.specs.declared.explore_command.WantedAnswer.TheVariants as wanted
-use Rattle.runs.specs.Explore.{IsReportOfRun, AreCheckersOf, subject_of, report_of}
-use Rattle.runs.specs.Inputs.{inputs_number}
+use Rattle.runs.specs.Explore.{IsReportOfRun, subject_of}
+use Rattle.request.specs.Inputs.{inputs_number}
 use Rattle.runs.specs.Why.{Tells, IsTold}
 use Rattle.retold.specs.declared.command.RetellFault.{RetellFault}
-use Rattle.retold.specs.declared.command.RetellFault.TheVariants as fault
 use Rattle.retold.specs.Retold as retold
-use Rattle.retold.specs.Retold.{head_given, options_given, starts_given, NoneIsGiven, IsGiven, Retells, IsRetoldOf, IsRetold, RefusesSourceAs, RefusesReport, RefusesRetold}
-use Rattle.commands.specs.Acting.{Files, first_held, first_file, second_held, initial_of, recording, status_of, AnswersExplore, AnswersRetold, Answers, RefusesWith, for_words, for_settings, RefusesReportOf, for_log_of_report, for_report_file, for_base_of_report, for_retold, retold_refusal}
-use Rattle.commands.specs.OfReport.{of_images, HaveReport, IsOfRun, WhyOfReportIsWhy, PageOfReportIsPage}
-use Rattle.commands.specs.Parts.{meant, asking}
+use Rattle.request.specs.Inputs.{head_given, options_given}
+use Rattle.retold.specs.Retold.{starts_given, NoneIsGiven, IsGiven, Retells, IsRetoldOf, IsRetold, RefusesSourceAs, RefusesReport, RefusesRetold}
+use Rattle.commands.specs.Acting.{Files, first_held, first_file, second_held, initial_of, recording, status_of, AnswersExplore, AnswersRetold, RefusesWith, for_words, for_settings, RefusesReportOf, for_log_of_report, for_report_file, for_base_of_report, for_retold, retold_refusal}
+use Rattle.commands.specs.OfReport.{of_images, IsOfRun, WhyOfReportIsWhy, PageOfReportIsPage}
+use Rattle.commands.specs.Parts.{asking}
 use Rattle.commands.proofs.OneAnswer.{one_told, same_files, same_initial, same_settings, same_held}
+use Rattle.commands.proofs.OneRetold.{one_given}
 use Rattle.commands.proofs.OneReport.{same_log, same_checkers, same_test}
 use Rattle.commands.proofs.PartsJoined.{AreOne}
 use Rattle.commands.proofs.Printed.{asked_of, whole_asked}
-use Rattle.commands.proofs.GivenRun.{set_images, told_all, given_of, is_report, tells_causes, tells_page, some_are}
+use Rattle.commands.proofs.GivenRun.{set_images, given_of, is_report, tells_causes, tells_page, some_are}
 
 same_images : (v w : OptionWords) (r s : Settings) → of_images v ≡ of_images w → AskFor v r → AskFor w s → set_images r ≡ set_images s
 same_images v w r s same h k = ap set_images (sym h.asked) ∙ ap (λ (u : OptionWords). u.settings) same ∙ ap set_images k.asked
@@ -57,6 +57,10 @@ retells_images retelling.Causes s value g bytes h = h
 retells_images retelling.Page s value g bytes h = h
 retells_images retelling.Places s value g bytes h = h
 
+given_images : (file : List ℕ) (s : Settings) (value : LogValue) (report : List ℕ) (g : GivenValue) → IsGiven file s value report g → IsGiven file (set_images s) value report g
+unfolding head_given
+given_images file s value report g h = record { said = h.said; few = h.few; as_said = record { counted = h.as_said.counted; read = record { is = h.as_said.read.is; only = h.as_said.read.only } } }
+
 retold_images : (u : Retelling) (text : Recording) (report : List ℕ) (s : Settings) (bytes : List ℕ) (failing : Bool) → IsRetold u text report s bytes failing
     → IsRetold u text report (set_images s) bytes failing
 unfolding head_given
@@ -65,7 +69,7 @@ retold_images u text report s bytes failing h = record {
   short = h.short;
   value = h.value;
   source = source_images h.source;
-  told = record { given = h.told.given; is = h.told.is; tells = retells_images u s h.value h.told.given bytes h.told.tells; fails = h.told.fails };
+  told = record { given = h.told.given; is = given_images text.text s h.value report h.told.given h.told.is; tells = retells_images u s h.value h.told.given bytes h.told.tells; fails = h.told.fails };
 }
 
 -- what is told of a report as it is told of a run
@@ -113,7 +117,7 @@ run_of_report v w files given report h =
 
 -- its report is one of the log
 abbrev IsReadAs : Settings → LogValue → List CheckerValue → List ℕ → Type 0
-IsReadAs s value checkers report = reports.IsReport (options_given (set_images s) value) (starts_given (set_images s) value) (length (images_of (set_images s) value)) report (given_of s value checkers)
+IsReadAs s value checkers report = reports.IsReport (codes "crash report 2\n") (options_given (set_images s) value) (starts_given (set_images s) value) (length (images_of (set_images s) value)) report (given_of s value checkers)
 
 given_is : (w : OptionWords) (files : Files) (report : List ℕ) (r : IsRunOf w files report) → IsReadAs r.settings r.is.value r.is.checkers report
 given_is w files report r =
@@ -138,8 +142,8 @@ same_told one t u pair w files report bytes others r fails told k h =
     let by_value = subst (λ (v : LogValue). Tells t inputs s v k.checkers bytes) why_value k.tells in
     let explained = subst (λ (cs : List CheckerValue). Tells t inputs s e.value cs bytes) checkers by_value in
     let value : h.value ≡ e.value = same_log one.texts text (set_images s) h.value e.value h.source (source_images e.source) in
-    let own : IsRetoldOf u (set_images s) e.value report others told = subst (λ (v : LogValue). IsRetoldOf u (set_images s) v report others told) value h.told in
-    let given : own.given ≡ given_of s e.value e.checkers = own.is.only (given_of s e.value e.checkers) (given_is w files report r) in
+    let own : IsRetoldOf u text.text (set_images s) e.value report others told = subst (λ (v : LogValue). IsRetoldOf u text.text (set_images s) v report others told) value h.told in
+    let given : own.given ≡ given_of s e.value e.checkers = one_given text.text (set_images s) e.value report own.given (given_of s e.value e.checkers) own.is 0 (omega arith) (given_is w files report r) in
     let tells = subst (λ (g : GivenValue). Retells u (set_images s) e.value g others) given own.tells in
     let ls : List FailingLine = failing_lines (subject_of s e.value e.checkers) in
     let lines : failing_lines (subject_of s k.value k.checkers) ≡ ls = λ i. failing_lines (subject_of s (why_value i) (checkers i)) in
@@ -204,20 +208,20 @@ not_of_source text s _ (retold.with_refusal _ (source.for_log r why)) = not_of_l
 not_of_source text s _ (retold.with_refusal _ (source.for_plan r value reads why)) = not_of_plan s value r why
 
 -- it is a report with these options, whatever else is asked for
-none_images : (s : Settings) (value : LogValue) (report : List ℕ) → NoneIsGiven s value report → NoneIsGiven (set_images s) value report
+none_images : (file : List ℕ) (s : Settings) (value : LogValue) (report : List ℕ) → NoneIsGiven file s value report → NoneIsGiven file (set_images s) value report
 unfolding head_given
-none_images s value report none = none
+none_images file s value report h = record { none = λ said few. record { none = λ g counted is. (h.none said few).none g counted is } }
 
 not_of_report : AreOne → (w : OptionWords) (files : Files) (report : List ℕ) (r : IsRunOf w files report) (s : Settings) (value : LogValue) (f : RetellFault) → set_images s ≡ set_images r.settings
-    → HasImages (recording r.log r.initial) s value → RefusesReport s value report f → (retold_refusal f).code ≢ Request asked.NotReport
+    → HasImages (recording r.log r.initial) s value → RefusesReport r.log s value report f → (retold_refusal f).code ≢ Request asked.NotReport
 not_of_report one w files report r s value _ same has (retold.no_report line none) bad =
     let text : Recording = recording r.log r.initial in
     let e = r.is in
     let images = subst (λ (x : Settings). HasImages text x value) same (source_images has) in
     let log : value ≡ e.value = same_log one.texts text (set_images r.settings) value e.value images (source_images e.source) in
-    let by_settings = subst (λ (x : Settings). NoneIsGiven x value report) same (none_images s value report none) in
-    let by_log = subst (λ (v : LogValue). NoneIsGiven (set_images r.settings) v report) log by_settings in
-    by_log.none (given_of r.settings e.value e.checkers) (given_is w files report r)
+    let by_settings = subst (λ (x : Settings). NoneIsGiven r.log x value report) same (none_images r.log s value report none) in
+    let by_log = subst (λ (v : LogValue). NoneIsGiven r.log (set_images r.settings) v report) log by_settings in
+    (by_log.none 0 (omega arith)).none (given_of r.settings e.value e.checkers) refl (given_is w files report r)
 not_of_report one w files report r s value _ same has retold.no_memory bad = cc
 
 not_refused : AreOne → (w : OptionWords) (files : Files) (report : List ℕ) (r : IsRunOf w files report) (s : Settings) (f : RetellFault) → set_images s ≡ set_images r.settings → length report ≤ 2 ^ 30

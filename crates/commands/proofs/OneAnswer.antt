@@ -1,5 +1,5 @@
 -- Each command has one answer.
-use Rattle.std.proofs.Common.{ℕ, ◌≡◌, ◌↔◌, IsTrue, Bool, true, false, List, [], ◌∷◌, ◌++◌, length, map, flat_map, Option, None, Some, refl, sym, ◌∙◌, ap, subst}
+use Rattle.std.proofs.Common.{ℕ, ◌≡◌, ◌↔◌, IsTrue, Bool, true, false, List, [], ◌∷◌, ◌++◌, ◌-◌, length, map, flat_map, Option, None, Some, refl, sym, ◌∙◌, ap, subst}
 use Rattle.std.specs.Prelude.{MatchOption}
 use Rattle.logfmt.specs.Bounds.{LogValue}
 use Rattle.logfmt.specs.Laws.{TextOfOneLog}
@@ -35,7 +35,7 @@ use Rattle.case_runs.specs.First.{FirstIsOne}
 use Rattle.runs.specs.Why.{Tells}
 use Rattle.retold.specs.Retold.{IsRetold}
 use Rattle.runs.specs.Cured.{TellsCure, Cures, IsAnswered}
-use Rattle.runs.specs.Inputs.{inputs_number}
+use Rattle.request.specs.Inputs.{inputs_number}
 use Rattle.base.specs.Sizes.{sector_limit}
 use Rattle.base.specs.declared.limits.Limits.{Limits}
 use Rattle.raw_log.specs.Imported.{IsImported}
@@ -46,14 +46,14 @@ use Rattle.inspect.specs.AnyImage.{any_text_in, IsAnyImage, IsMeantLoss}
 use Rattle.case_runs.specs.Cuts.{first_wanted, last_wanted}
 use Rattle.inspect.specs.CutSurvey.{IsCutSurvey, cut_survey_text, laid_text, risks_of}
 use Rattle.inspect.specs.Survey.{survey_text, parts_text, IsSurvey}
-use Rattle.inspect.specs.Export.{exported, IsExport}
+use Rattle.inspect.specs.Export.{export_head, exported, IsExport}
 use Rattle.export.specs.Export.{export_text}
 use Rattle.inspect.specs.Table.{IsTable}
 use Rattle.inspect.specs.Verifying.{verified_text, IsAcceptedText}
 use Rattle.inspect.specs.Assembly.{listing_text, IsAssembled, IsListed}
 use Rattle.runs.specs.declared.explore_command.WantedAnswer.{WantedAnswer}
 use Rattle.runs.specs.declared.explore_command.WantedAnswer.TheVariants as wanted
-use Rattle.commands.specs.Acting.{Files, initial_of, recording, status_of, AnswersRun, AnswersFiles, AnswersExplore, AnswersCases, wanted_by, AnswersLosses, any_words, AnswersRetold, AnswersFile, AnswersLog, AnswersOf, AnswersWith, AnswersTrial, AnswersJoin, JoinsEither, join_of_parts, join_of_cases, Answers, form_of}
+use Rattle.commands.specs.Acting.{Files, initial_of, recording, status_of, AnswersRun, AnswersFiles, AnswersExplore, AnswersMarked, marked_report, AnswersCases, wanted_by, AnswersLosses, any_words, AnswersRetold, AnswersFile, AnswersLog, AnswersOf, AnswersWith, AnswersTrial, AnswersJoin, JoinsEither, join_of_parts, join_of_cases, Answers, form_of}
 use Rattle.commands.proofs.OneReport.{same_log, same_asked, one_run}
 use Rattle.commands.proofs.OneText.{one_explanation}
 use Rattle.commands.proofs.OnePage.{one_page}
@@ -187,7 +187,7 @@ one_survey laws parts s text bytes others a b =
 
 one_export : Laws → (s : Settings) → IsOneOf (λ text bytes. IsExport text s bytes)
 one_export laws s text bytes others a b =
-    a.told ∙ ap (λ (v : LogValue). export_text (exported s v)) (same_log laws.texts text s a.value b.value a.source b.source) ∙ sym b.told
+    a.told ∙ ap (λ (v : LogValue). export_head text.text s v ++ export_text (exported s v)) (same_log laws.texts text s a.value b.value a.source b.source) ∙ sym b.told
 
 one_table : Laws → (s : Settings) → IsOneOf (λ text bytes. IsTable text s bytes)
 one_table laws s text bytes others a b =
@@ -331,10 +331,18 @@ retold_once laws t w files bytes others status ended a b =
     let same = one_retold laws.texts t (recording a.log a.initial) a.report a.settings bytes others a.failing b.failing a.told told in
     (same.0, a.ends ∙ ap status_of same.1 ∙ sym b.ends)
 
+-- a report that says of what it is
+marked_once : Laws → (w : OptionWords) (files : Files) (bytes others : List ℕ) (status ended : ℕ) → AnswersMarked w files bytes status → AnswersMarked w files others ended → Same bytes others status ended
+marked_once laws w files bytes others status ended a b =
+    let same = explore_once laws (wanted.Told telling.Report) w files a.report b.report status ended a.answers b.answers in
+    let log : b.log ≡ a.log = same_held _ _ _ b.read a.read in
+    (a.marks ∙ (λ i. marked_report (sym log i) (length files.named - 1) (same.0 i)) ∙ sym b.marks, same.1)
+
 pub one_answer : Laws → (r : Request) (files : Files) (bytes others : List ℕ) (status ended : ℕ)
     → Answers r files bytes status → Answers r files others ended → (bytes ≡ others) × (status ≡ ended)
 one_answer laws request.StoredRun files bytes others status ended a b = run_once laws (wanted.Told telling.Report) _ _ _ bytes others status ended a b
 one_answer laws (request.Explore w) files bytes others status ended a b = explore_once laws (wanted.Told telling.Report) w files bytes others status ended a b
+one_answer laws (request.Marked w) files bytes others status ended a b = marked_once laws w files bytes others status ended a b
 one_answer laws (request.Cases w l) files bytes others status ended a b = cases_once laws false w l files bytes others status ended a b
 one_answer laws (request.CureCases w l) files bytes others status ended a b = cases_once laws true w l files bytes others status ended a b
 one_answer laws (request.Why w) files bytes others status ended a b = explore_once laws (wanted.Told telling.Causes) w files bytes others status ended a b

@@ -1,11 +1,8 @@
 -- The text of cases is one, and where it is told there aren't too many.
-use Rattle.std.proofs.Common.{ℕ, zero, suc, ◌≡◌, ◌+◌, ◌<◌, ◌≤◌, ◌==◌, ◌||◌, Bool, true, false, not, List, [], ◌∷◌, ◌++◌, length, map, flat_map, sum_by, slice_get, None, Some, refl, sym, ◌∙◌, ap, subst, arith}
+use Rattle.std.proofs.Common.{ℕ, zero, suc, ◌≡◌, ◌+◌, ◌<◌, ◌≤◌, ◌==◌, ◌||◌, Bool, not, List, [], ◌∷◌, ◌++◌, length, map, flat_map, sum_by, slice_get, None, Some, refl, sym, ◌∙◌, ap, subst, arith}
 use Rattle.std.specs.Prelude.{codes}
-use Rattle.std.specs.Fmt.{decimal}
-use Rattle.std.specs.List.{list_any}
 use Rattle.std.proofs.lemmas.List.Sums.{sum_by-cons, sum_by-append}
-use Rattle.std.proofs.lemmas.Option.{slice_get_within, slice_get-get_or, slice_get_cases, same_Some}
-use Rattle.machine.specs.Outcome.{Ending}
+use Rattle.std.proofs.lemmas.Option.{same_Some}
 use Rattle.logfmt.specs.Bounds.{LogValue}
 use Rattle.epochs.specs.declared.part.By.{By}
 use Rattle.checker.specs.Checker.{CheckerValue}
@@ -16,11 +13,11 @@ use Rattle.losses.specs.declared.found.CaseFindings.{CaseFindings}
 use Rattle.losses.specs.declared.found.CutFound.{CutFound}
 use Rattle.losses.specs.declared.found.FailingCase.{FailingCase}
 use Rattle.losses.specs.FoundCases.{failing_value, cases_at, cases_in, most_cases}
-use Rattle.case_runs.specs.Found.{IsFoundAt, AreFoundAt, AreFoundIn, AreFirstAt, AreFirstIn, IsPastAt, AreTooMany, KnownCase, known_case, SameFound, FindingIsOne}
+use Rattle.case_runs.specs.Found.{AreFoundAt, AreFoundIn, AreFirstAt, AreFirstIn, IsPastAt, AreTooMany, KnownCase, known_case, SameFound, FindingIsOne}
 use Rattle.epochs.specs.Units.{epoch_at, marks_at}
 use Rattle.case_text.specs.Known.{known_of}
 use Rattle.case_text.specs.Window.{case_window}
-use Rattle.case_text.specs.Text.{known_text, window_text, place_text, number_text, case_line, program_cases, programs_cases, cut_cases, all_found, count_cases, count_failing, count_torn_beyond, count_lost_beyond, complete_word, totals_text, counts_text, beyond_text, in_word, inputs_told, cases_head, options_text, cases_bytes, fails_at, is_any_failing}
+use Rattle.case_text.specs.Text.{known_text, window_text, place_text, number_text, case_line, program_cases, programs_cases, cut_cases, all_found, count_cases, count_failing, count_torn_beyond, count_lost_beyond, are_all_cuts, complete_word, totals_text, counts_text, beyond_text, in_word, inputs_told, cases_head, options_text, cases_bytes, fails_at, is_any_failing}
 use Rattle.case_text.specs.Causes.{cause_text}
 use Rattle.case_text.specs.Cured as cured
 use Rattle.case_text.specs.Cured.{line_without, uncured_line, program_uncured, found_uncured, all_uncured, cure_begin}
@@ -34,10 +31,8 @@ use Rattle.request.specs.declared.any_losses.AnyLosses.{AnyLosses}
 use Rattle.request.specs.declared.settings.Settings.{Settings}
 use Rattle.case_runs.specs.Cuts.{case_cuts}
 use Rattle.runs.specs.CaseCuts.{losses_of}
-use Rattle.runs.specs.Cases.{IsTextOf, TellsCases}
+use Rattle.runs.specs.Cases.{TellsCases}
 use Rattle.commands.proofs.OneMissing.{same_missing}
-use Rattle.runs.specs.Explore.{head_of}
-use Rattle.runs.specs.Why.{with_first}
 
 -- the same was found with each checker, and at each cut
 abbrev pub EachSame : CutValue → Bool → List CaseFindings → List CaseFindings → Type 0
@@ -162,15 +157,15 @@ torn_same log way tears ls ms same = ap in_word (sum_all (λ f. f.torn_beyond) (
 pub lost_same : (log : LogValue) (way : By) (tears : Bool) (ls ms : List CutFound) → CutsSame log way tears ls ms → count_lost_beyond ls ≡ count_lost_beyond ms
 lost_same log way tears ls ms same = ap in_word (sum_all (λ f. f.lost_beyond) (λ at t f g s. s.lost) log way tears ls ms same)
 
-pub totals_same : (log : LogValue) (way : By) (tears : Bool) (ls ms : List CutFound) → CutsSame log way tears ls ms → totals_text ls ≡ totals_text ms
+pub totals_same : (all : Bool) (log : LogValue) (way : By) (tears : Bool) (ls ms : List CutFound) → CutsSame log way tears ls ms → totals_text all ls ≡ totals_text all ms
 unfolding totals_text
-totals_same log way tears ls ms same =
+totals_same all log way tears ls ms same =
     let long = length_same log way tears ls ms same in
     let cases : count_cases ls ≡ count_cases ms = ap in_word (sum_all (λ f. f.cases) (λ at t f g s. s.cases) log way tears ls ms same) in
     let failing : count_failing ls ≡ count_failing ms = ap in_word (sum_all (λ f. length f.failing.items) (λ at t f g s. length_failing at t f g s) log way tears ls ms same) in
     let torn = torn_same log way tears ls ms same in
     let lost = lost_same log way tears ls ms same in
-    λ i. counts_text (long i) (cases i) (failing i) ++ beyond_text (torn i) (lost i) ++ complete_word (torn i) (lost i) ++ codes "\n"
+    λ i. counts_text (long i) (cases i) (failing i) ++ beyond_text (torn i) (lost i) ++ complete_word all (torn i) (lost i) ++ codes "\n"
 
 any_each : (at : CutValue) (tears : Bool) (fs gs : List CaseFindings) → EachSame at tears fs gs → fails_at fs ≡ fails_at gs
 any_each at tears [] [] same = refl
@@ -194,7 +189,7 @@ pub bytes_same : (inputs : ℕ) (h : HeadValue) (asked : Losses) (log : LogValue
 unfolding cases_bytes
 bytes_same inputs h asked log ls ms same =
     let lines = cut_lines log h.by asked.tears ls ms same in
-    let totals = totals_same log h.by asked.tears ls ms same in
+    let totals = totals_same (are_all_cuts h.cuts) log h.by asked.tears ls ms same in
     λ i. cases_head (inputs_told h.cuts inputs) h asked ++ lines i ++ totals i
 
 -- why they fail is the same
@@ -268,7 +263,7 @@ pub why_same : (h : HeadValue) (asked : Losses) (log : LogValue) (ls ms : List C
     → TellsWhy h asked log ms others → bytes ≡ others
 unfolding why_bytes parts_bytes begin_text
 why_same h asked log ls ms bytes others same a b =
-    let totals = totals_same log h.by asked.tears ls ms same in
+    let totals = totals_same (are_all_cuts h.cuts) log h.by asked.tears ls ms same in
     let failures = failures_same log h.by asked.tears ls ms same in
     let causes : flat_map (cut_causes log h.by asked.tears) ls ≡ flat_map (cut_causes log h.by asked.tears) ms =
     cut_each (λ at. found_causes at asked.tears) log h.by asked.tears

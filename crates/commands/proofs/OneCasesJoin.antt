@@ -1,5 +1,5 @@
 -- Texts of cases come to one text, and beside that are refused for want of memory alone.
-use Rattle.std.proofs.Common.{ℕ, zero, suc, ◌≡◌, ◌≢◌, ◌↔◌, IsTrue, ◌+◌, ◌-◌, ◌<◌, ◌≤◌, ◌^◌, ◌==◌, ◌&&◌, if◌then◌else◌, Bool, true, false, inl, inr, List, [], ◌∷◌, ◌++◌, length, map, take, get_or, slice_get, codes, All, Option, Some, None, unwrap_or, refl, sym, ◌∙◌, ap, subst, arith}
+use Rattle.std.proofs.Common.{ℕ, zero, suc, ◌≡◌, ◌≢◌, ◌↔◌, IsTrue, ◌+◌, ◌-◌, ◌<◌, ◌≤◌, ◌^◌, ◌==◌, ◌&&◌, ◌||◌, not, if◌then◌else◌, Bool, true, false, inl, inr, List, [], ◌∷◌, ◌++◌, length, map, take, get_or, slice_get, codes, All, Option, Some, None, is_some, unwrap_or, refl, sym, ◌∙◌, ap, subst, arith}
 use Rattle.std.specs.List.{flat_map, sum_by}
 use Rattle.std.specs.List.Sorted.{IsPermutation}
 use Rattle.std.proofs.lemmas.Bool.{false≢true}
@@ -8,6 +8,7 @@ use Rattle.std.proofs.lemmas.List.Elements.{All-nil, All-cons}
 use Rattle.std.proofs.lemmas.List.Sums.{sum_by-cons, sum_by-append}
 use Rattle.std.proofs.lemmas.List.Sorted.{All-permutation, IsPermutation-map, IsPermutation-sym, length_permutation}
 use Rattle.base.specs.declared.causes.JoinCause.TheVariants as cause
+use Rattle.epochs.specs.declared.cuts.CutKind.{CutKind}
 use Rattle.epochs.specs.Flushes.{places_of}
 use Rattle.report.specs.Words.{cuts_words}
 use Rattle.report.specs.declared.span.Span.{Span}
@@ -16,7 +17,7 @@ use Rattle.report.specs.Part.{span_text, span_report}
 use Rattle.report.specs.Report.{HeadValue, device_text, given_text, findings_text, report_bytes}
 use Rattle.report.specs.Report.{options_text as report_options}
 use Rattle.losses.specs.declared.found.Losses.{Losses}
-use Rattle.case_text.specs.Text.{in_word, cases_head, opening_text, options_text}
+use Rattle.case_text.specs.Text.{in_word, is_each_cut, are_all_cuts, cases_head, opening_text, options_text}
 use Rattle.join.specs.declared.case_parts.fault.CasesFault.{CasesFault}
 use Rattle.join.specs.declared.case_parts.fault.CasesFault.TheVariants as refused
 use Rattle.join.specs.declared.case_parts.totals.CaseTotals.{CaseTotals}
@@ -32,11 +33,12 @@ use Rattle.commands.proofs.OneSize.{not_long}
 
 -- WHAT TWO READINGS OF A TEXT HAVE IN COMMON
 
--- what is printed of a text: the number of its inputs, its options and programs over any range, its range, its lines and its totals; and
--- its file
+-- what is printed of a text: the number of its inputs, its options and programs over any range, the kind of its cuts, its range, its lines
+-- and its totals; and its file
 record CasesKey : Type 0 where
   inputs : Option ℕ
   text : Option ℕ → Option ℕ → List ℕ
+  kind : CutKind
   from : Option ℕ
   to : Option ℕ
   entries : ℕ
@@ -48,6 +50,7 @@ abbrev key_of : CasesRead → CasesKey
 key_of r = record {
   inputs = r.inputs;
   text = λ from to. options_text (head_between r.head from to) r.asked;
+  kind = r.head.cuts.kind;
   from = r.head.cuts.from;
   to = r.head.cuts.to;
   entries = r.head.entries;
@@ -83,12 +86,14 @@ same_key t r s a b at =
     let inputs : r.inputs ≡ s.inputs = says.inputs ∙ sym own.inputs in
     let lines : r.lines ≡ s.lines = says.lines ∙ sym own.lines in
     let totals : r.totals ≡ s.totals = says.totals ∙ sym own.totals in
+    let kind : r.head.cuts.kind ≡ s.head.cuts.kind = alike.options.kind in
     let from : r.head.cuts.from ≡ s.head.cuts.from = alike.options.from in
     let to : r.head.cuts.to ≡ s.head.cuts.to = alike.options.to in
     let entries : r.head.entries ≡ s.head.entries = alike.options.entries in
     λ i. record {
       inputs = inputs i;
       text = λ a b. same_options r.head s.head r.asked s.asked a b alike asked i;
+      kind = kind i;
       from = from i;
       to = to i;
       entries = entries i;
@@ -210,10 +215,14 @@ key_totals ks = record {
 abbrev keys_are_all : CasesKey → CasesKey → Bool
 keys_are_all first last = (start_of first == 0) && (end_of last == last.entries)
 
+abbrev keys_have_all : CasesKey → CasesKey → Bool
+keys_have_all first last =
+    is_each_cut first.kind && not (is_some (if keys_are_all first last then None else first.from) || is_some (if keys_are_all first last then None else last.to))
+
 abbrev joined_keys : CasesKey → CasesKey → List CasesKey → List ℕ
 joined_keys first last ks =
     (opening_text (if keys_are_all first last then None else first.inputs) ++ first.text (if keys_are_all first last then None else first.from) (if keys_are_all first last then None else last.to))
-    ++ (flat_map (λ (k : CasesKey). k.lines) ks ++ totals_line (key_totals ks))
+    ++ (flat_map (λ (k : CasesKey). k.lines) ks ++ totals_line (keys_have_all first last) (key_totals ks))
 
 totals_keyed : (rs : List CasesRead) → all_totals rs ≡ key_totals (map key_of rs)
 totals_keyed rs =
@@ -226,8 +235,8 @@ totals_keyed rs =
 
 joined_keyed : (first last : CasesRead) (rs : List CasesRead) → joined_cases first last rs ≡ joined_keys (key_of first) (key_of last) (map key_of rs)
 joined_keyed first last rs =
-    ap (λ (bs : List ℕ). cases_head (told_number first last) (joined_head first last) first.asked ++ (bs ++ totals_line (all_totals rs))) (lines_keyed rs)
-    ∙ ap (λ (t : CaseTotals). cases_head (told_number first last) (joined_head first last) first.asked ++ (flat_map (λ (k : CasesKey). k.lines) (map key_of rs) ++ totals_line t)) (totals_keyed rs)
+    ap (λ (bs : List ℕ). cases_head (told_number first last) (joined_head first last) first.asked ++ (bs ++ totals_line (are_all_cuts (joined_head first last).cuts) (all_totals rs))) (lines_keyed rs)
+    ∙ ap (λ (t : CaseTotals). cases_head (told_number first last) (joined_head first last) first.asked ++ (flat_map (λ (k : CasesKey). k.lines) (map key_of rs) ++ totals_line (are_all_cuts (joined_head first last).cuts) t)) (totals_keyed rs)
 
 -- what two rows of keys have at a place
 key_there : (ks ls : List CasesKey) (n m : ℕ) (k l : CasesKey) → ks ≡ ls → n ≡ m → slice_get ks n ≡ Some k → slice_get ls m ≡ Some l → k ≡ l

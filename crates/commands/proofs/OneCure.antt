@@ -1,5 +1,5 @@
 -- The cure of a log, tried, has one text.
-use Rattle.std.proofs.Common.{ℕ, zero, suc, ◌≡◌, ◌+◌, ◌<◌, ◌≤◌, ◌⊎◌, inl, inr, Bool, false, Option, None, List, [], ◌∷◌, ◌++◌, length, take, length-append, Some, slice_get, refl, sym, ◌∙◌, ap, subst, arith}
+use Rattle.std.proofs.Common.{ℕ, zero, suc, ◌≡◌, ◌+◌, ◌<◌, ◌≤◌, inl, inr, Bool, false, Option, None, List, [], ◌∷◌, ◌++◌, length, take, length-append, Some, slice_get, refl, sym, ◌∙◌, ap, subst, arith}
 use Rattle.logfmt.specs.Bounds.{LogValue}
 use Rattle.logfmt.specs.Flushed.{with_flushes}
 use Rattle.logfmt.specs.declared.entry.Entry.{Entry}
@@ -25,6 +25,7 @@ use Rattle.runs.specs.CaseCuts.{losses_of}
 use Rattle.runs.specs.Cured.{run_lines, Finds, IsPast, IsRound, AreRounds, with_rounds, Ends, with_totals, with_refusal, TellsRounds, TellsCure, Cures}
 use Rattle.commands.proofs.OneMissing.{one_end, same_failures, same_missing}
 use Rattle.commands.proofs.OneReport.{not_past, same_test}
+use Rattle.case_text.specs.Text.{are_all_cuts}
 use Rattle.commands.proofs.OneCases.{cuts_same, failures_same, cure_begins, totals_same, not_many}
 use Rattle.commands.proofs.OneFirst.{many_once}
 
@@ -80,7 +81,7 @@ same_finds one (Some l) s cs value fs gs begin begun last ended a b =
     record {
       failures = a.fail ∙ failures_same value s.by s.tears a.found b.found same ∙ sym b.fail;
       begins = a.begins ∙ cure_begins (head_of (with_first false s) value cs) (losses_of l s) value a.found b.found same ∙ sym b.begins;
-      ends = a.ends ∙ totals_same value s.by s.tears a.found b.found same ∙ sym b.ends;
+      ends = a.ends ∙ totals_same (are_all_cuts s.cuts) value s.by s.tears a.found b.found same ∙ sym b.ends;
     }
 
 -- and where it finds something there aren't too many images or cases

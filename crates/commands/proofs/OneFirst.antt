@@ -1,5 +1,5 @@
 -- What is told of cases is one, of all that fail and of the first alone; and where it is told, it isn't refused.
-use Rattle.std.proofs.Common.{ℕ, zero, suc, ◌≡◌, ◌+◌, ◌<◌, ◌≤◌, ◌==◌, ◌||◌, ◌⊎◌, inl, inr, Bool, true, false, not, List, [], ◌∷◌, ◌++◌, length, map, take, sum_by, slice_get, None, Some, refl, sym, ◌∙◌, ap, subst, arith}
+use Rattle.std.proofs.Common.{ℕ, zero, suc, ◌≡◌, ◌+◌, ◌<◌, ◌≤◌, ◌==◌, ◌||◌, ◌⊎◌, inl, inr, Bool, true, false, not, List, [], ◌∷◌, ◌++◌, length, map, take, slice_get, None, Some, refl, sym, ◌∙◌, ap, subst, arith}
 use Rattle.std.specs.Prelude.{All}
 use Rattle.std.specs.List.{list_any}
 use Rattle.std.proofs.lemmas.Bool.{false≢true}
@@ -20,7 +20,7 @@ use Rattle.losses.specs.declared.found.CaseFindings.{CaseFindings}
 use Rattle.losses.specs.declared.found.CutFound.{CutFound}
 use Rattle.losses.specs.declared.found.FirstCase.{FirstCase}
 use Rattle.losses.specs.declared.found.FailingCase.{FailingCase}
-use Rattle.losses.specs.FoundCases.{cases_at, cases_in, most_cases}
+use Rattle.losses.specs.FoundCases.{cases_at, cases_in}
 use Rattle.case_runs.specs.Found.{IsFoundAt, AreFoundAt, AreFoundIn, AreFirstAt, AreFirstIn, IsBegunAt, IsPastAt, AreTooMany, KnownCase, known_case, FindingIsOne}
 use Rattle.case_runs.specs.First.{NoneFailsAt, NoneFails, FailsFirst, PassesMost, FailsFirstAt, PassesMostAt, IsFirstFailing, PassesMostIn, FirstIsOne}
 use Rattle.case_text.specs.Text.{head_text, case_line, fails_in, fails_at, is_any_failing}
@@ -32,7 +32,7 @@ use Rattle.request.specs.declared.settings.Settings.{Settings}
 use Rattle.request.specs.Source.{Recording}
 use Rattle.case_runs.specs.Cuts.{case_cuts}
 use Rattle.runs.specs.CaseCuts.{losses_of, AreMore}
-use Rattle.runs.specs.Inputs.{inputs_number}
+use Rattle.request.specs.Inputs.{inputs_number}
 use Rattle.runs.specs.Cases.{IsTextOf, TellsCases, TellsFirst, of_first, of_none, TellsLosses, IsByCases, IsLosses}
 use Rattle.runs.specs.Explore.{head_of}
 use Rattle.runs.specs.Why.{with_first}

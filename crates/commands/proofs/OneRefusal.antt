@@ -10,7 +10,6 @@ use Rattle.base.specs.Refusals.{memory_refusal}
 use Rattle.logfmt.specs.Bounds.{LogValue}
 use Rattle.bpf_isa.specs.declared.instr.Instr.{Instr}
 use Rattle.choices.specs.Choices.{ChoiceValue}
-use Rattle.request.specs.declared.settings.OptionPlace.TheVariants as place
 use Rattle.request.specs.declared.settings.OptionPlace.{OptionPlace}
 use Rattle.request.specs.declared.settings.Settings.{Settings}
 use Rattle.request.specs.declared.settings.Telling.TheVariants as telling
@@ -24,11 +23,11 @@ use Rattle.request.specs.Source.{Recording, plan_of, images_of, HasImages}
 use Rattle.checker.specs.Checker.{CheckerValue}
 use Rattle.case_runs.specs.Cuts.{case_cuts}
 use Rattle.runs.specs.CaseCuts.{HasTooMany, HasMore, losses_of}
-use Rattle.request.specs.AnyLosses.{losses_asked, losses_refusal}
+use Rattle.request.specs.AnyLosses.{losses_asked}
 use Rattle.request.specs.declared.any_losses.AnyLosses.{AnyLosses}
 use Rattle.request.specs.declared.any_losses.LossWords.{LossWords}
 use Rattle.runs.specs.Explore.{RefusesWanted, for_extent, for_rest, for_cases, for_cure}
-use Rattle.runs.specs.Inputs.{inputs_number}
+use Rattle.request.specs.Inputs.{inputs_number}
 use Rattle.runs.specs.Cured.{TellsCure, IsCasesCured, IsAnswered}
 use Rattle.runs.specs.Cases.{IsLosses}
 use Rattle.runs.specs.Why.{Tells}
@@ -403,6 +402,7 @@ pub answer_or_refusal : Below → CasesAreOne → (r : Request) (files : Files) 
     → IsOfMemory refusal.code
 answer_or_refusal below findings request.StoredRun files bytes status refusal h why = of_stored below findings (wanted.Told telling.Report) _ _ _ bytes status refusal h why
 answer_or_refusal below findings (request.Explore w) files bytes status refusal h why = of_explore below findings (wanted.Told telling.Report) w files bytes status refusal h why
+answer_or_refusal below findings (request.Marked w) files bytes status refusal h why = of_explore below findings (wanted.Told telling.Report) w files h.report status refusal h.answers why
 answer_or_refusal below findings (request.Cases w l) files bytes status refusal h why = of_cases below findings false w l files bytes status refusal h why
 answer_or_refusal below findings (request.CureCases w l) files bytes status refusal h why = of_cases below findings true w l files bytes status refusal h why
 answer_or_refusal below findings (request.Why w) files bytes status refusal h why = of_explore below findings (wanted.Told telling.Causes) w files bytes status refusal h why

@@ -16,7 +16,6 @@ use Rattle.bpf_isa.specs.Laws.{OneProgram, NoFaultInSpelled}
 use Rattle.verifier.specs.Verdicts.{VerifiedValue, RefusedWith}
 use Rattle.verifier.specs.Laws.{OneVerdict}
 use Rattle.checker.specs.Checker.{CheckerValue, checker_of}
-use Rattle.report.specs.Line.{FailingLine}
 use Rattle.workers.specs.Failing.{failing_lines}
 use Rattle.request.specs.declared.settings.Settings.{Settings}
 use Rattle.request.specs.declared.settings.Telling.{Telling}
@@ -24,7 +23,7 @@ use Rattle.logfmt.specs.Flushed.{with_flushes}
 use Rattle.epochs.specs.Flushes.{places_of}
 use Rattle.request.specs.Source.{Recording, plan_of, images_of, HasImages, IsLogOf, IsRecorded, lacking, RefusesLog, past_device, with_fault, no_memory, lacks, RefusesPlan, too_many, lacks_images, no_plan_memory, RefusesSource, for_log, for_plan}
 use Rattle.request.specs.Extents.{most_images, has_extent}
-use Rattle.runs.specs.Inputs.{inputs_number}
+use Rattle.request.specs.Inputs.{inputs_number}
 use Rattle.runs.specs.Judged.{takes}
 use Rattle.request.specs.declared.any_losses.AnyLosses.{AnyLosses}
 use Rattle.runs.specs.declared.explore_command.WantedAnswer.{WantedAnswer}

@@ -1,6 +1,5 @@
 -- What is told of a report that is given in place of programs is one.
-use Rattle.std.proofs.Common.{ℕ, suc, ◌≡◌, ◌+◌, ◌<◌, ◌≤◌, ◌^◌, Bool, true, false, List, [], ◌∷◌, ◌++◌, codes, length, map, flat_map, Some, None, slice_get, refl, sym, ◌∙◌, ap, subst, arith}
-use Rattle.base.specs.declared.refusal.Refusal.{Refusal}
+use Rattle.std.proofs.Common.{ℕ, zero, suc, ◌≡◌, ◌<◌, ◌≤◌, ◌^◌, Bool, true, false, List, [], ◌∷◌, ◌++◌, codes, length, flat_map, Some, slice_get, get_or, append_assoc, refl, sym, ◌∙◌, ap, subst, arith}
 use Rattle.logfmt.specs.Bounds.{LogValue}
 use Rattle.logfmt.specs.Laws.{TextOfOneLog}
 use Rattle.choices.specs.Choices.{ChoiceValue}
@@ -15,24 +14,28 @@ use Rattle.losses.specs.CureText.{programs_text, missing_text, flush_line}
 use Rattle.losses.specs.Causes.{causes_from}
 use Rattle.page_parts.specs.Judges.{checker_text, outside_text}
 use Rattle.crash_page.specs.Failing.{IsPage}
-use Rattle.join.specs.Given.{ToldLine, GivenValue, NoReport, marks_told}
+use Rattle.report.specs.Report.{device_text}
+use Rattle.join.specs.Given.{ToldLine, GivenValue, IsReport, marks_told}
 use Rattle.request.specs.declared.settings.Settings.{Settings}
 use Rattle.request.specs.declared.settings.Retelling.{Retelling}
 use Rattle.request.specs.declared.settings.Retelling.TheVariants as retelling
-use Rattle.request.specs.Source.{Recording, HasImages}
+use Rattle.request.specs.Inputs.{inputs_line, options_given, report_number}
+use Rattle.request.specs.Source.{Recording, HasImages, images_of}
 use Rattle.epochs.specs.Flushes.{places_of}
 use Rattle.retold.specs.declared.command.RetellFault.{RetellFault}
-use Rattle.retold.specs.declared.command.RetellFault.TheVariants as fault
 use Rattle.retold.specs.Told.{images_told_of, outcomes_told_of, AreMissingFor, opening_told, count_of, TellsWhy, IsSaid, of_checker, of_own, TellsPage, TellsPlaces, uncured_told, end_told}
 use Rattle.retold.specs.Retold as retold
-use Rattle.retold.specs.Retold.{options_given, starts_given, IsGiven, Retells, IsRetoldOf, IsRetold, RefusesSourceAs, RefusesReport, RefusesRetold}
+use Rattle.retold.specs.Retold.{starts_given, title_given, title_text, IsGiven, Retells, IsRetoldOf, IsRetold, RefusesSourceAs, RefusesReport, RefusesRetold}
 use Rattle.commands.specs.Acting.{retold_refusal}
 use Rattle.commands.specs.Laws.{IsOfMemory}
 use Rattle.commands.proofs.Alike.{AreAlike, alike}
 use Rattle.commands.proofs.OneCause.{SameCut, same_cuts}
 use Rattle.commands.proofs.OneMissing.{same_if, same_missing}
 use Rattle.join.proofs.Outsides.{cancel_back}
-use Rattle.join.proofs.Texts.{cancel}
+use Rattle.join.proofs.Texts.{cancel, one_cut}
+use Rattle.join.proofs.Spans.{line_lacks}
+use Rattle.std.proofs.lemmas.Fmt.{decimal_injective}
+use Rattle.std.specs.Fmt.{decimal}
 use Rattle.commands.proofs.OnePage.{one_page_of}
 use Rattle.commands.proofs.OneReport.{Below, same_test, same_log, of_source}
 use Rattle.commands.proofs.OneText.{same_programs}
@@ -124,10 +127,61 @@ one_telling retelling.Causes s value g bytes others a b = one_why (starts_given 
 one_telling retelling.Page s value g bytes others a b = one_paged (options_given s value) (starts_given s value) g bytes others a b
 one_telling retelling.Places s value g bytes others a b = one_places (places_of s.cuts.flushes) (starts_given s value) g bytes others a b
 
-one_of : (t : Retelling) (s : Settings) (value : LogValue) (report bytes others : List ℕ) (failing fails : Bool) → IsRetoldOf t s value report bytes failing → IsRetoldOf t s value report others fails
-    → (bytes ≡ others) × (failing ≡ fails)
-one_of t s value report bytes others failing fails a b =
-    let given : b.given ≡ a.given = sym (a.is.only b.given b.is.is) in
+-- a report begins in one way
+after_title : (number n : ℕ) (options x report : List ℕ) → report ≡ (codes "crash report 2\n" ++ inputs_line number (suc n)) ++ (options ++ x) → report ≡ codes "crash report 2\n" ++ (inputs_line number (suc n) ++ (options ++ x))
+after_title number n options x report is = is ∙ append_assoc (codes "crash report 2\n") (inputs_line number (suc n)) (options ++ x)
+
+-- the options are no line of the inputs
+options_byte : (s : Settings) (value : LogValue) (x : List ℕ) → get_or (options_given s value ++ x) 0 0 ≡ 115
+unfolding device_text
+options_byte s value x = refl
+
+inputs_byte : (number n : ℕ) (x : List ℕ) → get_or (inputs_line number n ++ x) 0 0 ≡ 105
+unfolding inputs_line
+inputs_byte number n x = refl
+
+one_begins : (number n : ℕ) (s : Settings) (value : LogValue) (x y : List ℕ) → options_given s value ++ x ≡ inputs_line number n ++ y → ⊥
+one_begins number n s value x y same =
+    let bad : 115 ≡ 105 = sym (options_byte s value x) ∙ ap (λ (bs : List ℕ). get_or bs 0 0) same ∙ inputs_byte number n y in
+    omega (arith, bad)
+
+same_programs_said : (number m n : ℕ) (x y : List ℕ) → m ≤ 8 → n ≤ 8 → inputs_line number m ++ x ≡ inputs_line number n ++ y → m ≡ n
+unfolding inputs_line
+same_programs_said number m n x y few small same =
+    let front : List ℕ = codes "inputs " ++ decimal number ++ codes " programs " in
+    let left : front ++ (decimal m ++ 10 ∷ x) ≡ ((front ++ decimal m) ++ codes "\n") ++ x = sym (append_assoc (front ++ decimal m) (codes "\n") x ∙ append_assoc front (decimal m) (10 ∷ x)) in
+    let right : ((front ++ decimal n) ++ codes "\n") ++ y ≡ front ++ (decimal n ++ 10 ∷ y) = append_assoc (front ++ decimal n) (codes "\n") y ∙ append_assoc front (decimal n) (10 ∷ y) in
+    let rest : decimal m ++ 10 ∷ x ≡ decimal n ++ 10 ∷ y = cancel front (decimal m ++ 10 ∷ x) (decimal n ++ 10 ∷ y) (left ∙ same ∙ right) in
+    let low : m < 2 ^ 64 = omega (arith, few) in
+    let also : n < 2 ^ 64 = omega (arith, small) in
+    let words = one_cut 10 (decimal m) (decimal n) x y (line_lacks m low) (line_lacks n also) rest in
+    decimal_injective m n low also words.0
+
+same_said : (number : ℕ) (s : Settings) (value : LogValue) (report x y : List ℕ) (m n : ℕ) → m ≤ 8 → n ≤ 8 → report ≡ title_text number m ++ (options_given s value ++ x) → report ≡ title_text number n ++ (options_given s value ++ y) → m ≡ n
+same_said number s value report x y zero zero few small a b = refl
+same_said number s value report x y zero (suc n) few small a b =
+    absurd (one_begins number (suc n) s value x (options_given s value ++ y)
+    (cancel (codes "crash report 2\n") (options_given s value ++ x) (inputs_line number (suc n) ++ (options_given s value ++ y)) (sym a ∙ after_title number n (options_given s value) y report b)))
+same_said number s value report x y (suc m) zero few small a b =
+    absurd (one_begins number (suc m) s value y (options_given s value ++ x)
+    (cancel (codes "crash report 2\n") (options_given s value ++ y) (inputs_line number (suc m) ++ (options_given s value ++ x)) (sym b ∙ after_title number m (options_given s value) x report a)))
+same_said number s value report x y (suc m) (suc n) few small a b =
+    same_programs_said number (suc m) (suc n) (options_given s value ++ x) (options_given s value ++ y) few small
+    (cancel (codes "crash report 2\n") (inputs_line number (suc m) ++ (options_given s value ++ x)) (inputs_line number (suc n) ++ (options_given s value ++ y))
+    (sym (after_title number m (options_given s value) x report a) ∙ after_title number n (options_given s value) y report b))
+
+-- and so it says one thing
+pub one_given : (file : List ℕ) (s : Settings) (value : LogValue) (report : List ℕ) (g h : GivenValue) → IsGiven file s value report g → (said : ℕ) → said ≤ 8
+    → IsReport (title_given file s value said) (options_given s value) (starts_given s value) (length (images_of s value)) report h → g ≡ h
+one_given file s value report g h a said few is =
+    let own = a.as_said.read in
+    let same : said ≡ a.said = same_said (report_number file (options_given s value)) s value report _ _ said a.said few a.few is.is own.is.is in
+    own.only h (subst (λ (n : ℕ). IsReport (title_given file s value n) (options_given s value) (starts_given s value) (length (images_of s value)) report h) same is)
+
+one_of : (t : Retelling) (file : List ℕ) (s : Settings) (value : LogValue) (report bytes others : List ℕ) (failing fails : Bool) → IsRetoldOf t file s value report bytes failing
+    → IsRetoldOf t file s value report others fails → (bytes ≡ others) × (failing ≡ fails)
+one_of t file s value report bytes others failing fails a b =
+    let given : b.given ≡ a.given = sym (one_given file s value report a.given b.given a.is b.is.said b.is.few b.is.as_said.read.is) in
     let tells = subst (λ (g : GivenValue). Retells t s value g others) given b.tells in
     (one_telling t s value a.given bytes others a.tells tells, same_test failing fails a.given.lines b.given.lines a.fails b.fails (sym (ap (λ (g : GivenValue). g.lines) given)))
 
@@ -135,16 +189,16 @@ pub one_retold : TextOfOneLog → (t : Retelling) (text : Recording) (report : L
     → IsRetold t text report s bytes failing → IsRetold t text report s others fails → (bytes ≡ others) × (failing ≡ fails)
 one_retold texts t text report s bytes others failing fails a b =
     let value : b.value ≡ a.value = same_log texts text s b.value a.value b.source a.source in
-    one_of t s a.value report bytes others failing fails a.told (subst (λ (v : LogValue). IsRetoldOf t s v report others fails) value b.told)
+    one_of t text.text s a.value report bytes others failing fails a.told (subst (λ (v : LogValue). IsRetoldOf t text.text s v report others fails) value b.told)
 
 -- a report of which something is told is refused for want of memory alone
 of_sources : Below → (text : Recording) (s : Settings) (a : LogValue) (f : RetellFault) → HasImages text s a → RefusesSourceAs text s f → IsOfMemory (retold_refusal f).code
 of_sources below text s a _ h (retold.with_refusal r why) = of_source below text s a r h why
 
-of_report : (t : Retelling) (s : Settings) (value : LogValue) (report bytes : List ℕ) (failing : Bool) (f : RetellFault) → IsRetoldOf t s value report bytes failing → RefusesReport s value report f
-    → IsOfMemory (retold_refusal f).code
-of_report t s value report bytes failing _ h (retold.no_report line none) = absurd (none.none h.given h.is.is)
-of_report t s value report bytes failing _ h retold.no_memory = refl
+of_report : (t : Retelling) (file : List ℕ) (s : Settings) (value : LogValue) (report bytes : List ℕ) (failing : Bool) (f : RetellFault) → IsRetoldOf t file s value report bytes failing
+    → RefusesReport file s value report f → IsOfMemory (retold_refusal f).code
+of_report t file s value report bytes failing _ h (retold.no_report line none) = absurd ((none.none h.is.said h.is.few).none h.given h.is.as_said.counted h.is.as_said.read.is)
+of_report t file s value report bytes failing _ h retold.no_memory = refl
 
 pub retold_or_refusal : Below → (t : Retelling) (text : Recording) (report : List ℕ) (s : Settings) (bytes : List ℕ) (failing : Bool) (f : RetellFault) → IsRetold t text report s bytes failing
     → RefusesRetold text report s f → IsOfMemory (retold_refusal f).code
@@ -153,5 +207,5 @@ retold_or_refusal below t text report s bytes failing _ h (retold.too_long whole
 retold_or_refusal below t text report s bytes failing _ h (retold.for_source f whole short why) = of_sources below text s h.value f h.source why
 retold_or_refusal below t text report s bytes failing _ h (retold.for_report f value whole short source why) =
     let same : value ≡ h.value = same_log below.texts text s value h.value source h.source in
-    of_report t s h.value report bytes failing f h.told (subst (λ (v : LogValue). RefusesReport s v report f) same why)
+    of_report t text.text s h.value report bytes failing f h.told (subst (λ (v : LogValue). RefusesReport text.text s v report f) same why)
 retold_or_refusal below t text report s bytes failing _ h retold.want_of_memory = refl

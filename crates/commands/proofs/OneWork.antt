@@ -1,5 +1,5 @@
 -- Who does the work changes no answer.
-use Rattle.std.proofs.Common.{ℕ, ◌≡◌, ◌==◌, nat_le, Bool, true, false, not, ◌&&◌, ◌||◌, is_some, List, [], ◌∷◌, Option, None, Some, ◌⊎◌, inl, inr, option_map, refl, sym, ◌∙◌, ap, subst}
+use Rattle.std.proofs.Common.{ℕ, ◌≡◌, ◌==◌, nat_le, Bool, true, false, not, ◌&&◌, ◌||◌, is_some, List, [], ◌∷◌, ◌++◌, Option, None, Some, inl, inr, option_map, refl, sym, ◌∙◌, ap, subst}
 use Rattle.std.specs.Option.{option_map_or}
 use Rattle.base.specs.Check.{Check, check, first_failing}
 use Rattle.logfmt.specs.Bounds.{LogValue}
@@ -19,7 +19,7 @@ use Rattle.request.specs.declared.command.OptionWords.{OptionWords}
 use Rattle.request.specs.declared.command.Request.{Request}
 use Rattle.request.specs.declared.command.Request.TheVariants as request
 use Rattle.request.specs.Extents.{is_extent, is_whole}
-use Rattle.runs.specs.Inputs.{inputs_number}
+use Rattle.request.specs.Inputs.{inputs_number}
 use Rattle.request.specs.Settings.{is_one_kind, is_ordered, option_refusal, option_checks, settings_refusal}
 use Rattle.request.specs.OptionWords.{AskFor}
 use Rattle.request.specs.Source.{plan_of, Recording, IsLogOf, HasImages}
@@ -34,7 +34,8 @@ use Rattle.runs.specs.Cases.{TellsCases, TellsFirst, of_first, of_none, TellsLos
 use Rattle.runs.specs.Explore.{IsRun}
 use Rattle.runs.specs.Why.{Tells}
 use Rattle.join.specs.Given.{GivenValue}
-use Rattle.retold.specs.Retold.{head_given, Retells}
+use Rattle.request.specs.Inputs.{head_given}
+use Rattle.retold.specs.Retold.{IsGiven, Retells}
 use Rattle.losses.specs.declared.flushes.counted.MissingFlush.{MissingFlush}
 use Rattle.runs.specs.declared.explore_command.WantedAnswer.{WantedAnswer}
 use Rattle.runs.specs.declared.explore_command.WantedAnswer.TheVariants as wanted
@@ -42,7 +43,8 @@ use Rattle.inspect.specs.Image.{IsImage, IsShown}
 use Rattle.inspect.specs.AnyImage.{any_text_in, IsAnyImage}
 use Rattle.inspect.specs.CutSurvey.{IsCutSurvey}
 use Rattle.inspect.specs.Survey.{IsSurvey}
-use Rattle.inspect.specs.Export.{IsExport}
+use Rattle.export.specs.Export.{export_text}
+use Rattle.inspect.specs.Export.{export_head, exported, IsExport}
 use Rattle.inspect.specs.Table.{IsTable}
 use Rattle.inspect.specs.Verifying.{IsAcceptedText}
 use Rattle.commands.specs.Acting.{Files, recording, any_words, form_of, AnswersExplore, AnswersCases, wanted_by, AnswersRetold, AnswersOf, AnswersLosses, AnswersWith, Answers}
@@ -320,12 +322,22 @@ told_alone : (in_words : Bool) (s : Settings) (v : LogValue) (cut : ℕ) (ds : L
 told_alone true s v cut ds = refl
 told_alone false s v cut ds = refl
 
+-- the images are told alike, and so is of which log and options they are
+told_export : (s : Settings) (text : Recording) (v : LogValue) (bytes : List ℕ) → bytes ≡ export_head text.text s v ++ export_text (exported s v) → bytes ≡ export_head text.text (set_alone s) v ++ export_text (exported (set_alone s) v)
+unfolding head_given
+told_export s text v bytes told = told
+
 -- what is told of a report is the same
 tells_retold : (t : Retelling) (s : Settings) (v : LogValue) (g : GivenValue) (bytes : List ℕ) → Retells t s v g bytes → Retells t (set_alone s) v g bytes
 unfolding head_given
 tells_retold retelling.Causes s v g bytes h = h
 tells_retold retelling.Page s v g bytes h = h
 tells_retold retelling.Places s v g bytes h = h
+
+-- and the report is one of the log
+given_alone : (s : Settings) (text : Recording) (report : List ℕ) (v : LogValue) (g : GivenValue) → IsGiven text.text s v report g → IsGiven text.text (set_alone s) v report g
+unfolding head_given
+given_alone s text report v g h = record { said = h.said; few = h.few; as_said = record { counted = h.as_said.counted; read = record { is = h.as_said.read.is; only = h.as_said.read.only } } }
 
 -- of a command on a log with any number of losses
 losses_log_alone : (w : OptionWords) (l : LossWords) (Is : Settings → Recording → List ℕ → Type 0) → ((s : Settings) (held : Recording) (bytes : List ℕ) → Is s held bytes → Is (set_alone s) held bytes)
@@ -381,7 +393,7 @@ retold_alone t w files bytes status h =
         short = told.short;
         value = told.value;
         source = images_alone told.source;
-        told = record { given = told.told.given; is = told.told.is; tells = tells_retold t h.settings told.value told.told.given bytes told.told.tells; fails = told.told.fails };
+        told = record { given = told.told.given; is = given_alone h.settings (recording h.log h.initial) h.report told.value told.told.given told.told.is; tells = tells_retold t h.settings told.value told.told.given bytes told.told.tells; fails = told.told.fails };
       };
       ends = h.ends;
     }
@@ -389,6 +401,8 @@ retold_alone t w files bytes status h =
 pub answers_alone : (r : Request) (files : Files) (bytes : List ℕ) (status : ℕ) → Answers r files bytes status → Answers (asked_alone r) files bytes status
 answers_alone request.StoredRun files bytes status h = h
 answers_alone (request.Explore w) files bytes status h = explore_alone (wanted.Told telling.Report) w files bytes status h
+answers_alone (request.Marked w) files bytes status h =
+    record { report = h.report; answers = explore_alone (wanted.Told telling.Report) w files h.report status h.answers; log = h.log; read = h.read; marks = h.marks }
 answers_alone (request.Cases w l) files bytes status h = cases_answered_alone false w l files bytes status h
 answers_alone (request.CureCases w l) files bytes status h = cases_answered_alone true w l files bytes status h
 answers_alone (request.Why w) files bytes status h = explore_alone (wanted.Told telling.Causes) w files bytes status h
@@ -403,7 +417,7 @@ answers_alone (request.Cuts w l parts) files bytes status h =
     (λ s held shown k. record { value = k.value; reads = log_alone k.reads; can = k.can; told = k.told }) files bytes status h
 answers_alone (request.Export w) files bytes status h =
     of_alone w (λ s text. IsExport text s)
-    (λ s held shown k. record { taken = k.taken; value = k.value; source = images_alone k.source; told = k.told }) files bytes status h
+    (λ s held shown k. record { taken = k.taken; value = k.value; source = images_alone k.source; told = told_export s held k.value shown k.told }) files bytes status h
 answers_alone (request.Log w) files bytes status h =
     of_alone w (λ s text. IsTable text s)
     (λ s held shown k. record { value = k.value; reads = log_alone k.reads; shown = k.shown }) files bytes status h

@@ -41,7 +41,7 @@ use Rattle.request.specs.declared.settings.OptionPlace.{OptionPlace}
 use Rattle.request.specs.declared.settings.OptionPlace.TheVariants as place
 use Rattle.request.specs.Settings.{is_one_kind, is_ordered, option_checks, IsAsked}
 use Rattle.request.specs.Source.{Recording, images_of, IsLogOf}
-use Rattle.runs.specs.Inputs.{inputs_number}
+use Rattle.request.specs.Inputs.{inputs_number}
 use Rattle.runs.specs.Explore.{AreCheckersOf, subject_of, head_of, report_of, IsSafe, IsReportOfRun}
 use Rattle.runs.proofs.Judging.{ordered}
 use Rattle.commands.specs.Parts.{meant, part_of, IsAnswer, HasAnswer, AnswerParts, HasCount, AreTextsOf, extent_of, JoinedPartsAreRun, PartsOfRunAreJoined}

@@ -22,7 +22,7 @@ use Rattle.request.specs.OptionWords.{AskFor}
 use Rattle.request.specs.Settings.{is_one_kind, is_ordered, option_checks, settings_refusal, option_refusal, IsAsked}
 use Rattle.request.specs.Source.{Recording}
 use Rattle.runs.specs.declared.explore_command.WantedAnswer.TheVariants as wanted
-use Rattle.runs.specs.Inputs.{inputs_number}
+use Rattle.request.specs.Inputs.{inputs_number}
 use Rattle.runs.specs.Explore.{IsReportOfRun, report_of}
 use Rattle.request.specs.declared.command.Request.TheVariants as request
 use Rattle.runs.specs.Judged.{takes}

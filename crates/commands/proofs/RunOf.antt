@@ -57,7 +57,7 @@ use Rattle.request.specs.Settings.{is_one_kind, is_ordered, option_checks, IsAsk
 use Rattle.request.specs.Source.{Recording, plan_of, images_of, cut_past, lacking, HasImages}
 use Rattle.request.proofs.Logs.{bounds_of}
 use Rattle.inspect.proofs.Printed.{names_are}
-use Rattle.runs.specs.Inputs.{with_byte, file_bytes, inputs_number}
+use Rattle.request.specs.Inputs.{with_byte, file_bytes, inputs_number}
 use Rattle.runs.specs.Programs.{IsRunWithin}
 use Rattle.runs.specs.Explore.{IsProgramCount, AreCheckersOf, subject_of, program_head, head_of}
 use Rattle.commands.proofs.HeadLines.{head_stands}

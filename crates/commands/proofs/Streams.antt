@@ -9,7 +9,7 @@ use Rattle.inspect.specs.declared.looks.export_command.Stopped.{Stopped}
 use Rattle.inspect.specs.declared.looks.export_command.Stopped.TheVariants as stopped
 use Rattle.inspect.specs.Export.{IsExport, WritesExport, StopsExport}
 use Rattle.commands.specs.Acting.{Files, HoldsRecording, AnswersOf, for_settings, for_recording}
-use Rattle.commands.specs.Exits.{IsWritten, IsCutOff, IsStopped}
+use Rattle.commands.specs.Exits.{IsWritten, IsStopped}
 
 answers_export : (w : OptionWords) (s : Settings) (files : Files) (text : Recording) (bytes : List ℕ) → AskFor w s → HoldsRecording files text → IsExport text s bytes
     → AnswersOf w (λ s text. IsExport text s) files bytes 0

@@ -1,7 +1,7 @@
 -- What a command answers on what its files hold, and when it is refused (docs/COMMANDS.md, Commands; docs/REFUSALS.md, Refusals
 -- in their order).
-use Rattle.std.specs.Prelude.{ℕ, ◌≡◌, ◌↔◌, ◌⊎◌, ◌<◌, ◌≤◌, ◌^◌, Bool, true, false, IsTrue, if◌then◌else◌, List, [], ◌∷◌, bytes_eq, codes, take, length, map, position, slice_get, is_none, Option, None, Some}
-use Rattle.std.specs.Option.{option_map}
+use Rattle.std.specs.Prelude.{ℕ, ◌≡◌, ◌↔◌, ◌⊎◌, ◌<◌, ◌≤◌, ◌^◌, ◌+◌, ◌-◌, ◌==◌, Bool, true, false, IsTrue, if◌then◌else◌, List, [], ◌∷◌, ◌++◌, bytes_eq, codes, take, drop, length, map, position, slice_get, is_none, Option, None, Some}
+use Rattle.std.specs.Option.{option_map, option_map_or}
 use Rattle.base.specs.declared.causes.JoinCause.TheVariants as joining
 use Rattle.base.specs.declared.refusal.Cause.TheVariants.{Join}
 use Rattle.base.specs.declared.refusal.Refusal.{Refusal}
@@ -22,6 +22,7 @@ use Rattle.request.specs.Refusals.{file_refusal}
 use Rattle.request.specs.declared.trials.Trial.{Trial}
 use Rattle.request.specs.declared.trials.TrialWords.{TrialWords}
 use Rattle.request.specs.Trials.{AskForTrial, trial_refusal}
+use Rattle.request.specs.Inputs.{inputs_line, report_number}
 use Rattle.request.specs.Source.{Recording}
 use Rattle.request.specs.declared.settings.CaseTelling.TheVariants as cases
 use Rattle.request.specs.declared.settings.Telling.TheVariants as telling
@@ -270,6 +271,29 @@ pub record AnswersJoin (part : Bool) (files : Files) (bytes : List ℕ) (status 
   pub few : length texts ≤ most_texts
   pub joins : JoinsEither part texts bytes status
 
+-- how many bytes the title of a report has
+abbrev pub title_length : ℕ
+title_length = 15
+
+-- the first line of a text, with its newline; all of a text that has none
+abbrev pub first_line : List ℕ → List ℕ
+first_line text = option_map_or (λ (place : ℕ). take (place + 1) text) (position (λ (b : ℕ). b == 10) text) text
+
+-- a report that says after its title of which log and options it is, and of how many programs: these options are its second line
+abbrev pub with_inputs : List ℕ → ℕ → List ℕ → List ℕ
+with_inputs log programs rest = codes "crash report 2\n" ++ (inputs_line (report_number log (first_line rest)) programs ++ rest)
+
+abbrev pub marked_report : List ℕ → ℕ → List ℕ → List ℕ
+marked_report log programs report = with_inputs log programs (drop title_length report)
+
+-- what a run answers whose report says of what it is
+pub record AnswersMarked (w : OptionWords) (files : Files) (bytes : List ℕ) (status : ℕ) : Type 0 where
+  pub report : List ℕ
+  pub answers : AnswersExplore (wanted.Told telling.Report) w files report status
+  pub log : List ℕ
+  pub read : first_held files ≡ Some log
+  pub marks : bytes ≡ marked_report log (length files.named - 1) report
+
 -- what is shown of a log
 abbrev pub Shows : LogLook → Settings → Recording → List ℕ → Type 0
 Shows (look.Images parts) s text = IsSurvey parts text s
@@ -282,6 +306,7 @@ Shows (look.Show which) s text = IsShown text s which
 abbrev pub Answers : Request → Files → List ℕ → ℕ → Type 0
 Answers request.StoredRun files bytes status = AnswersRun (wanted.Told telling.Report) stored_settings (recording stored_log []) stored_programs bytes status
 Answers (request.Explore w) files bytes status = AnswersExplore (wanted.Told telling.Report) w files bytes status
+Answers (request.Marked w) files bytes status = AnswersMarked w files bytes status
 Answers (request.Cases w l) files bytes status = AnswersCases false w l files bytes status
 Answers (request.Why w) files bytes status = AnswersExplore (wanted.Told telling.Causes) w files bytes status
 Answers (request.Cure w) files bytes status = AnswersExplore wanted.Cured w files bytes status
@@ -407,6 +432,7 @@ RefusesLook (look.Show which) s text = RefusesImage text s which
 abbrev pub RefusesToAct : Request → Files → Refusal → Type 0
 RefusesToAct request.StoredRun files r = (r ≡ memory_refusal) ⊎ RefusesWanted (wanted.Told telling.Report) (recording stored_log []) stored_programs stored_settings r
 RefusesToAct (request.Explore w) files r = RefusesWith w (RefusesFiles (wanted.Told telling.Report) files) r
+RefusesToAct (request.Marked w) files r = RefusesWith w (RefusesFiles (wanted.Told telling.Report) files) r
 RefusesToAct (request.Cases w l) files r = RefusesWith w (RefusesCases false l files) r
 RefusesToAct (request.Why w) files r = RefusesWith w (RefusesFiles (wanted.Told telling.Causes) files) r
 RefusesToAct (request.Cure w) files r = RefusesWith w (RefusesFiles wanted.Cured files) r

@@ -26,6 +26,7 @@ alone w = record w { settings = record w.settings { workers = 1; cache = 0 } }
 abbrev pub asked_alone : Request → Request
 asked_alone request.StoredRun = request.StoredRun
 asked_alone (request.Explore w) = request.Explore (alone w)
+asked_alone (request.Marked w) = request.Marked (alone w)
 asked_alone (request.Cases w l) = request.Cases (alone w) l
 asked_alone (request.Why w) = request.Why (alone w)
 asked_alone (request.Cure w) = request.Cure (alone w)

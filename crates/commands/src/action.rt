@@ -1,13 +1,13 @@
 //! Performing a command.
 
-ghost use Rattle.std.specs.Prelude.{◌≡◌, ◌<◌, ◌≤◌, ◌⊎◌, ◌∷◌, [], true, false, length, map, option_map, position, is_none, Some, None, MatchResult, IfOk, IfErr, OnOk};
+ghost use Rattle.std.specs.Prelude.{◌≡◌, ◌==◌, ◌<◌, ◌≤◌, ◌-◌, ◌⊎◌, ℕ, ◌∷◌, [], true, false, drop, length, map, option_map, position, is_none, Some, None, MatchResult, IfOk, IfErr, OnOk};
 ghost use Rattle.std.specs.List.{filter_map};
 ghost use Rattle.base.specs.Refusals.{memory_refusal};
 ghost use Rattle.request.specs.declared.command.Request.TheVariants as asks;
 ghost use Rattle.runs.specs.Explore.{RefusesWanted};
 ghost use Rattle.request.specs.Refusals.{file_refusal};
 ghost use Rattle.runs.specs.declared.explore_command.WantedAnswer.TheVariants as wants;
-ghost use Rattle.commands.specs.Acting.{first_held, second_held, lines_held, files_of, held_by, initial_of, recording, status_of, HoldsRecording, RefusesRecording, AnswersRun, AnswersFiles, AnswersExplore, AnswersCases, wanted_by, AnswersCuts, RefusesCuts, AnswersRetold, RefusesReportOf, retold_refusal, AnswersAny, RefusesAny, any_words, form_of, Shows, AnswersOf, Answers, JoinsCases, JoinsEither, JoinsTexts, RefusesTexts, are_cases, cases_refusal, join_refusal, most_texts, RefusesWith, RefusesCases, RefusesLook, RefusesToAct, RefusesFiles};
+ghost use Rattle.commands.specs.Acting.{first_held, second_held, lines_held, files_of, held_by, initial_of, recording, status_of, HoldsRecording, RefusesRecording, AnswersRun, AnswersFiles, AnswersExplore, AnswersMarked, first_line, marked_report, title_length, with_inputs, AnswersCases, wanted_by, AnswersCuts, RefusesCuts, AnswersRetold, RefusesReportOf, retold_refusal, AnswersAny, RefusesAny, form_of, Shows, AnswersOf, Answers, JoinsCases, JoinsEither, JoinsTexts, RefusesTexts, are_cases, cases_refusal, join_refusal, most_texts, RefusesWith, RefusesCases, RefusesLook, RefusesToAct, RefusesFiles};
 ghost use Rattle.commands.specs.Stored.{stored_log, stored_programs, stored_settings};
 ghost use Rattle.request.specs.declared.settings.Telling.TheVariants as tells;
 
@@ -25,7 +25,7 @@ use join::{CasesFault, JoinFault, join, join_cases};
 use request::facts::{Recording, RunFacts};
 use request::{
     AnyLosses, CaseTelling, LossWords, OptionWords, Options, Request, Retelling, Telling,
-    TrialWords, Which, losses_of, options_of, trial_of, unreadable,
+    TrialWords, Which, inputs_line, losses_of, number_of_report, options_of, trial_of, unreadable,
 };
 use retold::{RetellFault, retell};
 use runs::{Question, RunAnswer, WantedAnswer, run_with};
@@ -36,6 +36,9 @@ use workers::Gate;
 
 /// How many texts of parts are joined at most.
 const MOST_TEXTS: usize = 4096;
+
+/// The title of a report.
+const TITLE: &[u8] = b"crash report 2\n";
 
 /// The line with which the text of cases begins.
 const CASES_LINE: &[u8] = b"crash cases 1\n";
@@ -130,25 +133,6 @@ impl<'x> HeldFiles<'x> {
         let initial = self.initial()?;
         Ok(Recording::of(log, initial))
     }
-
-    /// A run's command of such words on these files.
-    fn run_asked_for(&'x self, wanted: WantedAnswer, words: OptionWords) -> AskedOfRun<'x>
-        ensures { result ≡ record { wanted = wanted; words = words; files = self.entry } }
-    {
-        AskedOfRun {
-            wanted,
-            words,
-            files: self,
-        }
-    }
-}
-
-/// What a command asks of a run: for what, by which words, and of which files.
-#[derive(Clone, Copy)]
-struct AskedOfRun<'x> {
-    wanted: WantedAnswer,
-    words: OptionWords,
-    files: &'x HeldFiles<'x>,
 }
 
 /// The place of the first file that cannot be read.
@@ -171,34 +155,15 @@ fn programs_of(alloc: Global, files: &[Option<Vec<u8>>]) -> Result<Vec<Vec<u8>>,
     Ok(programs)
 }
 
-/// The status of a command, by whether an image fails.
-fn status_of(failing: bool) -> u8
-    ensures { result ≡ status_of failing }
-{
-    if failing { 1 } else { 0 }
-}
-
-/// An answer with the status 0, of a command that makes no run and verifies no program.
-fn answered(bytes: Vec<u8>) -> Acted
-    ensures bytes { result.bytes ≡ bytes }
-    ensures status { result.status ≡ 0 }
-{
-    Acted {
-        bytes,
-        status: 0,
-        facts: RunFacts::none(),
-    }
-}
-
-/// An answer of such a command with the status 1 where an image fails.
-fn with_status(bytes: Vec<u8>, failing: bool) -> Acted
+/// An answer, with the status 1 where an image fails and 0 else.
+fn answer_of(bytes: Vec<u8>, failing: bool, facts: RunFacts) -> Acted
     ensures bytes { result.bytes ≡ bytes }
     ensures status { result.status ≡ status_of failing }
 {
     Acted {
         bytes,
-        status: status_of(failing),
-        facts: RunFacts::none(),
+        status: if failing { 1 } else { 0 },
+        facts,
     }
 }
 
@@ -213,11 +178,7 @@ fn explore_files<G: Gate + Sync, R: Threads + Wait + Sync>(
     ensures refused { IfErr result (RefusesWanted question.now.wanted question.now.recording.now (map (λ f. f.items) question.now.programs.now) question.now.options.now) }
 {
     let RunAnswer { explored, facts } = run_with(rt, alloc, gate, question)?;
-    Ok(Acted {
-        bytes: explored.bytes,
-        status: status_of(explored.failing),
-        facts,
-    })
+    Ok(answer_of(explored.bytes, explored.failing, facts))
 }
 
 /// Explores the files of a command, of which the first is the log.
@@ -225,13 +186,93 @@ fn act_explore<G: Gate + Sync, R: Threads + Wait + Sync>(
     rt: &R,
     alloc: Global,
     gate: &G,
-    asked: &AskedOfRun<'_>,
+    wanted: WantedAnswer,
+    words: OptionWords,
+    files: &HeldFiles<'_>,
 ) -> Result<Acted, Refusal>
-    ensures answers { IfOk result (λ answer. AnswersExplore asked.now.wanted asked.now.words (held_by asked.now.files.now) answer.bytes.items answer.status) }
-    ensures refused { IfErr result (RefusesWith asked.now.words (RefusesFiles asked.now.wanted (held_by asked.now.files.now))) }
+    ensures answers { IfOk result (λ answer. AnswersExplore wanted words (held_by files.now) answer.bytes.items answer.status) }
+    ensures refused { IfErr result (RefusesWith words (RefusesFiles wanted (held_by files.now))) }
 {
-    let options = options_of(asked.words)?;
-    explore_readable(rt, alloc, gate, asked, &options)
+    let options = options_of(words)?;
+    explore_readable(rt, alloc, gate, wanted, files, &options)
+}
+
+/// The place of the first newline of a text.
+fn newline_in(text: &[u8]) -> Option<usize>
+    ensures { result ≡ position (λ (byte : ℕ). byte == 10) text.now }
+{
+    text.iter().position(|byte| *byte == b'\n')
+}
+
+/// The first line of a text, with its newline.
+fn first_line(text: &[u8]) -> &[u8]
+    ensures { result.now ≡ first_line text.now }
+{
+    match newline_in(text) {
+        Some(place) => &text[..place + 1],
+        None => text,
+    }
+}
+
+/// A report of that many programs that says after its title of which log and options it is, by what stands after its title.
+fn with_inputs(alloc: Global, log: &[u8], programs: u64, rest: &[u8]) -> Result<Vec<u8>, AllocError>
+    ensures { IfOk result (λ bytes. bytes.items ≡ with_inputs log.now programs rest.now) }
+{
+    let inputs = inputs_line(alloc, number_of_report(log, first_line(rest)), programs)?;
+    let mut out = Vec::new(alloc);
+    out.extend_from_slice(TITLE)?;
+    out.extend_from_slice(inputs.as_bytes())?;
+    out.extend_from_slice(rest)?;
+    Ok(out)
+}
+
+/// What stands after the title of a report.
+fn after_title(report: &[u8]) -> &[u8]
+    ensures { result.now ≡ drop title_length report.now }
+{
+    if report.len() < TITLE.len() {
+        return &[];
+    }
+    &report[TITLE.len()..]
+}
+
+/// A report that says of what it is, of that of the files of a command, of which the first is the log.
+fn marked(
+    alloc: Global,
+    files: &HeldFiles<'_>,
+    log: &[u8],
+    report: &[u8],
+) -> Result<Vec<u8>, AllocError>
+    ensures { IfOk result (λ bytes. bytes.items ≡ marked_report log.now (length (held_by files.now).named - 1) report.now) }
+{
+    let programs = (files.named.len() as u64).saturating_sub(1);
+    with_inputs(alloc, log, programs, after_title(report))
+}
+
+/// Explores the files of a command, of which the first is the log, and says of what the report is.
+#[inline(never)]
+fn act_marked<G: Gate + Sync, R: Threads + Wait + Sync>(
+    rt: &R,
+    alloc: Global,
+    gate: &G,
+    words: OptionWords,
+    files: &HeldFiles<'_>,
+) -> Result<Acted, Refusal>
+    ensures answers { IfOk result (λ answer. AnswersMarked words (held_by files.now) answer.bytes.items answer.status) }
+    ensures refused { IfErr result (RefusesWith words (RefusesFiles (wants.Told tells.Report) (held_by files.now))) }
+{
+    let wanted = WantedAnswer::Told(Telling::Report);
+    let options = options_of(words)?;
+    let acted = explore_readable(rt, alloc, gate, wanted, files, &options)?;
+    let log = files.first()?;
+    match marked(alloc, files, log, acted.bytes.as_slice()) {
+        Ok(bytes) => Ok(Acted {
+            bytes,
+            status: acted.status,
+            facts: acted.facts,
+        }),
+        Err(_error) => Err(Refusal::of_memory()),
+    }
 }
 
 /// What is wanted of any number of losses.
@@ -262,12 +303,7 @@ fn act_cases<G: Gate + Sync, R: Threads + Wait + Sync>(
 {
     let options = options_of(words)?;
     let meant = losses_of(losses, &options)?;
-    let asked = AskedOfRun {
-        wanted: wanted_by(cured, meant),
-        words,
-        files,
-    };
-    explore_readable(rt, alloc, gate, &asked, &options)
+    explore_readable(rt, alloc, gate, wanted_by(cured, meant), files, &options)
 }
 
 /// Explores files, each of which has to be readable.
@@ -275,13 +311,14 @@ fn explore_readable<G: Gate + Sync, R: Threads + Wait + Sync>(
     rt: &R,
     alloc: Global,
     gate: &G,
-    asked: &AskedOfRun<'_>,
+    wanted: WantedAnswer,
+    files: &HeldFiles<'_>,
     options: &Options,
 ) -> Result<Acted, Refusal>
-    ensures answers { IfOk result (λ answer. AnswersFiles asked.now.wanted options.now (held_by asked.now.files.now) answer.bytes.items answer.status) }
-    ensures refused { IfErr result (RefusesFiles asked.now.wanted (held_by asked.now.files.now) options.now) }
+    ensures answers { IfOk result (λ answer. AnswersFiles wanted options.now (held_by files.now) answer.bytes.items answer.status) }
+    ensures refused { IfErr result (RefusesFiles wanted (held_by files.now) options.now) }
 {
-    let Some((first, others)) = asked.files.named.split_first() else {
+    let Some((first, others)) = files.named.split_first() else {
         return Err(unreadable(0));
     };
     let Some(log) = first else {
@@ -290,12 +327,12 @@ fn explore_readable<G: Gate + Sync, R: Threads + Wait + Sync>(
     if let Some(place) = first_unreadable(others) {
         return Err(unreadable(place + 1));
     }
-    let initial = asked.files.initial()?;
+    let initial = files.initial()?;
     let recording = Recording::of(log.as_slice(), initial);
     match programs_of(alloc, others) {
         Ok(programs) => {
             let question = Question {
-                wanted: asked.wanted,
+                wanted,
                 recording: &recording,
                 programs: programs.as_slice(),
                 options,
@@ -364,19 +401,7 @@ fn act_look(
     let options = options_of(words)?;
     let recording = files.recording()?;
     let bytes = shown(alloc, look, &recording, &options)?;
-    Ok(answered(bytes))
-}
-
-/// What is asked of any number of losses, where no number of them is given.
-fn any_words() -> LossWords
-    ensures { result ≡ any_words }
-{
-    LossWords {
-        any: true,
-        torn: None,
-        at_most: None,
-        telling: CaseTelling::Cases,
-    }
+    Ok(answer_of(bytes, false, RunFacts::none()))
 }
 
 /// How an image is told.
@@ -403,11 +428,18 @@ fn act_any_image(
     ensures refused { IfErr result (RefusesWith words (RefusesAny cut (held_by files.now))) }
 {
     let options = options_of(words)?;
-    let _losses = losses_of(any_words(), &options)?;
+    // No number of losses is given.
+    let any = LossWords {
+        any: true,
+        torn: None,
+        at_most: None,
+        telling: CaseTelling::Cases,
+    };
+    let _losses = losses_of(any, &options)?;
     let recording = files.recording()?;
     let form = form_of(in_words);
     let bytes = any_image(alloc, form, &recording, cut, files.choice, &options)?;
-    Ok(answered(bytes))
+    Ok(answer_of(bytes, false, RunFacts::none()))
 }
 
 /// The cuts at which cases are looked for, of the log that the first file holds.
@@ -426,7 +458,7 @@ fn act_cuts(
     let meant = losses_of(losses, &options)?;
     let recording = files.recording()?;
     let bytes = survey_cuts(alloc, &recording, parts, meant, &options)?;
-    Ok(answered(bytes))
+    Ok(answer_of(bytes, false, RunFacts::none()))
 }
 
 /// The refusal of a report, or of what it is to be of.
@@ -459,7 +491,7 @@ fn act_retold(
     let initial = files.initial()?;
     let recording = Recording::of(log, initial);
     match retell(alloc, telling, &recording, report, &options) {
-        Ok(retold) => Ok(with_status(retold.bytes, retold.failing)),
+        Ok(retold) => Ok(answer_of(retold.bytes, retold.failing, RunFacts::none())),
         Err(fault) => Err(retold_refusal_of(fault)),
     }
 }
@@ -472,7 +504,7 @@ fn act_import(alloc: Global, limits: Limits, files: &HeldFiles<'_>) -> Result<Ac
 {
     let raw = files.first()?;
     let text = import(alloc, raw, limits)?;
-    Ok(answered(text))
+    Ok(answer_of(text, false, RunFacts::none()))
 }
 
 /// What the verifier says of a program, with each guarded slot or without.
@@ -507,11 +539,8 @@ fn act_check(alloc: Global, words: TrialWords, files: &HeldFiles<'_>) -> Result<
     let image = files.second()?;
     let lines = files.lines()?;
     let report = try_image(alloc, code, image, lines, &trial)?;
-    Ok(Acted {
-        bytes: report.bytes,
-        status: status_of(report.failing),
-        facts: RunFacts::of_program(report.unreached),
-    })
+    let facts = RunFacts::of_program(report.unreached);
+    Ok(answer_of(report.bytes, report.failing, facts))
 }
 
 /// The program of a source text, as bytes.
@@ -522,7 +551,7 @@ fn act_asm(alloc: Global, files: &HeldFiles<'_>) -> Result<Acted, Refusal>
 {
     let source = files.first()?;
     let bytes = assemble(alloc, source)?;
-    Ok(answered(bytes))
+    Ok(answer_of(bytes, false, RunFacts::none()))
 }
 
 /// The listing of a program.
@@ -533,7 +562,7 @@ fn act_list(alloc: Global, numbered: bool, files: &HeldFiles<'_>) -> Result<Acte
 {
     let code = files.first()?;
     let text = list(alloc, code, numbered)?;
-    Ok(answered(text))
+    Ok(answer_of(text, false, RunFacts::none()))
 }
 
 /// The refusal of texts that aren't joined.
@@ -545,13 +574,6 @@ fn join_refusal_of(fault: JoinFault) -> Refusal
         at: u64::from(fault.file),
         program: None,
     }
-}
-
-/// The refusal of texts that aren't joined for that cause, at that file.
-fn not_joined(cause: JoinCause, file: u32) -> Refusal
-    ensures { result ≡ join_refusal (record { cause = cause; file = file }) }
-{
-    join_refusal_of(JoinFault { cause, file })
 }
 
 /// The refusal of texts of cases that aren't joined.
@@ -578,35 +600,7 @@ fn are_cases(texts: &[Vec<u8>]) -> bool
     &text[..most] == CASES_LINE
 }
 
-/// What the texts of parts come to, with the status 1 where there is a failing line.
-fn join_parts(alloc: Global, part: bool, texts: &[Vec<u8>]) -> Result<Acted, Refusal>
-    requires some { 0 < length texts.now }
-    requires few { length texts.now ≤ most_texts }
-    requires parts { are_cases (map (λ f. f.items) texts.now) ≡ false }
-    ensures answers { IfOk result (λ answer. JoinsEither part (map (λ f. f.items) texts.now) answer.bytes.items answer.status) }
-    ensures refused { IfErr result (RefusesTexts part (map (λ f. f.items) texts.now)) }
-{
-    match join(alloc, part, texts) {
-        Ok(joined) => Ok(with_status(joined.bytes, joined.failing)),
-        Err(fault) => Err(join_refusal_of(fault)),
-    }
-}
-
-/// What the texts of cases come to, with the status 1 where there is a failing line.
-fn join_runs(alloc: Global, part: bool, texts: &[Vec<u8>]) -> Result<Acted, Refusal>
-    requires some { 0 < length texts.now }
-    requires few { length texts.now ≤ most_texts }
-    requires cases { are_cases (map (λ f. f.items) texts.now) ≡ true }
-    ensures answers { IfOk result (λ answer. JoinsEither part (map (λ f. f.items) texts.now) answer.bytes.items answer.status) }
-    ensures refused { IfErr result (RefusesTexts part (map (λ f. f.items) texts.now)) }
-{
-    match join_cases(alloc, part, texts) {
-        Ok(joined) => Ok(with_status(joined.bytes, joined.failing)),
-        Err(fault) => Err(cases_refusal_of(fault)),
-    }
-}
-
-/// What the texts come to: of cases where the first one begins so, and else of parts.
+/// What the texts come to, with the status 1 where there is a failing line: of cases where the first one begins so, and else of parts.
 fn join_texts(alloc: Global, part: bool, texts: &[Vec<u8>]) -> Result<Acted, Refusal>
     requires some { 0 < length texts.now }
     requires few { length texts.now ≤ most_texts }
@@ -614,9 +608,15 @@ fn join_texts(alloc: Global, part: bool, texts: &[Vec<u8>]) -> Result<Acted, Ref
     ensures refused { IfErr result (RefusesTexts part (map (λ f. f.items) texts.now)) }
 {
     if are_cases(texts) {
-        join_runs(alloc, part, texts)
+        match join_cases(alloc, part, texts) {
+            Ok(joined) => Ok(answer_of(joined.bytes, joined.failing, RunFacts::none())),
+            Err(fault) => Err(cases_refusal_of(fault)),
+        }
     } else {
-        join_parts(alloc, part, texts)
+        match join(alloc, part, texts) {
+            Ok(joined) => Ok(answer_of(joined.bytes, joined.failing, RunFacts::none())),
+            Err(fault) => Err(join_refusal_of(fault)),
+        }
     }
 }
 
@@ -630,14 +630,20 @@ fn act_join(alloc: Global, part: bool, files: &HeldFiles<'_>) -> Result<Acted, R
         return Err(unreadable(0));
     }
     if files.named.len() > MOST_TEXTS {
-        return Err(not_joined(JoinCause::TooLong, MOST_TEXTS as u32));
+        return Err(join_refusal_of(JoinFault {
+            cause: JoinCause::TooLong,
+            file: MOST_TEXTS as u32,
+        }));
     }
     if let Some(place) = first_unreadable(files.named) {
         return Err(unreadable(place));
     }
     match programs_of(alloc, files.named) {
         Ok(texts) => join_texts(alloc, part, texts.as_slice()),
-        Err(_error) => Err(not_joined(JoinCause::Memory, 0)),
+        Err(_error) => Err(join_refusal_of(JoinFault {
+            cause: JoinCause::Memory,
+            file: 0,
+        })),
     }
 }
 
@@ -655,24 +661,25 @@ pub(crate) fn act_known<G: Gate + Sync, R: Threads + Wait + Sync>(
     match words.request() {
         Request::StoredRun => act_stored(rt, alloc, gate),
         Request::Explore(words) => {
-            let asked = files.run_asked_for(WantedAnswer::Told(Telling::Report), words);
-            act_explore(rt, alloc, gate, &asked)
+            let wanted = WantedAnswer::Told(Telling::Report);
+            act_explore(rt, alloc, gate, wanted, words, files)
         }
+        Request::Marked(words) => act_marked(rt, alloc, gate, words, files),
         Request::Cases(words, losses) => { act_cases(rt, alloc, gate, false, words, losses, files) }
         Request::CureCases(words, losses) => {
             act_cases(rt, alloc, gate, true, words, losses, files)
         }
         Request::Why(words) => {
-            let asked = files.run_asked_for(WantedAnswer::Told(Telling::Causes), words);
-            act_explore(rt, alloc, gate, &asked)
+            let wanted = WantedAnswer::Told(Telling::Causes);
+            act_explore(rt, alloc, gate, wanted, words, files)
         }
         Request::Cure(words) => {
-            let asked = files.run_asked_for(WantedAnswer::Cured, words);
-            act_explore(rt, alloc, gate, &asked)
+            let wanted = WantedAnswer::Cured;
+            act_explore(rt, alloc, gate, wanted, words, files)
         }
         Request::Page(words) => {
-            let asked = files.run_asked_for(WantedAnswer::Told(Telling::Page), words);
-            act_explore(rt, alloc, gate, &asked)
+            let wanted = WantedAnswer::Told(Telling::Page);
+            act_explore(rt, alloc, gate, wanted, words, files)
         }
         Request::Retold(words, telling) => act_retold(alloc, telling, words, files),
         Request::Images(words, parts) => act_look(alloc, LogLook::Images(parts), words, files),

@@ -16,7 +16,7 @@ pub(crate) const LARGE: u64 = 1 << 30;
 /// of all failing images is asked for.
 pub fn lines_of_image(words: &Words) -> u64 {
     match words.request() {
-        Request::Explore(options) if !options.settings.first => words
+        Request::Explore(options) | Request::Marked(options) if !options.settings.first => words
             .files()
             .len()
             .saturating_sub(1) as u64,

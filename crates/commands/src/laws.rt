@@ -1,7 +1,6 @@
 //! Laws of reports and refusals. The functions do nothing else than call the laws of lower layers; each
 //! contract is a theorem.
 
-ghost use Rattle.bpf_asm.specs.Laws as asm;
 ghost use Rattle.commands.specs.CaseParts.{CasesAreText, JoinIsExploreOfCases, JoinIsExploreOfCasesByOwn, LaidOutRangesAreParts, RangesOfRunAreJoined};
 ghost use Rattle.commands.specs.Differences.{ShowNamesDifferences};
 ghost use Rattle.commands.specs.Largest.{ReportsAreBounded};
@@ -30,13 +29,6 @@ pub fn one_report()
     one_verdict();
 }
 
-/// A source text says one program at most.
-fn one_source()
-    ensures { asm.OneProgram }
-{
-    bpf_asm::laws::one_program();
-}
-
 /// For every request, given what the files hold, two answers have the same bytes and the same status.
 pub fn one_answer()
     ensures { OneAnswer }
@@ -44,7 +36,7 @@ pub fn one_answer()
     text_of_one_log();
     one_program();
     one_verdict();
-    one_source();
+    bpf_asm::laws::one_program();
     finding_is_one();
     first_is_one();
 }

@@ -14,7 +14,7 @@
 //! - `request`: what a run is asked, and `Options`, tested in their order; what each command reads of a log; the line of a
 //!   refusal.
 //! - `command_line`: the words of the command line, and their help.
-//! - `runs`: `explore`, with a bound or with any number of losses, `why`, `page` and `cure_run`, from bytes to bytes.
+//! - `runs`: `explore_with` and `run_with`, by which `explore`, with a bound or with any number of losses, `why`, `page` and `cure` go from bytes to bytes.
 //! - `inspect`: `images`, `image`, `show`, both with a bound or with any number of losses, `log`, `verify`, `asm` and `list`.
 //! - `notes`: the notes after a refusal and beside an answer.
 //!
@@ -137,6 +137,6 @@ pub use request::facts::{Recording, RunFacts};
 pub use request::{
     Extent, OptionPlace, OptionWords, Options, Request, Settings, Telling, Which, fault_line,
 };
-pub use runs::{Explored, Question, cure_run, explore, explore_with, page, why};
+pub use runs::{Explored, Question, explore, explore_with};
 pub use streamed::{Streamed, perform_export};
 pub use workers::{Gate, OpenGate};

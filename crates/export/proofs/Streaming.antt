@@ -192,3 +192,18 @@ pub or_all_written : {T E : Type 0} (before after first last : Option (List ℕ)
 or_all_written before after first last waiting left was is text r begins ends wo none p =
     subst (λ b. OnOk r (Appends b last text)) begins
     (subst (λ a. OnOk r (Appends before a text)) (sym ends) (or_all_taken before after waiting left was is text r wo none p))
+
+-- a text after bytes that were put before it
+pub headed_all : {T E : Type 0} (a b c : StreamValue) (head text : List ℕ) (r : Result T E) → Puts a b head → OnOk r (PutsAll b c text) → OnOk r (PutsAll a c (head ++ text))
+headed_all a b c head text (Ok done) p q = (puts_more a b c head text p q.0, q.1, q.2)
+headed_all a b c head text (Err fault) p q = tt
+
+pub headed_part : {T E : Type 0} (a b c : StreamValue) (head text : List ℕ) (r : Result T E) → Puts a b head → OnErr r (PutsPart b c text) → OnErr r (PutsPart a c (head ++ text))
+headed_part a b c head text (Ok done) p q = tt
+headed_part a b c head text (Err fault) p q = record {
+  shown = head ++ q.shown;
+  rest = q.rest;
+  whole = append_assoc head q.shown q.rest ∙ ap (λ (l : List ℕ). head ++ l) q.whole;
+  puts = puts_more a b c head q.shown p q.puts;
+  part = q.part;
+}

@@ -409,7 +409,7 @@ fn write_images<W: Write>(
     source.write_all(alloc, out)
 }
 
-/// Writes the text of the images that are asked for (docs/OUTPUT.md, The text of `export`) as it is made. It keeps a piece of it of at
+/// Writes a head, and the text of the images that are asked for (docs/OUTPUT.md, The text of `export`) as it is made. It keeps a piece of it of at
 /// most 64 KiB and a record, and at most some 60 bytes for each new image: a key and two places, in a map.
 ///
 /// # Errors
@@ -417,14 +417,16 @@ fn write_images<W: Write>(
 /// Want of memory, or that the writer takes no more: of the text the first bytes were written, and not all.
 pub fn export<W: Write>(
     alloc: Global,
+    head: &[u8],
     asked: &PlannedImages<'_>,
     output: Output<W>,
 ) -> (Result<(), StreamFault>, Output<W>)
     requires going { output.has_failed ≡ false }
-    ensures all { OnOk result.0 (Appends (W.contents output.writer) (W.contents result.1.writer) (export_text asked.now)) }
-    ensures part { OnErr result.0 (TakesPart (W.contents output.writer) (W.contents result.1.writer) (export_text asked.now)) }
+    ensures all { OnOk result.0 (Appends (W.contents output.writer) (W.contents result.1.writer) (head.now ++ export_text asked.now)) }
+    ensures part { OnErr result.0 (TakesPart (W.contents output.writer) (W.contents result.1.writer) (head.now ++ export_text asked.now)) }
 {
     let mut out = Stream::new(alloc, output);
+    out.put(head);
     let written = write_images(alloc, asked, &mut out);
     (written, out.into_output())
 }

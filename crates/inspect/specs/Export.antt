@@ -1,5 +1,5 @@
 -- The crash images of a log as bytes, each by what differs (docs/OUTPUT.md, The text of `export`).
-use Rattle.std.specs.Prelude.{ℕ, ◌≡◌, List, length, Option, true, false}
+use Rattle.std.specs.Prelude.{ℕ, ◌≡◌, ◌++◌, List, length, Option, true, false}
 use Rattle.std.specs.Io.KnownBytes.{Appends, Keeps}
 use Rattle.base.specs.declared.refusal.Refusal.{Refusal}
 use Rattle.base.specs.Refusals.{memory_refusal}
@@ -11,6 +11,7 @@ use Rattle.inspect.specs.declared.looks.export_command.Stopped.TheVariants as st
 use Rattle.request.specs.declared.settings.Settings.{Settings}
 use Rattle.request.specs.declared.settings.OptionPlace.TheVariants as place
 use Rattle.request.specs.Settings.{option_refusal}
+use Rattle.request.specs.Inputs.{number_line, options_given, report_number}
 use Rattle.request.specs.Extents.{first_meant, end_meant, is_at_once}
 use Rattle.request.specs.Source.{Recording, plan_of, images_of, HasImages, RefusesSource}
 
@@ -24,11 +25,15 @@ exported s value = record {
   to = end_meant s.extent (length (images_of s value));
 }
 
+-- the line that says of which log and options they are
+abbrev pub export_head : List ℕ → Settings → LogValue → List ℕ
+export_head file s value = number_line (report_number file (options_given s value))
+
 pub record IsExport (text : Recording) (s : Settings) (bytes : List ℕ) : Type 0 where
   pub taken : is_at_once s.extent ≡ true
   pub value : LogValue
   pub source : HasImages text s value
-  pub told : bytes ≡ export_text (exported s value)
+  pub told : bytes ≡ export_head text.text s value ++ export_text (exported s value)
 
 -- the refusals in their order: that the images aren't taken at once, the log, then the number of its images
 pub data RefusesExport (text : Recording) (s : Settings) : Refusal → Type 0 where

@@ -15,7 +15,7 @@ use Rattle.join.specs.declared.case_parts.fault.CasesFault.TheVariants as refuse
 use Rattle.join.specs.declared.case_parts.totals.CaseTotals.{CaseTotals}
 use Rattle.join.specs.declared.joining.JoinedText.{JoinedText}
 use Rattle.losses.specs.FoundCases.{most_cases}
-use Rattle.case_text.specs.Text.{in_word, cases_head}
+use Rattle.case_text.specs.Text.{in_word, are_all_cuts, cases_head}
 use Rattle.join.specs.CaseTexts.{NoCasesText, totals_line, first_of, last_of}
 use Rattle.join.specs.CaseReading.{CasesRead, IsCasesPart}
 use Rattle.join.specs.CaseJoining.{AreCasesParts, AreJoinedCases, HasFailing, IsFirstNone, IsFirstApart, IsFirstMany, AreByCuts, HaveAllCuts, LackCuts, IsOfCaseRun, IsTooLong, RefusesCases, no_part, of_other_run, with_gap, with_overlap, with_many, short_of_cuts, no_memory, all_cases, all_totals, both_totals, joined_head, told_number}
@@ -133,7 +133,7 @@ lines_more rs i x before out so small is =
     rw (list, so, both) (append_assoc before (flat_map (λ (r : CasesRead). r.lines) (take i rs)) x.lines)
 
 pub written_found : (rs : List CasesRead) (first last : CasesRead) (opening lines end out : List ℕ) → slice_get rs 0 ≡ Some first → slice_get rs (length rs - 1) ≡ Some last
-    → opening ≡ cases_head (told_number first last) (joined_head first last) first.asked → lines ≡ flat_map (λ (r : CasesRead). r.lines) rs → end ≡ totals_line (all_totals rs)
+    → opening ≡ cases_head (told_number first last) (joined_head first last) first.asked → lines ≡ flat_map (λ (r : CasesRead). r.lines) rs → end ≡ totals_line (are_all_cuts (joined_head first last).cuts) (all_totals rs)
     → out ≡ (opening ++ lines) ++ end → IsCasesWritten rs out
 written_found rs first last opening lines end out at last_at a b c e = record {
   first = first;
@@ -144,7 +144,7 @@ written_found rs first last opening lines end out at last_at a b c e = record {
       e ∙ ap (λ (bs : List ℕ). (bs ++ lines) ++ end) a
       ∙ ap (λ (bs : List ℕ). (cases_head (told_number first last) (joined_head first last) first.asked ++ bs) ++ end) b
       ∙ ap (λ (bs : List ℕ). (cases_head (told_number first last) (joined_head first last) first.asked ++ flat_map (λ (r : CasesRead). r.lines) rs) ++ bs) c
-      ∙ append_assoc (cases_head (told_number first last) (joined_head first last) first.asked) (flat_map (λ (r : CasesRead). r.lines) rs) (totals_line (all_totals rs));
+      ∙ append_assoc (cases_head (told_number first last) (joined_head first last) first.asked) (flat_map (λ (r : CasesRead). r.lines) rs) (totals_line (are_all_cuts (joined_head first last).cuts) (all_totals rs));
 }
 
 -- what a test of a row tells

@@ -11,7 +11,7 @@ use Rattle.epochs.specs.Flushes.{places_of}
 use Rattle.report.specs.Words.{cuts_words}
 use Rattle.report.specs.Report.{HeadValue, device_text, given_text}
 use Rattle.losses.specs.declared.found.Losses.{Losses}
-use Rattle.case_text.specs.Text.{in_word, cases_head, opening_text, options_text}
+use Rattle.case_text.specs.Text.{in_word, are_all_cuts, cases_head, opening_text, options_text}
 use Rattle.join.specs.declared.case_parts.totals.CaseTotals.{CaseTotals}
 use Rattle.join.specs.CaseTexts.{ToldCase, IsCasesText, first_of, last_of, told_line, told_text, totals_line}
 use Rattle.join.specs.CaseReading.{AreAlike, CasesRead, SaysCases}
@@ -301,8 +301,12 @@ head_is h v w a b c d alike from to =
     let e7 : h.programs ≡ v.programs = alike.programs in
     rw (e1, e2, e3, e4, e5, e6, e7, from, to) refl
 
+-- whether a range has each cut of the log
+abbrev told_all : CaseRun → AskedRange → Bool
+told_all r whole = are_all_cuts (head_between r.head whole.from whole.to).cuts
+
 text_is : (r : CaseRun) (whole : AskedRange) → told_text (cases_between r whole)
-    ≡ cases_head (number_in r whole) (head_between r.head whole.from whole.to) r.asked ++ (flat_map (told_line r.head.by) (flat_map r.told (cuts_of_range r whole)) ++ totals_line (cases_between r whole).totals)
+    ≡ cases_head (number_in r whole) (head_between r.head whole.from whole.to) r.asked ++ (flat_map (told_line r.head.by) (flat_map r.told (cuts_of_range r whole)) ++ totals_line (told_all r whole) (cases_between r whole).totals)
 unfolding told_text
 text_is r whole = refl
 
@@ -477,6 +481,15 @@ told_range r whole first last all from to number = by_test (have_all_cuts first 
     by_test false true e own number = absurd (let bad : false ≡ true = e in cc)
     by_test false false e own number = record { number = number refl; from_is = from; to_is = to; cuts = refl }
 
+-- and whether a row has
+abbrev row_all : CasesRead → CasesRead → Bool
+row_all first last = are_all_cuts (joined_head first last).cuts
+
+range_all : (h v : HeadValue) (from to from' to' : Option ℕ) → AreAlike h v → from ≡ from' → to ≡ to' → are_all_cuts (head_between h from to).cuts ≡ are_all_cuts (head_between v from' to').cuts
+range_all h v from to from' to' alike same same' =
+    let e1 : h.cuts.kind ≡ v.cuts.kind = alike.options.kind in
+    rw (e1, same, same') refl
+
 -- the text of a row that tells a range
 row_is : (r : CaseRun) (ranges : List AskedRange) (x told : AskedRange) (first last : CasesRead) (row : List CasesRead) (bytes : List ℕ) → SaysCases (cases_between r x) first → told_number first last ≡ number_in r told
     → told_from first last ≡ told.from
@@ -490,11 +503,12 @@ row_is r ranges x told first last row bytes own number from to cuts said parts f
     ∙ ap (λ (w : Losses). options_text (head_between r.head told.from told.to) w) asked in
     let e2 : flat_map (λ (t : CasesRead). t.lines) row ≡ flat_map (told_line r.head.by) (flat_map r.told (cuts_of_range r told)) =
     lines_are r row ranges said ∙ ap (λ (ks : List ℕ). flat_map (told_line r.head.by) (flat_map r.told ks)) cuts in
+    let e0 : row_all first last ≡ told_all r told = range_all first.head (head_between r.head x.from x.to) (told_from first last) (told_to first last) told.from told.to alike from to in
     let e3 : all_totals row ≡ (cases_between r told).totals = totals_are r told ranges (map (printed_of r) ranges) row said parts cuts few in
-    is ∙ ap (λ (i : Option ℕ). cases_head i (joined_head first last) first.asked ++ (flat_map (λ (t : CasesRead). t.lines) row ++ totals_line (all_totals row))) number
-    ∙ ap (λ (bs : List ℕ). (opening_text (number_in r told) ++ bs) ++ (flat_map (λ (t : CasesRead). t.lines) row ++ totals_line (all_totals row))) e1
-    ∙ ap (λ (bs : List ℕ). cases_head (number_in r told) (head_between r.head told.from told.to) r.asked ++ (bs ++ totals_line (all_totals row))) e2
-    ∙ ap (λ (t : CaseTotals). cases_head (number_in r told) (head_between r.head told.from told.to) r.asked ++ (flat_map (told_line r.head.by) (flat_map r.told (cuts_of_range r told)) ++ totals_line t)) e3
+    is ∙ ap (λ (i : Option ℕ). cases_head i (joined_head first last) first.asked ++ (flat_map (λ (t : CasesRead). t.lines) row ++ totals_line (row_all first last) (all_totals row))) number
+    ∙ ap (λ (bs : List ℕ). (opening_text (number_in r told) ++ bs) ++ (flat_map (λ (t : CasesRead). t.lines) row ++ totals_line (row_all first last) (all_totals row))) e1
+    ∙ ap (λ (bs : List ℕ). cases_head (number_in r told) (head_between r.head told.from told.to) r.asked ++ (bs ++ totals_line (row_all first last) (all_totals row))) e2
+    ∙ (λ i. cases_head (number_in r told) (head_between r.head told.from told.to) r.asked ++ (flat_map (told_line r.head.by) (flat_map r.told (cuts_of_range r told)) ++ totals_line (e0 i) (e3 i)))
     ∙ sym (text_is r told)
 
 pub law : JoinIsCases

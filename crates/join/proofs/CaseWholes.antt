@@ -7,7 +7,7 @@ use Rattle.std.proofs.lemmas.Bool.Decides.{nat_tests}
 use Rattle.epochs.specs.declared.part.By.{By}
 use Rattle.report.specs.Report.{HeadValue, device_text}
 use Rattle.losses.specs.declared.found.Losses.{Losses}
-use Rattle.case_text.specs.Text.{opening_text, options_text, place_text, counts_text}
+use Rattle.case_text.specs.Text.{are_all_cuts, opening_text, options_text, place_text, counts_text}
 use Rattle.join.specs.declared.case_parts.front.CaseFront.{CaseFront}
 use Rattle.join.specs.declared.case_parts.line.CaseTally.{CaseTally}
 use Rattle.join.specs.declared.case_parts.totals.CaseTotals.{CaseTotals}
@@ -19,9 +19,13 @@ use Rattle.join.specs.CaseRows.{IsSmallPart}
 use Rattle.join.proofs.Texts.{cancel}
 use Rattle.join.proofs.CaseLasts.{and_both, within_log}
 
+-- whether it tells of each cut of its log
+abbrev all_of : CasesValue → Bool
+all_of c = are_all_cuts c.head.cuts
+
 -- what stands after the head
 abbrev findings_of : CasesValue → List ℕ
-findings_of c = flat_map (told_line c.head.by) c.told ++ totals_line c.totals
+findings_of c = flat_map (told_line c.head.by) c.told ++ totals_line (all_of c) c.totals
 
 text_is : (c : CasesValue) → told_text c ≡ opening_text c.inputs ++ (options_text c.head c.asked ++ findings_of c)
 unfolding told_text
@@ -40,13 +44,13 @@ opened : (whole text : List ℕ) (inputs : Option ℕ) (c : CasesValue) → IsOp
 opened whole text inputs c opening is = opening.only c.inputs (options_text c.head c.asked ++ findings_of c) is.inputs.small (no_inputs c) (is.is ∙ text_is c)
 
 -- no line of a program
-first_byte : (way : By) (ts : List ToldCase) (t : CaseTotals) → get_or (flat_map (told_line way) ts ++ totals_line t) 0 0 ≡ 99
+first_byte : (way : By) (ts : List ToldCase) (all : Bool) (t : CaseTotals) → get_or (flat_map (told_line way) ts ++ totals_line all t) 0 0 ≡ 99
 unfolding told_body front_text place_text totals_line counts_text
-first_byte way [] t = refl
-first_byte way (x ∷ ts) t = refl
+first_byte way [] all t = refl
+first_byte way (x ∷ ts) all t = refl
 
 no_program : (c : CasesValue) → NoProgram (findings_of c)
-no_program c rest e = let bad : 99 ≡ 112 = sym (first_byte c.head.by c.told c.totals) ∙ ap (λ (bs : List ℕ). get_or bs 0 0) e in omega (arith, bad)
+no_program c rest e = let bad : 99 ≡ 112 = sym (first_byte c.head.by c.told (all_of c) c.totals) ∙ ap (λ (bs : List ℕ). get_or bs 0 0) e in omega (arith, bad)
 
 pub no_opening_no_cases : (whole : List ℕ) → NoOpening whole → NoCasesText whole
 no_opening_no_cases whole lack = record { none = λ c is. lack.none c.inputs (options_text c.head c.asked ++ findings_of c) is.inputs.small (no_inputs c) (is.is ∙ text_is c) }
@@ -107,13 +111,13 @@ fourth_byte : (way : By) (t : ToldCase) (rest : List ℕ) → get_or (told_line 
 unfolding told_body front_text place_text
 fourth_byte way t rest = refl
 
-last_byte : (t : CaseTotals) → get_or (totals_line t) 3 0 ≡ 115
+last_byte : (all : Bool) (t : CaseTotals) → get_or (totals_line all t) 3 0 ≡ 115
 unfolding totals_line counts_text
-last_byte t = refl
+last_byte all t = refl
 
-no_case : (h : HeadValue) (t : CaseTotals) → NoCaseLine h (totals_line t)
-no_case h t = record {
-  none = λ told rest own e. let bad : 115 ≡ 32 = sym (last_byte t) ∙ ap (λ (bs : List ℕ). get_or bs 3 0) e ∙ fourth_byte h.by told rest in omega (arith, bad);
+no_case : (h : HeadValue) (all : Bool) (t : CaseTotals) → NoCaseLine h (totals_line all t)
+no_case h all t = record {
+  none = λ told rest own e. let bad : 115 ≡ 32 = sym (last_byte all t) ∙ ap (λ (bs : List ℕ). get_or bs 3 0) e ∙ fourth_byte h.by told rest in omega (arith, bad);
 }
 
 -- what was counted
@@ -206,7 +210,7 @@ pub record SaysSame (c : CasesValue) (number : Option ℕ) (h : HeadValue) (w : 
   pub head : AreAlike h c.head
   pub asked : w ≡ c.asked
   pub told : c.told ≡ ts
-  pub last : tail ≡ totals_line c.totals
+  pub last : tail ≡ totals_line (all_of c) c.totals
   pub totals : said ≡ c.totals
 
 says_same : (whole text found last : List ℕ) (inputs : Option ℕ) (h : HeadValue) (asked : Losses) (tally : CaseTally) (totals : CaseTotals) (c : CasesValue) → (r : IsRead whole text found last inputs h asked tally totals) → IsCasesText whole c
@@ -216,22 +220,22 @@ says_same whole text found last inputs h asked tally totals c r is =
     let p = r.head.only c.head c.asked (findings_of c) is.head is.asked (no_program c) o.1 in
     let alike = p.0 in
     let way : h.by ≡ c.head.by = alike.options.way in
-    let found_is : found ≡ flat_map (told_line h.by) c.told ++ totals_line c.totals = p.2 ∙ ap (λ (w : By). flat_map (told_line w) c.told ++ totals_line c.totals) (sym way) in
-    let (more, are, each, last_is) = r.lines.first.left c.told (totals_line c.totals) (all_moved h c.head c.told alike is.told) (no_case h c.totals) found_is in
+    let found_is : found ≡ flat_map (told_line h.by) c.told ++ totals_line (all_of c) c.totals = p.2 ∙ ap (λ (w : By). flat_map (told_line w) c.told ++ totals_line (all_of c) c.totals) (sym way) in
+    let (more, are, each, last_is) = r.lines.first.left c.told (totals_line (all_of c) c.totals) (all_moved h c.head c.told alike is.told) (no_case h (all_of c) c.totals) found_is in
     let none : more ≡ [] = no_more more each last_is in
-    let last_line : last ≡ totals_line c.totals = last_is ∙ ap (λ (xs : List ToldCase). flat_map (told_line h.by) xs ++ totals_line c.totals) none in
+    let last_line : last ≡ totals_line (all_of c) c.totals = last_is ∙ ap (λ (xs : List ToldCase). flat_map (told_line h.by) xs ++ totals_line (all_of c) c.totals) none in
     record {
       inputs = o.0;
       head = alike;
       asked = p.1;
       told = are ∙ ap (λ (xs : List ToldCase). r.lines.told ++ xs) none ∙ append-nil r.lines.told;
       last = last_line;
-      totals = r.totals.read c.totals (small_totals c is.head is.totals) last_line;
+      totals = r.totals.read (all_of c) c.totals (small_totals c is.head is.totals) last_line;
     }
   where
-    no_more : (xs : List ToldCase) → AreToldCases h xs → last ≡ flat_map (told_line h.by) xs ++ totals_line c.totals → xs ≡ []
+    no_more : (xs : List ToldCase) → AreToldCases h xs → last ≡ flat_map (told_line h.by) xs ++ totals_line (all_of c) c.totals → xs ≡ []
     no_more [] each e = refl
-    no_more (x ∷ xs) each e = absurd (r.end.none x (flat_map (told_line h.by) xs ++ totals_line c.totals) each.0 (e ∙ append_assoc (told_line h.by x) (flat_map (told_line h.by) xs) (totals_line c.totals)))
+    no_more (x ∷ xs) each e = absurd (r.end.none x (flat_map (told_line h.by) xs ++ totals_line (all_of c) c.totals) each.0 (e ∙ append_assoc (told_line h.by x) (flat_map (told_line h.by) xs) (totals_line (all_of c) c.totals)))
 
 pub not_rising : (whole text found last : List ℕ) (inputs : Option ℕ) (h : HeadValue) (asked : Losses) (tally : CaseTally) (totals : CaseTotals) → IsRead whole text found last inputs h asked tally totals → tally.rising ≡ false → NoCasesText whole
 not_rising whole text found last inputs h asked tally totals r lack = record { none = none }
@@ -268,20 +272,29 @@ no_totals whole text found last inputs h asked tally totals r lack = record { no
         let bad : true ≡ false = sym yes ∙ lack in
         cc
 
+-- heads that say the same are both of each cut of a log, or both are not
+all_alike : (h v : HeadValue) → AreAlike h v → are_all_cuts h.cuts ≡ are_all_cuts v.cuts
+all_alike h v alike =
+    let o = alike.options in
+    let e1 : h.cuts.kind ≡ v.cuts.kind = o.kind in
+    let e2 : h.cuts.from ≡ v.cuts.from = o.from in
+    let e3 : h.cuts.to ≡ v.cuts.to = o.to in
+    rw (e1, e2, e3) refl
+
 pub other_last : (whole text found last : List ℕ) (inputs : Option ℕ) (h : HeadValue) (asked : Losses) (tally : CaseTally) (totals : CaseTotals) → IsRead whole text found last inputs h asked tally totals
-    → (last ≡ totals_line totals → ⊥) → NoCasesText whole
+    → (last ≡ totals_line (are_all_cuts h.cuts) totals → ⊥) → NoCasesText whole
 other_last whole text found last inputs h asked tally totals r lack = record { none = none }
   where
     none : (c : CasesValue) → IsCasesText whole c → ⊥
     none c is =
         let s = says_same whole text found last inputs h asked tally totals c r is in
-        lack (s.last ∙ ap (λ (t : CaseTotals). totals_line t) (sym s.totals))
+        lack (s.last ∙ (λ i. totals_line (sym (all_alike h c.head s.head) i) (sym s.totals i)))
 
 pub lines_in_front : (h : HeadValue) (found last : List ℕ) (tally : CaseTally) → AreCasesRead h found tally last → HasFront found last
 lines_in_front h found last tally r = record { front = flat_map (told_line h.by) r.told; is = r.is }
 
 pub is_part : (whole text found last lines : List ℕ) (inputs : Option ℕ) (h : HeadValue) (asked : Losses) (tally : CaseTally) (totals : CaseTotals) (file : ℕ) → IsRead whole text found last inputs h asked tally totals → are_inputs_of_run h inputs ≡ true → tally.rising ≡ true
-    → are_totals_of_run h tally.lines tally.cuts totals ≡ true → totals.torn < 2 ^ 64 → totals.lost < 2 ^ 64 → last ≡ totals_line totals → ((front : List ℕ) → found ≡ front ++ last → lines ≡ front)
+    → are_totals_of_run h tally.lines tally.cuts totals ≡ true → totals.torn < 2 ^ 64 → totals.lost < 2 ^ 64 → last ≡ totals_line (are_all_cuts h.cuts) totals → ((front : List ℕ) → found ≡ front ++ last → lines ≡ front)
     → IsCasesPart whole (record { inputs = inputs; head = h; asked = asked; lines = lines; totals = totals; file = file })
 is_part whole text found last lines inputs h asked tally totals file r told rises of_run torn lost last_is front = record { cases = own; is = is_own; head = refl; only = only }
   where

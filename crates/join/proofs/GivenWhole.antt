@@ -80,32 +80,32 @@ lines_no_program outside programs images s (t ∷ ts) qs all = λ rest e.
     begins : (rest : List ℕ) → chosen_told s.plan.by t all.0.choice ++ 10 ∷ (flat_map (told_line s) ts ++ told_totals images qs) ≡ codes "program " ++ rest → ⊥
     begins rest same = let bad : 105 ≡ 112 = ap (λ (bs : List ℕ). get_or bs 0 0) same in omega (arith, bad)
 
-pub no_title_no_report : (options : List ℕ) (s : StartsValue) (images : ℕ) (text : List ℕ) → ((rest : List ℕ) → text ≢ codes "crash report 2\n" ++ rest) → NoReport options s images text
-no_title_no_report options s images text none = record { none = λ g is. none _ is.is }
+pub no_title_no_report : (title options : List ℕ) (s : StartsValue) (images : ℕ) (text : List ℕ) → ((rest : List ℕ) → text ≢ title ++ rest) → NoReport title options s images text
+no_title_no_report title options s images text none = record { none = λ g is. none _ is.is }
 
-pub no_options_no_report : (options : List ℕ) (s : StartsValue) (images : ℕ) (text titled : List ℕ) → text ≡ codes "crash report 2\n" ++ titled → ((rest : List ℕ) → titled ≢ options ++ rest) → NoReport options s images text
-no_options_no_report options s images text titled begun none = record { none = λ g is. none _ (cancel (codes "crash report 2\n") titled _ (sym begun ∙ is.is)) }
+pub no_options_no_report : (title options : List ℕ) (s : StartsValue) (images : ℕ) (text titled : List ℕ) → text ≡ title ++ titled → ((rest : List ℕ) → titled ≢ options ++ rest) → NoReport title options s images text
+no_options_no_report title options s images text titled begun none = record { none = λ g is. none _ (cancel title titled _ (sym begun ∙ is.is)) }
 
 -- what stands after the options
-rest_of : (options : List ℕ) (s : StartsValue) (images : ℕ) (whole titled text : List ℕ) → whole ≡ codes "crash report 2\n" ++ titled → titled ≡ options ++ text
-    → (g : GivenValue) (is : IsReport options s images whole g) → text ≡ is.judges ++ (flat_map (told_line s) g.lines ++ g.last)
-rest_of options s images whole titled text begun given g is =
+rest_of : (title options : List ℕ) (s : StartsValue) (images : ℕ) (whole titled text : List ℕ) → whole ≡ title ++ titled → titled ≡ options ++ text
+    → (g : GivenValue) (is : IsReport title options s images whole g) → text ≡ is.judges ++ (flat_map (told_line s) g.lines ++ g.last)
+rest_of title options s images whole titled text begun given g is =
     cancel options text (is.judges ++ (flat_map (told_line s) g.lines ++ g.last))
-    (sym given ∙ cancel (codes "crash report 2\n") titled (options ++ (is.judges ++ (flat_map (told_line s) g.lines ++ g.last))) (sym begun ∙ is.is))
+    (sym given ∙ cancel title titled (options ++ (is.judges ++ (flat_map (told_line s) g.lines ++ g.last))) (sym begun ∙ is.is))
 
-after_programs : (options : List ℕ) (s : StartsValue) (images : ℕ) (whole : List ℕ) (g : GivenValue) (is : IsReport options s images whole g) → NoProgram (flat_map (told_line s) g.lines ++ g.last)
-after_programs options s images whole g is =
+after_programs : (title options : List ℕ) (s : StartsValue) (images : ℕ) (whole : List ℕ) (g : GivenValue) (is : IsReport title options s images whole g) → NoProgram (flat_map (told_line s) g.lines ++ g.last)
+after_programs title options s images whole g is =
     subst (λ (bs : List ℕ). NoProgram (flat_map (told_line s) g.lines ++ bs)) (sym is.last) (lines_no_program g.outside (judge_count g.outside g.programs) images s g.lines g.lines is.lines)
 
-pub no_judges_no_report : (options : List ℕ) (s : StartsValue) (images : ℕ) (whole titled text : List ℕ) → whole ≡ codes "crash report 2\n" ++ titled → titled ≡ options ++ text → NoJudges text → NoReport options s images whole
-no_judges_no_report options s images whole titled text begun given lack = record {
+pub no_judges_no_report : (title options : List ℕ) (s : StartsValue) (images : ℕ) (whole titled text : List ℕ) → whole ≡ title ++ titled → titled ≡ options ++ text → NoJudges text → NoReport title options s images whole
+no_judges_no_report title options s images whole titled text begun given lack = record {
   none = λ g is.
-      lack.none g.outside g.programs is.judges (flat_map (told_line s) g.lines ++ g.last) is.are (after_programs options s images whole g is) (rest_of options s images whole titled text begun given g is);
+      lack.none g.outside g.programs is.judges (flat_map (told_line s) g.lines ++ g.last) is.are (after_programs title options s images whole g is) (rest_of title options s images whole titled text begun given g is);
 }
 
 -- what is read of a text
-pub record AreSteps (options : List ℕ) (s : StartsValue) (images : ℕ) (whole titled text lines : List ℕ) (outside : Bool) (programs : List ProgramHead) (count : ℕ) (ts : List ToldLine) (tally : Tally) (rest : List ℕ) : Type 0 where
-  pub begun : whole ≡ codes "crash report 2\n" ++ titled
+pub record AreSteps (title options : List ℕ) (s : StartsValue) (images : ℕ) (whole titled text lines : List ℕ) (outside : Bool) (programs : List ProgramHead) (count : ℕ) (ts : List ToldLine) (tally : Tally) (rest : List ℕ) : Type 0 where
+  pub begun : whole ≡ title ++ titled
   pub given : titled ≡ options ++ text
   pub judges : AreJudgesRead text outside programs lines
   pub counted : count ≡ judge_count outside programs
@@ -113,10 +113,10 @@ pub record AreSteps (options : List ℕ) (s : StartsValue) (images : ℕ) (whole
   pub told : AreToldRead outside count s (whole_span images) lines ts tally rest
   pub end : NoToldLine outside count s rest
 
-pub are_steps : (options : List ℕ) (s : StartsValue) (images : ℕ) (whole titled text lines : List ℕ) (outside : Bool) (programs : List ProgramHead) (count : ℕ) (ts : List ToldLine) (tally : Tally) (rest : List ℕ)
-    → whole ≡ codes "crash report 2\n" ++ titled → titled ≡ options ++ text → AreJudgesRead text outside programs lines → count ≡ judge_count outside programs
-    → AreToldRead outside count s (whole_span images) lines ts tally rest → NoToldLine outside count s rest → AreSteps options s images whole titled text lines outside programs count ts tally rest
-are_steps options s images whole titled text lines outside programs count ts tally rest begun given judges counted told end = record {
+pub are_steps : (title options : List ℕ) (s : StartsValue) (images : ℕ) (whole titled text lines : List ℕ) (outside : Bool) (programs : List ProgramHead) (count : ℕ) (ts : List ToldLine) (tally : Tally) (rest : List ℕ)
+    → whole ≡ title ++ titled → titled ≡ options ++ text → AreJudgesRead text outside programs lines → count ≡ judge_count outside programs
+    → AreToldRead outside count s (whole_span images) lines ts tally rest → NoToldLine outside count s rest → AreSteps title options s images whole titled text lines outside programs count ts tally rest
+are_steps title options s images whole titled text lines outside programs count ts tally rest begun given judges counted told end = record {
   begun = begun;
   given = given;
   judges = judges;
@@ -126,18 +126,18 @@ are_steps options s images whole titled text lines outside programs count ts tal
   end = end;
 }
 
-pub are_steps_of : (options : List ℕ) (s : StartsValue) (images : ℕ) (whole titled text lines : List ℕ) (outside : Bool) (programs : List ProgramHead) (count : ℕ) (ts : List ToldLine) (tally : Tally) (rest : List ℕ) (span : Span)
-    → span ≡ whole_span images → whole ≡ codes "crash report 2\n" ++ titled → titled ≡ options ++ text → AreJudgesRead text outside programs lines → count ≡ judge_count outside programs
-    → AreToldRead outside count s span lines ts tally rest → NoToldLine outside count s rest → AreSteps options s images whole titled text lines outside programs count ts tally rest
-are_steps_of options s images whole titled text lines outside programs count ts tally rest span same begun given judges counted told end =
-    are_steps options s images whole titled text lines outside programs count ts tally rest begun given judges counted
+pub are_steps_of : (title options : List ℕ) (s : StartsValue) (images : ℕ) (whole titled text lines : List ℕ) (outside : Bool) (programs : List ProgramHead) (count : ℕ) (ts : List ToldLine) (tally : Tally) (rest : List ℕ) (span : Span)
+    → span ≡ whole_span images → whole ≡ title ++ titled → titled ≡ options ++ text → AreJudgesRead text outside programs lines → count ≡ judge_count outside programs
+    → AreToldRead outside count s span lines ts tally rest → NoToldLine outside count s rest → AreSteps title options s images whole titled text lines outside programs count ts tally rest
+are_steps_of title options s images whole titled text lines outside programs count ts tally rest span same begun given judges counted told end =
+    are_steps title options s images whole titled text lines outside programs count ts tally rest begun given judges counted
     (subst (λ (x : Span). AreToldRead outside count s x lines ts tally rest) same told) end
 
 -- the lines are no longer than the whole
-pub lines_short : (options whole titled text lines : List ℕ) (outside : Bool) (programs : List ProgramHead) → whole ≡ codes "crash report 2\n" ++ titled → titled ≡ options ++ text → AreJudgesRead text outside programs lines
+pub lines_short : (title options whole titled text lines : List ℕ) (outside : Bool) (programs : List ProgramHead) → whole ≡ title ++ titled → titled ≡ options ++ text → AreJudgesRead text outside programs lines
     → length whole ≤ 2 ^ 30 → length lines ≤ 2 ^ 30
-lines_short options whole titled text lines outside programs begun given judges short =
-    let a = after_front (codes "crash report 2\n") whole titled begun in
+lines_short title options whole titled text lines outside programs begun given judges short =
+    let a = after_front title whole titled begun in
     let b = after_front options titled text given in
     let d = after_judges text outside programs lines judges in
     omega (arith, a, b, d, short)
@@ -150,10 +150,10 @@ record IsSame (g : GivenValue) (judges : List ℕ) (outside : Bool) (programs : 
   lines_are : ts ≡ g.lines
   rest_is : rest ≡ g.last
 
-same_of : (options : List ℕ) (s : StartsValue) (images : ℕ) (whole titled text lines : List ℕ) (outside : Bool) (programs : List ProgramHead) (count : ℕ) (ts : List ToldLine) (tally : Tally) (rest : List ℕ)
-    → (a : AreSteps options s images whole titled text lines outside programs count ts tally rest) → (g : GivenValue) (is : IsReport options s images whole g) → IsSame g is.judges outside programs a.judges.judges ts rest
-same_of options s images whole titled text lines outside programs count ts tally rest a g is =
-    let one = a.judges.only g.outside g.programs is.judges (flat_map (told_line s) g.lines ++ g.last) is.are (after_programs options s images whole g is) (rest_of options s images whole titled text a.begun a.given g is) in
+same_of : (title options : List ℕ) (s : StartsValue) (images : ℕ) (whole titled text lines : List ℕ) (outside : Bool) (programs : List ProgramHead) (count : ℕ) (ts : List ToldLine) (tally : Tally) (rest : List ℕ)
+    → (a : AreSteps title options s images whole titled text lines outside programs count ts tally rest) → (g : GivenValue) (is : IsReport title options s images whole g) → IsSame g is.judges outside programs a.judges.judges ts rest
+same_of title options s images whole titled text lines outside programs count ts tally rest a g is =
+    let one = a.judges.only g.outside g.programs is.judges (flat_map (told_line s) g.lines ++ g.last) is.are (after_programs title options s images whole g is) (rest_of title options s images whole titled text a.begun a.given g is) in
     let own : AreToldOf outside (judge_count g.outside g.programs) s g.lines = subst (λ (o : Bool). AreToldOf o (judge_count g.outside g.programs) s g.lines) one.0 is.lines in
     let same_count : judge_count g.outside g.programs ≡ count =
     ap (λ (o : Bool). judge_count o g.programs) one.0 ∙ ap (λ (ps : List ProgramHead). judge_count outside ps) one.1 ∙ sym a.counted in
@@ -163,39 +163,39 @@ same_of options s images whole titled text lines outside programs count ts tally
     let reading = one_reading_told outside count s ts g.lines rest g.last a.few a.told.each also a.end tail (sym a.told.is ∙ sym one.3) in
     record { outside_is = one.0; programs_are = one.1; judges_are = one.2; lines_are = reading.0; rest_is = reading.1 }
 
-pub unordered_no_report : (options : List ℕ) (s : StartsValue) (images : ℕ) (whole titled text lines : List ℕ) (outside : Bool) (programs : List ProgramHead) (count : ℕ) (ts : List ToldLine) (tally : Tally) (rest : List ℕ)
-    → AreSteps options s images whole titled text lines outside programs count ts tally rest → tally.ordered ≡ false → NoReport options s images whole
-unordered_no_report options s images whole titled text lines outside programs count ts tally rest a lack = record {
+pub unordered_no_report : (title options : List ℕ) (s : StartsValue) (images : ℕ) (whole titled text lines : List ℕ) (outside : Bool) (programs : List ProgramHead) (count : ℕ) (ts : List ToldLine) (tally : Tally) (rest : List ℕ)
+    → AreSteps title options s images whole titled text lines outside programs count ts tally rest → tally.ordered ≡ false → NoReport title options s images whole
+unordered_no_report title options s images whole titled text lines outside programs count ts tally rest a lack = record {
   none = λ g is.
-      let same = same_of options s images whole titled text lines outside programs count ts tally rest a g is in
+      let same = same_of title options s images whole titled text lines outside programs count ts tally rest a g is in
       let bad : true ≡ false =
       sym is.order ∙ ap (λ (xs : List ToldLine). in_order 0 images None (marks_told xs)) (sym same.lines_are) ∙ sym (ordered_is images ts) ∙ ap (λ (t : Tally). t.ordered) (sym a.told.told) ∙ lack in
       cc;
 }
 
-pub other_last_no_report : (options : List ℕ) (s : StartsValue) (images : ℕ) (whole titled text lines : List ℕ) (outside : Bool) (programs : List ProgramHead) (count : ℕ) (ts : List ToldLine) (tally : Tally) (rest : List ℕ)
-    → AreSteps options s images whole titled text lines outside programs count ts tally rest → rest ≢ last_text false images tally → NoReport options s images whole
-other_last_no_report options s images whole titled text lines outside programs count ts tally rest a other = record {
+pub other_last_no_report : (title options : List ℕ) (s : StartsValue) (images : ℕ) (whole titled text lines : List ℕ) (outside : Bool) (programs : List ProgramHead) (count : ℕ) (ts : List ToldLine) (tally : Tally) (rest : List ℕ)
+    → AreSteps title options s images whole titled text lines outside programs count ts tally rest → rest ≢ last_text false images tally → NoReport title options s images whole
+other_last_no_report title options s images whole titled text lines outside programs count ts tally rest a other = record {
   none = λ g is.
-      let same = same_of options s images whole titled text lines outside programs count ts tally rest a g is in
+      let same = same_of title options s images whole titled text lines outside programs count ts tally rest a g is in
       let lines = same.lines_are in
       let order : in_order 0 images None (marks_told ts) ≡ true = ap (λ (xs : List ToldLine). in_order 0 images None (marks_told xs)) lines ∙ is.order in
       other (same.rest_is ∙ is.last ∙ ap (told_totals images) (sym lines) ∙ sym (totals_told images ts order) ∙ ap (last_text false images) (sym a.told.told));
 }
 
-pub no_front_no_report : (options : List ℕ) (s : StartsValue) (images : ℕ) (whole titled text lines : List ℕ) (outside : Bool) (programs : List ProgramHead) → titled ≡ options ++ text → AreJudgesRead text outside programs lines
-    → ((front : List ℕ) → titled ≢ front ++ lines) → NoReport options s images whole
-no_front_no_report options s images whole titled text lines outside programs given j none =
+pub no_front_no_report : (title options : List ℕ) (s : StartsValue) (images : ℕ) (whole titled text lines : List ℕ) (outside : Bool) (programs : List ProgramHead) → titled ≡ options ++ text → AreJudgesRead text outside programs lines
+    → ((front : List ℕ) → titled ≢ front ++ lines) → NoReport title options s images whole
+no_front_no_report title options s images whole titled text lines outside programs given j none =
     absurd (none (options ++ j.judges) (given ∙ ap (λ (bs : List ℕ). options ++ bs) j.is ∙ sym (append_assoc options j.judges lines)))
 
 same_given : {head last : List ℕ} {outside : Bool} {programs : List ProgramHead} {ts : List ToldLine} (g : GivenValue) → head ≡ g.head → outside ≡ g.outside → programs ≡ g.programs → ts ≡ g.lines → last ≡ g.last
     → record { head = head; outside = outside; programs = programs; lines = ts; last = last } ≡ g
 same_given g a b c d e = λ i. record { head = a i; outside = b i; programs = c i; lines = d i; last = e i }
 
-pub report_found : (options : List ℕ) (s : StartsValue) (images : ℕ) (whole titled text lines : List ℕ) (outside : Bool) (programs : List ProgramHead) (count : ℕ) (ts : List ToldLine) (tally : Tally) (rest head : List ℕ)
-    → AreSteps options s images whole titled text lines outside programs count ts tally rest → IsUtf8 whole → tally.ordered ≡ true → rest ≡ last_text false images tally → titled ≡ head ++ lines
-    → IsReportRead options s images whole (record { head = head; outside = outside; programs = programs; lines = ts; last = rest })
-report_found options s images whole titled text lines outside programs count ts tally rest head a utf8 ordered at parts = record { is = is; only = only }
+pub report_found : (title options : List ℕ) (s : StartsValue) (images : ℕ) (whole titled text lines : List ℕ) (outside : Bool) (programs : List ProgramHead) (count : ℕ) (ts : List ToldLine) (tally : Tally) (rest head : List ℕ)
+    → AreSteps title options s images whole titled text lines outside programs count ts tally rest → IsUtf8 whole → tally.ordered ≡ true → rest ≡ last_text false images tally → titled ≡ head ++ lines
+    → IsReportRead title options s images whole (record { head = head; outside = outside; programs = programs; lines = ts; last = rest })
+report_found title options s images whole titled text lines outside programs count ts tally rest head a utf8 ordered at parts = record { is = is; only = only }
   where
     order : in_order 0 images None (marks_told ts) ≡ true
     order = sym (ordered_is images ts) ∙ ap (λ (t : Tally). t.ordered) (sym a.told.told) ∙ ordered
@@ -209,7 +209,7 @@ report_found options s images whole titled text lines outside programs count ts 
     head_is : head ≡ options ++ a.judges.judges
     head_is = cancel_back lines head (options ++ a.judges.judges) (sym parts ∙ front)
 
-    is : IsReport options s images whole (record { head = head; outside = outside; programs = programs; lines = ts; last = rest })
+    is : IsReport title options s images whole (record { head = head; outside = outside; programs = programs; lines = ts; last = rest })
     is = record {
       utf8 = utf8;
       judges = a.judges.judges;
@@ -219,14 +219,14 @@ report_found options s images whole titled text lines outside programs count ts 
       order = order;
       last = last;
       is =
-          a.begun ∙ ap (λ (bs : List ℕ). codes "crash report 2\n" ++ bs) (a.given ∙ ap (λ (bs : List ℕ). options ++ bs) (a.judges.is ∙ ap (λ (bs : List ℕ). a.judges.judges ++ bs) a.told.is));
+          a.begun ∙ ap (λ (bs : List ℕ). title ++ bs) (a.given ∙ ap (λ (bs : List ℕ). options ++ bs) (a.judges.is ∙ ap (λ (bs : List ℕ). a.judges.judges ++ bs) a.told.is));
     }
 
-    only : (other : GivenValue) → IsReport options s images whole other → record { head = head; outside = outside; programs = programs; lines = ts; last = rest } ≡ other
+    only : (other : GivenValue) → IsReport title options s images whole other → record { head = head; outside = outside; programs = programs; lines = ts; last = rest } ≡ other
     only g also =
-        let same = same_of options s images whole titled text lines outside programs count ts tally rest a g also in
+        let same = same_of title options s images whole titled text lines outside programs count ts tally rest a g also in
         same_given g (head_is ∙ ap (λ (bs : List ℕ). options ++ bs) (sym same.judges_are) ∙ sym also.head) (sym same.outside_is) (sym same.programs_are) same.lines_are same.rest_is
 
 -- a report is a text
-pub no_text_no_report : (options : List ℕ) (s : StartsValue) (images : ℕ) (bytes : List ℕ) → (IsUtf8 bytes → ⊥) → NoReport options s images bytes
-no_text_no_report options s images bytes none = record { none = λ g is. none is.utf8 }
+pub no_text_no_report : (title options : List ℕ) (s : StartsValue) (images : ℕ) (bytes : List ℕ) → (IsUtf8 bytes → ⊥) → NoReport title options s images bytes
+no_text_no_report title options s images bytes none = record { none = λ g is. none is.utf8 }

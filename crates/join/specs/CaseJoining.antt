@@ -7,7 +7,7 @@ use Rattle.base.specs.declared.causes.JoinCause.TheVariants as cause
 use Rattle.epochs.specs.declared.cuts.Cuts.{Cuts}
 use Rattle.report.specs.Report.{HeadValue}
 use Rattle.losses.specs.FoundCases.{most_cases}
-use Rattle.case_text.specs.Text.{in_word, cases_head}
+use Rattle.case_text.specs.Text.{in_word, are_all_cuts, cases_head}
 use Rattle.join.specs.declared.fault.JoinFault.{JoinFault}
 use Rattle.join.specs.declared.case_parts.fault.CasesFault.{CasesFault}
 use Rattle.join.specs.declared.case_parts.fault.CasesFault.TheVariants as refused
@@ -100,7 +100,7 @@ joined_head first last = head_between first.head (told_from first last) (told_to
 -- the text of a row
 abbrev pub joined_cases : CasesRead → CasesRead → List CasesRead → List ℕ
 joined_cases first last row =
-    cases_head (told_number first last) (joined_head first last) first.asked ++ (flat_map (λ (r : CasesRead). r.lines) row ++ totals_line (all_totals row))
+    cases_head (told_number first last) (joined_head first last) first.asked ++ (flat_map (λ (r : CasesRead). r.lines) row ++ totals_line (are_all_cuts (joined_head first last).cuts) (all_totals row))
 
 -- a row has all cuts of its log: its first text begins at cut 0, and its last one ends at the last cut
 pub record HaveAllCuts (first last : CasesRead) : Type 0 where

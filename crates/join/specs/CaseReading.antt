@@ -308,7 +308,7 @@ pub record ReadsSecond (line word rest : List ℕ) : Type 0 where
   pub read : (w v : List ℕ) (ws : List (List ℕ)) → IsWord w → IsWord v → line ≡ join_words (w ∷ v ∷ ws) → (word ≡ v) × (rest ≡ join_words ws)
 
 pub record ReadsTotals (line : List ℕ) (totals : CaseTotals) : Type 0 where
-  pub read : (t : CaseTotals) → IsSmallTotals t → line ≡ totals_line t → totals ≡ t
+  pub read : (all : Bool) (t : CaseTotals) → IsSmallTotals t → line ≡ totals_line all t → totals ≡ t
 
 -- A WHOLE TEXT
 

@@ -15,7 +15,7 @@ use Rattle.report.specs.Report.{HeadValue}
 use Rattle.losses.specs.declared.flushes.window.Window.{Window}
 use Rattle.losses.specs.declared.found.Losses.{Losses}
 use Rattle.losses.specs.FoundCases.{most_cases}
-use Rattle.case_text.specs.Text.{has_range, cases_head, place_text, number_text, fates_text, window_text, counts_text, beyond_text, complete_word}
+use Rattle.case_text.specs.Text.{has_range, are_all_cuts, cases_head, place_text, number_text, fates_text, window_text, counts_text, beyond_text, complete_word}
 use Rattle.join.specs.declared.case_parts.names.PartName.{PartName}
 use Rattle.join.specs.declared.case_parts.front.CaseFront.{CaseFront}
 use Rattle.join.specs.declared.case_parts.totals.CaseTotals.{CaseTotals}
@@ -74,9 +74,9 @@ told_body way t = front_text t.front ++ t.outcome ++ said_text way t ++ window_t
 abbrev pub told_line : By → ToldCase → List ℕ
 told_line way t = told_body way t ++ codes "\n"
 
--- the last line
-unfoldable pub totals_line : CaseTotals → List ℕ
-totals_line t = counts_text t.cuts t.cases t.failing ++ beyond_text t.torn t.lost ++ complete_word t.torn t.lost ++ codes "\n"
+-- the last line, of a run that was asked for each cut of its log or for some
+unfoldable pub totals_line : Bool → CaseTotals → List ℕ
+totals_line all t = counts_text t.cuts t.cases t.failing ++ beyond_text t.torn t.lost ++ complete_word all t.torn t.lost ++ codes "\n"
 
 -- a text of cases: the number of its inputs, its options and programs, what is asked of losses, its lines and what they come to
 pub record CasesValue : Type 0 where
@@ -87,7 +87,7 @@ pub record CasesValue : Type 0 where
   pub totals : CaseTotals
 
 unfoldable pub told_text : CasesValue → List ℕ
-told_text c = cases_head c.inputs c.head c.asked ++ (flat_map (told_line c.head.by) c.told ++ totals_line c.totals)
+told_text c = cases_head c.inputs c.head c.asked ++ (flat_map (told_line c.head.by) c.told ++ totals_line (are_all_cuts c.head.cuts) c.totals)
 
 -- the first and the last cut of its range
 abbrev pub first_of : HeadValue → ℕ

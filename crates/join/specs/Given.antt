@@ -124,9 +124,9 @@ pub record GivenValue : Type 0 where
   pub lines : List ToldLine
   pub last : List ℕ
 
--- The bytes are the report of a run with that line of options, of that many images, which these choices number: the lines are of its
+-- The bytes are the report of a run with that title and that line of options, of that many images, which these choices number: the lines are of its
 -- images, by image and then by program, each once; each has the cut and the choice of its image.
-pub record IsReport (options : List ℕ) (s : StartsValue) (images : ℕ) (bytes : List ℕ) (g : GivenValue) : Type 0 where
+pub record IsReport (title options : List ℕ) (s : StartsValue) (images : ℕ) (bytes : List ℕ) (g : GivenValue) : Type 0 where
   pub utf8 : IsUtf8 bytes
   pub judges : List ℕ
   pub are : AreJudges g.outside g.programs judges
@@ -134,13 +134,13 @@ pub record IsReport (options : List ℕ) (s : StartsValue) (images : ℕ) (bytes
   pub lines : AreToldOf g.outside (judge_count g.outside g.programs) s g.lines
   pub order : in_order 0 images None (marks_told g.lines) ≡ true
   pub last : g.last ≡ told_totals images g.lines
-  pub is : bytes ≡ codes "crash report 2\n" ++ (options ++ (judges ++ (flat_map (told_line s) g.lines ++ g.last)))
+  pub is : bytes ≡ title ++ (options ++ (judges ++ (flat_map (told_line s) g.lines ++ g.last)))
 
 -- they are the report of no such run
-pub record NoReport (options : List ℕ) (s : StartsValue) (images : ℕ) (bytes : List ℕ) : Type 0 where
-  pub none : (g : GivenValue) → IsReport options s images bytes g → ⊥
+pub record NoReport (title options : List ℕ) (s : StartsValue) (images : ℕ) (bytes : List ℕ) : Type 0 where
+  pub none : (g : GivenValue) → IsReport title options s images bytes g → ⊥
 
 -- they are a report, and that is read of it: nothing else can be
-pub record IsReportRead (options : List ℕ) (s : StartsValue) (images : ℕ) (bytes : List ℕ) (g : GivenValue) : Type 0 where
-  pub is : IsReport options s images bytes g
-  pub only : (other : GivenValue) → IsReport options s images bytes other → g ≡ other
+pub record IsReportRead (title options : List ℕ) (s : StartsValue) (images : ℕ) (bytes : List ℕ) (g : GivenValue) : Type 0 where
+  pub is : IsReport title options s images bytes g
+  pub only : (other : GivenValue) → IsReport title options s images bytes other → g ≡ other

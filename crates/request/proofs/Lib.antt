@@ -7,3 +7,4 @@ pub mod Between
 pub mod Bounds
 pub mod Marks
 pub mod Stamps
+pub mod Numbers

@@ -7,6 +7,7 @@ pub mod AnyLosses
 pub mod Trials
 pub mod Source
 pub mod Refusals
+pub mod Inputs
 pub mod FaultLine
 -- What notes say of logs, programs and runs.
 pub mod Large

@@ -42,6 +42,8 @@ pub enum Request {
     StoredRun,
     /// `explore LOG PROGRAM..`
     Explore(OptionWords),
+    /// `explore LOG PROGRAM.. --inputs`, whose report says of what it is.
+    Marked(OptionWords),
     /// `explore LOG PROGRAM..` or `why LOG PROGRAM..` with any number of losses: `--bound any`, `--torn` or `--at-most` stands there.
     Cases(OptionWords, LossWords),
     /// `why LOG PROGRAM..`

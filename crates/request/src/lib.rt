@@ -7,12 +7,13 @@
 //! | `command` | what a command line asks for |
 //! | `source` | a log read, and its plan |
 //! | `facts` | what a command is given of a log, and what the notes beside its answer or after its refusal say |
+//! | `inputs` | the number of a run's inputs, and the line that says of what a report is |
 //! | `refusals` | the line of a refusal |
 //!
 //! # Place
 //!
-//! Above `logfmt`, `epochs` and `choices`, by which a log is read, its cuts are found and its crash images counted, and above `verifier`,
-//! which accepts programs. Below those that answer: `runs` and `inspect` take `Options`, read their log here, ask here for its plan, and
+//! Above `logfmt`, `epochs` and `choices`, by which a log is read, its cuts are found and its crash images counted, above `report`, which
+//! prints options, and above `verifier`, which accepts programs. Below those that answer: `runs` and `inspect` take `Options`, read their log here, ask here for its plan, and
 //! answer what they know of their programs as `RunFacts`. `command_line` makes a `Request`. `command_notes` of `notes` asks here for what a
 //! note says of a log by itself, or of a program that is refused. `commands` puts all of them together. No program is run here.
 //!
@@ -25,6 +26,9 @@
 //! | `read_log(alloc, bytes, initial, options)` | the log that bytes are, for a device of that size, over what it held before, with the flushes that are added |
 //! | `plan_of(alloc, log, options)` | the plan of a log by the options, with how many crash images it has |
 //! | `option_refusal_of(place)`, `unreadable(place)`, `bytes_refusal_of(fault)` | the refusal of an option, of a file, and of a program's bytes |
+//! | `number_of_inputs(log, programs)`, `number_of_report(log, options)` | the number of the bytes of a log and of programs, or of a log and of a report's options |
+//! | `number_line(alloc, number)`, `inputs_line(alloc, number, programs)` | the line that says of which log and options a text is, and of a report also of how many programs |
+//! | `report_options(alloc, log, options, images)` | the line of the options of a report of the log |
 //! | `fault_line(alloc, refusal)` | the line that a refusal prints |
 //!
 //! `Extent` says how many images a run may have and which of them are meant. `Request` has a variant for each command, with the options that the command takes, and `Which` says which crash image is
@@ -127,6 +131,7 @@ mod any_losses;
 mod command;
 mod extent;
 pub mod facts;
+mod inputs;
 mod options;
 mod refusals;
 mod settings;
@@ -136,6 +141,7 @@ mod trials;
 pub use any_losses::{AnyLosses, LossWords, losses_of};
 pub use command::{OptionWords, Request, Which, options_of};
 pub use extent::Extent;
+pub use inputs::{inputs_line, number_line, number_of_inputs, number_of_report, report_options};
 pub use options::{MOST_PROGRAMS, Options};
 pub use refusals::{bytes_refusal_of, fault_line, option_refusal_of, unreadable};
 pub use settings::{CaseTelling, OptionPlace, Retelling, Settings, Telling};

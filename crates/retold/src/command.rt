@@ -1,8 +1,9 @@
 //! What a command answers on a log and a report.
 
-ghost use Rattle.std.specs.Prelude.{◌≡◌, ◌≢◌, ◌<◌, ◌≤◌, ◌^◌, ◌↔◌, [], IfOk, IfErr, IsTrue, length, map, string_bytes};
-ghost use Rattle.request.specs.Source.{plan_of, images_of, IsLogOf};
-ghost use Rattle.retold.specs.Retold.{IsGiven, IsRetold, IsRetoldOf, RefusesReport, RefusesRetold, RefusesSourceAs, Retells, head_given, options_given, starts_given};
+ghost use Rattle.std.specs.Prelude.{◌≡◌, ◌≢◌, ◌<◌, ◌≤◌, ◌^◌, ◌↔◌, [], IfOk, IfErr, IsTrue, MatchOption, length, map};
+ghost use Rattle.request.specs.Source.{plan_of, images_of};
+ghost use Rattle.request.specs.Inputs.{options_given};
+ghost use Rattle.retold.specs.Retold.{IsGiven, IsGivenAs, IsRetold, IsRetoldOf, NoneAs, NoneIsGiven, NoneUpTo, RefusesReport, RefusesRetold, Retells, is_counted, starts_given, title_given};
 ghost use Rattle.join.specs.GivenReading.{given_told};
 ghost use Rattle.join.specs.Given.{line_told};
 ghost use Rattle.retold.specs.Told.{AreOfRun, HasHead, TellsPage, count_of};
@@ -14,13 +15,17 @@ use crate::why::why_text;
 use base::refusal::Refusal;
 use choices::Starts;
 use epochs::Plan;
-use images::initial_number;
 use join::{Given, ReportRun, read_report};
 use logfmt::Log;
-use report::{Head, put_options};
 use request::facts::Recording;
-use request::{Extent, OptionPlace, Options, Retelling, option_refusal_of, plan_of};
+use request::{
+    Extent, OptionPlace, Options, Retelling, inputs_line, number_of_report, option_refusal_of,
+    plan_of, report_options,
+};
 use std::alloc::{AllocError, Global};
+
+/// The first line of a report.
+const TITLE: &str = "crash report 2\n";
 
 /// How many bytes a report has at most: 1 GiB.
 pub const MOST_OF_REPORT: usize = 1_073_741_824;
@@ -37,6 +42,8 @@ pub enum RetellFault {
 /// The run of which a report is to be.
 #[derive(Clone, Copy)]
 struct ReportBasis<'x> {
+    /// The bytes of the log's file.
+    file: &'x [u8],
     log: &'x Log<'x>,
     starts: &'x Starts<'x>,
     options: &'x Options,
@@ -54,34 +61,6 @@ pub struct Retold {
     pub bytes: Vec<u8>,
     /// Whether the report has a failing line.
     pub failing: bool,
-}
-
-/// The line of the options of a report of the log.
-#[tactic(auto, unfolding(crate::specs::Retold::head_given))]
-fn options_line(
-    alloc: Global,
-    log: &Log,
-    options: &Options,
-    images: u64,
-) -> Result<String, AllocError>
-    requires { images ≡ length (images_of options.now log.now) }
-    ensures { IfOk result (λ line. string_bytes line ≡ options_given options.now log.now) }
-{
-    let head = Head {
-        sectors: options.sectors(),
-        entries: log.entries().len() as u32,
-        cuts: options.cuts(),
-        bound: options.bound(),
-        tears: options.tears(),
-        by: options.by(),
-        first: false,
-        programs: Vec::new(alloc),
-        images,
-        base: initial_number(log),
-    };
-    let mut line = String::new(alloc);
-    put_options(&mut line, &head)?;
-    Ok(line)
 }
 
 /// How many programs a report has.
@@ -110,7 +89,7 @@ fn page_of(
     ensures { IfOk result (λ bytes. TellsPage (options_given basis.now.options.now basis.now.log.now) subject.now.starts.now (given_told given.now) bytes.items) }
 {
     let options = basis.options;
-    let line = options_line(alloc, basis.log, options, basis.images)?;
+    let line = report_options(alloc, basis.log, options, basis.images)?;
     page_text(alloc, subject, options.cuts(), line.as_str(), given)
 }
 
@@ -122,7 +101,7 @@ fn told(
     report: &[u8],
     given: &Given<'_>,
 ) -> Result<Vec<u8>, AllocError>
-    requires { IsGiven basis.now.options.now basis.now.log.now report.now (given_told given.now) }
+    requires { IsGiven basis.now.file.now basis.now.options.now basis.now.log.now report.now (given_told given.now) }
     ensures { IfOk result (λ bytes. Retells telling basis.now.options.now basis.now.log.now (given_told given.now) bytes.items) }
 {
     let _report = report;
@@ -141,18 +120,112 @@ fn told(
     }
 }
 
-/// The log of a recording, with the flushes that are asked for.
-fn log_of<'x>(
-    alloc: Global,
-    recording: &Recording<'x>,
-    options: &Options,
-) -> Result<Log<'x>, RetellFault>
-    ensures log { IfOk result (IsLogOf recording.now options.now) }
-    ensures refused { IfErr result (RefusesSourceAs recording.now options.now) }
+/// How a report of the run begins: with its title, after which stands, where it says of what it is, how many programs it says to have;
+/// and with the line of its options.
+#[derive(Clone, Copy)]
+struct Opening<'x> {
+    title: &'x str,
+    /// How many programs it says to have, and 0 where it doesn't say that.
+    programs: u64,
+    options: &'x str,
+}
+
+/// Whether a report has as many programs as it says, where it says how many.
+fn is_counted(programs: u64, given: &Given<'_>) -> bool
+    ensures { result ≡ is_counted programs (given_told given.now) }
 {
-    match recording.read(alloc, options) {
-        Ok(log) => Ok(log),
-        Err(refusal) => Err(RetellFault::Refused(refusal)),
+    programs == 0 || programs == count_of(given) as u64
+}
+
+/// What a report says, where it is one of the run that begins so. `line` becomes the line at which it shows that it is none, if that is a
+/// later one.
+#[tactic(auto, using(crate::proofs::Bases::none_as, crate::proofs::Bases::given_as, crate::proofs::Bases::uncounted))]
+fn read_as<'t>(
+    alloc: Global,
+    basis: &ReportBasis<'_>,
+    opening: &Opening<'_>,
+    report: &'t [u8],
+    line: &mut u64,
+) -> Result<Option<Given<'t>>, AllocError>
+    requires short { length report.now ≤ 2 ^ 30 }
+    requires title { opening.now.title.now ≡ title_given basis.now.file.now basis.now.options.now basis.now.log.now opening.now.programs }
+    requires options { opening.now.options.now ≡ options_given basis.now.options.now basis.now.log.now }
+    ensures { IfOk result (λ found. MatchOption found (NoneAs basis.now.file.now basis.now.options.now basis.now.log.now report.now opening.now.programs) (λ g. IsGivenAs basis.now.file.now basis.now.options.now basis.now.log.now report.now opening.now.programs (given_told g))) }
+{
+    let run = ReportRun {
+        title: opening.title,
+        options: opening.options,
+        starts: basis.starts,
+        by: basis.options.by(),
+        images: basis.images,
+    };
+    let mut at = 0;
+    let found = read_report(alloc, &run, report, &mut at)?;
+    *line = (*line).max(at);
+    let Some(given) = found else {
+        return Ok(None);
+    };
+    if is_counted(opening.programs, &given) {
+        Ok(Some(given))
+    } else {
+        // After the title, the inputs, the options and its programs.
+        *line = (count_of(&given) as u64).saturating_add(4);
+        Ok(None)
+    }
+}
+
+/// What a report says, where it is one of the run and says of what it is. `line` becomes the line at which it shows that it is none, if
+/// that is a later one.
+#[tactic(auto, using(crate::proofs::Bases::title_more, crate::proofs::Bases::given_so, crate::proofs::Bases::none_next))]
+fn read_marked<'t>(
+    alloc: Global,
+    basis: &ReportBasis<'_>,
+    options: &str,
+    report: &'t [u8],
+    line: &mut u64,
+) -> Result<Option<Given<'t>>, AllocError>
+    requires short { length report.now ≤ 2 ^ 30 }
+    requires options { options.now ≡ options_given basis.now.options.now basis.now.log.now }
+    ensures { IfOk result (λ found. MatchOption found (NoneUpTo basis.now.file.now basis.now.options.now basis.now.log.now report.now 8) (λ g. IsGiven basis.now.file.now basis.now.options.now basis.now.log.now report.now (given_told g))) }
+{
+    let number = number_of_report(basis.file, options.as_bytes());
+    for fewer in 0..8 {
+        let inputs = inputs_line(alloc, number, fewer + 1)?;
+        let mut title = String::new(alloc);
+        title.push_str(TITLE)?;
+        title.push_str(inputs.as_str())?;
+        let opening = Opening {
+            title: title.as_str(),
+            programs: fewer + 1,
+            options,
+        };
+        if let Some(given) = read_as(alloc, basis, &opening, report, line)? {
+            return Ok(Some(given));
+        }
+    }
+    Ok(None)
+}
+
+/// What a report says, where it is one of the run. Most say nothing of what they are, and so need no number.
+#[tactic(auto, using(crate::proofs::Bases::given_so, crate::proofs::Bases::none_given))]
+fn read_any<'t>(
+    alloc: Global,
+    basis: &ReportBasis<'_>,
+    report: &'t [u8],
+    line: &mut u64,
+) -> Result<Option<Given<'t>>, AllocError>
+    requires short { length report.now ≤ 2 ^ 30 }
+    ensures { IfOk result (λ found. MatchOption found (NoneIsGiven basis.now.file.now basis.now.options.now basis.now.log.now report.now) (λ g. IsGiven basis.now.file.now basis.now.options.now basis.now.log.now report.now (given_told g))) }
+{
+    let options = report_options(alloc, basis.log, basis.options, basis.images)?;
+    let opening = Opening {
+        title: TITLE,
+        programs: 0,
+        options: options.as_str(),
+    };
+    match read_as(alloc, basis, &opening, report, line)? {
+        Some(given) => Ok(Some(given)),
+        None => read_marked(alloc, basis, options.as_str(), report, line),
     }
 }
 
@@ -163,21 +236,11 @@ fn given_of<'t>(
     report: &'t [u8],
 ) -> Result<Given<'t>, RetellFault>
     requires { length report.now ≤ 2 ^ 30 }
-    ensures given { IfOk result (λ g. IsGiven basis.now.options.now basis.now.log.now report.now (given_told g)) }
-    ensures refused { IfErr result (RefusesReport basis.now.options.now basis.now.log.now report.now) }
+    ensures given { IfOk result (λ g. IsGiven basis.now.file.now basis.now.options.now basis.now.log.now report.now (given_told g)) }
+    ensures refused { IfErr result (RefusesReport basis.now.file.now basis.now.options.now basis.now.log.now report.now) }
 {
-    let (log, starts, options, images) = (basis.log, basis.starts, basis.options, basis.images);
-    let Ok(line) = options_line(alloc, log, options, images) else {
-        return Err(RetellFault::Refused(Refusal::of_memory()));
-    };
-    let run = ReportRun {
-        options: line.as_str(),
-        starts,
-        by: options.by(),
-        images,
-    };
     let mut at = 0;
-    let Ok(found) = read_report(alloc, &run, report, &mut at) else {
+    let Ok(found) = read_any(alloc, basis, report, &mut at) else {
         return Err(RetellFault::Refused(Refusal::of_memory()));
     };
     match found {
@@ -193,27 +256,6 @@ fn is_failing(given: &Given<'_>) -> bool
     !given.lines.is_empty()
 }
 
-/// What is answered of a report that was read.
-fn retold_of(
-    alloc: Global,
-    telling: Retelling,
-    basis: &ReportBasis<'_>,
-    report: &[u8],
-    given: &Given<'_>,
-) -> Result<Retold, RetellFault>
-    requires { IsGiven basis.now.options.now basis.now.log.now report.now (given_told given.now) }
-    ensures told { IfOk result (λ r. IsRetoldOf telling basis.now.options.now basis.now.log.now report.now r.bytes.items r.failing) }
-    ensures refused { IfErr result (RefusesReport basis.now.options.now basis.now.log.now report.now) }
-{
-    match told(alloc, telling, basis, report, given) {
-        Ok(bytes) => Ok(Retold {
-            bytes,
-            failing: is_failing(given),
-        }),
-        Err(_error) => Err(RetellFault::Refused(Refusal::of_memory())),
-    }
-}
-
 /// What is told of a report of that many images, which the table numbers.
 fn told_of(
     alloc: Global,
@@ -222,11 +264,17 @@ fn told_of(
     report: &[u8],
 ) -> Result<Retold, RetellFault>
     requires { length report.now ≤ 2 ^ 30 }
-    ensures told { IfOk result (λ r. IsRetoldOf telling basis.now.options.now basis.now.log.now report.now r.bytes.items r.failing) }
-    ensures refused { IfErr result (RefusesReport basis.now.options.now basis.now.log.now report.now) }
+    ensures told { IfOk result (λ r. IsRetoldOf telling basis.now.file.now basis.now.options.now basis.now.log.now report.now r.bytes.items r.failing) }
+    ensures refused { IfErr result (RefusesReport basis.now.file.now basis.now.options.now basis.now.log.now report.now) }
 {
     match given_of(alloc, basis, report) {
-        Ok(given) => retold_of(alloc, telling, basis, report, &given),
+        Ok(given) => match told(alloc, telling, basis, report, &given) {
+            Ok(bytes) => Ok(Retold {
+                bytes,
+                failing: is_failing(&given),
+            }),
+            Err(_error) => Err(RetellFault::Refused(Refusal::of_memory())),
+        },
         Err(fault) => Err(fault),
     }
 }
@@ -235,6 +283,7 @@ fn told_of(
 fn told_by(
     alloc: Global,
     telling: Retelling,
+    file: &[u8],
     log: &Log<'_>,
     plan: &Plan<'_>,
     images: u64,
@@ -245,13 +294,14 @@ fn told_by(
     requires count { images ≡ length (images_of options.now log.now) }
     requires few { images < 2 ^ 63 }
     requires short { length report.now ≤ 2 ^ 30 }
-    ensures told { IfOk result (λ r. IsRetoldOf telling options.now log.now report.now r.bytes.items r.failing) }
-    ensures refused { IfErr result (RefusesReport options.now log.now report.now) }
+    ensures told { IfOk result (λ r. IsRetoldOf telling file.now options.now log.now report.now r.bytes.items r.failing) }
+    ensures refused { IfErr result (RefusesReport file.now options.now log.now report.now) }
 {
     let Ok(starts) = Starts::new(alloc, plan, options.bound(), options.tears()) else {
         return Err(RetellFault::Refused(Refusal::of_memory()));
     };
     let basis = ReportBasis {
+        file,
         log,
         starts: &starts,
         options,
@@ -261,8 +311,9 @@ fn told_by(
 }
 
 /// What is told of a report, of the log that a recording is. Where the bytes are no report of it with these options, it is said at which
-/// line that shows: at the first that doesn't go on as such a report does, at 3 for any line of the programs, after the last where it is cut off,
-/// and at 0 where it has more than 1 GiB.
+/// line that shows: at the first that doesn't go on as such a report does, at the first of the programs for any of their lines, after the
+/// last where it is cut off, and at 0 where it has more than 1 GiB. A report that says of what it is has to be of this log with these
+/// options, and to have as many programs as it says.
 ///
 /// # Errors
 ///
@@ -285,10 +336,14 @@ pub fn retell(
     if report.len() > MOST_OF_REPORT {
         return Err(RetellFault::Report(0));
     }
-    let log = log_of(alloc, recording, options)?;
+    let log = match recording.read(alloc, options) {
+        Ok(log) => log,
+        Err(refusal) => return Err(RetellFault::Refused(refusal)),
+    };
     let (plan, images) = match plan_of(alloc, &log, options) {
         Ok(found) => found,
         Err(refusal) => return Err(RetellFault::Refused(refusal)),
     };
-    told_by(alloc, telling, &log, &plan, images, report, options)
+    let file = recording.log();
+    told_by(alloc, telling, file, &log, &plan, images, report, options)
 }

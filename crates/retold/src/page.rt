@@ -1,6 +1,6 @@
 //! The page of a report (docs/OUTPUT.md, The page of `page`).
 
-ghost use Rattle.std.specs.Prelude.{ℕ, ◌≡◌, ◌≢◌, ◌<◌, ◌++◌, ◌∷◌, [], true, List, All, Some, length, map, slice_get, IfOk, MatchOption, OnOk, string_bytes};
+ghost use Rattle.std.specs.Prelude.{ℕ, ◌≡◌, ◌≢◌, ◌<◌, ◌++◌, true, List, All, Some, length, map, slice_get, IfOk, MatchOption};
 ghost use Rattle.losses.specs.FailureWindows.{windows_in};
 ghost use Rattle.losses.specs.Places.{AreWindows};
 ghost use Rattle.page_parts.specs.Judges.{judge_text};
@@ -115,17 +115,6 @@ fn failures_told<'x>(
     )
 }
 
-/// Appends what a page takes of a program.
-fn push_told<'x>(
-    found: &mut Vec<ProgramFailures<'x>>,
-    failures: ProgramFailures<'x>,
-) -> Result<(), AllocError>
-    ensures { OnOk result (found.new.items ≡ found.old.items ++ failures.entry ∷ []) }
-{
-    found.push(failures)?;
-    Ok(())
-}
-
 /// What a page takes of each program of a report.
 fn all_told<'x>(
     alloc: Global,
@@ -147,19 +136,9 @@ fn all_told<'x>(
     for program in 0..subject.programs {
         let judge = judge_of(options, given, program);
         let told = failures_told(alloc, run, subject, failures, program, judge)?;
-        push_told(&mut found, told)?;
+        found.push(told)?;
     }
     Ok(found)
-}
-
-/// The text at the head of a page: the options, the programs and the totals, as the report has them.
-fn about(alloc: Global, given: &Given<'_>) -> Result<String, AllocError>
-    ensures { IfOk result (λ text. string_bytes text ≡ (given_told given.now).head ++ (given_told given.now).last) }
-{
-    let mut text = String::new(alloc);
-    text.push_str(given.head)?;
-    text.push_str(given.last)?;
-    Ok(text)
 }
 
 /// What the images of a report are numbered by.
@@ -182,7 +161,7 @@ fn numbering_of<'x>(subject: &Subject<'x>, cuts: Cuts) -> Numbering<'x>
     }
 }
 
-/// The page of a report with that line of options.
+/// The page of a report with that line of options. At its head it has the options, the programs and the totals, as the report has them.
 pub(crate) fn page_text(
     alloc: Global,
     subject: &Subject<'_>,
@@ -205,7 +184,9 @@ pub(crate) fn page_text(
         numbering: numbering_of(subject, cuts),
     };
     let programs = all_told(alloc, &run, subject, failures.as_slice(), options, given)?;
-    let text = about(alloc, given)?;
+    let mut text = String::new(alloc);
+    text.push_str(given.head)?;
+    text.push_str(given.last)?;
     let mut page = String::new(alloc);
     put_page(alloc, &mut page, text.as_str(), &run, programs.as_slice())?;
     Ok(page.into_bytes())

@@ -101,19 +101,12 @@ fn entries_of(alloc: Global, cuts: &Cuts, missing: &[MissingFlush]) -> Result<Ve
     Ok(entries)
 }
 
-/// Appends an entry that follows another.
-fn put_next(out: &mut String, entry: u32) -> Result<(), AllocError>
-    ensures { OnOk result (string_bytes out.new ≡ string_bytes out.old ++ next_flush entry) }
-{
-    write!(out, ",{entry}")
-}
-
 /// Appends entries that follow another.
 fn put_more(out: &mut String, entries: &[u32]) -> Result<(), AllocError>
     ensures { OnOk result (string_bytes out.new ≡ string_bytes out.old ++ flat_map next_flush entries.now) }
 {
     for entry in entries {
-        put_next(out, *entry)?;
+        write!(out, ",{entry}")?;
     }
     Ok(())
 }

@@ -1,10 +1,10 @@
 //! Why programs fail, by the lines of a report (docs/OUTPUT.md, The text of `why`).
 
-ghost use Rattle.std.specs.Prelude.{◌≡◌, ◌++◌, IfOk, OnOk, map, string_bytes};
+ghost use Rattle.std.specs.Prelude.{◌≡◌, IfOk, OnOk, map, string_bytes};
 ghost use Rattle.join.specs.Given.{line_told};
 ghost use Rattle.join.specs.GivenReading.{given_told};
 ghost use Rattle.losses.specs.Causes.{TellsProgram, TellsPrograms};
-ghost use Rattle.retold.specs.Told.{AreOfRun, TellsWhy, images_told_of, outcomes_told_of, opening_told, count_of};
+ghost use Rattle.retold.specs.Told.{AreOfRun, TellsWhy, images_told_of, outcomes_told_of, count_of};
 
 use crate::lines::{images_of, outcomes_of};
 use crate::missing::missing_in;
@@ -48,17 +48,7 @@ fn put_all(alloc: Global, out: &mut String, subject: &Subject<'_>) -> Result<(),
     Ok(())
 }
 
-/// Appends the title, the options, the programs and the totals.
-fn put_opening(out: &mut String, given: &Given<'_>) -> Result<(), AllocError>
-    ensures { OnOk result (string_bytes out.new ≡ string_bytes out.old ++ opening_told (given_told given.now)) }
-{
-    out.push_str("crash why 2\n")?;
-    out.push_str(given.head)?;
-    out.push_str(given.last)?;
-    Ok(())
-}
-
-/// Why the programs fail.
+/// Why the programs fail, after the options, the programs and the totals.
 pub(crate) fn why_text(
     alloc: Global,
     subject: &Subject<'_>,
@@ -72,7 +62,9 @@ pub(crate) fn why_text(
     let missing = missing_in(alloc, subject)?;
     let (failures, flushes) = (missing.failures.as_slice(), missing.flushes.as_slice());
     let mut out = String::new(alloc);
-    put_opening(&mut out, given)?;
+    out.push_str("crash why 2\n")?;
+    out.push_str(given.head)?;
+    out.push_str(given.last)?;
     put_flushes(&mut out, subject.programs, failures, flushes)?;
     put_all(alloc, &mut out, subject)?;
     Ok(out.into_bytes())

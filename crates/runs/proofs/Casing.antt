@@ -24,7 +24,7 @@ use Rattle.losses.specs.declared.found.FirstCase.{FirstCase}
 use Rattle.case_runs.specs.declared.first.Sought.{Sought}
 use Rattle.losses.specs.declared.found.FailingCase.{FailingCase}
 use Rattle.case_runs.specs.First.{NoneFailsAt, NoneFails, IsFirstFailing, PassesMostIn, IsSought, EndsIn}
-use Rattle.case_text.specs.Text.{cases_bytes, cases_head, cut_cases, fails_at, has_range, inputs_told, is_any_failing, totals_text}
+use Rattle.case_text.specs.Text.{are_all_cuts, count_lost_beyond, count_torn_beyond, cases_bytes, cases_head, cut_cases, fails_at, has_range, inputs_told, is_any_failing, totals_text}
 use Rattle.case_text.specs.First.{first_bytes}
 use Rattle.request.specs.declared.settings.CaseTelling.{CaseTelling}
 use Rattle.request.specs.declared.settings.CaseTelling.TheVariants as telling
@@ -33,10 +33,11 @@ use Rattle.request.specs.declared.settings.Settings.{Settings}
 use Rattle.request.specs.Source.{Recording, plan_of, images_refusal, HasImages, for_plan, no_plan_memory}
 use Rattle.runs.specs.declared.task.Task.{Task}
 use Rattle.case_runs.specs.Cuts.{case_cuts}
-use Rattle.runs.specs.CaseCuts.{losses_of, AreMore, HasTooMany}
+use Rattle.request.specs.declared.facts.left_out.LeftOut.{LeftOut}
+use Rattle.runs.specs.CaseCuts.{losses_of, left_out_of, AreMore, HasTooMany}
 use Rattle.runs.specs.Inputs.{case_number}
 use Rattle.runs.specs.CaseRefusals.{StopsFor, RefusesFor, RefusesAll}
-use Rattle.runs.specs.Cases.{IsTextOf, TellsCases, TellsFirst, of_first, of_none, IsByCases, TellsLosses}
+use Rattle.runs.specs.Cases.{IsTextOf, TellsCases, TellsFirst, of_first, of_none, IsByCases, TellsLosses, TellsLeft, some_fails, none_fails, LeavesOut}
 use Rattle.runs.specs.Judged.{takes}
 use Rattle.runs.specs.declared.explore_command.Explored.{Explored}
 use Rattle.runs.specs.declared.explore_command.WantedAnswer.{WantedAnswer}
@@ -179,7 +180,7 @@ told_again false n = refl
 same_cases : (told inputs : ℕ) (h : HeadValue) (asked : Losses) (log : LogValue) (found : List CutFound) → told ≡ (if has_range h.cuts then inputs else 0) → cases_bytes told h asked log found ≡ cases_bytes inputs h asked log found
 unfolding cases_bytes
 same_cases told inputs h asked log found is =
-    ap (λ (i : Option ℕ). cases_head i h asked ++ flat_map (cut_cases log h.by asked.tears) found ++ totals_text found)
+    ap (λ (i : Option ℕ). cases_head i h asked ++ flat_map (cut_cases log h.by asked.tears) found ++ totals_text (are_all_cuts h.cuts) found)
     (ap (λ (n : ℕ). inputs_told h.cuts n) is ∙ told_again (has_range h.cuts) inputs)
 
 text_by_number : (t : CaseTelling) (told inputs : ℕ) (h : HeadValue) (asked : Losses) (log : LogValue) (found : List CutFound) (bytes : List ℕ) → told ≡ case_number t h.cuts inputs
@@ -236,3 +237,32 @@ cure_refused w l text files s log checkers now r is taken count source made same
 cure_refused w l text files s log checkers now r is taken count source made same (inr (cut, at, more)) =
     subst (λ (q : Refusal). RefusesWanted w text files s q) (sym at)
     (for_cure l log now cut is taken count source (subst (AreCheckersOf s files) (sym same) made) more.1)
+
+-- what was left out, where none that was found fails
+pub left_told : (l : AnyLosses) (s : Settings) (value : LogValue) (checkers : List CheckerValue) (cuts : List ℕ) (found : List CutFound) (failing : Bool) (left : Option LeftOut)
+    → cuts ≡ case_cuts l.at_most s.cuts value.entries → AreFoundIn (losses_of l s) value s.by cuts checkers found → failing ≡ is_any_failing found → left ≡ left_out_of found
+    → TellsLeft l s value checkers failing left
+left_told l s value checkers cuts found failing left those are fails told =
+    subst (λ (b : Bool). TellsLeft l s value checkers b left) (sym fails)
+    (subst (λ (o : Option LeftOut). TellsLeft l s value checkers (is_any_failing found) o) (sym told) (by_test (is_any_failing found) refl))
+  where
+    own : AreFoundIn (losses_of l s) value s.by (case_cuts l.at_most s.cuts value.entries) checkers found
+    own = subst (λ (cs : List ℕ). AreFoundIn (losses_of l s) value s.by cs checkers found) those are
+
+    counts : LeftOut
+    counts = record { torn = count_torn_beyond found; lost = count_lost_beyond found }
+
+    by_test : (b : Bool) → is_any_failing found ≡ b → TellsLeft l s value checkers b (if b then None else Some counts)
+    by_test true is = some_fails
+    by_test false is = none_fails found counts own (ap (λ (x : Bool). if x then None else Some counts) is)
+
+-- of a run that was asked for
+pub left_found : (l : AnyLosses) (text : Recording) (files : List (List ℕ)) (s : Settings) (value : LogValue) (items made : List CheckerValue) (failing : Bool) (left : Option LeftOut)
+    → HasImages text s value → AreCheckersOf s files items → made ≡ items → TellsLeft l s value made failing left → LeavesOut l text files s failing left
+left_found l text files s value items made failing left source are same tells = record {
+  value = value;
+  source = source;
+  checkers = items;
+  made = are;
+  tells = subst (λ (cs : List CheckerValue). TellsLeft l s value cs failing left) same tells;
+}

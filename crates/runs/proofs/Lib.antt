@@ -1,6 +1,5 @@
 -- Lemmas of the crate.
 pub mod Judging
-pub mod Numbers
 pub mod Findings
 pub mod RefusalLemmas
 pub mod Faultless

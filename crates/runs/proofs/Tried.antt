@@ -21,7 +21,7 @@ use Rattle.losses.specs.declared.found.Losses.{Losses}
 use Rattle.losses.specs.declared.found.CutFound.{CutFound}
 use Rattle.losses.specs.FoundCases.{cases_in, most_cases}
 use Rattle.case_runs.specs.Found.{AreFoundIn}
-use Rattle.case_text.specs.Text.{totals_text}
+use Rattle.case_text.specs.Text.{are_all_cuts, totals_text}
 use Rattle.case_text.specs.Why.{all_failures}
 use Rattle.case_text.specs.Cured.{cure_begin}
 use Rattle.request.specs.declared.any_losses.AnyLosses.{AnyLosses}
@@ -132,12 +132,13 @@ by_images s value checkers h ls fs begin last few head lines failures begins end
 pub by_cases : (l : AnyLosses) (t : Task) (cuts : List ℕ) (found : List CutFound) (h : HeadValue) (asked : Losses) (fs : List Failure) (begin last : List ℕ) → cuts ≡ case_cuts l.at_most t.options.now.cuts t.log.now.entries
     → AreFoundIn (losses_of l t.options.now) t.log.now t.options.now.by cuts t.checkers.now found → cases_in found ≤ most_cases → length (images_of t.options.now t.log.now) ≤ limit
     → h ≡ head_of (with_first false t.options.now) t.log.now t.checkers.now → asked ≡ losses_of l t.options.now → fs ≡ all_failures t.log.now h.by asked.tears found
-    → begin ≡ cure_begin h asked t.log.now found → last ≡ totals_text found → AreWindows (length t.log.now.entries) (windows_in fs) → HoldNoFlush t.log.now.entries (windows_in fs)
+    → begin ≡ cure_begin h asked t.log.now found → last ≡ totals_text (are_all_cuts h.cuts) found → AreWindows (length t.log.now.entries) (windows_in fs) → HoldNoFlush t.log.now.entries (windows_in fs)
     → IsFound (Some l) t.options.now t.checkers.now t.log.now fs begin last
 unfolding head_of
 by_cases l t cuts found h asked fs begin last those are few images head same failures begins ends inside calm =
     let way : h.by ≡ t.options.now.by = ap (λ (x : HeadValue). x.by) head in
     let tears : asked.tears ≡ t.options.now.tears = ap (λ (x : Losses). x.tears) same in
+    let cuts_are : h.cuts ≡ t.options.now.cuts = ap (λ (x : HeadValue). x.cuts) head in
     record {
       finds = record {
         images = images;
@@ -146,7 +147,7 @@ by_cases l t cuts found h asked fs begin last those are few images head same fai
         few = few;
         fail = failures ∙ (λ i. all_failures t.log.now (way i) (tears i) found);
         begins = begins ∙ (λ i. cure_begin (head i) (same i) t.log.now found);
-        ends = ends;
+        ends = ends ∙ (λ i. totals_text (are_all_cuts (cuts_are i)) found);
       };
       inside = inside;
       calm = calm;

@@ -1,5 +1,5 @@
 -- What a run tells of any number of losses, by cases (docs/OUTPUT.md, The text of cases).
-use Rattle.std.specs.Prelude.{ℕ, ◌≡◌, ◌≤◌, Bool, true, false, List, length}
+use Rattle.std.specs.Prelude.{ℕ, ◌≡◌, ◌≤◌, Bool, true, false, List, length, Option, None, Some}
 use Rattle.logfmt.specs.Bounds.{LogValue}
 use Rattle.checker.specs.Checker.{CheckerValue}
 use Rattle.report.specs.Report.{HeadValue}
@@ -19,8 +19,11 @@ use Rattle.request.specs.declared.settings.CaseTelling.TheVariants as telling
 use Rattle.request.specs.declared.settings.Settings.{Settings}
 use Rattle.request.specs.Source.{Recording, HasImages}
 use Rattle.case_runs.specs.Cuts.{case_cuts}
-use Rattle.runs.specs.CaseCuts.{losses_of}
-use Rattle.runs.specs.Inputs.{inputs_number}
+use Rattle.request.specs.declared.facts.left_out.LeftOut.{LeftOut}
+use Rattle.runs.specs.declared.explore_command.WantedAnswer.{WantedAnswer}
+use Rattle.runs.specs.declared.explore_command.WantedAnswer.TheVariants as wanted
+use Rattle.runs.specs.CaseCuts.{losses_of, left_out_of}
+use Rattle.request.specs.Inputs.{inputs_number}
 use Rattle.runs.specs.Explore.{IsProgramCount, AreCheckersOf, head_of}
 use Rattle.runs.specs.Why.{with_first}
 
@@ -68,3 +71,23 @@ IsLosses first l text files s bytes failing = IsByCases (TellsLosses first (inpu
 -- which cases fail
 abbrev pub IsCases : AnyLosses → Recording → List (List ℕ) → Settings → List ℕ → Bool → Type 0
 IsCases l text files s bytes failing = IsLosses false l text files s bytes failing
+
+-- what was left out of the cases of a log, where none that was found fails; where one does nothing is told
+pub data TellsLeft (l : AnyLosses) (s : Settings) (value : LogValue) (checkers : List CheckerValue) : Bool → Option LeftOut → Type 0 where
+  some_fails : TellsLeft l s value checkers true None
+  none_fails : (found : List CutFound) (left : LeftOut) → AreFoundIn (losses_of l s) value s.by (case_cuts l.at_most s.cuts value.entries) checkers found → left_out_of found ≡ Some left
+      → TellsLeft l s value checkers false (Some left)
+
+pub record LeavesOut (l : AnyLosses) (text : Recording) (files : List (List ℕ)) (s : Settings) (failing : Bool) (left : Option LeftOut) : Type 0 where
+  pub value : LogValue
+  pub source : HasImages text s value
+  pub checkers : List CheckerValue
+  pub made : AreCheckersOf s files checkers
+  pub tells : TellsLeft l s value checkers failing left
+
+-- a run that isn't by cases leaves none out
+abbrev pub FindsLeft : WantedAnswer → Recording → List (List ℕ) → Settings → Bool → Option LeftOut → Type 0
+FindsLeft (wanted.Told t) text files s failing left = left ≡ None
+FindsLeft wanted.Cured text files s failing left = left ≡ None
+FindsLeft (wanted.CuredCases l) text files s failing left = left ≡ None
+FindsLeft (wanted.Cases l) text files s failing left = LeavesOut l text files s failing left

@@ -16,7 +16,7 @@ use Rattle.workers.specs.Failing.{failing_lines}
 use Rattle.losses.specs.declared.found.CutFound.{CutFound}
 use Rattle.losses.specs.FoundCases.{cases_in, most_cases}
 use Rattle.case_runs.specs.Found.{AreFoundIn}
-use Rattle.case_text.specs.Text.{totals_text}
+use Rattle.case_text.specs.Text.{are_all_cuts, totals_text}
 use Rattle.case_text.specs.Why.{all_failures}
 use Rattle.case_text.specs.Cured.{cure_begin}
 use Rattle.request.specs.declared.settings.Settings.{Settings}
@@ -53,7 +53,7 @@ pub record FindsCases (l : AnyLosses) (s : Settings) (checkers : List CheckerVal
   pub few : cases_in found ≤ most_cases
   pub fail : failures ≡ all_failures value s.by s.tears found
   pub begins : begin ≡ cure_begin (head_of (with_first false s) value checkers) (losses_of l s) value found
-  pub ends : last ≡ totals_text found
+  pub ends : last ≡ totals_text (are_all_cuts s.cuts) found
 
 -- by its cases where any number of losses is asked for, else by its images
 abbrev pub Finds : Option AnyLosses → Settings → List CheckerValue → LogValue → List Failure → List ℕ → List ℕ → Type 0

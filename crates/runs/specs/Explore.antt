@@ -26,7 +26,7 @@ use Rattle.request.specs.Source.{Recording, plan_of, images_of, images_refusal, 
 use Rattle.runs.specs.declared.explore_command.WantedAnswer.{WantedAnswer}
 use Rattle.runs.specs.declared.explore_command.WantedAnswer.TheVariants as wanted
 use Rattle.runs.specs.CaseCuts.{HasTooMany, HasMore}
-use Rattle.runs.specs.Inputs.{inputs_number}
+use Rattle.request.specs.Inputs.{inputs_number}
 use Rattle.request.specs.Extents.{first_meant, end_meant}
 use Rattle.runs.specs.Judged.{takes}
 

@@ -14,7 +14,7 @@ use Rattle.losses.specs.FailureWindows.{AreFailures, windows_in}
 use Rattle.losses.specs.CureText.{missing_text}
 use Rattle.losses.specs.ProgramOutcomes.{outcomes_failing}
 use Rattle.workers.specs.Failing.{failing_lines}
-use Rattle.runs.specs.Inputs.{inputs_number}
+use Rattle.request.specs.Inputs.{inputs_number}
 use Rattle.runs.specs.Paged.{IsPageOf}
 use Rattle.request.specs.declared.settings.Settings.{Settings}
 use Rattle.request.specs.declared.settings.Telling.{Telling}

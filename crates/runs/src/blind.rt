@@ -1,9 +1,8 @@
 //! Programs that pass without looking at what a log writes (docs/CRASH-MODEL.md, A checker that looks at nothing).
 
-ghost use Rattle.std.specs.Prelude.{◌≡◌, ◌≤◌, ◌<◌, ◌+◌, ◌&&◌, ℕ, not, length, map, IsTrue, IfOk, IfErr, slice_get, Some, true, false};
+ghost use Rattle.std.specs.Prelude.{◌≡◌, ◌≤◌, ◌<◌, ◌+◌, ◌&&◌, ℕ, not, length, map, IsTrue, IfOk, slice_get, Some, true, false};
 ghost use Rattle.std.specs.List.{list_all};
 ghost use Rattle.std.specs.Option.{option_map_or};
-ghost use Rattle.base.specs.Refusals.{memory_refusal};
 ghost use Rattle.epochs.specs.Cuts.{cuts_of};
 ghost use Rattle.images.specs.Views.{IsMember, view_of};
 ghost use Rattle.helpers.specs.Footprint.{lists};
@@ -15,7 +14,6 @@ ghost use Rattle.runs.specs.Blind.{covers, is_bare, ending_on, looks_on, whole_a
 
 use crate::task::Task;
 use arrayvec::ArrayVec;
-use base::refusal::Refusal;
 use checker::{Checker, RunMemory};
 use choices::{Choice, Starts};
 use epochs::Plan;
@@ -57,7 +55,12 @@ fn is_bare(entries: &[Entry], sector: u32) -> bool
 fn lists(numbers: &[u32], number: u32) -> bool
     ensures { result ≡ lists numbers.now number }
 {
-    numbers.iter().any(|own| *own == number)
+    for own in numbers {
+        if *own == number {
+            return true;
+        }
+    }
+    false
 }
 
 /// Whether no entry writes or discards a sector, by what is known of some sectors. One of which it is found is known then, where
@@ -240,26 +243,6 @@ fn is_noticed(
     is_blind(alloc, task, starts, history, checker)
 }
 
-/// Of each checker of a run whether it is so.
-fn blind_checkers(
-    alloc: Global,
-    task: &Task<'_>,
-    starts: &Starts<'_>,
-    history: &History<'_>,
-) -> Result<ArrayVec<bool, 8>, AllocError>
-    requires starts { starts.now.plan ≡ task.now.plan.now }
-    requires history { history.now ≡ task.now.plan.now }
-    requires few { length task.now.checkers.now ≤ 8 }
-    requires device { AreFor task.now.log.now.sectors task.now.checkers.now }
-    ensures { IfOk result (λ blind. blind.items ≡ map (is_noticed task.now.plan.now) task.now.checkers.now) }
-{
-    let mut out = ArrayVec::new();
-    for checker in task.checkers {
-        out.push(is_noticed(alloc, task, starts, history, checker)?);
-    }
-    Ok(out)
-}
-
 /// Finds which programs of a run pass at each wanted cut, on the image in which nothing is lost or torn, without looking at a sector
 /// that an entry writes or discards. It makes a run of a program for each epoch and each number of marks at the cuts, up to the first
 /// cut at which it doesn't: no more runs than the images of the cuts need at least. Where more than 1,024 flushes and marks stand before
@@ -269,39 +252,32 @@ pub(crate) fn find_blind(
     task: &Task<'_>,
     starts: &Starts<'_>,
     history: &History<'_>,
-) -> Result<ArrayVec<bool, 8>, Refusal>
+) -> Result<ArrayVec<bool, 8>, AllocError>
     requires starts { starts.now.plan ≡ task.now.plan.now }
     requires history { history.now ≡ task.now.plan.now }
     requires few { length task.now.checkers.now ≤ 8 }
     requires verified { AreFor task.now.options.now.sectors task.now.checkers.now }
-    ensures found { IfOk result (λ blind. blind.items ≡ map (is_noticed task.now.plan.now) task.now.checkers.now) }
-    ensures refused { IfErr result (λ r. r ≡ memory_refusal) }
+    ensures { IfOk result (λ blind. blind.items ≡ map (is_noticed task.now.plan.now) task.now.checkers.now) }
 {
-    match blind_checkers(alloc, task, starts, history) {
-        Ok(blind) => Ok(blind),
-        Err(_error) => Err(Refusal::of_memory()),
+    let mut out = ArrayVec::new();
+    for checker in task.checkers {
+        out.push(is_noticed(alloc, task, starts, history, checker)?);
     }
+    Ok(out)
 }
 
 /// Finds the same of a task whose images aren't judged one by one.
 pub(crate) fn find_blind_of<'x>(
     alloc: Global,
     task: &'x Task<'x>,
-) -> Result<ArrayVec<bool, 8>, Refusal>
+) -> Result<ArrayVec<bool, 8>, AllocError>
     requires few { length task.now.checkers.now ≤ 8 }
     requires verified { AreFor task.now.options.now.sectors task.now.checkers.now }
-    ensures found { IfOk result (λ blind. blind.items ≡ map (is_noticed task.now.plan.now) task.now.checkers.now) }
-    ensures refused { IfErr result (λ r. r ≡ memory_refusal) }
+    ensures { IfOk result (λ blind. blind.items ≡ map (is_noticed task.now.plan.now) task.now.checkers.now) }
 {
     let (plan, options) = (task.plan, task.options);
-    let history = match History::new(alloc, &*plan, &*task.log) {
-        Ok(history) => history,
-        Err(_error) => return Err(Refusal::of_memory()),
-    };
+    let history = History::new(alloc, &*plan, &*task.log)?;
     let (bound, tears) = (options.bound(), options.tears());
-    let starts = match Starts::new(alloc, &*plan, bound, tears) {
-        Ok(starts) => starts,
-        Err(_error) => return Err(Refusal::of_memory()),
-    };
+    let starts = Starts::new(alloc, &*plan, bound, tears)?;
     find_blind(alloc, task, &starts, &history)
 }

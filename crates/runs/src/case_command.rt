@@ -4,12 +4,12 @@ ghost use Rattle.std.specs.Prelude.{◌≡◌, ◌≤◌, length, map, true, fal
 ghost use Rattle.checker.specs.Checker.{AreFor};
 ghost use Rattle.losses.specs.FoundCases.{cases_in, most_cases};
 ghost use Rattle.case_runs.specs.Found.{AreFoundIn};
-ghost use Rattle.case_runs.specs.First.{AllPass, IsSought, IsFirstFailing};
+ghost use Rattle.case_runs.specs.First.{IsSought, IsFirstFailing};
 ghost use Rattle.case_text.specs.Text.{is_any_failing};
 ghost use Rattle.case_runs.specs.Cuts.{case_cuts};
 ghost use Rattle.runs.specs.Blind.{is_noticed};
 ghost use Rattle.runs.specs.CaseCuts.{losses_of, left_out_of};
-ghost use Rattle.runs.specs.Cases.{IsTextOf, TellsCases, TellsFirst, TellsLosses};
+ghost use Rattle.runs.specs.Cases.{IsTextOf, TellsCases, TellsFirst, TellsLeft, TellsLosses};
 ghost use Rattle.runs.specs.CaseRefusals.{StopsFor, RefusesForLog, RefusesFor, RefusesAll};
 ghost use Rattle.runs.specs.Judged.{IsJudged};
 ghost use Rattle.request.specs.Source.{images_of, plan_of};
@@ -168,6 +168,7 @@ fn bytes_of(
 }
 
 /// The text of what was found, and how many cases were left out.
+#[tactic(auto, using(crate::proofs::Casing::left_told))]
 fn text_of(
     alloc: Global,
     task: &Task<'_>,
@@ -182,7 +183,7 @@ fn text_of(
     requires few { cases_in found.now ≤ most_cases }
     ensures told { IfOk result (λ t. TellsCases task.now.span.inputs losses task.now.options.now task.now.log.now task.now.checkers.now t.explored.bytes.items t.explored.failing) }
     ensures failing { IfOk result (λ t. t.explored.failing ≡ is_any_failing found.now) }
-    ensures left_out { IfOk result (λ t. t.left_out ≡ left_out_of found.now) }
+    ensures left { IfOk result (λ t. TellsLeft losses task.now.options.now task.now.log.now task.now.checkers.now t.explored.failing t.left_out) }
 {
     let _cuts = cuts;
     let head = head_of_run(alloc, task, false)?;
@@ -197,37 +198,6 @@ fn text_of(
     })
 }
 
-/// The first failing case at some cuts, or what was found there, where none fails.
-fn first_at<G: Gate>(
-    alloc: Global,
-    gate: &G,
-    task: &Task<'_>,
-    losses: AnyLosses,
-    cuts: &[u32],
-) -> Result<Sought, Refusal>
-    requires cuts { cuts.now ≡ case_cuts losses.at_most task.now.options.now.cuts task.now.log.now.entries }
-    requires within { All (λ cut. cut ≤ length task.now.log.now.entries) cuts.now }
-    requires verified { AreFor task.now.options.now.sectors task.now.checkers.now }
-    requires first { task.now.options.now.first ≡ true }
-    ensures found { IfOk result (IsSought (losses_of losses task.now.options.now) task.now.log.now task.now.options.now.by cuts.now task.now.checkers.now) }
-    ensures refused { IfErr result (RefusesFor losses task.now) }
-{
-    let asked = losses_of(losses, task.options);
-    match find_first(
-        alloc,
-        &CasesOf { gate },
-        task.plan,
-        task.log,
-        task.options.by(),
-        cuts,
-        task.checkers,
-        asked,
-    ) {
-        Ok(sought) => Ok(sought),
-        Err(fault) => Err(refusal_of(fault)),
-    }
-}
-
 /// The text of the first failing case.
 fn first_text_of(
     alloc: Global,
@@ -239,7 +209,8 @@ fn first_text_of(
     requires cuts { cuts.now ≡ case_cuts losses.at_most task.now.options.now.cuts task.now.log.now.entries }
     requires within { All (λ cut. cut ≤ length task.now.log.now.entries) cuts.now }
     requires first { IsFirstFailing (losses_of losses task.now.options.now) task.now.log.now task.now.options.now.by cuts.now task.now.checkers.now first.now }
-    ensures { IfOk result (λ t. TellsFirst task.now.span.inputs losses task.now.options.now task.now.log.now task.now.checkers.now t.explored.bytes.items t.explored.failing) }
+    ensures left { IfOk result (λ t. TellsLeft losses task.now.options.now task.now.log.now task.now.checkers.now t.explored.failing t.left_out) }
+    ensures told { IfOk result (λ t. TellsFirst task.now.span.inputs losses task.now.options.now task.now.log.now task.now.checkers.now t.explored.bytes.items t.explored.failing) }
 {
     let _cuts = cuts;
     let head = head_of_run(alloc, task, false)?;
@@ -255,24 +226,6 @@ fn first_text_of(
     })
 }
 
-/// The text of what was found, of which no case fails.
-fn passing_text_of(
-    alloc: Global,
-    task: &Task<'_>,
-    losses: AnyLosses,
-    cuts: &[u32],
-    found: &[CutFound],
-) -> Result<ToldCases, AllocError>
-    requires cuts { cuts.now ≡ case_cuts losses.at_most task.now.options.now.cuts task.now.log.now.entries }
-    requires within { All (λ cut. cut ≤ length task.now.log.now.entries) cuts.now }
-    requires small { length task.now.checkers.now ≤ 8 }
-    requires passing { AllPass (losses_of losses task.now.options.now) task.now.log.now task.now.options.now.by cuts.now task.now.checkers.now found.now }
-    ensures { IfOk result (λ t. TellsFirst task.now.span.inputs losses task.now.options.now task.now.log.now task.now.checkers.now t.explored.bytes.items t.explored.failing) }
-{
-    let told = text_of(alloc, task, losses, cuts, found)?;
-    Ok(told)
-}
-
 /// The text of what was found where the first failing case was looked for.
 fn sought_text_of(
     alloc: Global,
@@ -285,35 +238,12 @@ fn sought_text_of(
     requires within { All (λ cut. cut ≤ length task.now.log.now.entries) cuts.now }
     requires small { length task.now.checkers.now ≤ 8 }
     requires found { IsSought (losses_of losses task.now.options.now) task.now.log.now task.now.options.now.by cuts.now task.now.checkers.now sought.now }
-    ensures { IfOk result (λ t. TellsFirst task.now.span.inputs losses task.now.options.now task.now.log.now task.now.checkers.now t.explored.bytes.items t.explored.failing) }
+    ensures left { IfOk result (λ t. TellsLeft losses task.now.options.now task.now.log.now task.now.checkers.now t.explored.failing t.left_out) }
+    ensures told { IfOk result (λ t. TellsFirst task.now.span.inputs losses task.now.options.now task.now.log.now task.now.checkers.now t.explored.bytes.items t.explored.failing) }
 {
     match sought {
-        Sought::Passing(found) => passing_text_of(alloc, task, losses, cuts, found.as_slice()),
+        Sought::Passing(found) => text_of(alloc, task, losses, cuts, found.as_slice()),
         Sought::Failing(first) => first_text_of(alloc, task, losses, cuts, first),
-    }
-}
-
-/// All failing cases at some cuts, told as a text.
-fn all_told<G: Gate + Sync, R: Threads + Sync>(
-    rt: &R,
-    alloc: Global,
-    gate: &G,
-    task: &Task<'_>,
-    losses: AnyLosses,
-    cuts: &[u32],
-) -> Result<ToldCases, Refusal>
-    requires cuts { cuts.now ≡ case_cuts losses.at_most task.now.options.now.cuts task.now.log.now.entries }
-    requires within { All (λ cut. cut ≤ length task.now.log.now.entries) cuts.now }
-    requires verified { AreFor task.now.options.now.sectors task.now.checkers.now }
-    requires small { length task.now.checkers.now ≤ 8 }
-    requires all { task.now.options.now.first ≡ false }
-    ensures told { IfOk result (λ t. TellsCases task.now.span.inputs losses task.now.options.now task.now.log.now task.now.checkers.now t.explored.bytes.items t.explored.failing) }
-    ensures refused { IfErr result (RefusesFor losses task.now) }
-{
-    let found = cases_at(rt, alloc, gate, task, losses, cuts)?;
-    match text_of(alloc, task, losses, cuts, found.as_slice()) {
-        Ok(told) => Ok(told),
-        Err(_error) => Err(Refusal::of_memory()),
     }
 }
 
@@ -330,10 +260,24 @@ fn first_told<G: Gate>(
     requires verified { AreFor task.now.options.now.sectors task.now.checkers.now }
     requires small { length task.now.checkers.now ≤ 8 }
     requires first { task.now.options.now.first ≡ true }
+    ensures left { IfOk result (λ t. TellsLeft losses task.now.options.now task.now.log.now task.now.checkers.now t.explored.failing t.left_out) }
     ensures told { IfOk result (λ t. TellsFirst task.now.span.inputs losses task.now.options.now task.now.log.now task.now.checkers.now t.explored.bytes.items t.explored.failing) }
     ensures refused { IfErr result (RefusesFor losses task.now) }
 {
-    let sought = first_at(alloc, gate, task, losses, cuts)?;
+    let asked = losses_of(losses, task.options);
+    let sought = match find_first(
+        alloc,
+        &CasesOf { gate },
+        task.plan,
+        task.log,
+        task.options.by(),
+        cuts,
+        task.checkers,
+        asked,
+    ) {
+        Ok(sought) => sought,
+        Err(fault) => return Err(refusal_of(fault)),
+    };
     match sought_text_of(alloc, task, losses, cuts, &sought) {
         Ok(told) => Ok(told),
         Err(_error) => Err(Refusal::of_memory()),
@@ -350,6 +294,7 @@ fn cases_told<G: Gate + Sync, R: Threads + Sync>(
 ) -> Result<ToldCases, Refusal>
     requires verified { AreFor task.now.options.now.sectors task.now.checkers.now }
     requires small { length task.now.checkers.now ≤ 8 }
+    ensures left { IfOk result (λ t. TellsLeft losses task.now.options.now task.now.log.now task.now.checkers.now t.explored.failing t.left_out) }
     ensures told { IfOk result (λ t. TellsLosses task.now.options.now.first task.now.span.inputs losses task.now.options.now task.now.log.now task.now.checkers.now t.explored.bytes.items t.explored.failing) }
     ensures refused { IfErr result (RefusesFor losses task.now) }
 {
@@ -360,40 +305,16 @@ fn cases_told<G: Gate + Sync, R: Threads + Sync>(
     if task.options.first() {
         return first_told(alloc, gate, task, losses, cuts.as_slice());
     }
-    all_told(rt, alloc, gate, task, losses, cuts.as_slice())
-}
-
-/// The failing cases of a task, told as a text; or the first of them alone, where that is asked for. Where none fails, it is told how
-/// many were left out. It is found which programs pass without looking at what the log writes.
-fn told_cases<'x, G: Gate + Sync, R: Threads + Sync>(
-    rt: &R,
-    alloc: Global,
-    gate: &G,
-    task: &'x Task<'x>,
-    losses: AnyLosses,
-) -> Result<Told, Refusal>
-    requires verified { AreFor task.now.options.now.sectors task.now.checkers.now }
-    requires small { length task.now.checkers.now ≤ 8 }
-    ensures told { IfOk result (λ t. TellsLosses task.now.options.now.first task.now.span.inputs losses task.now.options.now task.now.log.now task.now.checkers.now t.explored.bytes.items t.explored.failing) }
-    ensures blind { IfOk result (λ t. t.blind.items ≡ map (is_noticed task.now.plan.now) task.now.checkers.now) }
-    ensures refused { IfErr result (RefusesFor losses task.now) }
-{
-    let blind = match find_blind_of(alloc, task) {
-        Ok(blind) => blind,
-        Err(_refusal) => return Err(Refusal::of_memory()),
-    };
-    match cases_told(rt, alloc, gate, task, losses) {
-        Ok(told) => Ok(Told {
-            explored: told.explored,
-            blind,
-            left_out: told.left_out,
-        }),
-        Err(refusal) => Err(refusal),
+    let found = cases_at(rt, alloc, gate, task, losses, cuts.as_slice())?;
+    match text_of(alloc, task, losses, cuts.as_slice(), found.as_slice()) {
+        Ok(told) => Ok(told),
+        Err(_error) => Err(Refusal::of_memory()),
     }
 }
 
-/// The failing cases of a log, as its plan has its cuts, told as `told_cases` tells those of a task.
-pub(crate) fn told_cases_of<G: Gate + Sync, R: Threads + Sync>(
+/// The failing cases of a log, as its plan has its cuts, told as a text; or the first of them alone, where that is asked for. Where none
+/// fails, it is told how many were left out. It is found which programs pass without looking at what the log writes.
+pub(crate) fn told_cases<G: Gate + Sync, R: Threads + Sync>(
     rt: &R,
     alloc: Global,
     gate: &G,
@@ -409,6 +330,7 @@ pub(crate) fn told_cases_of<G: Gate + Sync, R: Threads + Sync>(
     requires judged { IsJudged options.now.extent (length (images_of options.now log.now)) span }
     requires verified { AreFor options.now.sectors checkers.now }
     requires small { length checkers.now ≤ 8 }
+    ensures left { IfOk result (λ t. TellsLeft losses options.now log.now checkers.now t.explored.failing t.left_out) }
     ensures told { IfOk result (λ t. TellsLosses options.now.first span.inputs losses options.now log.now checkers.now t.explored.bytes.items t.explored.failing) }
     ensures blind { IfOk result (λ t. t.blind.items ≡ map (is_noticed plan.now) checkers.now) }
     ensures refused { IfErr result (RefusesForLog losses options.now log.now checkers.now) }
@@ -420,5 +342,16 @@ pub(crate) fn told_cases_of<G: Gate + Sync, R: Threads + Sync>(
         options,
         span,
     };
-    told_cases(rt, alloc, gate, &task, losses)
+    let blind = match find_blind_of(alloc, &task) {
+        Ok(blind) => blind,
+        Err(_error) => return Err(Refusal::of_memory()),
+    };
+    match cases_told(rt, alloc, gate, &task, losses) {
+        Ok(told) => Ok(Told {
+            explored: told.explored,
+            blind,
+            left_out: told.left_out,
+        }),
+        Err(refusal) => Err(refusal),
+    }
 }

@@ -1,6 +1,6 @@
 //! Where flushes are missing, tried run by run (docs/COMMANDS.md, cure).
 
-ghost use Rattle.std.specs.Prelude.{◌≡◌, ◌≢◌, ◌≤◌, ◌<◌, ◌↔◌, ◌⊎◌, ◌++◌, [], map, length, All, None, Some, IsTrue, IfOk, IfErr, OnOk, string_bytes};
+ghost use Rattle.std.specs.Prelude.{◌≡◌, ◌≢◌, ◌≤◌, ◌<◌, ◌⊎◌, ◌++◌, [], map, length, All, None, Some, IfOk, IfErr, OnOk, string_bytes};
 ghost use Rattle.std.specs.List.{flat_map};
 ghost use Rattle.std.specs.List.Sorted.{IsNonDecreasing};
 ghost use Rattle.logfmt.specs.Bounds.{IsLog};
@@ -15,21 +15,20 @@ ghost use Rattle.losses.specs.FoundCases.{cases_in, most_cases};
 ghost use Rattle.case_runs.specs.Found.{AreFoundIn};
 ghost use Rattle.request.specs.declared.extent.Extent.TheVariants as extent;
 ghost use Rattle.request.specs.Extents.{most_images};
-ghost use Rattle.request.specs.Source.{RefusesPlan, images_of, images_refusal, plan_of};
+ghost use Rattle.request.specs.Source.{images_of, images_refusal, plan_of};
 ghost use Rattle.report.specs.Report.{totals_line};
-ghost use Rattle.runs.specs.declared.explore_command.WantedAnswer.TheVariants as wants;
 ghost use Rattle.case_runs.specs.Cuts.{case_cuts};
 ghost use Rattle.runs.specs.CaseCuts.{losses_of};
 ghost use Rattle.runs.specs.CaseRefusals.{RefusesAll};
-ghost use Rattle.runs.specs.Explore.{RefusesWanted};
 ghost use Rattle.runs.specs.Tasks.{lines_of};
 ghost use Rattle.runs.specs.Why.{starts_of};
-ghost use Rattle.runs.specs.Cured.{IsCured, Cures, TellsCure, RefusesRun, run_lines};
+ghost use Rattle.runs.specs.Cured.{Cures, RefusesRun};
 ghost use Rattle.runs.specs.Trials.{HasFailures, IsFound, HasFound, TellsOn};
 
 use crate::case_command::{cases_at, cuts_of_cases, losses_of};
-use crate::explore_command::{Explored, Question, WantedAnswer, explored_by, head_of_run};
+use crate::explore_command::{Explored, Told, head_of_run};
 use crate::task::{Task, input_of};
+use arrayvec::ArrayVec;
 use base::causes::RequestCause;
 use base::refusal::{Cause, Refusal};
 use case_text::cure_of_cases;
@@ -305,7 +304,7 @@ fn next_log<'x>(
     round: u64,
     log: Log<'x>,
     windows: &[Window],
-) -> Result<Added<'x>, Refusal>
+) -> Result<Added<'x>, AllocError>
     requires some { windows.now ≢ [] }
     requires inside { AreWindows (length log.entries) windows.now }
     requires calm { HoldNoFlush log.entries windows.now }
@@ -313,53 +312,26 @@ fn next_log<'x>(
     ensures log { IfOk result (λ added. added.log ≡ with_flushes (places_in added.flushes.items) log.entry) }
     ensures fewer { IfOk result (λ added. calm_entries added.log.entries < calm_entries log.entry.entries) }
     ensures told { IfOk result (λ added. string_bytes out.new ≡ string_bytes out.old ++ flat_map (flush_line round) added.flushes.items) }
-    ensures refused { IfErr result (λ r. r ≡ memory_refusal) }
 {
-    let added = match add_missing(alloc, log, windows) {
-        Ok(added) => added,
-        Err(_error) => return Err(Refusal::of_memory()),
-    };
+    let added = add_missing(alloc, log, windows)?;
     match put_round(out, round, added.flushes.as_slice()) {
         Ok(()) => Ok(added),
-        Err(_error) => Err(Refusal::of_memory()),
+        Err(error) => Err(error),
     }
 }
 
-/// The windows of failures.
-fn windows_found(alloc: Global, failures: &[Failure]) -> Result<Vec<Window>, Refusal>
-    ensures windows { IfOk result (λ windows. windows.items ≡ windows_in failures.now) }
-    ensures refused { IfErr result (λ r. r ≡ memory_refusal) }
-{
-    match windows_of(alloc, failures) {
-        Ok(windows) => Ok(windows),
-        Err(_error) => Err(Refusal::of_memory()),
-    }
-}
-
-/// Tells that a run has too many images or cases, where it was refused for this.
-fn end_refused(out: &mut String, refusal: Refusal) -> Result<(), Refusal>
+/// Tells that a run has too many images or cases, where it was refused for this. Else there was no memory for it.
+fn end_refused(out: &mut String, refusal: Refusal) -> Result<(), AllocError>
     requires { (refusal ≡ images_refusal refusal.at) ⊎ (refusal ≡ memory_refusal) }
     ensures cause { OnOk result (refusal ≡ images_refusal refusal.at) }
     ensures told { OnOk result (string_bytes out.new ≡ string_bytes out.old ++ refused_line refusal.at) }
-    ensures refused { IfErr result (λ r. r ≡ memory_refusal) }
 {
     match refusal.code {
         Cause::Request(RequestCause::TooManyImages) => match put_refused(out, refusal.at) {
             Ok(()) => Ok(()),
-            Err(_error) => Err(Refusal::of_memory()),
+            Err(error) => Err(error),
         },
-        _ => Err(refusal),
-    }
-}
-
-/// Appends the last line of a run.
-fn end_line(out: &mut String, last: &str) -> Result<(), Refusal>
-    ensures told { OnOk result (string_bytes out.new ≡ string_bytes out.old ++ last.now) }
-    ensures refused { IfErr result (λ r. r ≡ memory_refusal) }
-{
-    match out.push_str(last) {
-        Ok(()) => Ok(()),
-        Err(_error) => Err(Refusal::of_memory()),
+        _ => Err(AllocError),
     }
 }
 
@@ -372,7 +344,7 @@ fn all_rounds<G: Gate + Sync, R: Threads + Wait + Sync>(
     judges: &CureJudges<'_>,
     out: &mut String,
     first: LogRun<'_>,
-) -> Result<u64, Refusal>
+) -> Result<u64, AllocError>
     requires checkers { length judges.now.checkers.now ≤ 8 }
     requires verified { AreFor judges.now.options.now.sectors judges.now.checkers.now }
     requires whole { judges.now.options.now.extent ≡ extent.Whole }
@@ -380,11 +352,10 @@ fn all_rounds<G: Gate + Sync, R: Threads + Wait + Sync>(
     requires device { first.log.sectors ≡ judges.now.options.now.sectors }
     requires found { HasFound judges.now.losses judges.now.options.now judges.now.checkers.now first.log first.found.failures.items (string_bytes first.found.last) }
     ensures told { IfOk result (λ hits. TellsOn judges.now.losses judges.now.options.now judges.now.checkers.now first.entry.log (string_bytes out.old) (string_bytes out.new)) }
-    ensures refused { IfErr result (λ r. r ≡ memory_refusal) }
 {
     let LogRun { mut log, mut found } = first;
     let mut hits = found.hits;
-    let mut windows = windows_found(alloc, found.failures.as_slice())?;
+    let mut windows = windows_of(alloc, found.failures.as_slice())?;
     let mut round = 1;
     while !windows.is_empty() {
         let added = next_log(alloc, out, round, log, windows.as_slice())?;
@@ -398,10 +369,10 @@ fn all_rounds<G: Gate + Sync, R: Threads + Wait + Sync>(
         };
         found = made.found;
         hits = hits.saturating_add(found.hits);
-        windows = windows_found(alloc, found.failures.as_slice())?;
+        windows = windows_of(alloc, found.failures.as_slice())?;
         round += 1;
     }
-    end_line(out, found.last.as_str())?;
+    out.push_str(found.last.as_str())?;
     Ok(hits)
 }
 
@@ -417,117 +388,50 @@ fn join_texts(begin: Vec<u8>, rounds: &str) -> Result<Vec<u8>, Refusal>
     }
 }
 
-/// Whether a run has a failure.
-fn is_failing(found: &CureFindings) -> bool
-    ensures { IsTrue result ↔ (found.now.failures.items ≢ []) }
-{
-    !found.failures.is_empty()
-}
-
-/// The cure of a log, tried.
-pub(crate) fn cured_log<G: Gate + Sync, R: Threads + Wait + Sync>(
+/// The cure of a log, tried: by its images, or by its cases where any number of losses is asked for.
+pub(crate) fn cured_log<'x, G: Gate + Sync, R: Threads + Wait + Sync>(
     rt: &R,
     alloc: Global,
     gate: &G,
-    judges: &CureJudges<'_>,
+    checkers: &'x [Checker<'x>],
+    options: &'x Options,
+    losses: Option<AnyLosses>,
     log: Log<'_>,
-) -> Result<Explored, Refusal>
-    requires checkers { length judges.now.checkers.now ≤ 8 }
-    requires verified { AreFor judges.now.options.now.sectors judges.now.checkers.now }
-    requires whole { judges.now.options.now.extent ≡ extent.Whole }
+) -> Result<Told, Refusal>
+    requires checkers { length checkers.now ≤ 8 }
+    requires verified { AreFor options.now.sectors checkers.now }
+    requires whole { options.now.extent ≡ extent.Whole }
     requires log { IsLog log }
-    requires device { log.sectors ≡ judges.now.options.now.sectors }
-    ensures cured { IfOk result (λ e. Cures judges.now.losses judges.now.options.now log.entry judges.now.checkers.now e.bytes.items e.failing) }
-    ensures refused { IfErr result (RefusesRun judges.now.losses judges.now.options.now judges.now.checkers.now log.entry) }
+    requires device { log.sectors ≡ options.now.sectors }
+    ensures cured { IfOk result (λ t. Cures losses options.now log.entry checkers.now t.explored.bytes.items t.explored.failing) }
+    ensures blind { IfOk result (λ t. t.blind.items ≡ []) }
+    ensures left { IfOk result (λ t. t.left_out ≡ None) }
+    ensures refused { IfErr result (RefusesRun losses options.now checkers.now log.entry) }
 {
-    let made = run_of(rt, alloc, gate, judges, &log)?;
-    let failing = is_failing(&made.found);
+    let judges = CureJudges {
+        checkers,
+        options,
+        losses,
+    };
+    let made = run_of(rt, alloc, gate, &judges, &log)?;
+    let failing = !made.found.failures.is_empty();
     let mut rounds = String::new(alloc);
     let first = LogRun {
         log,
         found: made.found,
     };
-    let hits = all_rounds(rt, alloc, gate, judges, &mut rounds, first)?;
+    let hits = match all_rounds(rt, alloc, gate, &judges, &mut rounds, first) {
+        Ok(hits) => hits,
+        Err(_error) => return Err(Refusal::of_memory()),
+    };
     let bytes = join_texts(made.begin, rounds.as_str())?;
-    Ok(Explored {
-        bytes,
-        hits,
-        failing,
+    Ok(Told {
+        explored: Explored {
+            bytes,
+            hits,
+            failing,
+        },
+        blind: ArrayVec::new(),
+        left_out: None,
     })
-}
-
-/// The cure of a log, tried by its images.
-pub(crate) fn cured_images<'x, G: Gate + Sync, R: Threads + Wait + Sync>(
-    rt: &R,
-    alloc: Global,
-    gate: &G,
-    checkers: &'x [Checker<'x>],
-    options: &'x Options,
-    log: Log<'_>,
-) -> Result<Explored, Refusal>
-    requires checkers { length checkers.now ≤ 8 }
-    requires verified { AreFor options.now.sectors checkers.now }
-    requires whole { options.now.extent ≡ extent.Whole }
-    requires log { IsLog log }
-    requires device { log.sectors ≡ options.now.sectors }
-    ensures bytes { IfOk result (λ e. TellsCure None options.now log.entry checkers.now e.bytes.items) }
-    ensures failing { IfOk result (λ e. IsTrue e.failing ↔ (run_lines options.now checkers.now log.entry ≢ [])) }
-    ensures refused { IfErr result (RefusesPlan options.now log.entry) }
-{
-    let judges = CureJudges {
-        checkers,
-        options,
-        losses: None,
-    };
-    cured_log(rt, alloc, gate, &judges, log)
-}
-
-/// The cure of a log, tried by its cases, whatever is lost.
-pub(crate) fn cured_cases<'x, G: Gate + Sync, R: Threads + Wait + Sync>(
-    rt: &R,
-    alloc: Global,
-    gate: &G,
-    checkers: &'x [Checker<'x>],
-    options: &'x Options,
-    losses: AnyLosses,
-    log: Log<'_>,
-) -> Result<Explored, Refusal>
-    requires checkers { length checkers.now ≤ 8 }
-    requires verified { AreFor options.now.sectors checkers.now }
-    requires whole { options.now.extent ≡ extent.Whole }
-    requires log { IsLog log }
-    requires device { log.sectors ≡ options.now.sectors }
-    ensures cured { IfOk result (λ e. Cures (Some losses) options.now log.entry checkers.now e.bytes.items e.failing) }
-    ensures refused { IfErr result (RefusesRun (Some losses) options.now checkers.now log.entry) }
-{
-    let judges = CureJudges {
-        checkers,
-        options,
-        losses: Some(losses),
-    };
-    cured_log(rt, alloc, gate, &judges, log)
-}
-
-/// Tries where flushes would take failing images of a log away (docs/COMMANDS.md, cure): judges its crash images as
-/// `explore_with` does, adds the flushes that are missing for the failing ones, judges those of the log with them, and so on,
-/// until no failing image that is left has a window. `gate` is told of each run. What is to be told by the
-/// question, and whether the first failing image alone is asked for, changes nothing.
-///
-/// # Errors
-///
-/// Those of `explore_with`, of the first run. A later run that has too many images ends the text.
-pub fn cure_run<G: Gate + Sync, R: Threads + Wait + Sync>(
-    rt: &R,
-    alloc: Global,
-    gate: &G,
-    question: &Question<'_>,
-) -> Result<Explored, Refusal>
-    ensures cured { IfOk result (λ e. IsCured question.now.recording.now (map (λ f. f.items) question.now.programs.now) question.now.options.now e.bytes.items e.failing) }
-    ensures refused { IfErr result (RefusesWanted wants.Cured question.now.recording.now (map (λ f. f.items) question.now.programs.now) question.now.options.now) }
-{
-    let question = Question {
-        wanted: WantedAnswer::Cured,
-        ..*question
-    };
-    explored_by(rt, alloc, gate, &question)
 }

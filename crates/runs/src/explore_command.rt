@@ -10,11 +10,13 @@ ghost use Rattle.request.specs.Extents.{is_extent, most_images, has_extent};
 ghost use Rattle.request.specs.Source.{RefusesPlan, images_of, plan_of};
 ghost use Rattle.workers.specs.Failing.{failing_lines};
 ghost use Rattle.runs.specs.Explore.{HasReport, IsReport, IsReportOfRun, IsProgramCount, RefusesWanted, program_head, head_of, subject_of};
-ghost use Rattle.runs.specs.Inputs.{inputs_number, number_told};
+ghost use Rattle.request.specs.Inputs.{inputs_number};
+ghost use Rattle.runs.specs.Inputs.{number_told};
+ghost use Rattle.runs.specs.Cases.{FindsLeft};
 ghost use Rattle.runs.specs.Judged.{takes, IsJudged};
 ghost use Rattle.runs.specs.declared.explore_command.WantedAnswer.TheVariants as wants;
 ghost use Rattle.request.specs.declared.settings.Telling.TheVariants as tells;
-ghost use Rattle.runs.specs.Why.{Tells, with_first, first_asked, starts_of, IsExplained, IsPaged};
+ghost use Rattle.runs.specs.Why.{Tells, with_first, first_asked, starts_of};
 ghost use Rattle.runs.specs.Blind.{is_noticed, FindsBlind};
 ghost use Rattle.runs.specs.Cured.{IsAnswered};
 ghost use Rattle.runs.specs.Tasks.{lines_of, telling_in, TellsTask};
@@ -24,10 +26,9 @@ ghost use Rattle.request.specs.Found.{IsUnreached};
 ghost use Rattle.runs.specs.Programs.{IsRunWithin, IsCodeFault, IsUnaccepted, code_refusal, verifier_refusal, AreDecoded, AreFirstMade, RefusesOneOf};
 
 use crate::blind::find_blind;
-use crate::case_command::told_cases_of;
+use crate::case_command::told_cases;
 use crate::causes::causes_text;
-use crate::curing::{cured_cases, cured_images};
-use crate::inputs::{case_number, part_number};
+use crate::curing::cured_log;
 use crate::paging::page_bytes;
 use crate::task::{Findings, Task, input_of};
 use arrayvec::ArrayVec;
@@ -35,6 +36,7 @@ use base::refusal::{Cause, Refusal};
 use bpf_isa::codec::decode;
 use bpf_isa::program::{CodeFault, Program};
 use bpf_shape::Fault;
+use case_text::has_range;
 use checker::Checker;
 use choices::Starts;
 use epochs::Plan;
@@ -45,7 +47,8 @@ use report::lines::Lines;
 use report::{Head, ProgramHead, Span, write_part, write_report};
 use request::facts::{LeftOut, Recording, RunFacts};
 use request::{
-    AnyLosses, Extent, MOST_PROGRAMS, OptionPlace, Options, Telling, option_refusal_of, plan_of,
+    AnyLosses, CaseTelling, Extent, MOST_PROGRAMS, OptionPlace, Options, Telling, number_of_inputs,
+    option_refusal_of, plan_of,
 };
 use std::alloc::{AllocError, Global};
 use std::sync::Wait;
@@ -81,18 +84,6 @@ pub(crate) struct Told {
     pub(crate) left_out: Option<LeftOut>,
 }
 
-/// What a cure tells.
-fn told_alone(explored: Explored) -> Told
-    ensures explored { result.explored ≡ explored }
-    ensures blind { result.blind.items ≡ [] }
-{
-    Told {
-        explored,
-        blind: ArrayVec::new(),
-        left_out: None,
-    }
-}
-
 /// What a run answers that told this, by what no run reaches of its programs.
 fn answer_of(told: Told, unreached: ArrayVec<Option<Unreached>, 8>) -> RunAnswer
     ensures explored { result.explored ≡ told.explored }
@@ -117,24 +108,6 @@ pub(crate) fn is_program_count(count: usize) -> bool
     count >= 1 && count <= usize::from(MOST_PROGRAMS)
 }
 
-/// The refusal of a program, at one of its slots.
-fn program_refusal(number: u8, code: Cause, slot: u64) -> Refusal
-    ensures { result ≡ record { code = code; at = slot; program = Some number } }
-{
-    Refusal {
-        code,
-        at: slot,
-        program: Some(number),
-    }
-}
-
-/// The refusal that says a fault of a program's bytes.
-fn code_refusal_of(number: u8, fault: CodeFault) -> Refusal
-    ensures { result ≡ code_refusal number fault.code fault.slot }
-{
-    program_refusal(number, Cause::Code(fault.code), fault.slot)
-}
-
 /// The program that these bytes spell.
 fn decode_one(alloc: Global, number: u8, file: &[u8]) -> Result<Program, Refusal>
     ensures spelled { IfOk result (IsSpelledBy file.now) }
@@ -143,7 +116,11 @@ fn decode_one(alloc: Global, number: u8, file: &[u8]) -> Result<Program, Refusal
 {
     match decode(alloc, file) {
         Ok(program) => Ok(program),
-        Err(fault) => Err(code_refusal_of(number, fault)),
+        Err(fault) => Err(Refusal {
+            code: Cause::Code(fault.code),
+            at: fault.slot,
+            program: Some(number),
+        }),
     }
 }
 
@@ -193,7 +170,11 @@ pub(crate) fn decode_all(alloc: Global, files: &[Vec<u8>]) -> Result<Decoded, Re
 fn verifier_refusal_of(number: u8, fault: Fault) -> Refusal
     ensures { result ≡ verifier_refusal number fault.code fault.slot }
 {
-    program_refusal(number, Cause::Verifier(fault.code), fault.slot)
+    Refusal {
+        code: Cause::Verifier(fault.code),
+        at: fault.slot,
+        program: Some(number),
+    }
 }
 
 /// A program as a checker, and what no run reaches of it; none where it isn't verified.
@@ -388,23 +369,6 @@ fn why_of(
     }
 }
 
-/// The images that are judged, of that many: all, or those of the part that is meant.
-fn span_with(wanted: WantedAnswer, extent: Extent, images: u64, inputs: u64) -> Span
-    requires taken { takes wanted extent ≡ true }
-    requires good { is_extent extent ≡ true }
-    requires few { images ≤ most_images extent }
-    requires within { has_extent extent images ≡ true }
-    ensures judged { IsJudged extent images result }
-    ensures number { result.inputs ≡ inputs }
-{
-    Span {
-        from: extent.first(),
-        to: extent.end(images),
-        images,
-        inputs,
-    }
-}
-
 /// What is to be told of the failing lines that were found.
 fn tell(
     alloc: Global,
@@ -427,18 +391,28 @@ fn tell(
     }
 }
 
-/// The number of the inputs that is told of a run that is asked this.
+/// The number of the inputs that is told of a run that is asked this: 0 where no part of it is meant, of images or of cases that are
+/// listed.
 fn number_told(question: &Question<'_>) -> u64
     ensures { result ≡ number_told question.now.wanted question.now.options.now.extent question.now.options.now.cuts (inputs_number question.now.recording.now.text (map (λ f. f.items) question.now.programs.now)) }
 {
     let log = question.recording.log();
     match question.wanted {
-        WantedAnswer::Told(_telling) => {
-            part_number(question.options.extent(), log, question.programs)
-        }
+        WantedAnswer::Told(_telling) => match question.options.extent() {
+            Extent::Part {
+                from: _from,
+                to: _to,
+            } => number_of_inputs(log, question.programs),
+            Extent::Whole | Extent::Wide => 0,
+        },
         WantedAnswer::Cases(losses) => {
-            let cuts = question.options.cuts();
-            case_number(losses.telling, &cuts, log, question.programs)
+            let is_range = has_range(&question.options.cuts());
+            match losses.telling {
+                CaseTelling::Cases if is_range => number_of_inputs(log, question.programs),
+                CaseTelling::Cases => 0,
+                CaseTelling::Causes => 0,
+                CaseTelling::Page => 0,
+            }
         }
         WantedAnswer::Cured => 0,
         WantedAnswer::CuredCases(_losses) => 0,
@@ -453,8 +427,13 @@ fn span_of(question: &Question<'_>, images: u64) -> Span
     ensures judged { IsJudged question.now.options.now.extent images result }
     ensures number { result.inputs ≡ number_told question.now.wanted question.now.options.now.extent question.now.options.now.cuts (inputs_number question.now.recording.now.text (map (λ f. f.items) question.now.programs.now)) }
 {
-    let inputs = number_told(question);
-    span_with(question.wanted, question.options.extent(), images, inputs)
+    let extent = question.options.extent();
+    Span {
+        from: extent.first(),
+        to: extent.end(images),
+        images,
+        inputs: number_told(question),
+    }
 }
 
 /// Whether blocks after the first failing image may be passed over.
@@ -479,6 +458,7 @@ fn judge_task<'x, G: Gate + Sync, R: Threads + Wait + Sync>(
     requires verified { AreFor task.now.options.now.sectors task.now.checkers.now }
     ensures bytes { IfOk result (λ t. TellsTask telling task.now t.explored.bytes.items) }
     ensures blind { IfOk result (λ t. t.blind.items ≡ map (is_noticed task.now.plan.now) task.now.checkers.now) }
+    ensures left { IfOk result (λ t. t.left_out ≡ None) }
     ensures failing { IfOk result (λ t. IsTrue t.explored.failing ↔ (lines_of task.now ≢ [])) }
     ensures refused { IfErr result (RefusesPlan task.now.options.now task.now.log.now) }
 {
@@ -495,7 +475,10 @@ fn judge_task<'x, G: Gate + Sync, R: Threads + Wait + Sync>(
     let first = is_first_asked(telling, options);
     let input = input_of(&*task, &starts, &history, first);
     let work = explore_all(rt, alloc, gate, &input)?;
-    let blind = find_blind(alloc, task, &starts, &history)?;
+    let blind = match find_blind(alloc, task, &starts, &history) {
+        Ok(blind) => blind,
+        Err(_error) => return Err(Refusal::of_memory()),
+    };
     match tell(alloc, telling, task, &starts, &history, &work.lines) {
         Ok(bytes) => Ok(Told {
             explored: Explored {
@@ -529,6 +512,7 @@ fn judge_log<G: Gate + Sync, R: Threads + Wait + Sync>(
     requires verified { AreFor options.now.sectors checkers.now }
     ensures bytes { IfOk result (λ t. Tells telling span.inputs options.now log.now checkers.now t.explored.bytes.items) }
     ensures blind { IfOk result (λ t. t.blind.items ≡ map (is_noticed plan.now) checkers.now) }
+    ensures left { IfOk result (λ t. t.left_out ≡ None) }
     ensures failing { IfOk result (λ t. IsTrue t.explored.failing ↔ (failing_lines (subject_of options.now log.now checkers.now) ≢ [])) }
     ensures refused { IfErr result (RefusesPlan options.now log.now) }
 {
@@ -594,6 +578,7 @@ fn make_run<G: Gate + Sync, R: Threads + Wait + Sync>(
     ensures told { IfOk result (λ a. IsAnswered question.now.wanted question.now.recording.now (map (λ f. f.items) question.now.programs.now) question.now.options.now a.explored.bytes.items a.explored.failing) }
     ensures unreached { IfOk result (λ a. FindsUnreached (map (λ f. f.items) question.now.programs.now) question.now.options.now a.facts.unreached.items) }
     ensures blind { IfOk result (λ a. FindsBlind question.now.wanted question.now.recording.now (map (λ f. f.items) question.now.programs.now) question.now.options.now a.facts.blind.items) }
+    ensures left { IfOk result (λ a. FindsLeft question.now.wanted question.now.recording.now (map (λ f. f.items) question.now.programs.now) question.now.options.now a.explored.failing a.facts.left_out) }
     ensures refused { IfErr result (RefusesWanted question.now.wanted question.now.recording.now (map (λ f. f.items) question.now.programs.now) question.now.options.now) }
 {
     let (programs, options) = (question.programs, question.options);
@@ -624,21 +609,21 @@ fn make_run<G: Gate + Sync, R: Threads + Wait + Sync>(
         WantedAnswer::Cured => {
             // The log is changed from run to run.
             drop(plan);
-            match cured_images(rt, alloc, gate, made, options, log) {
-                Ok(explored) => Ok(answer_of(told_alone(explored), unreached)),
+            match cured_log(rt, alloc, gate, made, options, None, log) {
+                Ok(told) => Ok(answer_of(told, unreached)),
                 Err(refusal) => Err(refusal),
             }
         }
         WantedAnswer::CuredCases(losses) => {
             drop(plan);
-            match cured_cases(rt, alloc, gate, made, options, losses, log) {
-                Ok(explored) => Ok(answer_of(told_alone(explored), unreached)),
+            match cured_log(rt, alloc, gate, made, options, Some(losses), log) {
+                Ok(told) => Ok(answer_of(told, unreached)),
                 Err(refusal) => Err(refusal),
             }
         }
         WantedAnswer::Cases(losses) => {
             let span = span_of(question, images);
-            match told_cases_of(rt, alloc, gate, losses, &log, &plan, made, options, span) {
+            match told_cases(rt, alloc, gate, losses, &log, &plan, made, options, span) {
                 Ok(told) => Ok(answer_of(told, unreached)),
                 Err(refusal) => Err(refusal),
             }
@@ -646,9 +631,18 @@ fn make_run<G: Gate + Sync, R: Threads + Wait + Sync>(
     }
 }
 
-/// Judges the crash images of a log by one to eight programs, and tells of those that fail what is asked for: what
-/// `explore_with`, `why`, `page` or `cure_run` answers, or the failing cases of any number of losses, or a cure by these; with what is
-/// known of the programs for the notes.
+/// Judges the crash images of a log by one to eight programs, and tells of those that fail what is asked for, with what is known of the
+/// programs for the notes.
+///
+/// - The report is that of `explore_with`.
+/// - Why programs fail says how many images fail and where flushes are missing. Of each program it says how many images of each cut fail,
+///   and in which groups they stand (docs/OUTPUT.md, The text of `why`). The page shows the same in a browser (The page of `page`).
+/// - A cure tries where flushes would take failing images of a log away (docs/COMMANDS.md, cure). It adds the flushes that are missing
+///   for the failing ones, judges the images of the log with them, and so on, until no failing image that is left has a window. `gate` is
+///   told of each run. A later run that has too many images ends the text.
+/// - Cases are those of any number of losses that fail, or why they do; and a cure may go by these.
+///
+/// All but the report judge each image once, whether or not the first failing image alone is asked for.
 ///
 /// # Errors
 ///
@@ -664,29 +658,13 @@ pub fn run_with<G: Gate + Sync, R: Threads + Wait + Sync>(
     ensures told { IfOk result (λ a. IsAnswered question.now.wanted question.now.recording.now (map (λ f. f.items) question.now.programs.now) question.now.options.now a.explored.bytes.items a.explored.failing) }
     ensures unreached { IfOk result (λ a. FindsUnreached (map (λ f. f.items) question.now.programs.now) question.now.options.now a.facts.unreached.items) }
     ensures blind { IfOk result (λ a. FindsBlind question.now.wanted question.now.recording.now (map (λ f. f.items) question.now.programs.now) question.now.options.now a.facts.blind.items) }
+    ensures left { IfOk result (λ a. FindsLeft question.now.wanted question.now.recording.now (map (λ f. f.items) question.now.programs.now) question.now.options.now a.explored.failing a.facts.left_out) }
     ensures refused { IfErr result (RefusesWanted question.now.wanted question.now.recording.now (map (λ f. f.items) question.now.programs.now) question.now.options.now) }
 {
     if !does_take(question.wanted, question.options.extent()) {
         return Err(option_refusal_of(OptionPlace::Images));
     }
     make_run(rt, alloc, gate, question)
-}
-
-/// The same, without what is known for the notes.
-pub(crate) fn explored_by<G: Gate + Sync, R: Threads + Wait + Sync>(
-    rt: &R,
-    alloc: Global,
-    gate: &G,
-    question: &Question<'_>,
-) -> Result<Explored, Refusal>
-    ensures taken { IfOk result (λ _. takes question.now.wanted question.now.options.now.extent ≡ true) }
-    ensures told { IfOk result (λ e. IsAnswered question.now.wanted question.now.recording.now (map (λ f. f.items) question.now.programs.now) question.now.options.now e.bytes.items e.failing) }
-    ensures refused { IfErr result (RefusesWanted question.now.wanted question.now.recording.now (map (λ f. f.items) question.now.programs.now) question.now.options.now) }
-{
-    match run_with(rt, alloc, gate, question) {
-        Ok(answer) => Ok(answer.explored),
-        Err(refusal) => Err(refusal),
-    }
 }
 
 /// Explores the crash images of a log: judges each by the one to eight programs, and reports those that
@@ -720,60 +698,10 @@ pub fn explore_with<G: Gate + Sync, R: Threads + Wait + Sync>(
         programs,
         options,
     };
-    explored_by(rt, alloc, gate, &question)
-}
-
-/// Says why programs fail on the crash images of a log: how many images fail and where flushes are missing, and of each program how
-/// many images of each cut fail and in which groups they stand (docs/OUTPUT.md, The text of `why`). It judges each image once, as
-/// `explore_with` does, whether or not the first failing image alone is asked for.
-///
-/// # Errors
-///
-/// Those of `explore_with`, and 13 at 17 where the options mean a part of a run.
-pub fn why<G: Gate + Sync, R: Threads + Wait + Sync>(
-    rt: &R,
-    alloc: Global,
-    gate: &G,
-    recording: &Recording<'_>,
-    programs: &[Vec<u8>],
-    options: &Options,
-) -> Result<Explored, Refusal>
-    ensures explained { IfOk result (λ e. IsExplained recording.now (map (λ f. f.items) programs.now) options.now e.bytes.items e.failing) }
-    ensures refused { IfErr result (RefusesWanted (wants.Told tells.Causes) recording.now (map (λ f. f.items) programs.now) options.now) }
-{
-    let question = Question {
-        wanted: WantedAnswer::Told(Telling::Causes),
-        recording,
-        programs,
-        options,
-    };
-    explored_by(rt, alloc, gate, &question)
-}
-
-/// Shows where programs fail on the crash images of a log, as a page for a browser (docs/OUTPUT.md, The page of `page`). It
-/// judges each image once, as `explore_with` does, whether or not the first failing image alone is asked for.
-///
-/// # Errors
-///
-/// Those of `explore_with`, and 13 at 17 where the options mean a part of a run.
-pub fn page<G: Gate + Sync, R: Threads + Wait + Sync>(
-    rt: &R,
-    alloc: Global,
-    gate: &G,
-    recording: &Recording<'_>,
-    programs: &[Vec<u8>],
-    options: &Options,
-) -> Result<Explored, Refusal>
-    ensures paged { IfOk result (λ e. IsPaged recording.now (map (λ f. f.items) programs.now) options.now e.bytes.items e.failing) }
-    ensures refused { IfErr result (RefusesWanted (wants.Told tells.Page) recording.now (map (λ f. f.items) programs.now) options.now) }
-{
-    let question = Question {
-        wanted: WantedAnswer::Told(Telling::Page),
-        recording,
-        programs,
-        options,
-    };
-    explored_by(rt, alloc, gate, &question)
+    match run_with(rt, alloc, gate, &question) {
+        Ok(answer) => Ok(answer.explored),
+        Err(refusal) => Err(refusal),
+    }
 }
 
 /// The bytes of `explore_with`, with a gate that does nothing.

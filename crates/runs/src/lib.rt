@@ -13,10 +13,7 @@
 //! |---|---|
 //! | `explore_with(rt, alloc, gate, recording, programs, options)` | the report, or the text of a part, how often the cache was hit, and whether an image fails; `gate` is told of each block |
 //! | `explore(rt, alloc, recording, programs, options)` | the bytes of the report |
-//! | `why(rt, alloc, gate, recording, programs, options)` | the same run told by its causes (`causes.rt`) |
-//! | `page(rt, alloc, gate, recording, programs, options)` | the same run as a page for a browser (`paging.rt`) |
-//! | `run_with(rt, alloc, gate, question)` | what is known of the programs for the notes, and one of the four, or the failing cases of any number of losses (`case_command.rt`), or a cure by these, by what is wanted |
-//! | `cure_run(rt, alloc, gate, question)` | where flushes are missing, and what is left with them, run by run (`curing.rt`) |
+//! | `run_with(rt, alloc, gate, question)` | by what is wanted the report; the same run told by its causes (`causes.rt`), or as a page for a browser (`paging.rt`); where flushes are missing, and what is left with them, run by run (`curing.rt`); the failing cases of any number of losses (`case_command.rt`), or a cure by these. With it what is known of the programs for the notes |
 //! | `blind_programs_pass()` | a law, by a function that does nothing: what it means that a program is blind (`blind.rt`) |
 //! | `any_loss_is_told()`, `told_cases_fail()` | laws: on which images of any cut a program fails, by the text of cases |
 //!
@@ -33,10 +30,10 @@
 //!
 //! Where the options mean a part of a run, the images of the part alone are judged, and the bytes are its text: the definition is
 //! `span_report` of `report`, over the failing lines of these images and the number of the inputs (`specs/Inputs.antt`). Which images
-//! are judged says `specs/Judged.antt`. `why`, `page` and `cure_run` judge whole runs alone.
+//! are judged says `specs/Judged.antt`. Why programs fail, the page and a cure are of whole runs alone.
 //!
-//! `why` answers, of the same failing lines, which flushes are missing and what fails of each program at each cut (`IsExplained` in
-//! `specs/Why.antt`), and `page` the page of it (`IsPaged`). Where one of them answers `Err`, the refusal is the first in the
+//! Where it is asked why programs fail, `run_with` answers, of the same failing lines, which flushes are missing and what fails of each
+//! program at each cut (`IsExplained` in `specs/Why.antt`); where the page is asked for, the page of it (`IsPaged`). Where it answers `Err`, the refusal is the first in the
 //! order of docs/REFUSALS.md (`Refuses` in `specs/Explore.antt`): the number of programs, the log, the number of its images, then
 //! each program; or memory ran out.
 //!
@@ -52,7 +49,7 @@
 //! direction: on each image of a case that is told its program fails, and ends as the case says.
 //!
 //! A cure makes one run after the other, each of the log with the flushes that were missing before. What a run finds is one definition with
-//! two cases (`Finds` in `specs/Cured.antt`): its failing lines, or with any number of losses its failing cases (`cured_cases` in
+//! two cases (`Finds` in `specs/Cured.antt`): its failing lines, or with any number of losses its failing cases (`cured_log` in
 //! `curing.rt`). Rounds, their text and the end are stated and proved once, for both. A cure by cases has all of them in each run, also with
 //! the option `first`. Where a later run has more than 16,777,216 cases, that ends the text.
 //!
@@ -102,14 +99,12 @@ mod case_command;
 mod causes;
 mod curing;
 mod explore_command;
-mod inputs;
 mod laws;
 mod missing;
 mod paging;
 mod task;
 
-pub use curing::cure_run;
 pub use explore_command::{
-    Explored, Question, RunAnswer, WantedAnswer, explore, explore_with, page, run_with, why,
+    Explored, Question, RunAnswer, WantedAnswer, explore, explore_with, run_with,
 };
 pub use laws::{any_loss_is_told, blind_programs_pass, told_cases_fail};

@@ -1,6 +1,6 @@
 //! Where programs fail, as a page for a browser (docs/OUTPUT.md, The page of `page`).
 
-ghost use Rattle.std.specs.Prelude.{◌≡◌, ◌++◌, ◌∷◌, [], ℕ, All, map, length, IfOk, OnOk, string_bytes};
+ghost use Rattle.std.specs.Prelude.{◌≡◌, ℕ, All, map, length, IfOk};
 ghost use Rattle.std.specs.List.Sorted.{IsNonDecreasing};
 ghost use Rattle.losses.specs.Places.{AreWindows};
 ghost use Rattle.losses.specs.FailureWindows.{windows_in};
@@ -10,7 +10,7 @@ ghost use Rattle.crash_page.specs.Failing.{IsFailing, AreFailing};
 ghost use Rattle.crash_page.specs.Page.{AreOfRun};
 ghost use Rattle.losses.specs.Failures.{AreImages};
 ghost use Rattle.runs.specs.Marked.{images_marked};
-ghost use Rattle.runs.specs.Paged.{IsSaid, IsPageOf, about_run};
+ghost use Rattle.runs.specs.Paged.{IsSaid, IsPageOf};
 ghost use Rattle.runs.specs.Tasks.{lines_of};
 
 use crate::causes::images_of_program;
@@ -21,7 +21,6 @@ use crash_text::Numbering;
 use losses::cure::Failure;
 use losses::outcomes::outcomes_of;
 use page_parts::PageJudge;
-use report::lines::Lines;
 use report::{Head, ProgramHead, put_options, put_totals};
 use std::alloc::{AllocError, Global};
 
@@ -55,17 +54,6 @@ fn checker_failures<'x>(
     )
 }
 
-/// Appends what fails of a program.
-fn push_failures<'x>(
-    found: &mut Vec<ProgramFailures<'x>>,
-    failures: ProgramFailures<'x>,
-) -> Result<(), AllocError>
-    ensures { OnOk result (found.new.items ≡ found.old.items ++ failures.entry ∷ []) }
-{
-    found.push(failures)?;
-    Ok(())
-}
-
 /// What fails of each program.
 fn all_failures<'x>(
     alloc: Global,
@@ -83,20 +71,9 @@ fn all_failures<'x>(
     let mut found = Vec::new(alloc);
     for (program, head) in heads.iter().enumerate() {
         let failing = checker_failures(alloc, run, findings, failures, *head, program)?;
-        push_failures(&mut found, failing)?;
+        found.push(failing)?;
     }
     Ok(found)
-}
-
-/// The text at the head of a page: the options, the programs and the totals.
-fn about(alloc: Global, head: &Head, lines: &Lines) -> Result<String, AllocError>
-    requires order { IsNonDecreasing (map (λ l. l.image) lines.now) }
-    ensures { IfOk result (λ text. string_bytes text ≡ about_run head.now lines.now) }
-{
-    let mut text = String::new(alloc);
-    put_options(&mut text, head)?;
-    put_totals(&mut text, head.images, lines)?;
-    Ok(text)
 }
 
 /// What the images of a task are numbered by.
@@ -118,7 +95,7 @@ fn numbering_of<'x>(task: &Task<'x>) -> Numbering<'x>
     }
 }
 
-/// The page of a run, by all failing lines.
+/// The page of a run, by all failing lines. At its head it has the options, the programs and the totals.
 pub(crate) fn page_bytes(
     alloc: Global,
     head: &Head,
@@ -129,7 +106,9 @@ pub(crate) fn page_bytes(
     requires images { (program : ℕ) → AreImages findings.now.starts.now (images_marked findings.now.marks.now program) }
     ensures { IfOk result (λ bytes. IsPageOf head.now findings.now.starts.now (images_marked findings.now.marks.now) findings.now.lines.now bytes.items) }
 {
-    let text = about(alloc, head, findings.lines)?;
+    let mut text = String::new(alloc);
+    put_options(&mut text, head)?;
+    put_totals(&mut text, head.images, findings.lines)?;
     let failures = failures_found(alloc, findings)?;
     let run = PageRun {
         starts: findings.starts,

@@ -1,20 +1,22 @@
 //! The crash images of a log as bytes, each by what differs.
 
-ghost use Rattle.std.specs.Prelude.{◌≡◌, ◌≤◌, length, IfOk, IfErr, OnOk, OnErr, true, false};
+ghost use Rattle.std.specs.Prelude.{◌≡◌, ◌≤◌, ◌++◌, length, string_bytes, IfOk, IfErr, OnOk, OnErr, true, false};
 ghost use Rattle.std.specs.Io.KnownBytes.{Appends};
 ghost use Rattle.request.specs.Extents.{most_images, has_extent, is_at_once};
 ghost use Rattle.request.specs.Source.{plan_of, images_of};
 ghost use Rattle.export.specs.Export.{export_text};
 ghost use Rattle.export.specs.Streaming.{TakesPart};
-ghost use Rattle.inspect.specs.Export.{exported, IsExport, RefusesExport, WritesExport, StopsExport, RefusesInstead};
+ghost use Rattle.inspect.specs.Export.{export_head, exported, IsExport, RefusesExport, WritesExport, StopsExport, RefusesInstead};
 
 use base::refusal::Refusal;
 use epochs::Plan;
 use export::{Output, PlannedImages, StreamFault, WantedImages, export};
 use logfmt::Log;
 use request::facts::Recording;
-use request::{OptionPlace, Options, option_refusal_of, plan_of};
-use std::alloc::Global;
+use request::{
+    OptionPlace, Options, number_line, number_of_report, option_refusal_of, plan_of, report_options,
+};
+use std::alloc::{AllocError, Global};
 use std::io::Write;
 
 /// Why the text of the images isn't written, or not all of it.
@@ -26,9 +28,25 @@ pub enum Stopped {
     Cut(StreamFault),
 }
 
-/// Writes the text of the images that are meant, of a plan of a log that has that many.
+/// The line that says of which log and options the images are.
+fn head_of(
+    alloc: Global,
+    recording: &Recording<'_>,
+    log: &Log,
+    options: &Options,
+    images: u64,
+) -> Result<String, AllocError>
+    requires { images ≡ length (images_of options.now log.now) }
+    ensures { IfOk result (λ head. string_bytes head ≡ export_head recording.now.text options.now log.now) }
+{
+    let line = report_options(alloc, log, options, images)?;
+    number_line(alloc, number_of_report(recording.log(), line.as_bytes()))
+}
+
+/// Writes a head and the text of the images that are meant, of a plan of a log that has that many.
 fn write_meant<W: Write>(
     alloc: Global,
+    head: &str,
     log: &Log,
     plan: &Plan<'_>,
     options: &Options,
@@ -41,8 +59,8 @@ fn write_meant<W: Write>(
     requires few { images ≤ most_images options.now.extent }
     requires within { has_extent options.now.extent images ≡ true }
     requires at_once { is_at_once options.now.extent ≡ true }
-    ensures all { OnOk result.0 (Appends (W.contents output.writer) (W.contents result.1.writer) (export_text (exported options.now log.now))) }
-    ensures part { OnErr result.0 (TakesPart (W.contents output.writer) (W.contents result.1.writer) (export_text (exported options.now log.now))) }
+    ensures all { OnOk result.0 (Appends (W.contents output.writer) (W.contents result.1.writer) (head.now ++ export_text (exported options.now log.now))) }
+    ensures part { OnErr result.0 (TakesPart (W.contents output.writer) (W.contents result.1.writer) (head.now ++ export_text (exported options.now log.now))) }
 {
     let extent = options.extent();
     let wanted = WantedImages {
@@ -52,7 +70,8 @@ fn write_meant<W: Write>(
         from: extent.first(),
         to: extent.end(images),
     };
-    export(alloc, &PlannedImages::of(log, plan, wanted), output)
+    let planned = PlannedImages::of(log, plan, wanted);
+    export(alloc, head.as_bytes(), &planned, output)
 }
 
 /// Writes the crash images of a log that are meant, one after the other, as they are made: a line for each, and of a new one the
@@ -84,7 +103,11 @@ pub fn write_images<W: Write>(
         Ok(planned) => planned,
         Err(refusal) => return (Err(Stopped::Refused(refusal)), output),
     };
-    let (written, output) = write_meant(alloc, &log, &plan, options, images, output);
+    let head = match head_of(alloc, recording, &log, options, images) {
+        Ok(head) => head,
+        Err(_error) => return (Err(Stopped::Refused(Refusal::of_memory())), output),
+    };
+    let (written, output) = write_meant(alloc, head.as_str(), &log, &plan, options, images, output);
     match written {
         Ok(()) => (Ok(()), output),
         Err(fault) => (Err(Stopped::Cut(fault)), output),

@@ -9,7 +9,7 @@ ghost use Rattle.join.specs.CaseTexts.{NoCasesText, totals_line};
 ghost use Rattle.join.specs.CaseReading.{IsCasesPart};
 ghost use Rattle.join.specs.CaseJoining.{AreCasesParts, AreJoinedCases, HasFailing, IsFirstNone, IsTooLong, RefusesCases, all_totals, both_totals, have_all_cuts, joined_head, told_from, told_number, told_to};
 ghost use Rattle.join.specs.CaseRows.{IsCasesRowText, IsCasesWritten, IsSmallPart, IsSortedCases, IsSortedFault, NoneIsForeign, WhyNoCases, WhyNoCasesRow};
-ghost use Rattle.case_text.specs.Text.{cases_head};
+ghost use Rattle.case_text.specs.Text.{are_all_cuts, cases_head};
 
 use crate::case_parts::fault::CasesFault;
 use crate::case_parts::heading::{head_between, head_text};
@@ -19,6 +19,7 @@ use crate::case_parts::totals::{CaseTotals, first_of, last_of, put_totals};
 use crate::fault::{JoinFault, MEMORY_FAULT};
 use crate::joining::{JoinedText, first_long};
 use base::causes::JoinCause;
+use case_text::are_all_cuts;
 use std::alloc::{AllocError, Global};
 use std::str;
 
@@ -124,13 +125,19 @@ fn told_range(first: &CasePart<'_>, last: &CasePart<'_>) -> (Option<u64>, Option
     }
 }
 
-/// What stands before the lines of texts in a row.
-fn opening(alloc: Global, first: &CasePart<'_>, last: &CasePart<'_>) -> Result<String, AllocError>
-    ensures { IfOk result (λ out. string_bytes out ≡ cases_head (told_number first.now last.now) (joined_head first.now last.now) first.now.asked) }
+/// What stands before the lines of texts in a row, and whether that is said of each cut of their log.
+fn opening(
+    alloc: Global,
+    first: &CasePart<'_>,
+    last: &CasePart<'_>,
+) -> Result<(String, bool), AllocError>
+    ensures text { IfOk result (λ out. string_bytes out.0 ≡ cases_head (told_number first.now last.now) (joined_head first.now last.now) first.now.asked) }
+    ensures all { IfOk result (λ out. out.1 ≡ are_all_cuts (joined_head first.now last.now).cuts) }
 {
     let (from, to, inputs) = told_range(first, last);
     let head = head_between(alloc, &first.head, from, to)?;
-    head_text(alloc, inputs, &head, first.asked)
+    let text = head_text(alloc, inputs, &head, first.asked)?;
+    Ok((text, are_all_cuts(&head.cuts)))
 }
 
 /// The text of a row.
@@ -141,9 +148,10 @@ fn row_text(alloc: Global, parts: &[CasePart<'_>]) -> Result<Vec<u8>, AllocError
     requires small { All IsSmallPart parts.now }
     ensures { IfOk result (λ bytes. IsCasesWritten parts.now bytes.items) }
 {
+    let (front, all) = opening(alloc, &parts[0], &parts[parts.len() - 1])?;
     let mut end = String::new(alloc);
-    put_totals(&mut end, total_of(parts))?;
-    let mut out = opening(alloc, &parts[0], &parts[parts.len() - 1])?.into_bytes();
+    put_totals(&mut end, all, total_of(parts))?;
+    let mut out = front.into_bytes();
     put_all(&mut out, parts)?;
     out.extend_from_slice(end.as_bytes())?;
     Ok(out)

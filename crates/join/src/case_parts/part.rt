@@ -68,7 +68,7 @@ fn read_rest<'t>(
     if !are_totals_of_run(&head, tally.lines, tally.cuts, totals) {
         return Ok(None);
     }
-    if !is_totals(alloc, totals, last)? {
+    if !is_totals(alloc, &head, totals, last)? {
         return Ok(None);
     }
     Ok(Some(CasePart {

@@ -2,12 +2,13 @@
 
 ghost use Rattle.std.specs.Prelude.{◌≡◌, ◌++◌, ◌↔◌, ◌+◌, ◌<◌, ◌≤◌, ◌^◌, IfOk, IsTrue, OnOk, string_bytes};
 ghost use Rattle.join.specs.CaseTexts.{are_totals_of_run, first_of, last_of, totals_line};
+ghost use Rattle.case_text.specs.Text.{are_all_cuts};
 ghost use Rattle.join.specs.CaseReading.{ReadsSecond, ReadsTotals};
 ghost use Rattle.join.specs.Heads.{IsPrintedHead};
 
 use crate::case_parts::judging::MOST_CASES;
 use crate::words::next_word;
-use case_text::{put_beyond, put_complete, put_counts};
+use case_text::{are_all_cuts, put_beyond, put_complete, put_counts};
 use report::Head;
 use report::printed::{cut, number};
 use std::alloc::{AllocError, Global};
@@ -54,24 +55,29 @@ pub(crate) fn totals_said(text: &str) -> CaseTotals
     }
 }
 
-/// Appends the last line.
+/// Appends the last line, of a run that was asked for each cut of its log or for some.
 #[tactic(auto, unfolding(crate::specs::CaseTexts::totals_line))]
-pub(crate) fn put_totals(out: &mut String, totals: CaseTotals) -> Result<(), AllocError>
-    ensures { OnOk result (string_bytes out.new ≡ string_bytes out.old ++ totals_line totals) }
+pub(crate) fn put_totals(out: &mut String, all: bool, totals: CaseTotals) -> Result<(), AllocError>
+    ensures { OnOk result (string_bytes out.new ≡ string_bytes out.old ++ totals_line all totals) }
 {
     put_counts(out, totals.cuts, totals.cases, totals.failing)?;
     put_beyond(out, totals.torn, totals.lost)?;
-    put_complete(out, totals.torn, totals.lost)?;
+    put_complete(out, all, totals.torn, totals.lost)?;
     write!(out, "\n")?;
     Ok(())
 }
 
-/// Whether a text is that last line.
-pub(crate) fn is_totals(alloc: Global, totals: CaseTotals, text: &str) -> Result<bool, AllocError>
-    ensures { IfOk result (λ is. IsTrue is ↔ (text.now ≡ totals_line totals)) }
+/// Whether a text is that last line, of a run with that head.
+pub(crate) fn is_totals(
+    alloc: Global,
+    head: &Head,
+    totals: CaseTotals,
+    text: &str,
+) -> Result<bool, AllocError>
+    ensures { IfOk result (λ is. IsTrue is ↔ (text.now ≡ totals_line (are_all_cuts head.now.cuts) totals)) }
 {
     let mut printed = String::new(alloc);
-    put_totals(&mut printed, totals)?;
+    put_totals(&mut printed, are_all_cuts(&head.cuts), totals)?;
     Ok(printed.as_str() == text)
 }
 

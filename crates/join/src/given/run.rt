@@ -9,6 +9,8 @@ use epochs::By;
 /// The run of which a report is to be.
 #[derive(Clone, Copy)]
 pub struct ReportRun<'x> {
+    /// Its title, with the newline, and, where the report says of what it is, that line.
+    pub title: &'x str,
     /// The line of its options, with the newline.
     pub options: &'x str,
     /// Its images by number.

@@ -1,6 +1,6 @@
 //! A report as a whole, read and tested.
 
-ghost use Rattle.std.specs.Prelude.{◌≡◌, ◌≤◌, ◌^◌, ◌++◌, codes, IfOk, MatchOption, length};
+ghost use Rattle.std.specs.Prelude.{◌≡◌, ◌≤◌, ◌^◌, ◌++◌, IfOk, MatchOption, length};
 ghost use Rattle.std.specs.Str.{IsUtf8};
 ghost use Rattle.join.specs.Given.{NoReport, IsReportRead};
 ghost use Rattle.join.specs.GivenReading.{given_told};
@@ -64,11 +64,11 @@ fn rest_said<'t>(
 ) -> Result<Option<Given<'t>>, AllocError>
     requires short { length whole.now ≤ 2 ^ 30 }
     requires utf8 { IsUtf8 whole.now }
-    requires titled { whole.now ≡ codes "crash report 2\n" ++ titled.now }
+    requires titled { whole.now ≡ run.now.title.now ++ titled.now }
     requires given { titled.now ≡ run.now.options.now ++ text.now }
-    ensures { IfOk result (λ found. MatchOption found (NoReport run.now.options.now run.now.starts.now run.now.images whole.now) (λ g. IsReportRead run.now.options.now run.now.starts.now run.now.images whole.now (given_told g))) }
+    ensures { IfOk result (λ found. MatchOption found (NoReport run.now.title.now run.now.options.now run.now.starts.now run.now.images whole.now) (λ g. IsReportRead run.now.title.now run.now.options.now run.now.starts.now run.now.images whole.now (given_told g))) }
 {
-    *line = 3;
+    *line = newlines_before(whole, text).saturating_add(1);
     let Some((judges, lines)) = judges_said(alloc, text)? else {
         return Ok(None);
     };
@@ -110,13 +110,13 @@ fn text_said<'t>(
 ) -> Result<Option<Given<'t>>, AllocError>
     requires short { length text.now ≤ 2 ^ 30 }
     requires utf8 { IsUtf8 text.now }
-    ensures { IfOk result (λ found. MatchOption found (NoReport run.now.options.now run.now.starts.now run.now.images text.now) (λ g. IsReportRead run.now.options.now run.now.starts.now run.now.images text.now (given_told g))) }
+    ensures { IfOk result (λ found. MatchOption found (NoReport run.now.title.now run.now.options.now run.now.starts.now run.now.images text.now) (λ g. IsReportRead run.now.title.now run.now.options.now run.now.starts.now run.now.images text.now (given_told g))) }
 {
     *line = 1;
-    let Some(titled) = beyond("crash report 2\n", text) else {
+    let Some(titled) = beyond(run.title, text) else {
         return Ok(None);
     };
-    *line = 2;
+    *line = newlines_before(text, titled).saturating_add(1);
     let Some(judged) = beyond(run.options, titled) else {
         return Ok(None);
     };
@@ -138,7 +138,7 @@ fn line_of_foreign(bytes: &[u8]) -> u64 {
 }
 
 /// What the report of a run says, to the byte; none where the bytes are the report of no such run. Then `line` becomes the line at which
-/// that shows: the first that doesn't go on as such a report does, 3 for any line of the programs, or that after the last one where it is
+/// that shows: the first that doesn't go on as such a report does, that of the first program for any line of the programs, or that after the last one where it is
 /// cut off.
 ///
 /// # Errors
@@ -152,7 +152,7 @@ pub fn read_report<'t>(
     line: &mut u64,
 ) -> Result<Option<Given<'t>>, AllocError>
     requires short { length bytes.now ≤ 2 ^ 30 }
-    ensures { IfOk result (λ found. MatchOption found (NoReport run.now.options.now run.now.starts.now run.now.images bytes.now) (λ g. IsReportRead run.now.options.now run.now.starts.now run.now.images bytes.now (given_told g))) }
+    ensures { IfOk result (λ found. MatchOption found (NoReport run.now.title.now run.now.options.now run.now.starts.now run.now.images bytes.now) (λ g. IsReportRead run.now.title.now run.now.options.now run.now.starts.now run.now.images bytes.now (given_told g))) }
 {
     match str::from_utf8(bytes) {
         Ok(text) => text_said(alloc, run, text, line),

@@ -315,6 +315,7 @@ fn run_options(request: Request) -> Option<OptionWords> {
     match request {
         Request::Explore(words) | Request::Why(words) => Some(words),
         Request::Cure(words) | Request::Page(words) => Some(words),
+        Request::Marked(words) => Some(words),
         _ => None,
     }
 }
@@ -339,6 +340,7 @@ fn asks_for_guards(request: &Request) -> bool {
         Request::Explore(words) | Request::Cases(words, _) => words.settings.guards,
         Request::Why(words) | Request::CureCases(words, _) => words.settings.guards,
         Request::Cure(words) | Request::Page(words) => words.settings.guards,
+        Request::Marked(words) => words.settings.guards,
         Request::Check(words) => words.guards,
         _ => false,
     }
@@ -350,7 +352,7 @@ fn guards_note(request: Request) -> Option<&'static str> {
         Request::Verify { .. } | Request::Explore(_) => Some(GUARDS_MAY),
         Request::Cases(_, _) | Request::Why(_) => Some(GUARDS_MAY),
         Request::Cure(_) | Request::CureCases(_, _) => Some(GUARDS_MAY),
-        Request::Page(_) => Some(GUARDS_MAY),
+        Request::Page(_) | Request::Marked(_) => Some(GUARDS_MAY),
         Request::Check(_) => Some(GUARDS_ELSEWHERE),
         _ => None,
     }

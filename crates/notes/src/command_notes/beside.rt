@@ -15,6 +15,9 @@ use request::facts::{LogFacts, RunFacts, log_facts};
 use request::{Extent, LossWords, OptionWords, Request, options_of};
 use std::alloc::{AllocError, Global};
 
+/// How a report begins that says of which log it is.
+const MARKED: &[u8] = b"crash report 2\ninputs ";
+
 /// Appends what no run reaches of the programs that were verified for a run, by their numbers, and which pass without looking at what
 /// the log writes.
 fn put_explored_notes(out: &mut String, facts: &RunFacts) -> Result<(), AllocError> {
@@ -115,6 +118,7 @@ fn put_program_notes(out: &mut String, words: &Words, facts: &RunFacts) -> Resul
         }
         Request::Explore(_) | Request::Why(_) => put_explored_notes(out, facts),
         Request::Cure(_) | Request::Page(_) => put_explored_notes(out, facts),
+        Request::Marked(_) => put_explored_notes(out, facts),
         Request::Cases(_, _) | Request::CureCases(_, _) => put_explored_notes(out, facts),
         _ => Ok(()),
     }
@@ -125,6 +129,7 @@ fn noted_options(words: &Words) -> Option<OptionWords> {
     match words.request() {
         Request::Explore(options) | Request::Why(options) => Some(options),
         Request::Cure(options) | Request::Page(options) => Some(options),
+        Request::Marked(options) => Some(options),
         Request::Cases(options, _) | Request::CureCases(options, _) => Some(options),
         Request::Retold(options, _) | Request::Log(options) => Some(options),
         Request::Export(options) | Request::Images(options, _) => Some(options),
@@ -162,15 +167,32 @@ fn put_log_notes(
     }
 }
 
+/// Whether each cut of a log is asked for.
+fn are_all_cuts(options: OptionWords) -> bool {
+    matches!(options.settings.cuts.kind, CutKind::All) && !is_ranged(options)
+}
+
 /// Appends what a clean run of any number of losses left out.
 fn put_left_notes(
     out: &mut String,
+    options: OptionWords,
     losses: &LossWords,
     facts: &RunFacts,
 ) -> Result<(), AllocError> {
     match &facts.left_out {
-        Some(left) => put_left_out(out, losses, left),
+        Some(left) => put_left_out(out, losses, are_all_cuts(options), left),
         None => Ok(()),
+    }
+}
+
+/// Appends that a report doesn't say of which log it is, where it doesn't: its second line then has its options.
+fn put_unmarked(out: &mut String, files: &[Option<Vec<u8>>]) -> Result<(), AllocError> {
+    match files {
+        [_, Some(report), ..] if !report.as_slice().starts_with(MARKED) => put_note(
+            out,
+            "the report doesn't say of which log it is; explore --inputs and crashbpf-each write one that does",
+        ),
+        _ => Ok(()),
     }
 }
 
@@ -179,8 +201,8 @@ fn put_left_notes(
 /// `page`), which marks promise what nothing made durable (`log` and the commands of a run), that no cut is wanted, or that `--cuts flush`
 /// has one (the commands of a run, `images` and `export`; the latter where no entry is a flush), how many writes never depart as a whole,
 /// and how many entries with FUA aren't torn (`images` and the commands of a run; not where any number of losses is explored, by which
-/// each write may be dropped, and one with FUA torn while it is in flight), and that an image loses at most one part (`explore` of a whole
-/// run). Each line begins with `note: `; mostly there is none. The log is read once more for them, and where there is no memory for that
+/// each write may be dropped, and one with FUA torn while it is in flight), that an image loses at most one part (`explore` of a whole
+/// run), and that a report that is given doesn't say of which log it is. Each line begins with `note: `; mostly there is none. The log is read once more for them, and where there is no memory for that
 /// nothing is said of it.
 ///
 /// # Errors
@@ -200,8 +222,13 @@ pub fn notes_beside(
         }
     }
     match words.request() {
-        Request::Explore(options) => put_one_loss(&mut out, options)?,
-        Request::Cases(_, losses) => put_left_notes(&mut out, &losses, facts)?,
+        Request::Explore(options) | Request::Marked(options) => {
+            put_one_loss(&mut out, options)?;
+        }
+        Request::Retold(_, _) => put_unmarked(&mut out, files)?,
+        Request::Cases(options, losses) => {
+            put_left_notes(&mut out, options, &losses, facts)?;
+        }
         _ => (),
     }
     Ok(out)

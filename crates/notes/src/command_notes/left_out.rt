@@ -88,10 +88,12 @@ fn put_covered(out: &mut String, most: u64) -> Result<(), AllocError>
     put_parts(out, most)
 }
 
-/// Appends notes where a clean run of any number of losses isn't complete: what was left out, and what is covered all the same.
+/// Appends notes where a clean run of any number of losses isn't complete: what was left out, and, where it was asked for each cut of its
+/// log, what is covered all the same.
 pub(crate) fn put_left_out(
     out: &mut String,
     losses: &LossWords,
+    all_cuts: bool,
     left: &LeftOut,
 ) -> Result<(), AllocError> {
     let torn = losses.torn.unwrap_or(1);
@@ -101,9 +103,12 @@ pub(crate) fn put_left_out(
     match losses.at_most {
         Some(most) if left.lost > 0 => {
             put_lost(out, most, left.lost)?;
-            put_note(out, "without --at-most every loss is covered")
+            if all_cuts {
+                put_note(out, "without --at-most every loss is covered")?;
+            }
+            Ok(())
         }
-        None if left.torn > 0 => put_covered(out, torn),
+        None if left.torn > 0 && all_cuts => put_covered(out, torn),
         _ => Ok(()),
     }
 }

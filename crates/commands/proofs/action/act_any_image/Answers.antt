@@ -14,14 +14,14 @@ returns-in_err-_losses-clause-refused c =
     let p = err_from_is_err_and c.from_residual-in_err-_losses.result c.from_residual-in_err-_losses.ensures.1 in
     rw (p.1, p.2)
     (for_settings c.in_ok-options.options c.in_err-_losses.field-0.0 c.in_ok-options.ensures
-    (for_any_losses c.in_err-_losses.field-0.0 (rw (← c.any_words.ensures) c.in_err-_losses.ensures)))
+    (for_any_losses c.in_err-_losses.field-0.0 c.in_err-_losses.ensures))
 
 pub returns-in_err-recording-clause-refused : goal.returns-in_err-recording-clause-refused
 returns-in_err-recording-clause-refused c =
     let p = err_from_is_err_and c.from_residual-in_err-recording.result c.from_residual-in_err-recording.ensures.1 in
     rw (p.1, p.2)
     (for_settings c.in_ok-options.options c.in_err-recording.field-0.0 c.in_ok-options.ensures
-    (for_any_recording c.in_err-recording.field-0.0 (rw (← c.any_words.ensures) c.in_ok-_losses.ensures.1) (unread_recording _ _ _ c.in_err-recording.ensures)))
+    (for_any_recording c.in_err-recording.field-0.0 c.in_ok-_losses.ensures.1 (unread_recording _ _ _ c.in_err-recording.ensures)))
 
 pub returns-in_err-bytes-clause-refused : goal.returns-in_err-bytes-clause-refused
 returns-in_err-bytes-clause-refused c =
@@ -29,16 +29,16 @@ returns-in_err-bytes-clause-refused c =
     let read = c.in_ok-recording.ensures in
     rw (p.1, p.2)
     (for_settings c.in_ok-options.options c.in_err-bytes.field-0.0 c.in_ok-options.ensures
-    (for_any_recording c.in_err-bytes.field-0.0 (rw (← c.any_words.ensures) c.in_ok-_losses.ensures.1)
+    (for_any_recording c.in_err-bytes.field-0.0 c.in_ok-_losses.ensures.1
     (for_recording c.in_ok-recording.recording.text c.in_ok-recording.recording.initial c.in_err-bytes.field-0.0 read.read read.based c.in_err-bytes.ensures.refused)))
 
 pub returns-clause-answers : goal.returns-clause-answers
 returns-clause-answers c =
-    rw (c.answered.ensures.bytes, c.answered.ensures.status)
+    rw (c.answer_of.ensures.bytes, c.answer_of.ensures.status)
     (record {
       settings = c.in_ok-options.options;
       asked = c.in_ok-options.ensures;
-      good = rw (← c.any_words.ensures) c.in_ok-_losses.ensures.1;
+      good = c.in_ok-_losses.ensures.1;
       answers = record {
         held = c.in_ok-recording.recording.text;
         initial = c.in_ok-recording.recording.initial;

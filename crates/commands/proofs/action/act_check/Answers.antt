@@ -34,7 +34,7 @@ returns-in_err-report-clause-refused c =
     c.in_err-report.ensures.refused)
 
 pub returns-clause-answers : goal.returns-clause-answers
-returns-clause-answers c = record {
+returns-clause-answers c = rw c.answer_of.ensures.bytes (record {
   trial = c.in_ok-trial.trial;
   asked = c.in_ok-trial.ensures;
   program = c.in_ok-code.code.now;
@@ -45,5 +45,5 @@ returns-clause-answers c = record {
   named = c.in_ok-lines.ensures;
   failing = c.in_ok-report.report.failing;
   tried = c.in_ok-report.ensures.tried;
-  ends = c.status_of.ensures;
-}
+  ends = c.answer_of.ensures.status;
+})

@@ -34,7 +34,7 @@ returns-in_err-bytes-clause-refused c =
 
 pub returns-clause-answers : goal.returns-clause-answers
 returns-clause-answers c =
-    rw (c.answered.ensures.bytes, c.answered.ensures.status)
+    rw (c.answer_of.ensures.bytes, c.answer_of.ensures.status)
     (record {
       settings = c.in_ok-options.options;
       asked = c.in_ok-options.ensures;

@@ -12,7 +12,7 @@ returns-then-is_empty-clause-refused c =
 pub returns-then-files-gt-MOST_TEXTS-clause-refused : goal.returns-then-files-gt-MOST_TEXTS-clause-refused
 returns-then-files-gt-MOST_TEXTS-clause-refused c =
     let many : most_texts < length c.args.files.now.named.now = search rules in
-    many_part_files (λ f. f.items) c.args.files.now.named.now _ _ many c.not_joined.ensures
+    many_part_files (λ f. f.items) c.args.files.now.named.now _ _ many c.join_refusal_of.ensures
 
 pub returns-in-Some-clause-refused : goal.returns-in-Some-clause-refused
 returns-in-Some-clause-refused c =
@@ -64,4 +64,4 @@ pub returns-in-Err-clause-refused : goal.returns-in-Err-clause-refused
 returns-in-Err-clause-refused c =
     let some : 0 < length c.args.files.now.named.now = search rules in
     let readable : position is_none c.args.files.now.named.now ≡ None = sym c.first_unreadable.ensures ∙ c.in_default.is in
-    part_memory (λ f. f.items) c.args.files.now.named.now _ _ some readable c.not_joined-in-Err.ensures
+    part_memory (λ f. f.items) c.args.files.now.named.now _ _ some readable c.join_refusal_of-in-Err.ensures

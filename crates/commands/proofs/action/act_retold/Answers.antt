@@ -36,7 +36,7 @@ returns-in-Ok-clause-answers c =
     let own = c.in-Ok.retold in
     let report = c.in_ok-report.report.now in
     let options = c.in_ok-options.options in
-    rw c.with_status.ensures.bytes
+    rw c.answer_of.ensures.bytes
     (record {
       settings = options;
       asked = c.in_ok-options.ensures;
@@ -48,7 +48,7 @@ returns-in-Ok-clause-answers c =
       based = c.in_ok-initial.ensures;
       failing = own.failing;
       told = subst (λ (held : Recording). IsRetold c.args.telling held report options own.bytes.items own.failing) c.of-recording.ensures c.in-Ok.ensures.told;
-      ends = c.with_status.ensures.status;
+      ends = c.answer_of.ensures.status;
     })
 
 pub returns-in-Err-clause-refused : goal.returns-in-Err-clause-refused

@@ -7,7 +7,7 @@ returns c =
       texts = c.text_of_one_log.ensures;
       programs = c.one_program.ensures;
       verdicts = c.one_verdict.ensures;
-      sources = c.one_source.ensures;
+      sources = c.one_program-2.ensures;
       findings = c.finding_is_one.ensures;
       first = c.first_is_one.ensures;
     })

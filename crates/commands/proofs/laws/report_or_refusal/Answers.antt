@@ -2,7 +2,7 @@ use Rattle.std.proofs.Common.{◌≡◌}
 use Rattle.request.specs.declared.settings.Telling.TheVariants as telling
 use Rattle.runs.specs.declared.explore_command.WantedAnswer.TheVariants as wanted
 use Rattle.runs.specs.Explore.{report_of}
-use Rattle.runs.specs.Inputs.{inputs_number}
+use Rattle.request.specs.Inputs.{inputs_number}
 use Rattle.commands.proofs.OneReport.{told_apart, told_uncured, wanted_or_refusal}
 use Rattle.commands.proofs.laws.report_or_refusal.Goals as goal
 

@@ -28,7 +28,7 @@ loop-program-preserved c =
     let f : ProgramFailures = c.in_ok-told.told in
     let said : IsSaid c.args.options.now (given_told c.args.given.now) n (judge_text f.judge) =
     subst (λ (text : List ℕ). IsSaid c.args.options.now (given_told c.args.given.now) n text) (sym c.in_ok-told.ensures.judge) c.judge_of-judge.ensures in
-    subst (λ (gs : List ProgramFailures). AreFailing s Said (λ (program : ℕ). images_told_of program ts) (λ (program : ℕ). outcomes_told_of program ts) fs (n + 1) gs × All (AreOfRun s) gs) (sym c.in_ok-push_told.ensures) (
+    subst (λ (gs : List ProgramFailures). AreFailing s Said (λ (program : ℕ). images_told_of program ts) (λ (program : ℕ). outcomes_told_of program ts) fs (n + 1) gs × All (AreOfRun s) gs) (sym c.in_ok-push.ensures.items) (
       failing_more s Said (λ (program : ℕ). images_told_of program ts) (λ (program : ℕ). outcomes_told_of program ts) fs n c.loop-program.found.items f c.loop-program.invariant.0 said c.in_ok-told.ensures.failing,
       taken_more s c.loop-program.found.items f c.loop-program.invariant.1 c.in_ok-told.ensures.taken,
     )

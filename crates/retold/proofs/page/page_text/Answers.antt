@@ -7,7 +7,7 @@ use Rattle.crash_page.specs.declared.program.ProgramFailures.{ProgramFailures}
 use Rattle.crash_page.specs.Page.{AreOfRun}
 use Rattle.join.specs.Given.{line_told, marks_told}
 use Rattle.join.specs.GivenReading.{given_told}
-use Rattle.retold.proofs.Titles.{page_is}
+use Rattle.retold.proofs.Titles.{about_is, page_is}
 use Rattle.retold.proofs.page.page_text.Goals as goal
 
 pub invariant_of-run : goal.invariant_of-run
@@ -37,9 +37,11 @@ put_page-requires c =
 pub returns : goal.returns
 returns c =
     let none : string_bytes c.new-page.result ≡ [] = search rules in
+    let blank : string_bytes c.new-text.result ≡ [] = search rules in
+    let about = about_is (given_told c.args.given.now) _ _ _ blank c.in_ok-push_str.ensures.bytes c.in_ok-push_str-2.ensures.bytes in
     let subject = c.args.subject.now in
     let s = subject.starts.now in
     page_is c.args.options.now s (given_told c.args.given.now) (map line_told subject.lines.now) c.as_slice.result.now subject.programs _ _ _ _ c.in_ok-programs.programs.items c.into_bytes.result.items
     c.requires.lines c.requires.programs
     (subst (λ (fs : List Failure). AreFailuresAt s (marks_told (map line_told subject.lines.now)) fs) (sym c.as_slice.ensures.value) c.in_ok-failures.ensures)
-    c.in_ok-programs.ensures.failing none (c.as_str.ensures.value ∙ c.in_ok-text.ensures) c.as_slice-2.ensures.value c.in_ok-put_page.ensures (ap (λ (v : Vec ℕ Global). v.items) c.into_bytes.ensures.value)
+    c.in_ok-programs.ensures.failing none (c.as_str.ensures.value ∙ about) c.as_slice-2.ensures.value c.in_ok-put_page.ensures (ap (λ (v : Vec ℕ Global). v.items) c.into_bytes.ensures.value)

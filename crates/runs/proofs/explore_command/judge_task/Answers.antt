@@ -27,10 +27,8 @@ returns-in_err-work-clause-refused g c =
     let p = err_from_is_err_and c.from_residual.result c.from_residual.ensures.1 in
     rw (p.1, p.2, c.in_err-work.ensures.refused) no_plan_memory
 
-pub returns-in_err-blind-clause-refused : goal.returns-in_err-blind-clause-refused
-returns-in_err-blind-clause-refused g c =
-    let p = err_from_is_err_and c.from_residual-in_err-blind.result c.from_residual-in_err-blind.ensures.1 in
-    rw (p.1, p.2, c.in_err-blind.ensures.refused) no_plan_memory
+pub returns-in-Err-find_blind-clause-refused : goal.returns-in-Err-find_blind-clause-refused
+returns-in-Err-find_blind-clause-refused g c = rw c.of_memory-in-Err-find_blind.ensures no_plan_memory
 
 pub find_blind-requires-clause-starts : goal.find_blind-requires-clause-starts
 find_blind-requires-clause-starts g c = ap (λ (s : StartsValue). s.plan) c.in-Ok-new.ensures

@@ -28,7 +28,7 @@ loop-program-preserved c =
     let said : IsSaid c.args.heads.now n (judge_text f.judge) =
     record { head = _; there = slice_get-get_or c.args.heads.now n _ c.loop-program-test.true; is = c.in_ok-failing.ensures.head } in
     subst (λ (fs : List ProgramFailures). AreFailing s (IsSaid c.args.heads.now) (images_marked found.marks.now) (λ (program : ℕ). outcomes_failing program ls) c.args.failures.now (n + 1) fs × All (AreOfRun s) fs)
-    (sym c.in_ok-push_failures.ensures) (
+    (sym c.in_ok-push.ensures.items) (
       failing_more s (IsSaid c.args.heads.now) (images_marked found.marks.now) (λ (program : ℕ). outcomes_failing program ls) c.args.failures.now n c.loop-program.found.items f c.loop-program.invariant.0 said
           c.in_ok-failing.ensures.failing,
       taken_more s c.loop-program.found.items f c.loop-program.invariant.1 c.in_ok-failing.ensures.taken,

@@ -13,6 +13,7 @@ use Rattle.crash_page.specs.Page.{AreOfRun}
 use Rattle.crash_page.proofs.Owned.{page_told}
 use Rattle.runs.specs.Marked.{images_marked}
 use Rattle.runs.specs.Paged.{IsSaid, about_run}
+use Rattle.runs.proofs.Pages.{about_told}
 use Rattle.runs.proofs.paging.page_bytes.Goals as goal
 
 pub all_failures-requires-clause-inside : goal.all_failures-requires-clause-inside
@@ -45,10 +46,12 @@ put_page-requires c =
 pub returns : goal.returns
 returns c =
     let none : string_bytes c.new-page.result ≡ [] = search rules in
+    let blank : string_bytes c.new-text.result ≡ [] = search rules in
     let found = c.args.findings.now in
     let s = found.starts.now in
     let ls = found.lines.now in
     let fs = c.as_slice.result.now in
+    let about = about_told c.args.head.now ls c.head.inside.images _ _ _ blank c.in_ok-put_options.ensures c.in_ok-put_totals.ensures (ap (λ (h : HeadValue). h.images) c.head.view_is) in
     let heads : c.as_slice-2.result.now ≡ c.args.head.now.programs = c.as_slice-2.ensures.value ∙ ap (λ (h : HeadValue). h.programs) c.head.view_is in
     let are : AreFailing s (IsSaid c.args.head.now.programs) (images_marked found.marks.now) (λ (program : ℕ). outcomes_failing program ls) fs (length c.args.head.now.programs) c.in_ok-programs.programs.items =
     subst (λ (hs : List ProgramHead). AreFailing s (IsSaid hs) (images_marked found.marks.now) (λ (program : ℕ). outcomes_failing program ls) fs (length hs) c.in_ok-programs.programs.items) heads
@@ -58,6 +61,6 @@ returns c =
       are_failures = subst (λ (gs : List Failure). AreFailures s.plan.by s.plan.log.entries ls gs) (sym c.as_slice.ensures.value) c.in_ok-failures.ensures.failures;
       page =
           page_told (about_run c.args.head.now ls) s (IsSaid c.args.head.now.programs) (images_marked found.marks.now) (λ (program : ℕ). outcomes_failing program ls) fs (length c.args.head.now.programs) _ _ _ _
-          c.in_ok-programs.programs.items c.into_bytes.result.items none (c.as_str.ensures.value ∙ c.in_ok-text.ensures) are c.as_slice-3.ensures.value c.in_ok-put_page.ensures
+          c.in_ok-programs.programs.items c.into_bytes.result.items none (c.as_str.ensures.value ∙ about) are c.as_slice-3.ensures.value c.in_ok-put_page.ensures
           (ap (λ (v : Vec ℕ Global). v.items) c.into_bytes.ensures.value);
     }

@@ -2,10 +2,10 @@ use Rattle.std.proofs.Common.{refl, sym}
 use Rattle.command_line.proofs.parsed.Parsed.request.Goals as goal
 
 pub returns-in-Some-Explore : goal.returns-in-Some-Explore
-returns-in-Some-Explore c = rw (sym c.verb_of.ensures, c.in-Some-Explore.is, c.in-Some-Explore.field-0-is) (c.options_by.result, c.options_by.ensures, c.explored.ensures)
+returns-in-Some-Explore c = rw (sym c.verb_of.ensures, c.in-Some-Explore.is, c.in-Some-Explore.field-0-is) c.explore.ensures
 
 pub returns-in-Some-Images : goal.returns-in-Some-Images
-returns-in-Some-Images c = rw (sym c.verb_of.ensures, c.in-Some-Images.is, c.in-Some-Images.field-0-is) (c.options_by-in-Some-Images.result, c.options_by-in-Some-Images.ensures, c.counted.ensures)
+returns-in-Some-Images c = rw (sym c.verb_of.ensures, c.in-Some-Images.is, c.in-Some-Images.field-0-is) (c.options_by.result, c.options_by.ensures, c.counted.ensures)
 
 pub returns-in-Some-Export : goal.returns-in-Some-Export
 returns-in-Some-Export c = rw (sym c.verb_of.ensures, c.in-Some-Export.is, c.in-Some-Export.field-0-is) (c.options.result, c.options.ensures, refl)
