@@ -725,15 +725,56 @@ INLINED int strncmp_(const char *a, const char *b, size_t most)
 	return 0;
 }
 
+INLINED int strcmp_(const char *a, const char *b)
+{
+	size_t i = 0;
+
+	while (a[i] && a[i] == b[i])
+		i++;
+	return (u8)a[i] - (u8)b[i];
+}
+
+INLINED size_t strnlen_(const char *text, size_t most)
+{
+	size_t length = 0;
+
+	while (length < most && text[length])
+		length++;
+	return length;
+}
+
+INLINED void *memchr_(const void *from, int byte, size_t length)
+{
+	for (size_t i = 0; i < length; i++)
+		if (((const u8 *)from)[i] == (u8)byte)
+			return (u8 *)from + i;
+	return 0;
+}
+
+INLINED char *strchr_(const char *text, int byte)
+{
+	for (; *text != (char)byte; text++)
+		if (!*text)
+			return 0;
+	return (char *)text;
+}
+
 #define memmove(to, from, length) memmove_(to, from, length)
+#define memchr(from, byte, length) memchr_(from, byte, length)
 #define strlen(text) strlen_(text)
+#define strnlen(text, most) strnlen_(text, most)
+#define strcmp(a, b) strcmp_(a, b)
 #define strncmp(a, b, most) strncmp_(a, b, most)
+#define strchr(text, byte) strchr_(text, byte)
 #define __builtin_memcmp(a, b, length) memcmp(a, b, length)
 #define __builtin_memcpy(to, from, length) memcpy(to, from, length)
 #define __builtin_memset(to, byte, length) memset(to, byte, length)
 #define __builtin_memmove(to, from, length) memmove(to, from, length)
+#define __builtin_memchr(from, byte, length) memchr(from, byte, length)
 #define __builtin_strlen(text) strlen(text)
+#define __builtin_strcmp(a, b) strcmp(a, b)
 #define __builtin_strncmp(a, b, most) strncmp(a, b, most)
+#define __builtin_strchr(text, byte) strchr(text, byte)
 
 /* For the native build alone: a program prints nothing. */
 #define printf(...) ((void)0)

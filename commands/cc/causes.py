@@ -7,6 +7,7 @@ import re
 from collections import Counter
 from pathlib import Path
 
+from commands.cc.compilers import LIBRARY as OWN_LIBRARY
 from commands.cc.program import CALL, MOST_SLOTS, NoProgram, slots_of
 
 # What is said, and what helps.
@@ -25,7 +26,7 @@ JUMPED = ("a goto to a place that is computed, which a program hasn't", "a switc
 THREADED = ("a variable of a thread, which a program hasn't", "static without __thread")
 ENDED = ("an end by abort or a trap, which a program hasn't", "a return, with an answer that says why")
 MAPPED = ("a map or a variable of a processor, which a program hasn't", "a static variable or array: a run has 65536 bytes for these")
-NO_LIBRARY = "a checker has no library: write it as a function of the file"
+NO_LIBRARY = f"a checker has no library but {', '.join(OWN_LIBRARY)}: write it as a function of the file, under a name of its own"
 RECURSIVE = "a loop, with a stack of its own in a static array where one is needed: no function calls itself, also by way of others"
 MEMORY_CALLS = "memcmp, memcpy, memset and memmove are those of checker.h; else set, copy and compare field by field"
 STACK = re.compile("stack limit|stack frame|stack size")

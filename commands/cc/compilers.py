@@ -20,14 +20,32 @@ PAST = -1024
 CLOBBERED = '"r0", "r1", "r2", "r3", "r4", "r5", "memory"'
 
 
+# What checker.h has of C's library, and the headers of it that there are.
+LIBRARY = "memcmp memcpy memset memmove memchr strlen strnlen strcmp strncmp strchr".split()
+STANDARD = "stdint.h stdbool.h stddef.h string.h stdlib.h stdio.h limits.h inttypes.h endian.h byteswap.h".split()
+REDEFINED = re.compile(r"redefinition of .(\w+?)_?(?:whole_|loop_)?\b")
+MISSING = re.compile(r"error: '?([\w./+-]+)(?:' file not found|: No such file)")
+OTHER_HEADER = re.compile(r"(asm|arpa|bits|gnu|linux|netinet|sys)/|(alloca|assert|ctype|errno|fcntl|float|locale|math|setjmp|signal|stdatomic|strings|time|unistd|wchar)\.h$")
+
+
 def hints_for(said):
     """What helps where the compiler itself refuses."""
-    if "redefinition of" in said:
+    redefined, missing = REDEFINED.search(said), MISSING.search(said)
+    if redefined and redefined[1] in LIBRARY:
+        yield f"checker.h has {redefined[1]}: leave yours out, or give it another name"
+    elif redefined:
         yield "a file may hold several checkers, each with a name of its own"
-    if re.search(r"error: .*(file not found|No such file)", said):
+    if missing and OTHER_HEADER.match(missing[1]):
+        yield f"a checker has no library, and of its headers there are {', '.join(STANDARD)}: leave the others out"
+        yield f"of its functions there are {', '.join(LIBRARY)}"
+    elif missing:
         yield 'checker.h is found from anywhere: #include "checker.h"'
     if re.search(r"unknown type name .u(8|16|32|64)\b", said):
         yield 'a checker begins with #include "checker.h"'
+    if re.search(r"unknown type name .s(8|16|32|64)\b", said):
+        yield "signed numbers are signed char, short, int and long long, or int8_t to int64_t of stdint.h"
+    if re.search(r"unknown type name .bool\b", said):
+        yield "bool is in stdbool.h: #include <stdbool.h>"
 
 
 # What clang says where a library would be called, too many bytes be held at once, or a signed number be divided.

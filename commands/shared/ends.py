@@ -18,6 +18,11 @@ def on_signals(act):
             signal.signal(it, act)
 
 
+def say_stopped(name):
+    """Has these signals end a program that hasn't begun anything, as while it imports what it needs: a line says so."""
+    on_signals(lambda *_: os._exit(say(name, "stopped before anything was found")))
+
+
 def exit_on_signals():
     """Has these signals exit with 2, so that what was begun is taken away."""
     on_signals(lambda *_: sys.exit(2))

@@ -36,6 +36,8 @@
  *     600 mutants of three tables: fields, entries, bits, sectors,      both pass 128, both fail 472
  *     mostly with sums made right
  *     the 115 images of the three logs, bound 2                         both pass 33, both fail 82 (20 of these without AS_SGDISK)
+ *     400 mutants of three tables by crashbpf-cc --against, most with   both pass 20, both fail 382, sgdisk alone fails 1: a
+ *     sums made right by mend_sums, and the tables as they are          partition of the MBR
  *
  * Without AS_SGDISK it fails on images of logs just where sgdisk says that of each copy the header or the table is wrong, but for 10
  * images. On these the first copy is torn apart and the second one is whole, and sgdisk calls the second one wrong too, since it
@@ -174,3 +176,24 @@ u64 check(const struct context *context)
 #endif
 	return fault;
 }
+
+#ifdef CHECKER_NATIVE
+/* Gives both copies the sums that a writer would give them: of the table, then of the header. */
+void mend_sums(u8 *image, u64 bytes)
+{
+	for (u64 at = 512; at + 512 <= bytes; at += at == 512 && bytes > 1024 ? bytes - 1024 : bytes) {
+		u64 table = u64_at(at + 72), entries = u32_at(at + 80), entry = u32_at(at + 84), size = u32_at(at + 12);
+		u32 sum;
+
+		if (table < bytes / 512 && entries * entry <= bytes - 512 * table) {
+			sum = ~crc32_memory(0xffffffff, image + 512 * table, entries * entry);
+			memcpy(image + at + 88, &sum, sizeof sum);
+		}
+		if (size >= HEADER && size <= 512) {
+			memset(image + at + 16, 0, sizeof sum);
+			sum = ~crc32_memory(0xffffffff, image + at, size);
+			memcpy(image + at + 16, &sum, sizeof sum);
+		}
+	}
+}
+#endif

@@ -334,7 +334,7 @@ def large(compiler, folder, program):
     """What is said otherwise than it should of a device that takes --large."""
     source = folder / "source.c"
     source.write_text('#include "checker.h"\nu64 check(const struct context *c) { return c->marks; }\n')
-    for sectors, words, wanted in (("16384", [], ""), ("16385", [], "refused 13 at 1"), ("16385", ["--large"], ""), ("1048577", ["--large"], "refused 13 at 1")):
+    for sectors, words, wanted in (("16384", [], ""), ("16385", [], "refused 13 at 1"), ("16385", ["--large"], ""), ("33554433", ["--large"], "refused 13 at 1")):
         done = cc(compiler, source, "check", folder / "out.bpf", "--sectors", sectors, *words, program=program)
         good = done.returncode == (2 if wanted else 0) and done.stderr.startswith(wanted)
         yield None if good else f"{compiler} with {sectors} sectors {words}: status {done.returncode} {done.stderr}"

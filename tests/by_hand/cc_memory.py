@@ -275,6 +275,8 @@ ROWS = [
     ("two copies of two lengths", "static u8 a[64];", "if (c->marks) copy(512, a, 16); else copy(1024, a, 8); return a[1] + 256 * a[12];", DEVICE[513] + 256 * DEVICE[524]),
     ("the same, with the same after them", "static u8 a[64];", f"u64 r; if (c->marks) {{ copy(512, a, 16); {AFTER} }} else {{ copy(512, a, 8); {AFTER} }} return r;", 3 * DEVICE[513] + 5 * DEVICE[514] + DEVICE[523]),
     ("strncmp with a text", "", 'static const char a[] = "JBD2 hdr"; char b[8] = "JBD2 xyz"; b[c->marks] += c->epoch - 3; return (strncmp(a, b, 4) == 0) + 2 * (strncmp(a, b, 6) != 0);', 3),
+    ("texts that are compared", 'static const char *names[] = { "alpha", "beta", "be", "" };', 'char t[8] = "beta"; u64 n = 0; for (u64 i = 0; i < 4; i++) { n = n * 3 + (strcmp(names[i], t) > 0) + 2 * (strcmp(t, names[i]) > 0); } t[c->marks] = 200; return n * 4 + (strcmp(t, "beta") > 0) * 2 + !strcmp("be", names[c->epoch - 1]);', (2 * 27 + 0 * 9 + 2 * 3 + 2) * 4 + 3),
+    ("what is found in texts and bytes", "static u8 a[300];", 'read_bytes(0, a, 300); const u8 *p = memchr(a, a[c->epoch + 200], 300); const char *t = "usr/share/doc"; char *s = strchr(t, t[c->epoch]); return (p - a) + 1000 * (s - t) + 10000 * !strchr(t, c->marks) + 20000 * (strchr(t, 0) == t + 13) + 40000 * !memchr(a, a[9], 9) + 80000 * strnlen(t, c->epoch) + 1000000 * strnlen(t, 64);', DEVICE.index(DEVICE[203]) + 3000 + 10000 + 20000 + 40000 * (DEVICE[9] not in DEVICE[:9]) + 240000 + 13000000),
     # Their answers are those of native builds by gcc.
     ("an initializer at each entry", SUM + ONCE, "return once(c->epoch) + 3 * once(c->marks) + 7 * once(1);", 10625289039637278766),
     ("large locals in the body of a loop", SUM, IN_A_LOOP, 9243815046827454156),

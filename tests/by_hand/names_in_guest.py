@@ -8,8 +8,8 @@ of the guest is recovered: ext4 by e2fsck, the others by mounting it in a machin
 of an image of the log by strace, after as many marks.
 
 A row for each program has the images of the guest, how many of them the kind's table doesn't allow, the states of the files that
-differ, how many of these each table allows, and how many states the kind's table allows in all. The last row of a kind has the
-sums. The status is 1 where a state isn't allowed, or an image can't be recovered. FOLDER/KIND.seen has what was found on each
+differ, how many of these each table allows, and how many states the kind's table allows in all, 0 where these aren't counted. The
+last row of a kind has the sums. The status is 1 where a state isn't allowed, or an image can't be recovered. FOLDER/KIND.seen has what was found on each
 image, and FOLDER/KIND.cutC.imageN those that aren't allowed.
 
 FOLDER keeps the recordings, so that a run may be gone on with. KERNEL is a folder with boot/vmlinuz-* and lib/modules, as
@@ -49,7 +49,7 @@ from commands.record import named_layout
 from commands.each.image_file import ImageFile
 from machine import Lost, Machine, Slow
 from commands.record.orders import TABLES
-from commands.each.stream import images
+from commands.each.stream import images, inputs
 
 BTRFS = "xxhash_generic blake2b_generic zstd_compress raid6_pq xor btrfs"
 EXT4 = "mkfs.ext4 -q -F -E nodiscard"
@@ -57,13 +57,16 @@ EXT4 = "mkfs.ext4 -q -F -E nodiscard"
 
 @dataclass(frozen=True)
 class Kind:
-    """A kind of file system: its table, which is to allow what it leaves, its sectors, how it is made and mounted, its modules."""
+    """A kind of file system: its table, which is to allow what it leaves, its sectors, how it is made and mounted, its modules. All but its
+    journal may be slow to write: how many milliseconds that takes. Of a disk that is nearly full so many blocks of 4,096 bytes are left."""
 
     table: str
     sectors: int
     make: str
     mount: str
     modules: str = ""
+    slow: int = 0
+    left: int = 0
 
     @property
     def by_e2fsck(self):
@@ -78,8 +81,14 @@ KINDS = {
     "ext4-4096": Kind("ext4", 32768, f"{EXT4} -b 4096", "data=ordered,commit=1,dioread_nolock"),
     "ext4-4096-lock": Kind("ordered", 32768, f"{EXT4} -b 4096", "data=ordered,commit=1,dioread_lock"),
     "ext4-fast": Kind("strict", 32768, f"{EXT4} -b 4096 -O fast_commit", "data=ordered,commit=1"),
-    "xfs": Kind("writeback", 614400, "mkfs.xfs -q -f", "noatime", "xfs"),
-    "btrfs": Kind("strict", 233472, "mkfs.btrfs -q", "commit=1", BTRFS),
+    "xfs": Kind("xfs", 614400, "mkfs.xfs -q -f", "noatime", "xfs"),
+    "btrfs": Kind("btrfs", 233472, "mkfs.btrfs -q", "commit=1", BTRFS),
+    # (here bytes are written after the commit, and what was freed is used again before it)
+    "ext4-slow": Kind("ext4", 32768, f"{EXT4} -b 4096", "data=ordered,commit=30,dioread_nolock", slow=1500),
+    "ext4-lock-slow": Kind("ordered", 32768, f"{EXT4} -b 4096", "data=ordered,commit=30,dioread_lock", slow=1500),
+    "ext4-writeback-slow": Kind("writeback", 16384, EXT4, "data=writeback,commit=30", slow=1500),
+    "ext4-full": Kind("ext4", 32768, f"{EXT4} -b 4096", "data=ordered,commit=30,dioread_nolock", left=20),
+    "ext4-writeback-full": Kind("writeback", 32768, f"{EXT4} -b 4096", "data=writeback,commit=30,dioread_lock", left=20),
 }
 PROGRAMS = {
     "replaced": "open new,append new 700 A,fsync new,rename new kept,mark 1,open new,append new 1500 B,fsync new,rename new kept,mark 2,append other 100 x,fsync other,mark 3",
@@ -91,12 +100,28 @@ PROGRAMS = {
     "folders": "mkdir d,open d/x,append d/x 600 A,rename d e,append other 50 x,fsync other,mark 1,link e/x y,fsync d/x,mark 2,unlink e/x,rmdir e,folder .,mark 3,append d/x 20 B",
     "many": "open a,open b,append a 200 A,append b 200 B,fdatasync b,mark 1,rename a c,append b 700 C,open a,append a 10 D,fsync a,mark 2,unlink c,rename b c,sleep 300,append a 4500 E",
     "moved": "open a,append a 600 A,fsync a,mark 1,mkdir d,rename a d/b,append other 50 x,fsync other,mark 2,open c,append c 300 C,rename d/b d/e,append d/b 20 B,fsync c,mark 3,rename kept d/b,fsync d/b,mark 4",
+    # (an append of which the size arrives before the bytes do; blocks that are used again; a name that is synced by its file)
+    "late": "open log,append log 65536 A,range log,append other 50 x,fsync other,mark 1,sleep 300",
+    "reused": "open big,append big 61440 A,fsync big,close big,folder .,mark 1,open new,append new 100 B,fsync new,rename new big,mark 2,open next,append next 61440 C,range next,sleep 300,mark 3",
+    "cut": "open big,append big 61440 A,fsync big,folder .,mark 1,truncate big 0,open next,append next 61440 C,range next,sleep 300,mark 2",
+    "renamed": "open new,append new 700 A,fsync new,rename new kept,fsync kept,mark 1",
+    "renamed-data": "open new,append new 700 A,fsync new,rename new kept,fdatasync kept,mark 1",
+    # (btrfs may leave the second file alone)
+    "followed": "open a,append a 200 A,rename a b,open a,append a 100 B,fsync a,mark 1,sleep 300",
     # (here what the file systems write by themselves, after a second, stands in the log)
     "slow": "open a,append a 5000 A,sleep 1600,append a 300 B,rename a b,open c,append c 600 C,sleep 1600,append b 9000 D,rename c kept,sleep 1600,mark 1,unlink b,append other 4000 E,truncate kept 200,sleep 1600",
 }
+# Those of which a slow or a full disk is to show something; and those whose states are too many to be counted.
+LATE = ("late", "reused", "cut", "renamed", "renamed-data", "followed")
+UNCOUNTED = ("late", "reused", "cut")
 # How long a machine may take to come up, and to test an image.
 START_SECONDS, TEST_SECONDS = 900, 300
 ENVIRONMENT = {**os.environ, "PATH": f"{os.environ['PATH']}:/usr/sbin:/sbin"}
+
+
+def programs_of(kind):
+    """The programs that run on a kind of file system."""
+    return LATE if KINDS[kind].slow or KINDS[kind].left else tuple(PROGRAMS)
 
 
 def lines_of(name):
@@ -195,17 +220,52 @@ def states_of(folder, name, table):
 # What the guest leaves
 
 
-def guest_script(options):
+def journal_of(base):
+    """The first sector of the journal of an ext4, and the sector after it, which lie in one piece."""
+    said = wanted(run(["debugfs", "-R", "stat <8>", base]), "debugfs")
+    size = int(re.search(r"(?m)^Block size: +(\d+)", wanted(run(["dumpe2fs", "-h", base]), "dumpe2fs"))[1])
+    (first, last), *more = re.findall(r"\(\d+-\d+\):(\d+)-(\d+)", said)
+    if more:
+        sys.exit("the journal lies in several pieces")
+    return int(first) * size // SECTOR, (int(last) + 1) * size // SECTOR
+
+
+def slow_lines(kind, base):
+    """The lines by which a guest has a device of which all but the journal is slow to write."""
+    it, watched, (first, last) = KINDS[kind], "/dev/mapper/watched", journal_of(base)
+
+    def slow(begin, end):
+        return f"{begin} {end - begin} delay {watched} {begin} 0 {watched} {begin} {it.slow} {watched} {begin} 0"
+
+    table = [slow(0, first), f"{first} {last - first} linear {watched} {first}", slow(last, it.sectors)]
+    return ["dmsetup create slow --noudevsync <<'END' && dmsetup mknodes || exit 1", *table, "END", "DEVICE=/dev/mapper/slow"]
+
+
+# (else blocks that are kept back would be used)
+FULL = """\
+echo 0 | tee /sys/fs/ext4/*/reserved_clusters >/dev/null
+rm -f /mnt/fill && sync && free=$(stat -f -c %%f /mnt)
+until fallocate -l $((4096 * free)) /mnt/fill 2>/dev/null; do
+    rm -f /mnt/fill && sync && free=$((free - 4))
+    [ $free -gt 0 ] || exit 1
+done
+rm -f /mnt/fill && sync && fallocate -l $((4096 * (free - %d))) /mnt/fill || exit 1"""
+
+
+def guest_script(kind, base):
     """The script of the guest: all programs, one after the other, each in its folder."""
+    it = KINDS[kind]
     # (a file system is to write soon what it has: bytes after some 50 ms, and xfs its log after a second)
     lines = ["echo 5 >/proc/sys/vm/dirty_writeback_centisecs", "echo 5 >/proc/sys/vm/dirty_expire_centisecs"]
     lines += ["[ ! -e /proc/sys/fs/xfs ] || echo 100 >/proc/sys/fs/xfs/xfssyncd_centisecs"]
-    lines += [f"mount -o {options} $DEVICE /mnt || exit 1", "cat /proc/fs/ext4/*/options >/dev/console 2>/dev/null"]
-    for name in PROGRAMS:
+    lines += slow_lines(kind, base) if it.slow else []
+    lines += [f"mount -o {it.mount} $DEVICE /mnt || exit 1", "cat /proc/fs/ext4/*/options >/dev/console 2>/dev/null"]
+    for name in programs_of(kind):
         lines += [f"mkdir /mnt/{name} && head -c 700 /dev/zero | tr '\\0' o >/mnt/{name}/kept && : >/mnt/{name}/other || exit 1"]
-    for name in PROGRAMS:
-        lines += ["sync", f"mark {name}:begin", f"names /mnt/{name} <<'END' || exit 1", lines_of(name) + "END", f"mark {name}:end"]
-    return "\n".join([*lines, "umount /mnt", ""])
+    for name in programs_of(kind):
+        lines += [FULL % it.left] if it.left else []
+        lines += ["sync", f"mark {name}:begin", f"names /mnt/{name} <<'END' || exit 1", lines_of(name) + "END", f"mark {name}:end", "sync", f"mark {name}:synced"]
+    return "\n".join([*lines, "umount /mnt", *(["dmsetup remove --noudevsync slow"] if it.slow else []), ""])
 
 
 CHECK = """\
@@ -221,8 +281,8 @@ def recorded(folder, kernel, kind):
     out, base, script = folder / f"guest.{kind}", folder / f"{kind}.img", folder / f"{kind}.sh"
     if not (out / "writes.log").exists():
         wanted(run(["sh", "-c", f"rm -rf {out} {base}; truncate -s {512 * it.sectors} {base} && {it.make} {base}"]), kind)
-        script.write_text(guest_script(it.mount))
-        environment = {**ENVIRONMENT, "COMMANDS": "names", "MODULES": it.modules, "BASE": str(base), "TIMEOUT": "1500"}
+        script.write_text(guest_script(kind, base))
+        environment = {**ENVIRONMENT, "COMMANDS": "names", "MODULES": f"{it.modules} dm-delay" if it.slow else it.modules, "BASE": str(base), "TIMEOUT": os.environ.get("TIMEOUT", "1500")}
         environment["PATH"] = f"{folder}:{environment['PATH']}"
         wanted(run([TOP / "examples/recording/guest", kernel, str(it.sectors), out, script], env=environment), f"the guest of {kind}")
     return out / "writes.log", base
@@ -279,11 +339,12 @@ def told(tree):
 
 
 def spans(log):
-    """Of each program its name, the entries at which its marks begin and end, and the number of marks up to the first of them."""
+    """Of each program its name, the entries at which its marks begin and at which all of it is written, and the number of marks up to the
+    first of them."""
     marks = [(at, it.text.decode()) for at, it in enumerate(entries_of(log.read_bytes())) if it.flags & MARK]
     begun = [at for at, text in marks if text.endswith(":begin")]
-    # (dm-log-writes logs a write with the flush after it; so the last ones stand before the mark with which the next program begins)
-    ends = [*begun[1:], marks[-1][0]]
+    # (dm-log-writes logs a write with the flush after it; so the last ones stand before the mark after a sync)
+    ends = [at for at, text in marks if text.endswith(":synced")]
     return [(dict(marks)[at].removesuffix(":begin"), at, end, sum(it <= at for it, _ in marks)) for at, end in zip(begun, ends)]
 
 
@@ -321,6 +382,7 @@ def exported(log, base, sectors, first, last):
     options += ["--from", str(first), "--to", str(last), *(["--large"] if sectors > 16384 else [])]
     total = int(re.search(r"(?m)^total (\d+)", wanted(run([program, "images", log, *options]), "crashbpf images"))[1])
     process = subprocess.Popen([program, "export", log, *options], stdout=subprocess.PIPE, bufsize=1 << 20)
+    inputs(process.stdout)
     yield from images(process.stdout, sectors, total)
     if process.wait():
         sys.exit(f"crashbpf export ended with {process.returncode}")
@@ -330,6 +392,8 @@ def compared(folder, kind, log, base, programs, machine):
     """Judges the images of programs in a guest. Prints a row for each, and returns their numbers."""
     it, judge = KINDS[kind], Judge(folder, kind, machine)
     places = [place for place in spans(log) if place[0] in programs]
+    if not places:
+        return []
     lines = {name: [] for name, *_ in places}
     verdicts = {}
     with tempfile.TemporaryDirectory(dir=folder) as room:
@@ -351,7 +415,7 @@ def numbers_of(folder, table, name, lines):
     allows."""
     states = {json.dumps([it["marks"], it["files"]], sort_keys=True): it["allowed"] for it in lines if it["fault"] is None}
     failing = sum(table not in it["allowed"] for it in lines)
-    return name, [len(lines), failing, len(states), *(sum(it in found for found in states.values()) for it in TABLES), states_of(folder, name, table)]
+    return name, [len(lines), failing, len(states), *(sum(it in found for found in states.values()) for it in TABLES), 0 if name in UNCOUNTED else states_of(folder, name, table)]
 
 
 def put_row(kind, name, numbers):
@@ -377,7 +441,7 @@ def compared_all(folder, kernel, kind, programs):
             run([TOP / "examples/mounted/mounted", "stop", machine])
     for name, numbers in rows:
         put_row(kind, name, numbers)
-    sums = [sum(column) for column in zip(*(numbers for _, numbers in rows))]
+    sums = [sum(column) for column in zip(*(numbers for _, numbers in rows))] or [0, 0]
     put_row(kind, f"all, {it.table}, {time.time() - begun:.0f} s", sums)
     return sums[1]
 
@@ -401,7 +465,7 @@ def main(words):
     refused_where_missing(kernel, kinds)
     folder.mkdir(exist_ok=True)
     wanted(run(["cc", "-O1", "-static", "-o", folder / "names", TOP / "tests/programs/names.c"]), "cc")
-    for name in PROGRAMS:
+    for name in programs:
         traced(folder, name)
     put_row("kind", "program", ["images", "not allowed", "states", *TABLES, "allowed in all"])
     return 1 if sum(compared_all(folder, kernel, it, programs) for it in kinds) else 0

@@ -51,8 +51,8 @@ STRAY = "stray"
 # What a native build answers that was ended by a signal or a sanitizer.
 STRAYED = ("strayed", "")
 STRAYS = 25
-# How many images are judged between two looks at what they answered, and how many stand in one log.
-ROUND, LOG = 50, 250
+# How many images are judged between two looks at what they answered, of large devices too, and how many stand in one log.
+ROUND, FEW, LOG = 50, 10, 250
 SECONDS = 120
 # How many answers of a checker are told.
 TOLD = 12
@@ -72,6 +72,14 @@ class Checker:
     sectors: int = SECTORS
     # With what its images begin, if it is one of a whole format.
     seeds: list = field(default_factory=list)
+
+    def large(self):
+        """What its commands take for a device of its size."""
+        return ["--large"] * (self.sectors > whole_formats.USUAL)
+
+    def round(self):
+        """How many of its images are judged between two looks."""
+        return FEW if self.large() else ROUND
 
     def name(self):
         return "whole " * bool(self.seeds) + f"{self.source.parent.name}/{self.source.stem}" + (f" {self.function}" if self.function != "check" else "")
@@ -94,7 +102,7 @@ def whole():
     for name, it in whole_formats.FORMATS.items():
         path = TOP / f"examples/checkers/{name}.c"
         seeds = [image for which in it.runs for image in images_of(whole_formats.run_of(name, which))]
-        yield Checker(path, "check", path.with_suffix(".bpf"), options=["--guards"], sectors=it.sectors, seeds=seeds)
+        yield Checker(path, "check", path.with_suffix(".bpf"), options=it.options().split(), sectors=it.sectors, seeds=seeds)
 
 
 def images_of(run):
@@ -212,13 +220,14 @@ def compare(program, checker, code, count, folder):
     judge = native(checker, folder)
     strays = native(checker, folder, "-fsanitize=address", "-fno-omit-frame-pointer")
     images = Images(checker, rng)
-    at_once = ROUND if checker.seeds else LOG
+    round_ = checker.round()
+    at_once = round_ if checker.seeds else LOG
     answers, wrong = Counter(), []
     (folder / "p").write_bytes(code)
     for start in range(0, count, at_once):
         drawn = []
-        for _ in range(start, min(count, start + at_once), ROUND):
-            some = images.draw(ROUND)
+        for _ in range(start, min(count, start + at_once), round_):
+            some = images.draw(round_)
             images.keep(some, judge([Cut(it, 0, 0, 0) for it in some]))
             drawn += some
         entries, cuts = logged(drawn, rng)
@@ -245,10 +254,11 @@ def compiled(checker, compiler, folder, program, words):
     """The program that crashbpf-cc makes with these words, or what it says in its place; the checker learns how it is run."""
     out = folder / "compiled.bpf"
     path = os.pathsep.join([str(program.parent), os.environ["PATH"]])
-    words = [CC, checker.source, checker.function, out, "--sectors", str(checker.sectors), "--compiler", compiler, "--timeout", "600", *words]
+    size = ["--sectors", str(checker.sectors), *checker.large()]
+    words = [CC, checker.source, checker.function, out, *size, "--compiler", compiler, "--timeout", "600", *words]
     done = subprocess.run(words, capture_output=True, text=True, env={**os.environ, "PATH": path})
     if done.returncode == 0:
-        checker.options = ["--guards"] * ("explore needs --guards" in done.stderr)
+        checker.options = ["--guards"] * ("explore needs --guards" in done.stderr) + checker.large()
         return out.read_bytes(), done.stdout.split("\n")[0]
     refused = re.search(r"^refused .*|^cc: .*", done.stderr, re.M)
     place = re.search(r"slot \d+, (\S+):", done.stderr)

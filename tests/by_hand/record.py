@@ -5,7 +5,7 @@ doesn't run it, since it needs these; it runs tests/gate/traced.py, which has st
     python3 tests/by_hand/record.py [KERNEL]
 
 By strace programs are recorded that write in each way that is followed, in threads and processes too, that change names and sizes,
-and those that have to be refused, with the call that shows why; of each the files are compared with those that the log has. By FUSE a few commands are
+and those that have to be refused, with the call that shows why; of each the files are compared with those that the log has, of names also those at some marks. By FUSE a few commands are
 recorded, and their logs are compared with what they did; of each the last image has to be the disk. KERNEL is a folder as `guest` takes it. With it scripts are recorded in virtual machines: what stands before a mark of each
 kind, whether a file is there at its mark though all that is in flight is lost, and how `guest` ends where something is wrong.
 
@@ -293,7 +293,7 @@ SAID = {
     2: "PROT_READ|PROT_WRITE) = 0: a shared mapping of a recorded file",
     3: None,
     4: None,
-    5: "splice(",
+    5: None,
     6: "io_uring_setup(",
     7: "db is renamed, and names are left out",
     8: "db is written after a name or a size was changed",
@@ -325,7 +325,7 @@ def traced(folder, seed):
     return None if found == wanted else f"written at random, {seed}: the last image isn't the files"
 
 
-# A program that makes, renames, unlinks, cuts off and writes files in folders, at random.
+# A program that makes, renames, unlinks, cuts off and writes files in folders, at random. It makes copies of all outside, each with a mark.
 CHANGES_NAMES = """\
 import os, random, shutil, subprocess, sys
 chance = random.Random(int(sys.argv[1]))
@@ -347,7 +347,7 @@ def step(turn):
         fd = os.open(it, os.O_RDONLY)
         os.fsync(fd)
         os.close(fd)
-    kind, files, folders, new = chance.randrange(20), found(False), found(True), free()
+    kind, files, folders, new = chance.randrange(23), found(False), found(True), free()
     if kind < 2 and new:
         os.close(os.open(new, os.O_WRONLY | os.O_CREAT | os.O_EXCL))
     elif kind < 6 and files:
@@ -382,6 +382,32 @@ def step(turn):
             if not os.listdir(it):
                 os.rmdir(it)
                 break
+    elif kind == 20 and folders and new:
+        one, at = chance.choice(folders), os.getcwd()
+        if not new.startswith("./" + one) and not new.startswith(one):
+            os.chdir(one)
+            os.rename(os.path.join(at, one), os.path.join(at, new))
+            os.mkdir(os.path.join(at, one))
+            with open("inside", "a") as file:
+                file.write("inside")
+            os.replace("inside", chance.choice("gh"))
+            os.chdir(at)
+    elif kind == 21 and files and new:
+        fd = os.open(chance.choice(files), os.O_RDWR)
+        own = "/proc/self/fd/%d" % fd
+        os.link(own, new, follow_symlinks=True)
+        os.unlink(os.readlink(own))
+        os.pwrite(fd, b"linked", chance.randrange(1000))
+        os.close(os.open(new, chance.choice((os.O_RDONLY, os.O_RDWR)) | chance.choice((0, os.O_TRUNC))))
+        os.truncate(new, chance.randrange(3000))
+        os.close(fd)
+    elif kind == 22 and folders and new:
+        fd = os.open(chance.choice(folders), os.O_RDONLY)
+        os.mkdir("v", dir_fd=fd)
+        os.rename("v", "w", src_dir_fd=fd, dst_dir_fd=fd)
+        os.rmdir("w", dir_fd=fd)
+        os.chmod(new if os.path.lexists(new) else ".", 0o755)
+        os.close(fd)
     elif kind == 18 and new:
         os.symlink(chance.choice([*files, *folders, "nowhere", "../a", "."]), new)
     elif kind == 19 and new:
@@ -405,6 +431,10 @@ for turn in range(150):
         step(turn)
     except OSError:
         pass
+    if turn % 30 == 29:
+        shutil.copytree(".", os.path.join(sys.argv[3], str(turn)), symlinks=True)
+        with open(os.environ["RECORDING"] + "/marks", "a") as marks:
+            marks.write("0 %d\\n" % turn)
 """
 
 
@@ -419,20 +449,35 @@ def below(folder):
 
 
 def named(folder, seed, table):
-    """What is wrong with a recording of names and sizes that are changed at random, over what an earlier one left."""
+    """What is wrong with a recording of names and sizes that are changed at random, over what an earlier one left; each second one by pages."""
     out, base = Path(folder, f"named_{table}_{seed}"), Path(folder, f"named_{table}_{seed - 1}", "files")
     options = ["--base", base] if base.exists() else []
-    words = [RECORD, "--files", table, *options, out, "--", sys.executable, "-c", CHANGES_NAMES, str(seed), __file__]
+    copies = Path(folder, f"copies_{table}_{seed}")
+    copies.mkdir()
+    words = [RECORD, "--files", table, "--parts", ("calls", "pages")[seed % 2], *options, out, "--", sys.executable, "-c", CHANGES_NAMES, str(seed), __file__, copies]
     done = subprocess.run(words, capture_output=True, text=True)
     if done.returncode:
         return f"names at random, {seed}, {table}: status {done.returncode}, {done.stderr}"
-    image, seen = out / "image", out / "seen"
-    image.write_bytes(image_of(entries_of((out / "writes.log").read_bytes()), (out / "base.img").read_bytes()))
+    entries = entries_of((out / "writes.log").read_bytes())
+    marks = [(number, copies / it.text.decode()) for number, it in enumerate(entries) if it.flags & MARK]
+    if [it.name for _, it in marks] != ["29", "59", "89", "119", "149"]:
+        return f"names at random, {seed}, {table}: other marks: {marks}"
+    for number, wanted in [*marks, (len(entries), out / "files")]:
+        fault = shown(out, image_of(entries[:number], (out / "base.img").read_bytes()), wanted)
+        if fault:
+            return f"names at random, {seed}, {table}: {fault}"
+    return None
+
+
+def shown(out, content, wanted):
+    """What is wrong with the files of an image, which should be those of a folder."""
+    image, seen = out / "image", out / f"seen_{wanted.name}"
+    image.write_bytes(content)
     show = [RECORD.parent / "crashbpf-files", out / "files.txt", image, "--", "cp", "-a", ".", seen]
     done = subprocess.run(show, capture_output=True, text=True)
     if done.returncode:
-        return f"names at random, {seed}, {table}: crashbpf-files, status {done.returncode}, {done.stderr}"
-    return None if below(seen) == below(out / "files") else f"names at random, {seed}, {table}: the last image isn't the files"
+        return f"crashbpf-files, status {done.returncode}, {done.stderr}"
+    return None if below(seen) == below(wanted) else f"an image isn't what was there: {wanted}"
 
 
 def refused_calls(folder):

@@ -42,7 +42,7 @@ from notation import FLUSH, TOP
 from rows.recording import entries_of
 
 from commands.each.image_file import PIECE, ImageFile, data_of
-from commands.each.stream import images
+from commands.each.stream import images, inputs
 
 BTRFS = "xxhash_generic blake2b_generic zstd_compress raid6_pq xor btrfs"
 MODULES = {"xfs": "xfs", "btrfs": BTRFS, "f2fs": "crc32_generic zstd_compress lz4_compress lz4hc_compress f2fs"}
@@ -81,6 +81,7 @@ def is_disk(log, disk, sectors, entries):
     process = subprocess.Popen(words, stdout=subprocess.PIPE, bufsize=1 << 20)
     with tempfile.TemporaryDirectory(dir=log.parent) as room:
         image = ImageFile(os.path.join(room, "image"), sectors, None, False)
+        inputs(process.stdout)
         for it in images(process.stdout, sectors, 1):
             image.patch(it.records)
         if process.wait():

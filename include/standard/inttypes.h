@@ -1,0 +1,2 @@
+/* The integers of fixed sizes; a program prints nothing. */
+#include <stdint.h>
