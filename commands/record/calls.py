@@ -21,7 +21,7 @@ TOLD = re.compile(r"--- .* ---|\[ Process PID=\d+ runs in \w+ mode\. \]")
 UNFINISHED = " <unfinished ...>"
 # A string, the path of a descriptor, a remark, a bracket, a comma, and what stands between these.
 TOKEN = re.compile(rf'"{HEX}"(?:\.\.\.)?|<{HEX}>(?:\(deleted\))?|/\*.*?\*/|[()\[\]{{}}]|,|[^"<>/()\[\]{{}},]+|[<>/]')
-RESULT = re.compile(rf"\) += (0x[0-9a-f]{{1,16}}|-?\d{{1,20}}|\?)(?:<({HEX})>(?:\(deleted\))?)?(?: ([A-Z]\w*) \(.*\))?((?: .*)?)", re.S)
+RESULT = re.compile(rf"\) += (0x[0-9a-f]{{1,16}}|-?\d{{1,20}}|\?)(?:<({HEX})>(\(deleted\))?)?(?: ([A-Z]\w*) \(.*\))?((?: .*)?)", re.S)
 NAMED = re.compile(rf"(?<![\w\\])(\d{{1,10}}|AT_FDCWD)<({HEX})>(\(deleted\))?")
 STRING = re.compile(rf'"({HEX})"(\.\.\.)?')
 # The most characters of a line, and of one that is shown; and how many a string has at least that is looked at as a whole.
@@ -41,10 +41,11 @@ class Call:
     text: str
     line: int
     words: list = field(default_factory=list)
-    # the answer, or nothing where it never came; the error; the path of the descriptor that was answered
+    # the answer, or nothing where it never came; the error; the path of the descriptor that was answered, and whether that is gone
     result: int | None = None
     error: str | None = None
     path: bytes | None = None
+    gone: bool = False
     rest: str = ""
     whole: bool = False
     # the line at which it ended; the call as people write it; the process in which it was made, as it was then
@@ -56,6 +57,8 @@ class Call:
     source: object = None
     # the line with its last part
     last: int = 0
+    # whether another thread changed the folder of the process while it was in flight
+    astray: bool = False
 
     def number(self, at):
         """The number that a word is."""
@@ -188,7 +191,8 @@ def read(call, begun):
     found = RESULT.fullmatch(rest)
     if not found:
         raise Refused(f"{call}: what it answered can't be read")
-    value, path, call.error, call.rest = found.groups()
+    value, path, gone, call.error, call.rest = found.groups()
+    call.gone = gone is not None
     call.result = None if value == "?" else number(value)
     call.path = None if path is None else unhexed(path)
     call.whole = True
@@ -197,26 +201,28 @@ def read(call, begun):
     return call
 
 
-def lines_of(stream):
-    """The lines of strace's text with their numbers."""
+def lines_of(stream, among=()):
+    """The lines of strace's text with their numbers; where `among` has words those alone that have one of these, and no very long one."""
     number = 0
     while line := stream.readline(LINE + 1):
         number += 1
         if not line.endswith(b"\n"):
             raise Refused(f"calls:{number}: the line is cut off")
+        if among and (len(line) > MOST_MADE or not any(it in line for it in among)):
+            continue
         if not line.isascii():
             raise Refused(f"calls:{number}: it isn't of strace -xx")
         yield number, line[:-1].decode()
 
 
-def happened(stream, wanted):
+def happened(stream, wanted, among=()):
     """What happened, in its order: pairs of `begin` or `end` and a call; `over` and a call that its process never ended;
     `gone` and the number of a process; `moved` and the numbers of two, of which the first goes on as the second.
 
-    Only calls with the names of `wanted` are read, the others have no words. A call that nothing came between begins and ends
+    Only calls with the names of `wanted` are read, the others have no words. Lines are left out as `lines_of` says. A call that nothing came between begins and ends
     at its line."""
     begun = {}
-    for line, text in lines_of(stream):
+    for line, text in lines_of(stream, among):
         head = HEAD.fullmatch(text)
         if not head:
             raise Refused(f"calls:{line}: no line of strace: {shown(text)}")
@@ -276,6 +282,8 @@ class Made:
 
 
 MAKES = ("clone", "clone3", "fork", "vfork")
+# What their lines have, and those of processes that end, and how long such a line is at most.
+OF_MAKES, MOST_MADE = (b"clone", b"fork", b"+++"), 1 << 16
 
 
 def child_of(call):
@@ -287,7 +295,7 @@ def child_of(call):
 def makers(stream):
     """Which process made which: of each number of a process the calls that made one of it, in their order."""
     found = {}
-    for kind, call in happened(stream, MAKES):
+    for kind, call in happened(stream, MAKES, OF_MAKES):
         if kind == "end" and call.name in MAKES and call.result and not call.failed():
             flags = call.text if call.name.startswith("clone") else call.name
             found.setdefault(child_of(call), deque()).append(Made(call.process, flags, call.line))

@@ -1,7 +1,7 @@
 """Follows copies that the kernel makes from file to file: copy_file_range, sendfile, splice, tee, and reflinks.
 
 A copy into a recorded file is a write of what was copied, which no line of strace has. So it has to be known what the source held:
-a recorded file is what the calls so far made it, and of a file from outside `outside.py` says it. Where the source, or the place in
+a recorded file is what the calls so far made it, of a file from outside `outside.py` says it, and of a pipe `pipes.py`. Where the source, or the place in
 it, isn't known, or another call changes it at once, the copy is refused. No copy makes anything durable, whatever flags its file
 has.
 """
@@ -52,7 +52,7 @@ class Copying:
             self.not_copied(call, flight)
             return
         _, at, to, place = COPIES[call.name]
-        start = self.place_in(call, flight.source, flight.source_moved, at)
+        start = flight.start = self.place_in(call, flight.source, flight.source_moved, at)
         if flight.opened is None:
             self.place_in(call, flight.other, flight.moved, place)
             return
@@ -95,6 +95,8 @@ class Copying:
         if isinstance(source, File):
             return self.copied_of(call, flight, source, start, length)
         path, gone = self.path_outside(call, source, from_)
+        if path in self.pipes.found:
+            return self.pipes.taken(call, path)
         if source is MARKS or path is None or not path.startswith(b"/"):
             raise Refused(f"{call}: what came from there isn't known; that is for the guest")
         if start is None:

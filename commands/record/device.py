@@ -116,8 +116,8 @@ def last_image(log, before):
     return image
 
 
-def record(folder, base, sectors, words, environment):
-    """Records a program. Returns its status, and what is said of the log."""
+def record(folder, base, sectors, words, environment, split=0):
+    """Records a program. Returns its status, and what is said of the log, in which each write is one of a page of `split` sectors."""
     sectors = lay_disk(folder, base, sectors)
     before = Path(folder, DISK).read_bytes()
     status = run(folder, words, environment)
@@ -128,7 +128,7 @@ def record(folder, base, sectors, words, environment):
     large = sectors > trace_log.USUAL.sectors
     limits = trace_log.LARGE if large else trace_log.USUAL
     try:
-        log = trace_log.made(text, Path(folder), sectors, limits)
+        log = trace_log.made(text, Path(folder), sectors, limits, split)
     except trace_log.Refused as refused:
         raise Refused(f"trace:{refused}") from None
     if last_image(log, before) != Path(folder, DISK).read_bytes():

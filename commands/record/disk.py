@@ -10,11 +10,16 @@ crash leaves of each sector one of these, whichever files were synced in which o
   What was written to them in between is written once more after it, and isn't durable.
 - A write with O_DSYNC is a write entry, and then the same as a FUA entry: in flight it may be lost or torn.
 
+By pages a write, but for one past the page cache, is a write entry for each page of 4,096 bytes that it changed, with the whole page as it
+stands then: a page has one of its versions, as the page cache wrote it. The sectors of one page have the same versions then.
+
 docs/RECORDING.md says why a log so made has each image that a crash may leave of the files, and no other.
 """
 from dataclasses import dataclass, field
 
 SECTOR = 512
+# How many sectors a page of the page cache has.
+PAGE = 4096 // SECTOR
 WRITE, FLUSH, FUA, MARK = 0, 1, 2, 8
 
 
@@ -31,6 +36,8 @@ class Entry:
     # the call that made it, and of a change of names which slots it changes
     call: object = field(default=None, compare=False, repr=False)
     slots: tuple = field(default=(), compare=False)
+    # whether a flush stands right before it, as a flag of its own
+    flushes: bool = False
 
     @property
     def count(self):
@@ -93,6 +100,15 @@ def runs(sectors):
             yield file, first, b"".join(parts)
 
 
+def by_pages(first, data):
+    """Yields whole sectors in pieces that each lie in one page: the first sector and the bytes."""
+    at, end = first, first + len(data) // SECTOR
+    while at < end:
+        until = min((at // PAGE + 1) * PAGE, end)
+        yield at, data[SECTOR * (at - first) : SECTOR * (until - first)]
+        at = until
+
+
 def keeps_order(place):
     """Whether the versions of a place stay in their order by themselves, as those of a chain do: what is durable is then written once
     more, and what came later isn't."""
@@ -100,11 +116,32 @@ def keeps_order(place):
 
 
 class Disk:
-    """The sectors of all files, and the entries that say what became of them."""
+    """The sectors of all files, and the entries that say what became of them; with `pages` by whole pages."""
 
-    def __init__(self):
+    def __init__(self, pages=False):
         # (of each file the numbers of the sectors with versions that aren't durable stand in `unsure`)
         self.entries, self.sectors, self.unsure = Entries(), {}, {}
+        # by pages: of each sector of a file which write made each of its versions
+        self.pages, self.turns, self.turn = pages, {}, 0
+
+    def whole_pages(self, content, first, data, is_direct):
+        """What a write of some sectors writes: by pages all of each page, as the file's content has it."""
+        if not self.pages or is_direct:
+            return first, data
+        start, end = first // PAGE * PAGE, -(-(first + len(data) // SECTOR) // PAGE) * PAGE
+        return start, bytes(content[SECTOR * start : SECTOR * end]).ljust(SECTOR * (end - start), b"\0")
+
+    def number(self, file, first, data):
+        """By pages: notes which write made a version of these sectors. Places with a chain have none of them."""
+        if self.pages and not hasattr(file, "keeps_order"):
+            self.turn += 1
+            for at in range(len(data) // SECTOR):
+                self.turns.setdefault((file, first + at), []).append(self.turn)
+
+    def turns_of(self, file, number, count):
+        """What tells the last versions of a sector apart, as many of them: by pages those of one write have the same."""
+        found = self.turns.get((file, number))
+        return range(count) if found is None else found[len(found) - count :]
 
     def forget(self, file, numbers):
         """These sectors of a file are durable, or nobody sees them any more."""
@@ -114,31 +151,29 @@ class Disk:
             if not left:
                 del self.unsure[file]
 
-    def settle(self, file, number, version):
-        """Makes durable what a sector held up to a version. Returns the sector, and its bytes where they weren't durable."""
-        it = self.sectors[file][number]
-        content = it.settle(version)
-        if not it.since:
-            self.forget(file, (number,))
-        return it, content
-
-    def write(self, file, first, data):
-        """Whole sectors of a file are written."""
-        self.entries.append(Entry(WRITE, file, first, data))
+    def write(self, file, first, data, is_one=False):
+        """Whole sectors of a file are written, by pages or as one entry."""
+        for at, part in by_pages(first, data) if self.pages and not is_one else ((first, data),):
+            self.entries.append(Entry(WRITE, file, at, part))
+            self.number(file, at, part)
         found, unsure = self.sectors.setdefault(file, {}), self.unsure.setdefault(file, set())
-        for at in range(len(data) // SECTOR):
-            found.setdefault(first + at, Sector()).since.append(data[SECTOR * at : SECTOR * (at + 1)])
-            unsure.add(first + at)
+        for at in range(0, len(data), SECTOR):
+            number = first + at // SECTOR
+            it = found.get(number) or found.setdefault(number, Sector())
+            it.since.append(data[at : at + SECTOR])
+        unsure.update(range(first, first + len(data) // SECTOR))
 
     def force(self, file, first, data):
         """Whole sectors of a file, as they were just written, are durable."""
         self.entries.append(Entry(FUA, file, first, data))
-        for at in range(len(data) // SECTOR):
-            self.settle(file, first + at, self.sectors[file][first + at].newest)
+        for number in range(first, first + len(data) // SECTOR):
+            self.sectors[file][number].settle(self.sectors[file][number].newest)
+        self.forget(file, range(first, first + len(data) // SECTOR))
 
     def lay(self, file, first, data):
         """Whole sectors that nothing shows yet are written, and are durable."""
         self.entries.append(Entry(FUA, file, first, data))
+        self.number(file, first, data)
         found, count = self.sectors.setdefault(file, {}), len(data) // SECTOR
         for at in range(count):
             it = found.setdefault(first + at, Sector())
@@ -156,12 +191,16 @@ class Disk:
         """The sync has ended: what it was to make durable is."""
         settled, later = {}, {}
         for file, versions in begun.items():
+            done, is_ordered = [], keeps_order(file)
             for number, version in versions.items():
-                it, content = self.settle(file, number, version)
+                it = self.sectors[file][number]
+                content = it.settle(version)
+                done += [] if it.since else [number]
                 if content is not None:
                     settled.setdefault(file, {})[number] = content
-                    for turn, written in enumerate(() if keeps_order(file) else it.since):
+                    for turn, written in zip(self.turns_of(file, number, len(it.since)), it.since) if it.since and not is_ordered else ():
                         later.setdefault(turn, {}).setdefault(file, {})[number] = written
+            self.forget(file, done)
         if not self.unsure:
             self.entries.append(Entry(FLUSH))
             return

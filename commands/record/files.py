@@ -70,6 +70,8 @@ class Opened:
     at: int = 0
     # how often its place was moved
     moved: int = 0
+    # whether it is written past the page cache, by O_DIRECT
+    direct: bool = False
 
 
 class Table(dict):
@@ -172,10 +174,24 @@ class Flight:
     source: Opened | None = None
     source_moved: int = 0
     source_changes: int = 0
+    # the place in that at which it began, once it is known
+    start: int | None = None
     sync: object = None
     call: object = None
     # of all files, for a call that names one by its path
     all_changes: dict = field(default_factory=dict)
+    # of a call that closes a descriptor: what that was of
+    closing: Opened | None = None
+    # the files that other calls changed since it began; and of those that another call gave the size that they had, this size
+    touched: set = field(default_factory=set)
+    cuts: dict = field(default_factory=dict)
+    # up to where another call reserved room in files
+    kept: dict = field(default_factory=dict)
+    # of a call that moves the folder of the process: what that was
+    at: bytes | None = None
+    # the names of files that other calls opened for writing since it began; the file that its path named then
+    reopened: set = field(default_factory=set)
+    named: object = None
     # how many changes of names there were, and the last version of them; nothing for the one that is the last now
     turn: int = 0
     version: int | None = None

@@ -6,8 +6,8 @@ from commands.record.calls import MAKES
 
 # Calls that write no file, make no descriptor of one, and change no name.
 HARMLESS = set(
-    "access alarm arch_prctl chmod chown connect epoll_ctl eventfd2 execveat exit exit_group faccessat faccessat2 fadvise64 "
-    "fchmod fchmodat fchown fchownat fgetxattr flistxattr flock fremovexattr fsetxattr fstat fstat64 fstatfs futimesat "
+    "access alarm arch_prctl chown connect epoll_ctl eventfd2 execveat exit exit_group faccessat faccessat2 fadvise64 "
+    "fchown fchownat fgetxattr flistxattr flock fremovexattr fsetxattr fstat fstat64 fstatfs futimesat "
     "getcwd getdents getdents64 getpeername getsockname getsockopt getxattr inotify_add_watch ioprio_set kcmp lchown lgetxattr "
     "listen listxattr llistxattr lremovexattr lsetxattr lstat name_to_handle_at newfstatat pidfd_open pidfd_send_signal "
     "pipe pipe2 poll ppoll prctl pread64 preadv readahead readlink readlinkat recvfrom recvmmsg recvmsg removexattr select "
@@ -23,7 +23,10 @@ UNSEEN = {
     "pivot_root": "paths mean something else after it",
     "mount": "paths mean something else after it",
     "move_mount": "paths mean something else after it",
+    "umount": "paths mean something else after it",
     "umount2": "paths mean something else after it",
+    "open_tree": "paths mean something else below what it opens",
+    "fsmount": "paths mean something else below what it opens",
     "setns": "paths mean something else after it",
     "ptrace": "it may change the memory of others",
     "acct": "it may write a file unseen",
@@ -50,6 +53,9 @@ NOT_BEGUN = {"EAGAIN", "EINTR", "EBADF", "EINVAL", "EFBIG", "EOPNOTSUPP", "EFAUL
 NOT_SYNCED = {"EBADF", "EINVAL", "EROFS"}
 # Errors of a copy after which nothing was written.
 NOT_COPIED = NOT_BEGUN | {"ENOSYS", "EXDEV", "ETXTBSY", "EISDIR", "EOVERFLOW"}
+# Errors of fallocate after which nothing was reserved, and those of a change of names or sizes after which it isn't known what is there.
+NOT_RESERVED = {"EOPNOTSUPP", "EBADF", "EINVAL", "ENODEV", "ESPIPE", "EPERM", "ETXTBSY", "EFBIG", "ENOSYS", "EISDIR"}
+BROKEN = {"EIO", "EUCLEAN"}
 # Flags of pwritev2 that are known.
 RWF = {"RWF_HIPRI", "RWF_NOWAIT", "RWF_DSYNC", "RWF_SYNC", "RWF_APPEND"}
 THROUGH = {"O_DSYNC", "O_SYNC", "__O_SYNC", "RWF_DSYNC", "RWF_SYNC"}
@@ -83,9 +89,13 @@ KINDS = {
     "truncate": ("truncate", "truncate64", "ftruncate", "ftruncate64"),
     "fallocate": ("fallocate",),
     "unlink": ("unlink", "unlinkat"),
+    "rmdir": ("rmdir",),
     "rename": ("rename", "renameat", "renameat2"),
     "link": ("link", "linkat", "symlink", "symlinkat"),
     "mkdir": ("mkdir", "mkdirat"),
     "mknod": ("mknod", "mknodat"),
     "bind": ("bind",),
+    "mode": ("chmod", "fchmod", "fchmodat", "fchmodat2"),
 }
+# Those of these that change names or sizes.
+CHANGES = {name for kind in ("open", "truncate", "fallocate", "unlink", "rmdir", "rename", "link", "mkdir", "mknod", "bind") for name in KINDS[kind]}

@@ -8,7 +8,7 @@ Three files say where: `files.txt`, which crashbpf-files reads, `files.h` for ch
 """
 import re
 import struct
-from dataclasses import dataclass
+from dataclasses import dataclass, replace
 
 from commands.record import trace_log
 from commands.record.calls import Refused
@@ -37,10 +37,10 @@ def unescaped(text):
     return re.sub(rb"\\x([0-9a-f]{2})", lambda it: bytes([int(it[1], 16)]), text.encode())
 
 
-def places(sizes, is_device=False):
+def places(sizes, is_device=False, unit=SECTOR):
     """Lays files out, a map of names to sizes. Returns the places, and the number of sectors of the device.
 
-    With `is_device` there is one file, of whole sectors, and it is the device.
+    With `is_device` there is one file, of whole sectors, and it is the device. What is written of a file has whole units.
     """
     if is_device:
         ((name, size),) = sizes.items()
@@ -49,7 +49,7 @@ def places(sizes, is_device=False):
     for name in sorted(sizes):
         sectors = -(-sizes[name] // SECTOR)
         found.append(Place(name, at, sectors, sizes[name]))
-        at += -(-(sectors + 1) // ALIGNED) * ALIGNED
+        at += -(-(-(-sizes[name] // unit) * unit // SECTOR + 1) // ALIGNED) * ALIGNED
     return found, max(at, ALIGNED)
 
 
@@ -61,6 +61,27 @@ def limits_of(sectors):
     return limits
 
 
+def with_flags(entries):
+    """Entries in which a flush right before a write is a flag of the write. Between the two is one cut less, at which a crash leaves what
+    it leaves after the write where that is lost, or before the flush where nothing is."""
+    found, flush = [], []
+    for it in entries:
+        if flush and it.count:
+            it, flush = replace(it, flushes=True), []
+        found += flush
+        flush = [it] if it.kind == FLUSH else []
+        found += [] if flush else [it]
+    return found + flush
+
+
+def fitting(entries):
+    """The entries as they stand, or where a log can't have as many with the flushes at the writes. Returns them with what is to be said."""
+    if len(entries) <= trace_log.ENTRIES:
+        return entries, []
+    found = with_flags(entries)
+    return found, [f"each flush right before a write is a flag of it, so that {len(entries)} entries are {len(found)}"]
+
+
 def log_of(entries, firsts, sectors):
     """The log of entries, in parts, and whether it takes --large. `firsts` says where each file begins."""
     parts, units, length = [], 0, SECTOR
@@ -70,7 +91,8 @@ def log_of(entries, firsts, sectors):
         elif it.kind == FLUSH:
             parts.append(trace_log.header(0, 0, FLUSH))
         else:
-            parts += [trace_log.header(firsts[it.file] + it.sector, it.count, it.kind & FUA), it.data]
+            flags = it.kind & FUA | (FLUSH if it.flushes else 0)
+            parts += [trace_log.header(firsts[it.file] + it.sector, it.count, flags), it.data]
         units += it.count
         length += SECTOR * (1 + it.count)
     most = limits_of(sectors)
@@ -79,7 +101,7 @@ def log_of(entries, firsts, sectors):
     counts = (("entries", len(entries), trace_log.ENTRIES), ("sectors written", units, most.units), ("bytes", length, most.length))
     for what, value, limit in counts:
         if value > limit:
-            raise Refused(f"the log has {value} {what}, and a log has at most {limit}: record less")
+            raise Refused(f"the log has {value} {what}, and a log has at most {limit}, with --large too: record less")
     return [struct.pack("<QQQI", trace_log.MAGIC, 1, len(entries), SECTOR).ljust(SECTOR, b"\0"), *parts], most is trace_log.LARGE
 
 

@@ -22,6 +22,8 @@ from commands.record.listening import NUMBER
 from commands.record.told import quoted
 
 CHUNK = 1 << 20
+# The name of the call that stands for what was stored.
+STORE = "store"
 # Calls on a descriptor that change no byte of its file, and those that may write a file that isn't the one of their first descriptor.
 QUIET = {*READS, *SYNCS, "preadv2", "lseek", "msync"}
 FOREIGN = f"writes to its descriptor {NUMBER}, where --mapped has strace's text, so strace doesn't see it; a setting with fewer open files; the guest"
@@ -169,7 +171,7 @@ class Mapped:
         flight, entries = Flight(grown=file.grown, changes=len(file.changed)), self.tracing.disk.entries
         seen = entries.call
         if isinstance(call, Call):
-            entries.call = replace(call, name="store", ended=call.line - 1, told=f"stores to the mapped {quoted(file.name)}")
+            entries.call = replace(call, name=STORE, ended=call.line - 1, told=f"stores to the mapped {quoted(file.name)}")
         self.tracing.put(call, flight, Opened(file, False, False, True), start, data, False)
         entries.call = seen
 
@@ -194,7 +196,7 @@ class Mapped:
         if call.name not in ("truncate", "truncate64") and (call.name not in OPENS or "O_TRUNC" not in call.text and call.name != "creat"):
             return flight.file
         path = self.tracing.path(call, *((0, 1) if call.name.startswith("openat") else (None, 0)))
-        return self.tracing.files.get(self.tracing.name(self.tracing.real(call, path)))
+        return self.tracing.files.get(self.tracing.name(self.tracing.real_now(call, path)))
 
     def flight_of(self, flight, call, file):
         """What a call in flight may write of its file."""

@@ -42,6 +42,8 @@ class NamedTracing(Tracing):
         super().__init__(folder, {}, skipped, tree.disk, made, at, marks, begun)
         self.tree, self.known_folders, self.known_others, self.brought, self.moves = tree, set(), set(), [], []
         self.handled["rmdir"] = self.end_unlink
+        # by the names of what they are of, the calls that changed permissions
+        self.modes = {}
         self.refresh()
 
     # What is known of names
@@ -52,7 +54,11 @@ class NamedTracing(Tracing):
 
     def refresh(self):
         """Names have changed, perhaps those of folders."""
+        before = self.files
         self.files, self.folders = self.tree.paths()
+        for path, it in before.items():
+            if self.files.get(path) is not it:
+                it.left.add(path)
         self.known_folders |= set(self.folders)
         self.places = {number: path for path, number in self.folders.items()}
         self.others = {path: self.tree.others[number] for path, (kind, number) in self.tree.below() if kind == OTHER}
@@ -65,7 +71,10 @@ class NamedTracing(Tracing):
         lost = []
         for folder, name in slots:
             path, (kind, number) = os.path.join(self.places[folder], name), self.tree.now.get((folder, name), (None, None))
-            lost += [it for it in (self.files.pop(path, None),) if it is not None and it.name == path]
+            gone = self.files.pop(path, None)
+            if gone is not None:
+                gone.left.add(path)
+                lost += [gone] if gone.name == path else []
             self.places.pop(self.folders.pop(path, None), None)
             self.others.pop(path, None)
             if kind == OTHER:
@@ -98,7 +107,7 @@ class NamedTracing(Tracing):
             if known is None and (name in self.known_folders or name in self.known_others):
                 return
             raise Refused(f"{call}: no call was seen that made descriptor {number} one of {shown(os.fsdecode(name))}")
-        if gone and self.files.get(name) is known.file:
+        if gone and self.files.get(name) is known.file and name not in known.file.left:
             raise Refused(f"{call}: no call was seen that unlinked {shown(os.fsdecode(name))}")
 
     def agrees_for(self, call, opened, at=0):
@@ -137,7 +146,7 @@ class NamedTracing(Tracing):
             bad = next((it for it in found if it.meets(past)), found[0])
             raise Refused(f"{call}: another call changed names at once, and which was first isn't known; another try may pass: {bad.call}")
         tree.call, tree.beside = call, []
-        if tree.table != "strict":
+        if tree.rules.one:
             self.put_beside(call, found)
 
     def put_beside(self, call, found):
@@ -167,12 +176,22 @@ class NamedTracing(Tracing):
         """Takes a name away, of a file or of a folder."""
         if call.failed():
             return
-        name = self.name(self.own_path(call, "unlinkat"))
-        if name is not None:
+        path = self.own_path(call, "unlinkat")
+        name = self.name(path)
+        if name is None:
+            self.note_removed(call, path)
+        else:
+            self.refuse_reopened(call, flight, name)
             slot = self.held(call, name)
             self.renamed(call, flight, {slot: None})
             self.tree.remove(slot)
             self.changed(slot)
+
+    def refuse_reopened(self, call, flight, *names):
+        """Refuses a change of names where another call opened a file by one of them at once, to write it."""
+        for name in names:
+            if name in flight.reopened:
+                raise Refused(f"{call}: another call opened {shown(os.fsdecode(name))} at once, and which was first isn't known; another try may pass")
 
     def held(self, call, name):
         """The slot of a name that is there."""
@@ -187,9 +206,8 @@ class NamedTracing(Tracing):
             return
         paths = self.both_paths(call, "rename")
         names, flags = [self.name(it) for it in paths], call.word(4) if call.name == "renameat2" else "0"
-        if self.folder in paths:
-            raise Refused(f"{call}: the folder itself is renamed")
-        self.surroundings.note_renamed(paths)
+        self.refuse_reopened(call, flight, *names)
+        self.note_renamed(call, paths)
         self.moves += [paths, paths[::-1]] if "RENAME_EXCHANGE" in flags else [paths]
         if names == [None, None]:
             return
@@ -236,6 +254,7 @@ class NamedTracing(Tracing):
     def follow(self, stream):
         """Follows all that happened. A file that came from outside by a rename has to be found where it came to."""
         super().follow(stream)
+        self.notes += self.note_modes()
         for call, file, name, path in self.brought:
             # (a link from outside leaves the path that it had)
             is_written = name is None and path in self.written
@@ -253,7 +272,9 @@ class NamedTracing(Tracing):
         if call.name == "linkat" and "AT_SYMLINK_FOLLOW" in call.word(4):
             paths[0] = self.real(call, paths[0])
         names = [self.name(it) for it in paths]
+        self.refuse_reopened(call, flight, names[1])
         if names == [None, None]:
+            self.outside(call, self.links.linked, *paths)
             self.moves += [paths, paths[::-1]]
             return
         if names[1] is None:
@@ -285,6 +306,31 @@ class NamedTracing(Tracing):
         self.tree.make_other(slot, other)
         self.changed(slot)
 
+    def end_mode(self, call, _process, _flight):
+        """A file or a folder has other permissions."""
+        if call.failed():
+            return
+        if call.name == "fchmod":
+            found = NAMED.match(call.word(0))
+            path = unhexed(found[2]) if found and not found[3] else None
+        else:
+            try:
+                path = self.real_now(call, self.own_path(call, call.name if "at" in call.name else ""))
+            except Refused:
+                # (it is said of a path that isn't known, and changes nothing else)
+                path = self.prefix + b"?"
+        name = b"" if path == self.folder else self.name(path)
+        if name in self.files or name in self.folders or name == b"?":
+            self.modes.setdefault(name, call)
+
+    def note_modes(self):
+        """What a reader should know of permissions that were changed."""
+        if not self.modes:
+            return []
+        names = ", ".join(f"{shown(os.fsdecode(name or b'.'))} by calls:{call.line}" for name, call in list(self.modes.items())[:3])
+        more = f", and {len(self.modes) - 3} more" if len(self.modes) > 3 else ""
+        return [f"permissions were changed ({names}{more}): each image has those of the end, so what a crash does to them isn't tested"]
+
     # Bytes and sizes
 
     def put(self, call, flight, opened, start, data, through):
@@ -294,15 +340,12 @@ class NamedTracing(Tracing):
         if start + len(data) > file.size and flight.grown != file.grown:
             raise Refused(f"{call}: another call moved the end at once, and which was first isn't known")
         self.tree.began = flight.version
-        self.tree.write(file, start, data, through)
+        self.tree.write(file, start, data, through, opened.direct)
 
     def resize(self, call, file, size, flight):
         """Gives a file another size, unless another call moved its end at once: that is refused."""
-        if size == file.size:
+        if not self.is_resized(call, file, size, flight):
             return
-        self.landed(call, flight, file, min(size, file.size), max(size, file.size))
-        if flight.grown != file.grown:
-            raise Refused(f"{call}: another call moved the end at once, and which was first isn't known")
         self.tree.began = flight.version
         self.tree.resize(file, size)
 
@@ -311,7 +354,7 @@ class NamedTracing(Tracing):
         super().end_fallocate(call, process, flight)
         file = flight.file
         if isinstance(file, File) and not call.failed() and "FALLOC_FL_PUNCH_HOLE" not in call.word(1):
-            self.tree.reserve(file, call.number(2) + call.number(3))
+            self.tree.reserve(file, call.number(2), call.number(2) + call.number(3))
 
     # Syncs
 

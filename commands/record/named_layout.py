@@ -182,7 +182,7 @@ class Laid:
 
     def __init__(self, tree):
         self.tree, self.firsts, self.rooms, self.sets, self.slots, self.base = tree, {}, [], [], [], {}
-        self.chains, self.copies, self.places = Chains(tree), {}, {}
+        self.chains, self.copies, self.same, self.places = Chains(tree), {}, {}, {}
         at = 0
         for it, chain in self.chains.found.items():
             self.firsts[it], at = at, at + chain.passed + 2
@@ -205,12 +205,12 @@ class Laid:
     def lay_room(self, file, room, at):
         """Lays the bytes of a file out. Returns the first sector after them."""
         sectors = up(room.length, SECTOR) // SECTOR
-        if sectors and at % ALIGNED + sectors + 1 > ALIGNED:
+        if sectors and at % ALIGNED + room.sectors + 1 > ALIGNED:
             at = up(at, ALIGNED)
         self.firsts[room] = at if sectors else 0
         self.rooms.append(Room(self.firsts[file.place], self.chains.found[file.place].passed, self.firsts[room], sectors, file.name))
         self.lay(self.firsts[room], room.initial)
-        return at + sectors + 1 if sectors else at
+        return at + room.sectors + 1 if sectors else at
 
     def lay_names(self, names, at):
         """Gives the names of a set their places, and lays its first copy out. Returns the first sector after it."""
@@ -230,7 +230,10 @@ class Laid:
         places, content = self.places[copy.names], bytearray(up(HELD.size * len(copy.names.slots), SECTOR))
         for slot, held in copy.held:
             HELD.pack_into(content, HELD.size * (places[slot] - 1), *self.held(held))
-        self.copies[copy] = at
+        # (what is the same of two sets, as nothing, stands there once)
+        self.copies[copy] = self.same.setdefault(bytes(content), at)
+        if self.copies[copy] != at:
+            return at
         self.lay(at, bytes(content))
         return at + len(content) // SECTOR
 

@@ -3,8 +3,8 @@
 On the device of the log are three kinds of places, each with one of its versions in force, the durable one or a later one:
 
 - **Names.** A version says which copy of a set of names is in force; the copies stand on the device from the start. So one write
-  changes all names of the set, and a crash leaves them as they were after one of the changes, in the order of these. By `strict`
-  there is a set for each name and those that a rename ties to it, by the other tables one set. Of the changes of such a set those
+  changes all names of the set, and a crash leaves them as they were after one of the changes, in the order of these. By `strict` and
+  `btrfs` there is a set for each name and those that a rename ties to it, by the other tables one set. Of the changes of such a set those
   alone are in order that have a name in common: a crash leaves some of them, and with each one all that it follows. So a change
   writes all versions that it is the last of, and the one with all changes last.
 - **Sizes.** A version is a size of a file, with the first sector of its bytes. Where a file gets shorter it has new sectors for its
@@ -20,11 +20,12 @@ version is left where one write is lost.
 
 Which entries a call makes, a write below being a write entry that is in flight until what makes it durable:
 
-- open with O_CREAT and creat that make a file, mkdir, link, symlink, mknod, bind, rename, unlink, rmdir: a write of a version of the names; by `strict`
-  as many writes as there are versions that the change is the last of.
+- open with O_CREAT and creat that make a file, mkdir, link, symlink, mknod, bind, rename, unlink, rmdir: a write of a version of the
+  names; by `strict` and `btrfs` as many writes as there are versions that the change is the last of.
 - write: of the bytes; where they are in a block that the append begins, by `ordered` a FUA write, since no image shows them before
-  the size. Then, where the size grew, a write of the sector of the size: at each multiple of 4,096 bytes that it passed, and at
-  its end.
+  the size. By `writeback` a write before them of what a new block held, and at last two writes of the bytes of those that had
+  the blocks before (`again.py`). Where the size grew, a write of the sector of the size: at each multiple of 4,096 bytes that
+  it passed, and at its end.
 - ftruncate, truncate, fallocate to a larger size: a write of the sector of the size.
 - ftruncate, truncate, O_TRUNC to a smaller size: zeros are written to the rest of the last block that is kept. Then a write of
   the sector of the size, by which the bytes lie in other sectors from now on. These hold at first what was durable of the part
@@ -33,8 +34,8 @@ Which entries a call makes, a write below being a write entry that is in flight 
   that size shows them, too.
 - fallocate that makes a hole, or zeros: a write of the bytes.
 - fsync, fdatasync, sync, and a write with O_DSYNC after its own entries: where nothing else is in flight that an image could show,
-  a flush. Else FUA writes of what it makes durable, and after these a write of what came later. By `ext4` fsync has the names durable
-  up to the last change of the file's own, and fdatasync hasn't.
+  a flush. Else FUA writes of what it makes durable, and after these a write of what came later. By `ext4` and `xfs` fsync has the names
+  durable up to the last change of the file's own, by `btrfs` the file's own, and fdatasync hasn't.
 
 Left out are writes that no image shows: to a file without a name, where no crash can bring its name back, and of bytes where none
 can bring their size back.
@@ -46,13 +47,35 @@ import struct
 from collections import deque
 from dataclasses import dataclass, field
 
+from commands.record.again import BLOCK, Again
 from commands.record.calls import Refused
-from commands.record.disk import SECTOR
+from commands.record.disk import SECTOR, runs
 from commands.record.files import File
 
-TABLES = ("ext4", "ordered", "writeback", "strict")
-# A file system gives a file whole blocks. Where a write goes on in one that the file has, nothing orders its bytes.
-BLOCK = 4096
+
+@dataclass(frozen=True)
+class Rules:
+    """What the file systems of a table keep, of what the tables tell apart."""
+
+    # the names of all folders change in one order; else each name has its own
+    one: bool = True
+    # fsync of a file has its own names durable
+    own: bool = False
+    # the bytes of a new block are there where the size shows them
+    filled: bool = False
+    # a block that was freed is used again before that is durable, and shows what it held where the new bytes are lost
+    again: bool = False
+
+
+TABLES = {
+    "ext4": Rules(own=True),
+    "ordered": Rules(filled=True),
+    "writeback": Rules(again=True),
+    "xfs": Rules(own=True),
+    "btrfs": Rules(one=False, own=True),
+    "strict": Rules(one=False),
+}
+# (A file system gives a file whole blocks. Where a write goes on in one that the file has, nothing orders its bytes.)
 FILE, FOLDER, OTHER = 1, 2, 3
 # The number of the folder of all.
 FOLDER_TOP = 0
@@ -81,12 +104,18 @@ class Bytes:
     length: int = 0
     # sectors that were laid, and that no sync has made durable since: without the size that shows them they are zeros
     laid: set = field(default_factory=set)
-    # how many sectors lie in blocks that it has from the room before
+    # how many sectors lie in blocks that it has from the room before; and of how many bytes it has a whole number
     shared: int = 0
+    unit: int = SECTOR
+    # where blocks are used again: the blocks of the disk that it has, by their numbers; those that may be none yet; those that are
+    # reserved, and show zeros
+    blocks: dict = field(default_factory=dict)
+    holes: set = field(default_factory=set)
+    unwritten: set = field(default_factory=set)
 
     @property
     def sectors(self):
-        return up(self.length, SECTOR) // SECTOR
+        return up(self.length, self.unit) // SECTOR
 
 
 @dataclass(eq=False)
@@ -110,7 +139,7 @@ class Names:
     touched: dict = field(default_factory=dict)
     # which change of names was the last of these
     turn: int = 0
-    # by `strict`: its changes that aren't durable, by a bit for each; the names before these; how many there were; and what a crash
+    # where names are by themselves: its changes that aren't durable, by a bit for each; the names before these; how many there were; and what a crash
     # may leave, as the changes that are there, with the number of its state
     changes: dict = field(default_factory=dict)
     durable: dict = None
@@ -129,11 +158,12 @@ class Names:
             found |= it
         return {slot: held for slot, held in found.items() if held is not None}
 
-    def follows(self, slots):
-        """The changes that a change of these slots follows: those with a slot in common, and all that these follow."""
+    def follows(self, slots, before=None):
+        """The changes that a change of these slots follows: those with a slot in common, and all that these follow. `before` is the bit
+        of one that they stand before."""
         found, slots = 0, set(slots)
         for bit, change in reversed(self.changes.items()):
-            if not slots.isdisjoint(change):
+            if (before is None or bit < before) and not slots.isdisjoint(change):
                 found |= bit
                 slots |= set(change)
         return found
@@ -141,6 +171,15 @@ class Names:
     def up_to(self, slots):
         """The changes of these slots, and all that they follow."""
         return functools.reduce(lambda found, slot: found | self.follows([slot]), slots, 0)
+
+    def with_all_before(self, bit):
+        """A change, and all that it follows; nothing where it is durable."""
+        return bit | self.follows(self.changes[bit], bit) if bit in self.changes else 0
+
+    def leaves(self, bits):
+        """What the names of these changes hold after them."""
+        held, slots = self.after(bits), {slot for bit, change in self.changes.items() if bit & bits for slot in change}
+        return {held[it] for it in slots if it in held}
 
     def after(self, bits):
         """The names after these changes."""
@@ -204,6 +243,10 @@ class Named(File):
         self.number, self.rooms, self.place = number, [Bytes(0, content, len(content))], Size(number)
         # up to where it has blocks; the version of the names when its size changed last; how many names it has, and had
         self.blocks, self.stamp, self.names, self.known = len(content), 0, 0, {name}
+        # the slots that hold it
+        self.slots = set()
+        # the names that it had and lost
+        self.left = set()
         # the path that it had first
         self.first = None
         # the version of the names when one of its own changed last, and the first that has none of them
@@ -229,8 +272,9 @@ class Tree:
     been followed once: `ties` has it then."""
 
     def __init__(self, table, disk, joined=None):
-        self.table, self.disk, self.joined = table, disk, joined
-        self.one = Names() if table != "strict" or joined is None else None
+        self.table, self.rules, self.disk, self.joined = table, TABLES[table], disk, joined
+        self.one = Names() if self.rules.one or joined is None else None
+        self.again = Again(self) if self.rules.again else None
         self.sets, self.parents = {}, {}
         # how many changes of names there were; the sets with changes that aren't durable; the rooms with sectors that were laid; and
         # the files of which no crash may show some bytes that aren't durable
@@ -239,6 +283,8 @@ class Tree:
         self.folders, self.called, self.files, self.now = 1, {0: b""}, {}, {}
         # what is neither file nor folder, by its number; and the folder that each folder is in
         self.others, self.above = {}, {}
+        # by tables in which names are by themselves: of each folder that was made the set, and the bit of the change
+        self.made = {}
         # which permissions files and folders had last, by pairs of a kind and a number
         self.modes = {}
         # the last changes; the call that makes the next one, and the changes that were made at once with that; and of each change with
@@ -312,8 +358,9 @@ class Tree:
         before = {slot: self.now.get(slot) for slot in slots}
         changed = [it for slot in slots for it in (before[slot], slots[slot]) if it is not None]
         for slot, it in slots.items():
-            self.count(self.now.pop(slot, None), -1)
-            self.count(it, 1)
+            self.count(slot, self.now.pop(slot, None), -1)
+        for slot, it in slots.items():
+            self.count(slot, it, 1)
             self.now |= {} if it is None else {slot: it}
             self.above |= {it[1]: slot[0]} if it is not None and it[0] == FOLDER else {}
         names, self.turn = sets.pop(), self.turn + 1
@@ -326,6 +373,7 @@ class Tree:
             self.moving[names] = None
             for number in names.add(slots):
                 self.disk.write(names, 0, copy_text(number))
+            self.made |= {made: (names, max(names.changes))} if made is not None else {}
         else:
             self.follow(names, slots, made, changed)
         self.disk.entries.slots = ()
@@ -334,6 +382,8 @@ class Tree:
         for kind, number in changed:
             if kind == FILE:
                 self.suspect(self.files[number])
+                if self.again and not self.files[number].names:
+                    self.again.freed(self.files[number])
 
     def past(self, names, before, slots):
         """A change as it is remembered."""
@@ -362,7 +412,7 @@ class Tree:
             names.versions.append(change)
             self.disk.write(names, 0, copy_text(len(names.versions) - 1))
         last, folders = len(names.versions) - 1, {folder for folder, _ in slots}
-        touched = dict.fromkeys(folders | ({made} if made is not None and self.table != "strict" else set()), first)
+        touched = dict.fromkeys(folders | ({made} if made is not None and self.rules.one else set()), first)
         for folder in folders & {folder for it in self.beside for folder, _ in it.slots}:
             touched[folder] = last
         names.touched.update(touched)
@@ -388,9 +438,12 @@ class Tree:
         it.since = [copy_text(number) for number in left]
         return it.durable + 1
 
-    def count(self, held, by):
+    def count(self, slot, held, by):
+        """A slot holds this from now on, or no more."""
         if held is not None and held[0] == FILE:
-            self.files[held[1]].names += by
+            file = self.files[held[1]]
+            file.names += by
+            file.slots ^= {slot}
 
     # Changes of names
 
@@ -402,7 +455,7 @@ class Tree:
         else:
             file = self.new_file(slot[1], content)
             self.now[slot] = FILE, file.number
-            file.names = 1
+            self.count(slot, self.now[slot], 1)
         names = self.set_of(slot)
         names.initial[slot] = self.now[slot]
         if content is not None:
@@ -412,7 +465,7 @@ class Tree:
     def begin_other(self, slot, held):
         """Something stands there that is no folder, and no file that has no other name: what it holds is given."""
         self.now[slot] = held
-        self.count(held, 1)
+        self.count(slot, held, 1)
         names = self.set_of(slot)
         names.initial[slot] = held
         if held[0] == FILE:
@@ -425,15 +478,19 @@ class Tree:
         return OTHER, number
 
     def new_file(self, name, content=b""):
+        """A file that has no name yet, with what it holds durably."""
         file = Named(len(self.files), name, content)
+        file.rooms[0].unit = BLOCK if self.disk.pages else SECTOR
         self.files[file.number] = file
+        if self.again:
+            self.again.begin(file)
         return file
 
     def make_file(self, slot):
         """Makes a file of a new name, and returns it."""
         file = self.new_file(slot[1])
         self.change({slot: (FILE, file.number)})
-        file.stamp = file.named if self.table != "strict" else 0
+        file.stamp = file.named if self.rules.one else 0
         return file
 
     def bring_file(self, slot, content):
@@ -473,37 +530,63 @@ class Tree:
 
     # Bytes and sizes
 
-    def write(self, file, start, data, through=False):
-        """Bytes are written to a file. `through` has them durable when the call ends."""
+    def write(self, file, start, data, through=False, is_direct=False):
+        """Bytes are written to a file. `through` has them durable when the call ends, and direct ones are written past the page cache."""
         old, room, border = file.size, file.rooms[-1], up(max(file.blocks, file.size), BLOCK) // SECTOR
-        first, sectors = file.put(start, data)
+        first, sectors = self.disk.whole_pages(file.content, *file.put(start, data), is_direct)
+        # (of a new block the rest isn't durable by this write)
+        own = range(first, first + len(sectors) // SECTOR)
         file.blocks, room.length = max(file.blocks, file.size), max(room.length, file.size)
+        if self.again:
+            first, sectors = self.write_blocks(file, first, sectors)
         if not self.shown(file):
             self.stamp(file, file.size > old)
+            self.show_blocks(file, first, len(sectors) // SECTOR)
             return
         self.suspect(file)
-        known = min(max(border - first, 0), len(sectors) // SECTOR) if self.table == "ordered" else len(sectors) // SECTOR
+        known = min(max(border - first, 0), len(sectors) // SECTOR) if self.rules.filled else len(sectors) // SECTOR
         if known:
-            self.put(file, first, sectors[: SECTOR * known])
+            self.put(file, first, sectors[: SECTOR * known], is_direct)
         if sectors[SECTOR * known :]:
             self.disk.lay(room, first + known, sectors[SECTOR * known :])
             room.laid |= set(range(first + known, first + len(sectors) // SECTOR))
             self.laying[room] = None
         if file.size > old:
             self.sized(file, [*range(up(max(old, start) + 1, BLOCK), file.size, BLOCK), file.size])
+        self.show_blocks(file, first, len(sectors) // SECTOR)
         if through:
-            self.end_sync(self.begin_file(file, range(first, first + len(sectors) // SECTOR), data=True))
+            self.end_sync(self.begin_file(file, own, data=True))
 
-    def put(self, file, first, data):
-        """Whole sectors of a file are written. Where they lie in blocks that it had before it got shorter, a crash may leave them
-        there with the size of that time too."""
-        self.disk.write(file.rooms[-1], first, data)
-        limit = file.rooms[-1].shared
-        for number in range(len(file.rooms) - 2, self.oldest_room(file) - 1, -1):
+    def write_blocks(self, file, first, sectors):
+        """Sectors are written where blocks are used again: of new blocks all, and what these held before comes first. Returns the first
+        sector, and the bytes of all that are written."""
+        room = file.rooms[-1]
+        first, count, stale = self.again.written(file, first, len(sectors) // SECTOR)
+        room.length = max(room.length, SECTOR * (first + count))
+        if stale and self.shown(file):
+            for _, block, data in runs({room: stale}):
+                self.put(file, BLOCK // SECTOR * block, data)
+        return first, bytes(file.content[SECTOR * first :][: SECTOR * count]).ljust(SECTOR * count, b"\0")
+
+    def show_blocks(self, file, first, count):
+        """Where blocks are used again those that had the blocks of these sectors may show them."""
+        if self.again:
+            self.again.used(file, first, count)
+
+    def put(self, file, first, data, is_direct=False):
+        """Whole sectors of a file are written."""
+        self.spread(file, len(file.rooms) - 1, first, data, is_direct)
+
+    def spread(self, file, index, first, data, is_direct=False):
+        """Whole sectors of a room of a file are written. Where they lie in blocks that it had before it got shorter, a crash may leave
+        them there with the size of that time too."""
+        self.disk.write(file.rooms[index], first, data, is_direct)
+        limit = file.rooms[index].shared
+        for number in range(index - 1, self.oldest_room(file) - 1, -1):
             room = file.rooms[number]
             count = min(limit, room.sectors) - first
             if count > 0:
-                self.disk.write(room, first, data[: SECTOR * count])
+                self.disk.write(room, first, data[: SECTOR * count], is_direct)
             limit = min(limit, room.shared)
 
     def sized(self, file, sizes):
@@ -517,7 +600,7 @@ class Tree:
         if grew:
             # (which of the names that changed meanwhile were first isn't known)
             now = self.version(self.one) if self.began is None else self.began
-            file.stamp = 0 if self.table == "strict" else max(now, file.stamp)
+            file.stamp = max(now, file.stamp) if self.rules.one else 0
 
     def resize(self, file, size):
         """A file gets longer or shorter."""
@@ -531,24 +614,30 @@ class Tree:
 
     def shorten(self, file, size):
         """A file gets new sectors for its bytes, which hold what it keeps. Of the last block that it keeps the rest becomes zeros."""
+        if self.again:
+            self.again.freed(file, up(size, BLOCK) // BLOCK)
         old, found = file.rooms[-1], self.disk.sectors.get(file.rooms[-1], {})
         count, kept, later = up(size, SECTOR) // SECTOR, b"", {}
         for number in range(count):
             keep = min(size - SECTOR * number, SECTOR)
             first, *since = (it[:keep].ljust(SECTOR, b"\0") for it in self.versions(old, found.get(number), number))
             kept += first
-            for turn, content in enumerate(since):
+            for turn, content in zip(self.disk.turns_of(old, number, len(since)), since):
                 later.setdefault(turn, []).append((number, content))
-        for number in range(size // SECTOR, min(up(size, BLOCK) // SECTOR, old.sectors)) if self.shown(file) else ():
-            self.put(file, number, bytes(file.content[SECTOR * number : max(size, SECTOR * number)]).ljust(SECTOR, b"\0"))
+        step = old.unit // SECTOR
+        for number in range(size // old.unit * step, min(up(size, BLOCK) // SECTOR, old.sectors), step) if self.shown(file) else ():
+            self.put(file, number, bytes(file.content[SECTOR * number : max(size, SECTOR * number)]).ljust(old.unit, b"\0"))
         file.changed.append((size // SECTOR, -(-file.size // SECTOR)))
         file.content[size:] = bytes(len(file.content) - size)
         file.size, file.grown, file.blocks = size, file.grown + 1, size
-        file.rooms.append(Bytes(len(file.rooms), kept, size, shared=up(size, BLOCK) // SECTOR))
+        file.rooms.append(Bytes(len(file.rooms), kept, size, shared=up(size, BLOCK) // SECTOR, unit=old.unit))
+        if self.again:
+            self.again.moved(file)
         if self.shown(file):
             for turn in sorted(later):
-                for number, content in later[turn]:
-                    self.disk.write(file.rooms[-1], number, content)
+                one_by_one = ((None, *it) for it in later[turn])
+                for _, number, content in runs({None: dict(later[turn])}) if self.disk.pages else one_by_one:
+                    self.disk.write(file.rooms[-1], number, content, True)
 
     def versions(self, room, it, number):
         """The versions that a crash may leave of a sector of a file, where nothing is said of its size."""
@@ -556,9 +645,10 @@ class Tree:
         held = initial if it is None or it.held is None else it.held
         return [*([bytes(SECTOR)] if number in room.laid else []), held, *(it.since if it else ())]
 
-    def reserve(self, file, end):
-        """A file has blocks up to there."""
-        file.blocks = max(file.blocks, end)
+    def reserve(self, file, start, end):
+        """A file has blocks from here to there."""
+        file.blocks, room = max(file.blocks, end), file.rooms[-1]
+        room.unwritten |= set(range(start // BLOCK, up(end, BLOCK) // BLOCK)) - room.blocks.keys() if self.again else set()
 
     # What a crash may still show
 
@@ -599,10 +689,25 @@ class Tree:
         laid = [(room, it) for it in room.laid if sectors is None or it in sectors]
         if sectors is not None:
             found[room] = {number: it for number, it in found[room].items() if number in sectors}
-        stamp = max(file.stamp, file.named) if self.table == "ext4" and not data else file.stamp
-        if self.table != "strict" and stamp:
+        stamp = max(file.stamp, file.named) if self.rules.own and not data else file.stamp
+        if self.rules.one and stamp:
             found[self.one] = {0: stamp}
-        return found, laid, {}
+        return found, laid, self.own_names(file) if self.rules.own and not data and self.one is None else {}
+
+    def own_names(self, file):
+        """Where names are by themselves: the changes that gave a file the names that it has, and those that made the folders that these
+        are in, with all that they follow. Where these leave a name of something else, none of the set: a file that was moved away
+        may be gone."""
+        found, bits = {}, {}
+        for slot in file.slots:
+            names = self.set_of(slot)
+            found.setdefault(names, set()).add((FILE, file.number))
+            bits[names] = bits.get(names, 0) | names.up_to([slot])
+        for folder in self.folders_of(file.slots) & self.made.keys():
+            names, bit = self.made[folder]
+            found.setdefault(names, set()).add((FOLDER, folder))
+            bits[names] = bits.get(names, 0) | names.with_all_before(bit)
+        return {names: its for names, its in bits.items() if names.leaves(its) <= found[names]}
 
     def grows_apart(self, file, sectors):
         """Whether bytes past the durable size of a file are in flight that aren't in these sectors."""

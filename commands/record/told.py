@@ -115,7 +115,7 @@ def what(entry, files):
     """What an entry of a log is of."""
     if entry.kind == FLUSH:
         return "a flush"
-    durable = ", durable" if entry.kind & FUA else ""
+    durable = (", durable" if entry.kind & FUA else "") + (", after a flush" if entry.flushes else "")
     file = files.get(entry.file, entry.file)
     if not isinstance(file, File):
         return f"the names{durable}"

@@ -1,7 +1,7 @@
 #!/usr/bin/env python3
 """Makes a log of a trace: a text that says what was written to a device, a line for each entry.
 
-    commands/record/trace_log.py TRACE LOG [--sectors N] [--large] [--outside]
+    commands/record/trace_log.py TRACE LOG [--sectors N] [--large] [--outside] [--split N]
 
 TRACE is a text in UTF-8, LOG the file that is written, in the format of docs/LOG-FORMAT.md. N is the size of the device in
 sectors of 512 bytes, 1 to 16,384, with --large to 33,554,432, and the most where it isn't given. `-` is standard input, or
@@ -27,6 +27,12 @@ than the log has; of a log that is taken in, the headers up to END too, and noth
 --large 1 GiB. LOG is a new file or a
 regular one, and gets its name when it is whole.
 
+With `--split 8` each write that isn't within one page of eight sectors becomes writes of a page each, in the order of their places, so that
+`--by write` loses page by page, as a disk does that writes 4,096 bytes at once. A flush flag stands at the first of them
+alone: at a later one it would make the first durable. A FUA write of more pages is all of its pages without FUA, and then all of them with it,
+since until it has ended any of them may be lost. Discards stay whole. Each image of the log is one of the log that is split, by as many
+losses of pages as the write has; N may be another number of sectors, 1 to 65,536.
+
 A trace that can't be made a log is refused: a line on standard error, `trace_log: TRACE:LINE: what is wrong`, the status
 2, and LOG isn't touched. Refused are what isn't a line of the table, numbers that are none, sectors that the device
 doesn't have, files that can't be read or have fewer bytes than a line takes, and what passes a limit of a log: 65,536
@@ -50,6 +56,8 @@ from pathlib import Path
 SECTOR = 512
 ENTRIES = 65_536
 MARK_LENGTH = 480
+# The most sectors that a page of --split has.
+MOST_SPLIT = 65_536
 MAGIC = 0x6A736677736872
 # How long a trace may be, how many lines it may have, and how long
 # one may be; how many files are open at once.
@@ -139,6 +147,17 @@ def opened(folder, parts, links):
         os.close(at)
 
 
+def pieces(sector, count, flags, size):
+    """What an entry with sectors becomes where each write is one of a page of `size` sectors, or 0: first sector, number of sectors, flags."""
+    cuts = [sector, *range((sector // size + 1) * size, sector + count, size), sector + count] if size and count and not flags & DISCARD else []
+    if len(cuts) <= 2:
+        return [(sector, count, flags)]
+    plain = flags & ~(FLUSH | FUA)
+    found = [(first, last - first, plain) for first, last in zip(cuts, cuts[1:])]
+    forced = [(first, length, plain | FUA) for first, length, _ in found] if flags & FUA else []
+    return [(*found[0][:2], plain | flags & FLUSH), *found[1:], *forced]
+
+
 class Source:
     """A regular file, of which pieces are read."""
 
@@ -207,8 +226,9 @@ class Source:
 class Log:
     """A log that is being made, and what of it counts against limits."""
 
-    def __init__(self, folder, sectors, most, outside):
+    def __init__(self, folder, sectors, most, outside, split=0):
         self.folder, self.sectors, self.most, self.outside = os.path.realpath(os.fsencode(folder)), sectors, most, outside
+        self.split = split
         self.parts, self.count, self.units, self.length = [], 0, 0, SECTOR
         self.ends, self.sources = {}, {}
 
@@ -229,6 +249,17 @@ class Log:
         """Puts an entry without data after the others."""
         self.room(units, len(content))
         self.parts.append(content)
+
+    def room_for(self, found):
+        """Counts the writes that an entry becomes."""
+        for _, units, _ in found:
+            self.room(units, SECTOR + SECTOR * units)
+
+    def put_pieces(self, found, data):
+        """Puts the writes that an entry becomes after the others. The first of them begins where the data does."""
+        for sector, count, flags in found:
+            at = SECTOR * (sector - found[0][0])
+            self.parts += [header(sector, count, flags), data[at : at + SECTOR * count]]
 
     def made(self):
         """The bytes of the log, in parts."""
@@ -277,10 +308,10 @@ class Log:
                 raise Refused("after at it wants PLACE")
             place, rest = number(rest[1], "PLACE"), rest[2:]
         flags = flags_of(rest)
-        self.room(count, SECTOR + length)
+        found = pieces(sector, count, flags, self.split)
+        self.room_for(found)
         start = self.ends.get(value, 0) if place is None else place
-        data = bytes([byte]) * length if what == "fill" else self.piece(value, start, start + length)
-        self.parts += [header(sector, count, flags), data]
+        self.put_pieces(found, bytes([byte]) * length if what == "fill" else self.piece(value, start, start + length))
 
     def discard(self, words):
         sector, count = self.span(words)
@@ -309,7 +340,13 @@ class Log:
             raise Refused(f"{words[0]} has {entries} entries, so none from {first} up to {end}")
         for entry in range(min(first, len(source.starts) - 1), end):
             units, start, stop = source.entry(entry, self.sectors, self.most.taken)
-            if entry >= first:
+            if entry < first:
+                continue
+            found = pieces(*struct.unpack("<3Q", source.piece(start, start + 24)), self.split)
+            if len(found) > 1:
+                self.room_for(found)
+                self.put_pieces(found, source.piece(start + SECTOR, stop))
+            else:
                 self.room(units, stop - start)
                 self.parts.append(source.piece(start, stop))
 
@@ -363,9 +400,9 @@ def made_of(stream, log):
         raise Refused(f"{place}: {refused}") from None
 
 
-def made(text, folder=Path(), sectors=USUAL.sectors, most=USUAL):
+def made(text, folder=Path(), sectors=USUAL.sectors, most=USUAL, split=0):
     """The log of a trace, within these limits. Raises Refused, which begins with the number of the line."""
-    log = Log(folder, sectors, most, False)
+    log = Log(folder, sectors, most, False, split)
     made_of(io.BytesIO(text.encode()), log)
     return b"".join(log.made())
 
@@ -458,6 +495,7 @@ def main():
     parser.add_argument("--sectors", type=sectors_of)
     parser.add_argument("--large", action="store_true")
     parser.add_argument("--outside", action="store_true")
+    parser.add_argument("--split", type=sectors_of, default=0, metavar="N", help="make each write one of a page of N sectors")
     words = parser.parse_args()
     # Not before the words are read: argparse imports a module on its way, and an end that is asked for in an import can be passed over.
     for number in (signal.SIGHUP, signal.SIGINT, signal.SIGTERM):
@@ -467,8 +505,10 @@ def main():
     sectors = limits.sectors if words.sectors is None else words.sectors
     if not 1 <= sectors <= limits.sectors:
         parser.error(f"a device has 1 to {limits.sectors} sectors")
+    if words.split > MOST_SPLIT:
+        parser.error(f"a page has 1 to {MOST_SPLIT} sectors")
     folder = "." if words.trace == "-" else os.path.dirname(words.trace) or "."
-    log = Log(folder, sectors, limits, words.outside)
+    log = Log(folder, sectors, limits, words.outside, words.split)
     return done(words.trace, "read", lambda: made_of(opened_trace(words.trace), log)) or done(
         words.log, "written", lambda: write_log(words.log, log.made())
     )

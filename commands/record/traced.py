@@ -13,6 +13,7 @@ import signal
 import stat
 import subprocess
 from contextlib import suppress
+from dataclasses import replace
 from pathlib import Path
 
 from commands.record import layout
@@ -20,12 +21,12 @@ from commands.record import listening
 from commands.record import looks
 from commands.record import named_layout
 from commands.record.calls import Refused, makers, shown
-from commands.record.disk import SECTOR, Disk
+from commands.record.disk import PAGE, SECTOR, WRITE, Disk
 from commands.record.files import Another, Other, skips, skips_below
 from commands.record.layout import trace_log
 from commands.record.mapped import Mapped
 from commands.record.named import NamedTracing, beginning
-from commands.record.orders import FILE, FOLDER
+from commands.record.orders import FILE, FOLDER, TABLES
 from commands.record.told import entries_text, owners
 from commands.record.tracing import Tracing
 from commands.shared.recording import NAME, Recording
@@ -44,6 +45,9 @@ OPTIONS = ["-f", "-q", "-xx", "-y", "-v", "-s", str(STRING), "-e", f"raw={RAW}"]
 MARKS, FILES, CALLS, LOOKS, BASE, LOG, ENTRIES = "marks", "files", "calls", "looks", "base.img", "writes.log", "entries"
 MAP, HEADER = "files.txt", "files.h"
 MADE = (LOG, BASE, MAP, HEADER, ENTRIES, NAME)
+# In which parts bytes are written that go through the page cache.
+PAGES = "pages"
+PARTS = ("calls", PAGES)
 # What stands in the folder of a recording that was refused.
 LEFT = (MARKS, FILES, CALLS, LOOKS, BASE, MAP, HEADER, ENTRIES, NAME)
 
@@ -207,24 +211,24 @@ def with_looks(tracing, calls):
     return tracing
 
 
-def follow(calls, files, before, skipped, at, marks=None, begun=0):
-    """Follows the calls that strace wrote down. Returns the tracing, whose disk has the entries."""
+def follow(calls, files, before, skipped, at, marks=None, begun=0, pages=False):
+    """Follows the calls that strace wrote down. Returns the tracing, whose disk has the entries, by pages or by calls."""
     with open(calls, "rb") as stream:
         made = makers(stream)
-    tracing = Tracing(files, before, skipped, Disk(), made, at, marks, begun)
+    tracing = Tracing(files, before, skipped, Disk(pages), made, at, marks, begun)
     with open(calls, "rb") as stream:
         with_looks(tracing, calls).follow(stream)
     return tracing
 
 
-def follow_names(calls, files, before, folders, skipped, at, marks, table, begun=0, kind=NamedTracing):
+def follow_names(calls, files, before, folders, skipped, at, marks, table, begun=0, kind=NamedTracing, pages=False):
     """Follows the calls of a recording whose names and sizes count, by a table. Which names a rename ties together is known only at
     the end, so the calls are followed twice where the table asks for it. `kind` says who follows them."""
     joined = None
-    for _ in range(2 if table == "strict" else 1):
+    for _ in range(1 if TABLES[table].one else 2):
         with open(calls, "rb") as stream:
             made = makers(stream)
-        tracing = kind(files, beginning(table, Disk(), joined, before, folders), skipped, made, at, marks, begun)
+        tracing = kind(files, beginning(table, Disk(pages), joined, before, folders), skipped, made, at, marks, begun)
         with open(calls, "rb") as stream:
             with_looks(tracing, calls).follow(stream)
         joined = tracing.tree.ties()
@@ -265,12 +269,15 @@ def is_device(tracing, base):
 
 def recorded(tracing, folder, base=None):
     """Writes the log and its maps. Returns what the folder knows of itself, what is said of the maps, and the number of entries."""
-    sizes = {name: it.most for name, it in tracing.files.items() if it.most}
-    found, sectors = layout.places(sizes, is_device(tracing, base))
+    sizes, pages = {name: it.most for name, it in tracing.files.items() if it.most}, tracing.disk.pages
+    found, sectors = layout.places(sizes, is_device(tracing, base), PAGE * SECTOR if pages else SECTOR)
     firsts = {tracing.files[it.name]: it.first for it in found}
     if not any(it.count for it in tracing.disk.entries):
         raise Refused("the program wrote no file of its folder, $FILES, so nothing was recorded")
-    parts, large = layout.log_of(tracing.disk.entries, firsts, sectors)
+    entries = cut_off(tracing.disk.entries, sectors) if pages and is_device(tracing, base) else tracing.disk.entries
+    entries, notes = layout.fitting(entries)
+    parts, large = layout.log_of(entries, firsts, sectors)
+    tracing.notes += notes
     Path(folder, MAP).write_text(layout.map_text(found, sectors))
     Path(folder, HEADER).write_text(layout.header_text(found))
     made = Recording(folder, sectors, large, map=MAP)
@@ -279,8 +286,13 @@ def recorded(tracing, folder, base=None):
         Path(folder, BASE).write_bytes(layout.image_of(found, initial, sectors))
         made.base = BASE
     trace_log.write_log(str(Path(folder, LOG)), parts)
-    Path(folder, ENTRIES).write_text(entries_text(tracing.disk.entries, {}), errors="surrogateescape")
-    return made, [f"{layout.escaped(it.name)}: {it.length} bytes from sector {it.first} on" for it in found], len(tracing.disk.entries)
+    Path(folder, ENTRIES).write_text(entries_text(entries, {}), errors="surrogateescape")
+    return made, [f"{layout.escaped(it.name)}: {it.length} bytes from sector {it.first} on" for it in found], len(entries)
+
+
+def cut_off(entries, sectors):
+    """Entries of a file that is a device, in which the last page ends where the device does."""
+    return [replace(it, data=it.data[: SECTOR * (sectors - it.sector)]) if it.file is not None else it for it in entries]
 
 
 def recorded_names(tracing, folder):
@@ -288,8 +300,9 @@ def recorded_names(tracing, folder):
     laid = named_layout.Laid(tracing.tree)
     if not any(it.count for it in tracing.disk.entries):
         raise Refused("the program changed no file of its folder, $FILES, so nothing was recorded")
-    entries = list(laid.entries())
+    entries, notes = layout.fitting(list(laid.entries()))
     parts, large = layout.log_of(entries, laid.firsts, laid.sectors)
+    tracing.notes += notes
     Path(folder, MAP).write_text(laid.map_text())
     Path(folder, HEADER).write_text(named_layout.header_text(laid))
     Path(folder, BASE).write_bytes(laid.image())
@@ -302,20 +315,35 @@ def recorded_names(tracing, folder):
     return Recording(folder, laid.sectors, large, BASE, MAP, table=tracing.tree.table), lines, len(entries)
 
 
+AGAIN_NOTE = (
+    "by writeback each new block takes one freed block of the recording and may show what that held last; that it takes another, or shows "
+    "older bytes, isn't tried, and what files that aren't recorded write to freed blocks is left out"
+)
+
+
 def notes_of(tracing, before):
     """What a reader should know of a recording: what was left out of it."""
     left_out = [] if isinstance(tracing, NamedTracing) else tracing.files.values()
     made = [it for it in left_out if it.name not in before and it.most]
     grown = [it for it in left_out if it.name in before and it.most > len(before[it.name])]
-    notes = list(tracing.notes)
+    notes = [*tracing.notes, *([AGAIN_NOTE] if isinstance(tracing, NamedTracing) and tracing.tree.again else [])]
     for files, what in ((made, "is taken to be there from the start"), (grown, "is taken to have its largest size from the start")):
         notes += [f"{shown(os.fsdecode(it.name))} {what}" for it in files]
     return notes + [f"{shown(os.fsdecode(path))} isn't recorded: {call}" for path, call in tracing.written_outside.items()]
 
 
-def record(folder, base, skipped, words, environment, say, table=None, is_mapped=False):
+def parts_note(tracing, parts):
+    """What a reader should know of the parts in which bytes are lost, where they were written through the page cache."""
+    if parts is None or not any(it.kind == WRITE and not hasattr(it.file, "keeps_order") for it in tracing.disk.entries):
+        return []
+    if parts == PAGES:
+        return ["by pages, for a disk that writes 4,096 bytes at once: where a page is torn its images are left out; --parts calls has them by --by sector"]
+    return ["--by write loses all that a call wrote, and --by sector what a disk of 512 bytes does; --parts pages is for one that writes 4,096 at once"]
+
+
+def record(folder, base, skipped, words, environment, say, table=None, is_mapped=False, parts=None):
     """Records a program. Returns its status, and what is said of the log. `say` tells a line of what is left out. With a table
-    names and sizes count. With `is_mapped` files may be mapped."""
+    names and sizes count. With `is_mapped` files may be mapped. `parts` is one of PARTS, or nothing where no note says the other."""
     files, at = os.path.join(folder, FILES), os.path.realpath(".")
     os.mkdir(files)
     lay_base(base, files)
@@ -335,9 +363,9 @@ def record(folder, base, skipped, words, environment, say, table=None, is_mapped
     runs = functools.partial(run_with_looks, leaves_out=lambda name: leaves_out(name, skipped)) if is_mapped else run
     status = runs(folder, words, {**environment, "FILES": files})
     if table is None:
-        tracing = follow(calls, files, before, skipped, at, marks, begun)
+        tracing = follow(calls, files, before, skipped, at, marks, begun, parts == PAGES)
     else:
-        tracing = follow_names(calls, files, before, folders, skipped, at, marks, table, begun)
+        tracing = follow_names(calls, files, before, folders, skipped, at, marks, table, begun, pages=parts == PAGES)
     compare(tracing, contents_of_recorded(files, skipped, leaves_out))
     compare_others(tracing, others_of(files, skipped, leaves_out), table)
     if table is not None and {b"", *(it for it in folders_in(files) if not leaves_out(it, skipped))} != set(tracing.folders):
@@ -347,9 +375,9 @@ def record(folder, base, skipped, words, environment, say, table=None, is_mapped
     made, lines, entries = recorded(tracing, folder, base) if table is None else recorded_names(tracing, folder)
     made.files, made.at, made.begun, made.skipped, made.program = files, at, begun, list(skipped), list(words)
     made.write()
-    marks = sum(1 for it in tracing.disk.entries if it.kind == layout.MARK)
-    lines.append(f"entries {entries} marks {marks} sectors {made.sectors}: crashbpf-each {shlex.quote(os.path.relpath(folder))} -- COMMAND")
-    for line in notes_of(tracing, before):
+    marks, large = sum(1 for it in tracing.disk.entries if it.kind == layout.MARK), ", by the limits of --large" if made.large else ""
+    lines.append(f"entries {entries} marks {marks} sectors {made.sectors}{large}: crashbpf-each {shlex.quote(os.path.relpath(folder))} -- COMMAND")
+    for line in notes_of(tracing, before) + parts_note(tracing, parts):
         say(f"note: {line}")
     return status, "\n".join(lines)
 

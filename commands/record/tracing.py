@@ -10,22 +10,30 @@ is refused.
 """
 import os
 import re
+from contextlib import suppress
 
 from commands.record.calls import NAMED, Refused, brief, child_of, happened, hexed, named, shown, string, unhexed
+from commands.record import links
 from commands.record import outside
 from commands.record.copies import CLONES, Copying
-from commands.record.disk import SECTOR
+from commands.record.disk import PAGE as PAGES, SECTOR
 from commands.record.files import MARKS, File, Flight, Maker, Opened, Other, Process, Range, Space, Table, flags_of, skips
-from commands.record.known import ASKED, COPIES, HARMLESS, KINDS, MADE_APART, MOVES, NOT_BEGUN, NOT_DONE, NOT_SYNCED, READS, RWF, SYNCS, THROUGH, UNSEEN, WRITES
+from commands.record.known import ASKED, BROKEN, CHANGES, COPIES, HARMLESS, KINDS, MADE_APART, MOVES, NOT_BEGUN, NOT_DONE, NOT_RESERVED, NOT_SYNCED, OPENS, READS, RWF
+from commands.record.known import SYNCS, THROUGH, UNSEEN, WRITES
+from commands.record.pipes import Pipes
 from commands.record.told import told, words_of
 
 # What names the process itself in /proc, and what there leads to a file of a process: its number, the link, a descriptor.
 OWN = (b"/proc/self", b"/proc/thread-self")
 OF_PROCESS = re.compile(rb"/proc/(?:(\d+)|self|thread-self)(?:/task/\d+)?/(cwd|root|exe|fd/(\d+))")
+# Other links of /proc, which lead where no path says it.
+MAGIC = re.compile(rb"/proc/(?:\d+|self|thread-self)(?:/task/\d+)?/(?:map_files|ns|fd)/[^/]+")
 # (Linux follows as many)
 MOST_LINKS = 40
 PAGE = os.sysconf("SC_PAGESIZE")
 LOOKED_AT = "--mapped looks at such a file at each call"
+BY_CALLS = "without --parts pages it is recorded"
+DIRECT = {"O_DIRECT", "__O_DIRECT"}
 
 
 class Tracing(Copying):
@@ -39,15 +47,17 @@ class Tracing(Copying):
         self.folders = {b""} | {b"/".join(it.split(b"/")[:end]) for it in before for end in range(1, it.count(b"/") + 1)}
         self.found, self.flights, self.ended, self.notes = {}, {}, None, []
         self.first, self.gone, self.written_outside = None, set(), {}
-        # the paths of what isn't recorded and was opened to be written; and the texts of links that were made where nothing is recorded
-        self.written, self.made_links = set(), {}
+        # the paths of what isn't recorded and was opened to be written; and the links that there are where nothing is recorded
+        self.written, self.links = set(), links.Links()
         # what has a name in the folder, and is neither file nor folder
         self.others = {}
         self.surroundings = outside.Surroundings(begun)
         # what a line has that names the folder
         self.mentioned = hexed(self.folder)
         # what looks say of mapped files, where these are recorded
-        self.mapped = None
+        self.mapped, self.pipes = None, Pipes(self)
+        # a change of names or sizes within which its process ended
+        self.unfinished = None
         self.handled = {name: getattr(self, f"end_{it}") for it, names in KINDS.items() for name in names}
 
     # What is known of names
@@ -62,11 +72,14 @@ class Tracing(Copying):
     def path(self, call, folder, at):
         """The path that a word of a call names, as the folder of a descriptor or of the process has it."""
         given = call.data(at)
+        if call.astray and not given.startswith(b"/") and (folder is None or call.word(folder).startswith("AT_FDCWD")):
+            raise Refused(f"{call}: another thread changed the folder of the process at once, and which was first isn't known")
         if folder is None:
             base = self.process(call).folder[0]
         else:
             found = NAMED.match(call.word(folder))
-            base = unhexed(found[2]) if found else None
+            # (what is unlinked has no path, and another one may have its name)
+            base = unhexed(found[2]) if found and not found[3] else None
         if not given.startswith(b"/"):
             if base is None:
                 raise Refused(f"{call}: the folder that it means isn't known")
@@ -92,19 +105,23 @@ class Tracing(Copying):
             done, left = b"/" if link.startswith(b"/") else done, link.split(b"/") + left
         return done
 
+    def real_now(self, call, path):
+        """As `real`, where nothing depends on what the path was of at another time."""
+        relied, self.links.relied = self.links.relied, {}
+        try:
+            return self.real(call, path)
+        finally:
+            self.links.relied = relied
+
     def link(self, call, path):
         """What a path links to, or nothing where it is no link. The links of /proc are those of the process that it names."""
         if path in OWN:
             return None
         found = OF_PROCESS.fullmatch(path)
         if not found:
-            try:
-                text = os.readlink(path)
-            except OSError:
-                text = None
-            if self.made_links.get(path, {text}) != {text}:
-                raise Refused(f"{call}: where {shown(os.fsdecode(path))} led then isn't known: the program makes it a link, and it is another at the end")
-            return text
+            if MAGIC.fullmatch(path):
+                raise Refused(f"{call}: what {shown(os.fsdecode(path))} is to the process isn't known; name the file by its path")
+            return self.links.text(path)
         process = self.found.get(int(found[1])) if found[1] else self.process(call)
         if process is not None and found[2] == b"cwd":
             return process.folder[0]
@@ -174,6 +191,7 @@ class Tracing(Copying):
         """A call begins."""
         process = self.process(call)
         call.maker = process.maker
+        self.note_folder(call, process)
         if self.mapped is not None:
             self.mapped.before(call)
         if self.mentioned in call.text:
@@ -185,16 +203,35 @@ class Tracing(Copying):
             flight.sync = self.mapped.begin_sync(call, process)
         elif call.name in ("truncate", "truncate64"):
             flight.all_changes = {it: (len(it.changed), it.grown, len(it.copied)) for it in self.files.values()}
+            flight.named = self.at_path(call)
         elif call.name in (*WRITES, *READS, *MOVES, "preadv2"):
             flight.opened = process.table.get(call.number(0), (None, False))[0]
             flight.other = process.table.others.get(call.number(0), (None, False))[0]
             flight.file = flight.opened and flight.opened.file
         elif call.name in COPIES or call.name == "ioctl" and CLONES.search(call.text):
             self.begin_copy(call, process, flight)
+        elif call.name == "close":
+            flight.closing = process.table.opened(call.number(0))
+        elif call.name == "chdir":
+            flight.at = process.folder[0]
         if flight.opened is not None or flight.other is not None:
             flight.moved = (flight.opened or flight.other).moved
         if isinstance(flight.file, File):
             flight.grown, flight.changes, flight.copies = flight.file.grown, len(flight.file.changed), len(flight.file.copied)
+        self.pipes.begin(call, flight)
+
+    def note_folder(self, call, process):
+        """Takes the folder of a process from a line that has it, as strace found it when the call began."""
+        at = call.text.find("AT_FDCWD<")
+        found = NAMED.match(call.text, at) if at >= 0 else None
+        if found and not found[3]:
+            process.folder[0] = unhexed(found[2])
+
+    def move_folders(self, old, new):
+        """A folder got another name: whoever is in it, or below it, is there still."""
+        for it in {id(it.folder): it.folder for it in self.found.values()}.values():
+            if it[0] == old or it[0].startswith(old + b"/"):
+                it[0] = new + it[0][len(old) :]
 
     def end(self, call):
         """A call has ended."""
@@ -203,6 +240,10 @@ class Tracing(Copying):
             self.mapped.before_end(call)
         flight = self.flights.pop(call.process, None) or Flight()
         handler = self.handled.get(call.name)
+        if self.is_change(call) and (call.error in BROKEN or self.unfinished is not None and not call.failed() and self.may_change(call, flight)):
+            if self.unfinished is not None:
+                raise Refused(f"{self.unfinished}: its process ended within it, so whether it was done isn't known, and names or sizes change after that: {call}")
+            raise Refused(f"{call}: a change that fails so leaves nothing that is known; record again, on a disk that is well")
         if flight.other is not None and call.name not in COPIES:
             self.move_other(call, flight)
         if handler is not None:
@@ -218,10 +259,35 @@ class Tracing(Copying):
                 self.agree_at_end(call, process)
         elif self.mentioned in call.text and " = -1 E" not in call.text:
             self.refuse_unless_skipped(call)
+        self.pipes.end(call, process, flight)
+
+    def is_change(self, call):
+        """Whether a call changes names or sizes."""
+        return call.name in CHANGES and (call.name not in OPENS or call.name == "creat" or bool(re.search("O_CREAT|O_TRUNC", call.text)))
+
+    def may_change(self, call, flight):
+        """Whether a change of names or sizes may be one of what is recorded."""
+        if call.name in ("ftruncate", "ftruncate64", "fallocate"):
+            return isinstance(flight.file, File)
+        try:
+            if call.name in ("rename", "renameat", "renameat2", "link", "linkat"):
+                paths = self.both_paths(call, "rename" if call.name.startswith("rename") else "link")
+            elif call.name.startswith("symlink"):
+                paths = [self.path(call, *((1, 2) if call.name == "symlinkat" else (None, 1)))]
+            elif call.name == "bind":
+                return "AF_UNIX" in call.text
+            else:
+                paths = [self.path(call, *((0, 1) if call.name in ("openat", "openat2", "unlinkat", "mkdirat", "mknodat") else (None, 0)))]
+            return any(self.name(it) is not None or self.name(self.real_now(call, it)) is not None for it in paths)
+        except Refused:
+            return True
 
     def over(self, call):
         """The process of a call ended within it."""
         flight = self.flights.pop(call.process, None)
+        self.pipes.over(call, flight)
+        if self.is_change(call) and self.may_change(call, flight or Flight()):
+            self.unfinished = self.unfinished or call
         if call.name in (*WRITES, *MOVES, *COPIES, "ioctl") and flight and flight.file is not None and call.name not in ("lseek",):
             raise Refused(f"{call}: the process ended within the call, so what it wrote isn't known")
         if call.name in UNSEEN:
@@ -249,11 +315,12 @@ class Tracing(Copying):
 
     def agree_at_end(self, call, process):
         """Compares the descriptors that a call answered with those that are known. A call that answers one of a recorded file isn't followed."""
-        answer = call.text.rpartition(") = ")[2]
+        # (strace puts spaces before the sign, so that those of short lines stand below one another)
+        answer = re.split(r"\) += ", call.text)[-1]
         if self.mentioned in answer or re.search(r"cmsg_data=\[[^\]]*" + re.escape(f"<{self.mentioned}"), call.text) and "recv" in call.name:
             for number, path, _ in named(answer) + named(call.text):
                 name = self.name(path)
-                if name and name not in self.folders and process.table.get(int(number) if number.isdigit() else -1) is None:
+                if name and name not in self.folders and process.table.opened(int(number) if number.isdigit() else -1) is None:
                     raise Refused(f"{call}: a descriptor of {shown(os.fsdecode(name))} comes by a call that isn't followed")
 
     def refuse_unless_skipped(self, call):
@@ -294,14 +361,18 @@ class Tracing(Copying):
             process.table.put(call.result, Opened(outside.File(call.path), "O_APPEND" in flags, False, writable), closes)
             if writable:
                 self.written.add(call.path)
+            if writable and not call.gone and call.path.startswith(b"/"):
+                self.links.opened(call.path)
             if writable and not call.path.startswith((self.prefix, b"/dev/", b"/proc/", b"pipe:", b"socket:")):
                 self.written_outside.setdefault(call.path, call)
             if writable and re.fullmatch(rb"/proc/\d+/(task/\d+/)?mem", call.path):
                 raise Refused(f"{call}: what is written to memory isn't followed")
             return
+        if "O_TMPFILE" in flags:
+            raise Refused(f"{call}: a file without a name isn't followed; make it with a name; the guest")
+        if call.gone and name not in self.folders:
+            raise Refused(f"{call}: it opens a file that has no name any more, or loses it at once, and which one isn't known; keep its name; the guest")
         if name in self.folders or "O_DIRECTORY" in flags or "O_PATH" in flags:
-            if "O_TMPFILE" in flags:
-                raise Refused(f"{call}: a file without a name isn't followed")
             if name not in self.files:
                 return
         if name in self.others:
@@ -314,10 +385,16 @@ class Tracing(Copying):
                     return
                 raise Refused(f"{call}: no call was seen that made {shown(os.fsdecode(name))}")
             file = self.make(call, name, flight)
+        elif writable or "O_TRUNC" in flags:
+            for other in self.flights.values():
+                other.reopened.add(name)
         # (Linux cuts the file off even where it is opened for reading alone, and looks at no other flag beside O_PATH)
         if "O_TRUNC" in flags and "O_PATH" not in flags:
-            self.resize(call, file, 0, Flight(grown=file.grown, changes=len(file.changed), copies=len(file.copied), version=flight.version))
-        process.table.put(call.result, Opened(file, "O_APPEND" in flags, bool(flags & THROUGH), writable), closes)
+            if file in flight.touched:
+                raise Refused(f"{call}: another call changed {shown(os.fsdecode(name))} at once, and which was first isn't known")
+            self.resize(call, file, 0, Flight(grown=file.grown, changes=len(file.changed), copies=len(file.copied), version=flight.version, cuts=flight.cuts, kept=flight.kept))
+        opened = Opened(file, "O_APPEND" in flags, bool(flags & THROUGH), writable, direct=bool(flags & DIRECT))
+        process.table.put(call.result, opened, closes)
 
     def make(self, call, name, _flight):
         """A file is made."""
@@ -343,7 +420,7 @@ class Tracing(Copying):
         elif command == "F_SETFD":
             process.table.put(call.number(0), known, "FD_CLOEXEC" in call.word(2))
         elif known is not None and command == "F_SETFL":
-            known.append = "O_APPEND" in call.word(2)
+            known.append, known.direct = "O_APPEND" in call.word(2), "O_DIRECT" in call.word(2)
             known.moved += 1
 
     def end_ioctl(self, call, process, flight):
@@ -351,8 +428,11 @@ class Tracing(Copying):
         if call.failed() or call.result is None:
             return
         known, asked = process.table.opened(call.number(0)), call.word(1)
+        found = NAMED.match(call.word(0))
         if asked in ("FIOCLEX", "FIONCLEX"):
             process.table.put(call.number(0), known, asked == "FIOCLEX")
+        elif found and asked not in ASKED and (unhexed(found[2]) == self.folder or self.name(unhexed(found[2])) in self.folders):
+            raise Refused(f"{call}: this ioctl of a folder isn't followed, and may change what is in it")
         elif known is None or not isinstance(known.file, File) or asked in ASKED:
             return
         elif CLONES.search(asked):
@@ -360,9 +440,10 @@ class Tracing(Copying):
         else:
             raise Refused(f"{call}: this ioctl isn't followed, and may write {shown(os.fsdecode(known.file.name))}")
 
-    def end_close(self, call, process, _flight):
-        # (Linux closes it, whatever the error but EBADF)
-        process.table.drop(call.number(0))
+    def end_close(self, call, process, flight):
+        # (Linux closes it, whatever the error but EBADF; another thread may have opened something by this number since)
+        if process.table.opened(call.number(0)) is flight.closing:
+            process.table.drop(call.number(0))
 
     def end_close_range(self, call, process, _flight):
         """Closes a range of descriptors, or marks them to be closed by exec."""
@@ -382,19 +463,24 @@ class Tracing(Copying):
         process.table = process.table.kept()
         process.maker = Maker(process.maker.process, words_of(call, self.folder), process.maker)
         process.space = Space()
-        process.folder = list(process.folder)
 
-    def end_chdir(self, call, process, _flight):
-        """Moves the folder of a process."""
+    def end_chdir(self, call, process, flight):
+        """Moves the folder of a process, and of those that share it. Their calls in flight may have had the one or the other."""
         if call.failed():
             return
         if call.name == "fchdir":
             found = NAMED.match(call.word(0))
-            if not found:
+            if not found or found[3]:
                 raise Refused(f"{call}: strace doesn't say which folder it is")
             process.folder[0] = unhexed(found[2])
         else:
-            process.folder[0] = self.real(call, os.path.join(process.folder[0], call.data(0)))
+            given = call.data(0)
+            if call.astray and not given.startswith(b"/"):
+                raise Refused(f"{call}: another thread changed the folder of the process at once, and which was first isn't known")
+            process.folder[0] = self.real(call, os.path.join(flight.at or process.folder[0], given))
+        for number, it in self.flights.items():
+            if it.call is not None and number in self.found and self.found[number].folder is process.folder:
+                it.call.astray = True
 
     def end_unshare(self, call, process, _flight):
         """Gives a process a table and a folder of its own, and refuses mounts of its own."""
@@ -462,11 +548,19 @@ class Tracing(Copying):
     # Writes
 
     def landed(self, call, flight, file, start, end):
-        """Refuses a change of a file where another one, of the same sectors, was made while it was in flight."""
+        """Refuses a change of a file where another one, of the same sectors, was made while it was in flight. Those in flight now learn of
+        it."""
+        for other in self.flights.values():
+            other.touched.add(file)
+        if end > flight.cuts.get(file, end):
+            raise Refused(f"{call}: another call cut the file off at once, and which was first isn't known")
         first, last = start // SECTOR, -(-end // SECTOR)
+        page, after = (first // PAGES * PAGES, -(-last // PAGES) * PAGES) if self.disk.pages else (first, last)
         for other, until in file.changed[flight.changes :]:
             if other < last and first < until:
                 raise Refused(f"{call}: another call wrote the same sectors at once, and which was first isn't known")
+            if other < after and page < until:
+                raise Refused(f"{call}: another call wrote the same page at once, and which was first isn't known; {BY_CALLS}")
         if any(other < last and first < until for other, until in file.copied[flight.copies :]):
             raise Refused(f"{call}: another call copied the same sectors at once, and which was first isn't known")
 
@@ -533,8 +627,8 @@ class Tracing(Copying):
         if file.unlinked:
             raise Refused(f"{call}: it is unlinked")
         self.landed(call, flight, file, start, start + len(data))
-        first, sectors = file.put(start, data)
-        self.disk.write(file, first, sectors)
+        first, sectors = self.disk.whole_pages(file.content, *file.put(start, data), opened.direct)
+        self.disk.write(file, first, sectors, opened.direct)
         if through:
             self.disk.force(file, first, sectors)
 
@@ -573,11 +667,8 @@ class Tracing(Copying):
 
     def resize(self, call, file, size, flight):
         """A file has this size now."""
-        if size == file.size:
+        if not self.is_resized(call, file, size, flight):
             return
-        self.landed(call, flight, file, min(size, file.size), max(size, file.size))
-        if flight.grown != file.grown:
-            raise Refused(f"{call}: another call moved the end at once, and which was first isn't known")
         if size > file.size:
             self.still(call, f"{shown(os.fsdecode(file.name))} grows")
             file.grow(size)
@@ -585,6 +676,29 @@ class Tracing(Copying):
         self.close_log(call, f"{shown(os.fsdecode(file.name))} gets shorter")
         file.changed.append((size // SECTOR, -(-file.size // SECTOR)))
         file.size = size
+
+    def note_cut(self, file):
+        """A file has been given the size that it has. A call in flight may have made it longer before that, or may do it now."""
+        for other in self.flights.values():
+            other.cuts[file] = min(file.size, other.cuts.get(file, file.size))
+
+    def at_path(self, call):
+        """The path that the first word of a call means now, where it can be told, and the file that is there."""
+        try:
+            path = self.real(call, self.path(call, None, 0))
+        except Refused:
+            return None, None
+        return path, self.files.get(self.name(path))
+
+    def is_resized(self, call, file, size, flight):
+        """Whether a file had another size than a call gives it. Refuses what another call did to its end at once."""
+        if size == file.size:
+            self.note_cut(file)
+            return False
+        self.landed(call, flight, file, min(size, file.size), max(size, file.size))
+        if flight.grown != file.grown or size < flight.kept.get(file, 0):
+            raise Refused(f"{call}: another call moved the end at once, and which was first isn't known")
+        return True
 
     def end_truncate(self, call, process, flight):
         """Gives a file another size, by its descriptor or its path."""
@@ -598,6 +712,8 @@ class Tracing(Copying):
             file = self.files.get(name)
             if name is not None and file is None:
                 raise Refused(f"{call}: no call was seen that made {shown(os.fsdecode(name))}")
+            if flight.named is not None and flight.named[1] is not file:
+                raise Refused(f"{call}: another call changed names at once, and of which file it is isn't known")
             flight.changes, flight.grown, flight.copies = flight.all_changes.get(file, (0, 0, 0))
         if file is MARKS or file is None:
             return
@@ -608,16 +724,19 @@ class Tracing(Copying):
     def end_fallocate(self, call, process, flight):
         """Follows room that is reserved, and bytes that become zeros; refuses bytes that move."""
         file = flight.file
-        if file is None or file is MARKS or call.failed():
+        if file is None or file is MARKS or call.error in NOT_RESERVED:
             return
-        if call.result is None:
+        if call.failed() or call.result is None:
             raise Refused(f"{call}: what it did isn't known")
         text, start, length = call.word(1), call.number(2), call.number(3)
         flags = set() if text == "0" else set(text.split("|"))
         if flags - {"FALLOC_FL_KEEP_SIZE", "FALLOC_FL_PUNCH_HOLE", "FALLOC_FL_ZERO_RANGE", "FALLOC_FL_UNSHARE_RANGE"}:
             raise Refused(f"{call}: what it moves isn't followed")
-        if "FALLOC_FL_KEEP_SIZE" not in flags and start + length > file.size:
-            self.resize(call, file, start + length, flight)
+        if "FALLOC_FL_KEEP_SIZE" not in flags:
+            if start + length > file.size:
+                self.resize(call, file, start + length, flight)
+            for other in self.flights.values():
+                other.kept[file] = max(start + length, other.kept.get(file, 0))
         if flags & {"FALLOC_FL_PUNCH_HOLE", "FALLOC_FL_ZERO_RANGE"}:
             end = min(start + length, file.size)
             if end > start:
@@ -687,7 +806,10 @@ class Tracing(Copying):
         """Marks a file as unlinked. The log ends there, unless the file was always empty."""
         if call.failed():
             return
-        name = self.name(self.own_path(call, "unlinkat"))
+        path = self.own_path(call, "unlinkat")
+        name = self.name(path)
+        if name is None:
+            self.note_removed(call, path)
         file = self.files.get(name)
         self.others.pop(name, None)
         if file is not None and not file.unlinked:
@@ -701,7 +823,40 @@ class Tracing(Copying):
             return
         paths = self.both_paths(call, "rename")
         self.refuse_names(call, paths, "is renamed")
+        self.note_renamed(call, paths)
+
+    def end_rmdir(self, call, _process, _flight):
+        """Takes a folder away: without names it doesn't count."""
+        if not call.failed():
+            path = self.own_path(call, "unlinkat")
+            if self.name(path) is None:
+                self.note_removed(call, path)
+
+    # Names outside
+
+    def outside(self, call, change, *words):
+        """Notes a change of names where nothing is recorded."""
+        try:
+            change(*words)
+        except links.Unknown as it:
+            path = shown(os.fsdecode(it.args[0]))
+            raise Refused(f"{call}: a path led through {path}, which this call changes, so where it led isn't known; leave it as it is, or the guest") from None
+
+    def note_removed(self, call, path):
+        """A name outside has gone."""
+        self.outside(call, self.links.removed, path, call.name == "rmdir" or "AT_REMOVEDIR" in call.text)
+
+    def note_renamed(self, call, paths):
+        """Names have changed by a rename, of which those outside count for the paths that lead through them."""
+        exchange = "RENAME_EXCHANGE" in call.text
+        if any(self.folder == it or self.folder.startswith(it.rstrip(b"/") + b"/") for it in paths):
+            raise Refused(f"{call}: the folder of the recording, or one that it is in, is renamed")
         self.surroundings.note_renamed(paths)
+        self.outside(call, self.links.renamed, *paths, exchange)
+        self.move_folders(paths[0], b"\0" if exchange else paths[1])
+        if exchange:
+            self.move_folders(paths[1], paths[0])
+            self.move_folders(b"\0", paths[1])
 
     def both_paths(self, call, plain):
         """The two paths of a call that ties a name to another. The one named `plain` takes no descriptors of folders."""
@@ -713,11 +868,15 @@ class Tracing(Copying):
             return
         if call.name in ("link", "linkat"):
             paths = self.both_paths(call, "link")
+            self.outside(call, self.links.linked, *paths)
         else:
             at = call.name == "symlinkat"
             made = self.path(call, 1 if at else None, 2 if at else 1)
-            paths = [made, self.real(call, os.path.join(os.path.dirname(made), call.data(0)))]
-            self.made_links.setdefault(made, set()).add(call.data(0))
+            # (each path through the link is followed anew, so one that leads in a circle, or nowhere, does no harm)
+            paths = [made]
+            with suppress(Refused):
+                paths.append(self.real_now(call, os.path.join(os.path.dirname(made), call.data(0))))
+            self.outside(call, self.links.made, made, call.data(0))
         self.refuse_names(call, paths, "gets another name")
 
     def refuse_names(self, call, paths, what):
@@ -732,9 +891,12 @@ class Tracing(Copying):
         """Takes in a folder that was made."""
         if call.failed():
             return
-        name = self.name(self.own_path(call, "mkdirat"))
+        path = self.own_path(call, "mkdirat")
+        name = self.name(path)
         if name is not None:
             self.made_folder(call, name, flight)
+        else:
+            self.outside(call, self.links.made, path)
 
     def made_folder(self, _call, name, _flight):
         """A folder was made."""
@@ -760,6 +922,8 @@ class Tracing(Copying):
         found = re.search(r'\{sa_family=AF_UNIX, sun_path=("[^"]*"(?:\.\.\.)?)\}', call.word(1))
         if call.failed() or not found:
             return
+        if call.astray:
+            raise Refused(f"{call}: another thread changed the folder of the process at once, and which was first isn't known")
         head, tail = os.path.split(os.path.join(process.folder[0], string(found[1], call)))
         name = self.name(os.path.join(self.real(call, head), tail))
         if name is not None:
@@ -768,3 +932,6 @@ class Tracing(Copying):
     def made_other(self, _call, name, other, _flight):
         """A name was made that is of no file and no folder: without names it doesn't count."""
         self.others[name] = other
+
+    def end_mode(self, _call, _process, _flight):
+        """A file has other permissions: without names these don't count."""

@@ -6,8 +6,8 @@
  * The second prints what is in a folder and below it: `D PATH` for a folder, and for a file `F PATH` and its bytes, in rows of one
  * byte, as `65x600`, which is 600 times A.
  *
- * open NAME, append NAME LENGTH BYTE, write NAME PLACE LENGTH BYTE, truncate NAME SIZE, fsync NAME, fdatasync NAME,
- * folder NAME (fsync of a folder), rename NAME NAME, link NAME NAME, unlink NAME, mkdir NAME, rmdir NAME, sync,
+ * open NAME, close NAME, append NAME LENGTH BYTE, write NAME PLACE LENGTH BYTE, truncate NAME SIZE, fsync NAME, fdatasync NAME,
+ * range NAME (sync_file_range, which only begins to write), folder NAME (fsync of a folder), rename NAME NAME, link NAME NAME, unlink NAME, mkdir NAME, rmdir NAME, sync,
  * sleep MILLISECONDS, mark TEXT. */
 #define _GNU_SOURCE
 #include <dirent.h>
@@ -37,6 +37,19 @@ static int of(const char *name)
 		if (!strcmp(files[it].name, name))
 			return files[it].at;
 	return opened(name);
+}
+
+/* Closes the file that was opened last by this name: only then its blocks are free where it has no name any more. */
+static int closed(const char *name)
+{
+	for (int it = count - 1; it >= 0; it--)
+		if (!strcmp(files[it].name, name)) {
+			int at = files[it].at;
+
+			files[it] = files[--count];
+			return close(at);
+		}
+	return -1;
 }
 
 static void or_fail(int answer, const char *line)
@@ -75,6 +88,10 @@ static int done(const char *call, const char *a, const char *b, const char *c, c
 {
 	if (!strcmp(call, "open"))
 		return opened(a);
+	if (!strcmp(call, "close"))
+		return closed(a);
+	if (!strcmp(call, "range"))
+		return sync_file_range(of(a), 0, 0, SYNC_FILE_RANGE_WRITE);
 	if (!strcmp(call, "append"))
 		return lseek(of(a), 0, SEEK_END) < 0 ? -1 : put(of(a), -1, atol(b), *c);
 	if (!strcmp(call, "write"))
