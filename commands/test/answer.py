@@ -9,6 +9,7 @@ from commands.record.named_layout import lay_out
 from commands.test.judge import surroundings
 from commands.test.sites import Site, name_of
 from commands.test.syncs import Syncs
+from commands.test.text import head
 
 VERSION = 1
 SCHEMA = "https://json.schemastore.org/sarif-2.1.0.json"
@@ -65,7 +66,8 @@ class Machine:
     def helpless(self, it, number):
         """A failure against which no sync helps."""
         fact = it.first()
-        return {"why": it.kind, "after": call_of(it.log.call(fact.need), self.where), "cases": it.cases,
+        moved = it.moved and {"behind": call_of(it.moved.behind, self.where), "stay": it.moved.stay, "missing": [head(one) for one in it.moved.sites]}
+        return {"why": it.kind, "after": call_of(it.log.call(fact.need), self.where), "cases": it.cases, "moved": moved,
                 "lost": [call_of(it.log.call(one), self.where) for one in fact.numbers()], "check": self.shown(it, number)}
 
     def answer(self, status):
@@ -110,6 +112,17 @@ def location(call):
     below = path.is_relative_to(Path.cwd())
     uri = quote(str(path.relative_to(Path.cwd()))) if below else path.as_uri()
     return {"physicalLocation": {"artifactLocation": {"uri": uri}, "region": {"startLine": call["line"]}}}
+
+
+def refuse_unwritable(path):
+    """Refuses a file that can't be written. What is there stays as it is; a pipe isn't opened before there is an answer."""
+    if os.path.exists(path) and not os.path.isfile(path) and not os.path.isdir(path):
+        return
+    is_new = not os.path.lexists(path)
+    with open(path, "ab"):
+        pass
+    if is_new:
+        os.unlink(path)
 
 
 def write_json(path, what):

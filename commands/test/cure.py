@@ -6,9 +6,10 @@ without it. At last the log is made by the table `strict` too, with the same syn
 from dataclasses import dataclass, field
 
 from commands.test.facts import Facts
-from commands.test.sites import Sites
+from commands.test.moved import Moves
+from commands.test.sites import NOTHING_LOST, Sites
 
-ROUNDS = 8
+ROUNDS, MOST_MOVED = 8, 3
 
 
 @dataclass
@@ -80,6 +81,7 @@ class Cure:
             self.answer.sites.append(site)
         else:
             same.instances |= site.instances
+            same.others |= site.others
 
     def prune(self):
         """Leaves out sites without which nothing more fails, the least of them first."""
@@ -92,6 +94,13 @@ class Cure:
             _, found = self.explored(self.table, self.syncs(rest), lambda case: case.key not in known)
             if all(case.key in known for case in found.failing):
                 it.sites, it.cured = rest, found
+
+    def move(self):
+        """Tries to move calls, where no sync helps against their order."""
+        it, moves = self.answer, Moves(self.source, self.table, self.explorer)
+        for one in it.helpless[:MOST_MOVED]:
+            if one.kind == NOTHING_LOST:
+                one.moved = moves.best(it.log, one, sum(other.cases for other in it.helpless))
 
     def go(self):
         """Tries the syncs of the sites."""

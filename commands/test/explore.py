@@ -13,7 +13,7 @@ from types import SimpleNamespace
 
 from commands.each import product
 from commands.shared.faults import Refusal
-from commands.each.stream import RECORD, SECTOR, images
+from commands.each.stream import RECORD, SECTOR, images, inputs
 from commands.test.log import DROP
 
 # Without --bound one loss at once is explored, and where nothing fails as many as take no more images than this.
@@ -142,6 +142,7 @@ class Bounded:
         export = product.Export(self.program, SimpleNamespace(of_images=lambda: self.words(given, bound)))
         device, keys = bytearray(log.base), {}
         try:
+            inputs(export.file)
             for it in images(export.file, log.sectors, total):
                 lost = lost_of(it.choice.decode())
                 if it.same is None:

@@ -3,6 +3,11 @@
 Both are found by walking back over the cuts while the check fails with what is lost of the earlier entries: the case of a late cut
 becomes one of the first cut at which the same failure shows. It has to fail at each cut between, since what fails earlier may be
 another failure. Then each loss is left out that isn't needed.
+
+Where it fails with nothing lost, at some cuts in a row, no loss is to blame: these are a stretch, with a fact of its own. A walk may
+lead into one, as where the check refuses what is there before anything was saved: all that is lost then looks as if it began there.
+So the need is looked for above the stretch. It is the first entry after which the check says something else than in the stretch, or a
+mark; a case in which it says the same up to its cut is one of the stretch.
 """
 from dataclasses import dataclass, field
 
@@ -38,34 +43,62 @@ class Facts:
             found = self.known[cut, lost] = seen.key
         return found
 
+    def judged(self, cut, lost):
+        return self.judge.judged[self.key(cut, lost)]
+
     def fails(self, cut, lost):
-        return not self.judge.judged[self.key(cut, lost)].is_good()
+        return not self.judged(cut, lost).is_good()
+
+    def is_broken(self, cut):
+        """Whether it fails at a cut with nothing lost."""
+        return self.fails(cut, frozenset())
+
+    def is_same(self, cut, lost):
+        """Whether the check says of a case what it says one cut before, and no mark stands between."""
+        if self.log.entries[cut - 1].kind == MARK:
+            return False
+        one, other = self.judged(cut, lost), self.judged(cut - 1, before(cut, lost))
+        return (one.text(), one.lines()) == (other.text(), other.lines())
 
     def walked(self, cut, lost):
         """The first cut back to which it fails all along, and what is lost there."""
         while cut > 0:
-            before = frozenset(it for it in lost if it[0] < cut - 1)
+            less = before(cut, lost)
             # (what fails right after a mark with nothing lost is that mark's)
-            if not before and self.log.entries[cut - 1].kind == MARK or not self.fails(cut - 1, before):
+            if not less and self.log.entries[cut - 1].kind == MARK or not self.fails(cut - 1, less):
                 break
-            cut, lost = cut - 1, before
+            cut, lost = cut - 1, less
         return cut, lost
 
-    def needed(self, cut, lost):
-        """What is lost and can't be left out."""
+    def above(self, low, cut, lost):
+        """Where a case that is walked back into a stretch begins to be another failure than that: the cut, and what is lost there; or
+        the stretch, with nothing lost, where it never does."""
+        for at in range(low, cut + 1):
+            if not self.is_broken(at) and not self.is_same(at, of_cut(at, lost)):
+                return at, of_cut(at, lost)
+        return low, frozenset()
+
+    def begun(self, cut, lost):
+        """The first cut at which a case is the failure that it is, what is lost there, and whether a walk leads from there into a stretch."""
+        low, less = self.walked(cut, lost)
+        hidden = self.is_broken(low) and not self.is_broken(cut)
+        return (*self.above(low, cut, lost), True) if hidden else (low, less, False)
+
+    def needed(self, cut, lost, hidden):
+        """What is lost and can't be left out. Above a stretch it has to stay another failure than that."""
         for it in sorted(lost):
             less = lost - {it}
-            if self.fails(cut, less):
+            if self.fails(cut, less) and not (hidden and not self.begun(cut, less)[1]):
                 lost = less
         return lost
 
     def of(self, case):
         """The fact of a case."""
-        cut, lost, before = case.cut, case.lost, None
-        while (cut, lost) != before:
-            before = cut, lost
-            cut, lost = self.walked(cut, lost)
-            lost = self.needed(cut, lost)
+        cut, lost, known = case.cut, case.lost, None
+        while (cut, lost) != known:
+            known = cut, lost
+            cut, lost, hidden = self.begun(cut, lost)
+            lost = self.needed(cut, lost, hidden)
         return Fact(cut - 1, lost, Case(cut, lost, self.key(cut, lost)))
 
     def all(self, failing, say=lambda text: None):
@@ -82,3 +115,13 @@ class Facts:
 
     def is_lost(self, number, case):
         return any(number == it for it, _ in case.lost)
+
+
+def of_cut(cut, lost):
+    """What of that is lost at a cut."""
+    return frozenset(it for it in lost if it[0] < cut)
+
+
+def before(cut, lost):
+    """What of that is lost one cut before."""
+    return of_cut(cut - 1, lost)

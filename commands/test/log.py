@@ -124,7 +124,7 @@ class Log:
         it = self.entries[self.origin(number)]
         if it.file in self.files:
             return [("file", self.files[it.file].number)]
-        last = number if need is None or self.tree.table == "strict" else need - 1
+        last = number if need is None or not self.tree.rules.one else need - 1
         changes = [one for one in self.entries[number : last + 1] if one.file is it.file and one.slots and one.kind == WRITE]
         slots = [slot for one in [it, *changes] for slot in reversed(one.slots)]
         return list(dict.fromkeys(("folder", folder) for folder, _ in slots))

@@ -7,8 +7,12 @@ one site.
 import os
 from dataclasses import dataclass, field
 
+from commands.record.disk import WRITE
+from commands.record.known import SYNCS
+from commands.record.mapped import STORE
 from commands.record.told import command, quoted
 from commands.test.plain import plain
+from commands.test.source import place_of
 
 # What a sync costs a program, in order.
 COST = {"file": 0, "folder": 1}
@@ -23,6 +27,8 @@ class Site:
     instances: dict = field(default_factory=dict)
     facts: list = field(default_factory=list)
     cases: int = 0
+    # the same sync at the other calls of the place, where nothing fails without it: whoever writes it there makes these too
+    others: set = field(default_factory=set)
 
     @property
     def kind(self):
@@ -32,11 +38,11 @@ class Site:
         """Puts the facts in the order in which they are told: after a mark first, then what was lost last before its need."""
         self.facts.sort(key=lambda it: (self.log.passed[it.shown.cut] == 0, it.need - min(it.numbers())))
         first = self.first()
-        mine = [it for it in self.instances if it[0] == self.log.call(first.need).line]
+        mine = [it for it in self.instances if it[0] == place_of(self.log.call(first.need))]
         self.instances = {it: self.instances[it] for it in [*mine, *self.instances]}
 
     def times(self):
-        return len({line for line, _ in self.instances})
+        return len({place for place, _ in self.instances})
 
     def target(self):
         """What is synced, the first time."""
@@ -51,8 +57,8 @@ class Site:
         return next((it for it in fact.numbers() if self.target() in self.log.targets(it, fact.need)), fact.numbers()[0])
 
     def syncs(self):
-        """Pairs of the line of a call and of what is synced before it."""
-        return set(self.instances)
+        """Pairs of the place before a call and of what is synced there."""
+        return set(self.instances) | self.others
 
 
 @dataclass
@@ -63,6 +69,8 @@ class Helpless:
     key: tuple
     log: object
     facts: list = field(default_factory=list)
+    # the move of its calls with which least fails, where one was tried
+    moved: object = None
 
     @property
     def cases(self):
@@ -92,19 +100,19 @@ class Sites:
     def need(self, call):
         """What a call is at all its times."""
         words = call.maker.words if call.maker else ()
-        if call.told.startswith("mark "):
+        form = form_of(call)
+        if form == "mark":
             return "mark", self.place(call) or os.path.basename(words[0]) if words else ""
         where = self.place(call)
-        form = call.told.partition("(")[0]
         return (form, where) if where else (plain(call.told), plain(command(words)))
 
     def candidates(self, fact):
-        """The syncs that would take a fact away: pairs of the line of the need's call and of what is synced."""
+        """The syncs that would take a fact away: pairs of the place before the need's call and of what is synced."""
         call, found = self.log.call(fact.need), []
         for number in fact.numbers():
             lost = self.log.call(number)
-            if call is not None and lost is not None and lost is not call and lost.ended and lost.ended < call.line:
-                found += [(call.line, it) for it in self.log.targets(number, fact.need)]
+            if call is not None and lost is not None and is_before(lost, call):
+                found += [(place_of(call), it) for it in self.log.targets(number, fact.need)]
         return list(dict.fromkeys(found))
 
     def all(self, facts):
@@ -112,10 +120,10 @@ class Sites:
         found = {}
         for fact in facts:
             call = self.log.call(fact.need)
-            for line, target in self.candidates(fact):
+            for place, target in self.candidates(fact):
                 key = (target[0], self.role(target), self.need(call))
                 site = found.setdefault(key, Site(key, self.log))
-                site.instances.setdefault((line, target), call)
+                site.instances.setdefault((place, target), call)
                 if fact not in site.facts:
                     site.facts.append(fact)
         return found
@@ -135,9 +143,28 @@ class Sites:
             for fact in taken:
                 site.instances |= {it: best.instances[it] for it in self.candidates(fact) if it in best.instances}
             site.order_facts()
+            site.others = set(self.others(site))
             found.append(site)
             open_facts = [it for it in open_facts if it not in taken]
         return found
+
+    def others(self, site):
+        """The sync of a site at the other calls of its place: of the file or folder with that role that changed last before each. Where a
+        function opens all files, its line is the role of each; so the name has to be that of one that is synced, too."""
+        kind, role, need = site.key
+        names = {plain(name_of(self.log, it)) for _, it in site.instances}
+        changed, known = None, {place for place, _ in site.instances}
+        for number, it in enumerate(self.log.entries):
+            call = it.call
+            if call is None or call.name in SYNCS:
+                continue
+            if place_of(call) not in known:
+                known.add(place_of(call))
+                if changed is not None and form_of(call) == need[0].partition("(")[0] and self.need(call) == need:
+                    yield place_of(call), changed
+            if it.kind == WRITE:
+                alike = (one for one in self.log.targets(number) if one[0] == kind and self.role(one) == role)
+                changed = next((one for one in alike if plain(name_of(self.log, one)) in names), changed)
 
     def helpless(self, facts):
         """The facts against which no sync helps, by their kinds."""
@@ -158,6 +185,16 @@ class Sites:
             return AT_MARK if self.log.is_mark(fact.need) else NOTHING_LOST
         call = self.log.call(fact.need)
         return ONE_CALL if any(self.log.call(it) is call for it in fact.numbers()) else AT_ONCE
+
+
+def form_of(call):
+    """What kind of call it is, in a word."""
+    return "mark" if call.told.startswith("mark ") else call.told.partition("(")[0]
+
+
+def is_before(lost, call):
+    """Whether a sync can stand between two calls, of which the first is lost. None stands between what was stored from one call to the next."""
+    return lost is not call and bool(lost.ended) and lost.ended < call.line and not (lost.line == call.line and call.name == STORE)
 
 
 def name_of(log, target):

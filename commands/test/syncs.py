@@ -16,10 +16,14 @@ class Syncs:
 
     def reason(self, sync, target, number):
         """Why a sync after the lost call doesn't make it durable."""
+        if not sync.is_durable():
+            return "makes nothing durable: the disk may still hold it in its cache"
         if sync.target is None:
             return "is of no recorded file"
         if sync.target == target or sync.target == ALL:
             lost = self.log.call(number)
+            if sync.call.name == "msync":
+                return "began before that was stored, or has other pages"
             return f"began before {lost.told} had ended" if sync.call.line < (lost.ended or 0) else "ended after that call began"
         if target[0] == "folder" and sync.target[0] == "file":
             return f"makes no change of these names durable by {self.table}"
@@ -35,7 +39,7 @@ class Syncs:
             return []
         lost = self.log.call(numbers[0])
         found = [(it.call, self.reason(it, target, numbers[0])) for it in self.made if lost.line < it.call.line < need.line]
-        early = [it.call for it in self.made if it.target in (target, ALL) and self.since(it.call, lost)]
+        early = [it.call for it in self.made if it.target in (target, ALL) and it.is_durable() and self.since(it.call, lost)]
         found = found[-MOST:]
         if early:
             found.insert(0, (early[-1], f"came before {lost.told}"))

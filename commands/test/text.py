@@ -99,7 +99,9 @@ class Text:
         fact, log = it.first(), it.log
         need, call = call_text(log, fact.need) if fact.need >= 0 else "", log.call(fact.need)
         if it.kind == AT_FIRST:
-            text = "It fails on what $FILES has at first, before any call: the check has to accept that too. It may hide other failures."
+            end = self.right_again(log, fact.need)
+            until = f", until {call_text(log, end)}" if end is not None else ""
+            text = f"It fails on what $FILES has at first, with nothing lost{until}: the check has to accept that before a mark."
         elif it.kind == AT_MARK:
             text = f"At {need} it fails with nothing lost: the mark promises what wasn't written."
         elif it.kind == NOTHING_LOST:
@@ -114,7 +116,17 @@ class Text:
         head = f"{number}  No sync helps in {many(it.cases, 'case')}:"
         yield from self.placed(head, call) if call is not None else [head]
         yield from wrapped(text)
+        if it.moved is not None:
+            yield from self.lines_of_move(it.moved)
         yield from self.said(number, it)
+
+    def lines_of_move(self, moved):
+        """What became of a move of the call."""
+        stays = f"in {many(moved.stay, 'case')}" if moved.stay else "in none"
+        yield from self.placed(f"   Tried: moved behind {moved.behind.told}, no sync helps {stays}.", moved.behind)
+        for site in moved.sites:
+            yield from wrapped(f"It lacks {head(site)} then.")
+        yield "   That holds where the program doesn't read in between what the call changes."
 
     def right_again(self, log, need):
         """The entry with which it is right again, where it fails with nothing lost after an entry."""
@@ -129,7 +141,7 @@ class Text:
         for number, it in enumerate(answers[:MOST], 1):
             self.last = ""
             yield ""
-            if number - 1 == early and early:
+            if number - 1 == early:
                 yield from ["While it is being made, before the first mark:", ""]
             yield from self.lines_of_site(number, it) if isinstance(it, Site) else self.lines_of_helpless(number, it)
         if len(answers) > MOST:

@@ -31,15 +31,17 @@ def parser():
     made.add_argument("--files", choices=TABLES, help="the orders that the file system keeps; ext4 where it isn't given")
     made.add_argument("--base", metavar="PATH", help="what $FILES has at first: a file or a folder")
     made.add_argument("--skip", metavar="NAME", action="append", default=[], help="leave this file out, as a lock")
+    made.add_argument("--mapped", action="store_true", help="look at files that are mapped for writing at each call")
     made.add_argument("--bound", type=int, choices=range(4), help="how many writes are lost at once; without it one, and up to three where nothing fails and these are few")
     made.add_argument("--tears", action="store_true", help="writes may be torn too")
     made.add_argument("--timeout", metavar="S", type=float, default=60.0, help="end a check that takes longer than S seconds (60)")
     made.add_argument("-j", dest="runners", metavar="N", type=positive(MOST_RUNNERS), help="let N checks run at a time (as many as there are processors)")
     made.add_argument("--recording", metavar="FOLDER", help="go on from a recording of crashbpf-record --files")
     made.add_argument("--keep", metavar="FOLDER", help="keep the recording, and of each answer the files as a crash left them")
-    made.add_argument("--no-cure", action="store_true", help="try no syncs")
+    made.add_argument("--no-cure", action="store_true", help="try no syncs, and move no calls")
     made.add_argument("--no-lines", action="store_true", help="tell no lines of the source")
     made.add_argument("--json", metavar="FILE", help="write the answer for machines")
+    made.add_argument("--page", metavar="FILE", help="write it as a page for a browser")
     made.add_argument("--sarif", metavar="FILE", help="write it as SARIF 2.1.0")
     return made
 
@@ -52,8 +54,8 @@ def parse(words):
     given.program = words[at + 1 :]
     if bool(given.program) == bool(given.recording):
         reader.error("after -- stands the program, or --recording names a folder")
-    if given.recording and (given.base or given.skip):
-        reader.error("--base and --skip are for a program that is run")
+    if given.recording and (given.base or given.skip or given.mapped):
+        reader.error("--base, --skip and --mapped are for a program that is run")
     if not 0 < given.timeout <= 86400:
         reader.error("--timeout is a number of seconds, at most 86400")
     if given.runners is None:
