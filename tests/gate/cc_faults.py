@@ -531,6 +531,21 @@ SAYINGS = [
     ("source.c:8:2: error: something else", "cc: source.c:8:2: error: something else"),
     ("source.c:5:1: error: A call to built-in function '__muldf3' is not.\nsource.c:8:2: error: else", "cc: source.c:5: floating point"),
 ]
+# What a compiler prints that refuses the source, and what helps.
+HINTS = [
+    ("source.c:1:6: error: redefinition of 'check'", "a file may hold several checkers, each with a name of its own"),
+    ("source.c:1:6: error: redefinition of 'strcmp_'", "checker.h has strcmp: leave yours out, or give it another name"),
+    ("source.c:1:6: error: redefinition of \u2018memcpy_whole_\u2019", "checker.h has memcpy: leave yours out"),
+    ("source.c:1:10: fatal error: 'chekcer.h' file not found", "checker.h is found from anywhere"),
+    ("source.c:1:10: fatal error: chekcer.h: No such file or directory", "checker.h is found from anywhere"),
+    ("/usr/include/ctype.h:1:10: fatal error: 'bits/types.h' file not found", "a checker has no library, and of its headers there are stdint.h, "),
+    ("source.c:1:10: fatal error: assert.h: No such file or directory", "of its functions there are memcmp, memcpy, memset, memmove, memchr, strlen, strnlen, strcmp, strncmp, strchr"),
+    ("source.c:2:1: error: unknown type name 'u64'", "a checker begins with #include"),
+    ("source.c:2:1: error: unknown type name \u2018s32\u2019; did you mean", "signed numbers are signed char, short, int and long long, or int8_t"),
+    ("source.c:2:1: error: unknown type name 'bool'", "bool is in stdbool.h: #include <stdbool.h>"),
+    ("source.c:2:1: error: something else", "see its errors above"),
+]
+READS = "#!/bin/sh\ncat said >&2\nexit 1\n"
 FAILS = "#!/bin/sh\nfor it; do last=$it; case $it in -E | -fsyntax-only | -c | -S) what=$it ;; esac; done\n"
 FAILS += 'case $what in\n-E) echo "# 1 \\"$last\\""; cat "$last" ;;\n-fsyntax-only) [ ! -e sizes ] || cat sizes >&2 ;;\n*) cat said >&2; exit 1 ;;\nesac\n'
 
@@ -542,6 +557,13 @@ def sayings(place):
         place.holds(CAUSES, elf([]))
         (place.folder / "said").write_text(said + "\n")
         yield f"a compiler says {said[:60]}", refused(place, line)
+    place.tool("clang", READS)
+    for said, hint in HINTS:
+        (place.folder / "said").write_text(said + "\n")
+        status, _, told = place.run()
+        good = status == 2 and told.startswith(f"{said}\ncc: clang didn't compile source.c\n") and f"\n    {hint}" in told
+        yield f"what helps where a compiler says {said}", [] if good else [f"{status} {told}"]
+    place.tool("clang", FAILS)
     place.holds(LARGE, elf([]))
     (place.folder / "said").write_text("error: Looks like the BPF stack limit of 512 bytes is exceeded.\n")
     (place.folder / "sizes").write_text("".join(f"it: 'char (*)[{number}][{size}][1]'\n" for number, size in ((1, 8), (2, 400), (3, 24), (4, 600))))

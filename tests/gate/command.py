@@ -9,6 +9,7 @@ and a line says so.
 
 Prints a line for each row that failed, and last `N passed, M failed`. It takes some half a minute.
 """
+import html
 import json
 import os
 import re
@@ -32,8 +33,10 @@ COMMAND = TOP / "commands/test/crashbpf-test"
 SAVING = TOP / "examples/saving"
 AT_A_TIME = 2
 
-# Appends to a log and counts in an index: the sync of the log is of the index instead, where WRONG is defined.
+# Appends to a log and counts in an index: the sync of the log is of the index instead, where WRONG is defined; and with RANGE no sync of the
+# index is one.
 APPENDS = """\
+#define _GNU_SOURCE
 #include <fcntl.h>
 #include <stdio.h>
 #include <stdlib.h>
@@ -70,7 +73,11 @@ int main(void)
 		sync_log(log, index);
 		if (pwrite(index, count, 8, 0) != 8)
 			return 1;
+#ifdef RANGE
+		sync_file_range(index, 0, 0, SYNC_FILE_RANGE_WRITE);
+#else
 		fdatasync(index);
+#endif
 		mark(n);
 	}
 	return 0;
@@ -103,6 +110,63 @@ print("reading")
 if os.path.exists("config"):
     sys.exit(json.load(open("config"))["n"] < int(os.environ["CRASH_MARKS"]))
 sys.exit(os.environ["CRASH_MARKS"] != "0")
+"""
+# Counts what isn't there yet.
+COUNTS_FIRST = """\
+import os
+os.chdir(os.environ["FILES"])
+log, index, folder = (os.open(name, os.O_RDWR | os.O_CREAT) if name != "." else os.open(".", os.O_RDONLY) for name in ("log", "index", "."))
+os.fsync(folder)
+for n in range(1, 3):
+    os.pwrite(index, b"%d" % n, 0)
+    os.fsync(index)
+    os.pwrite(log, b"record %d\\n" % n, 64 * n)
+    os.fsync(log)
+    with open(os.environ["RECORDING"] + "/marks", "a") as marks:
+        marks.write(f"0 saved {n}\\n")
+"""
+# A function without debug text makes the call: its caller's line is that of the call.
+LINKED = """\
+#include <fcntl.h>
+#include <stdio.h>
+#include <stdlib.h>
+#include <unistd.h>
+int put(const char *from, const char *to);
+int main(void)
+{
+	char path[4096];
+	snprintf(path, sizeof path, "%s/marks", getenv("RECORDING"));
+	int marks = open(path, O_WRONLY | O_APPEND), file, folder;
+	if (chdir(getenv("FILES")))
+		return 1;
+	file = open("new", O_WRONLY | O_CREAT, 0644);
+	if (write(file, "text\\n", 5) != 5)
+		return 1;
+	put("new", "kept");
+	folder = open(".", O_RDONLY);
+	fsync(folder);
+	return write(marks, "0 saved\\n", 8) != 8;
+}
+"""
+HELPER = "#include <stdio.h>\n__attribute__((used)) static const char room[8192] = {1};\nint put(const char *from, const char *to) { return rename(from, to) ? -1 : 0; }\n"
+# The folder isn't synced, and the check refuses what is there at first.
+NEVER_EMPTY = """\
+cd "$FILES"
+for it in 1 2; do echo "version $it" >new; sync new; mv new settings; mark saved-$it; done
+"""
+REFUSES_FIRST = '[ -e settings ] || { echo there are none; exit 3; }; grep -q "version [$CRASH_MARKS-9]" settings || { echo "it is old"; exit 1; }'
+# Stores in a mapped file, and makes nothing of it durable.
+STORES = """\
+import mmap, os
+file = os.open(os.environ["FILES"] + "/db", os.O_RDWR | os.O_CREAT, 0o644)
+os.ftruncate(file, 8192)
+os.fsync(file)
+os.fsync(os.open(os.environ["FILES"], os.O_RDONLY))
+room = mmap.mmap(file, 8192)
+for n in range(1, 3):
+    room[4096:4097] = bytes([n])
+    with open(os.environ["RECORDING"] + "/marks", "a") as marks:
+        marks.write(f"0 saved {n}\\n")
 """
 # For a moment there is no file of that name.
 MOVES = """\
@@ -215,8 +279,10 @@ def names_c(folder):
     Path(folder, "it.c").write_text(APPENDS)
     Path(folder, "counts.sh").write_text(COUNTS)
     found = []
+    promised = ("index", "mark put-1", at("it.c", APPENDS, "if (write("), 3, 'pwrite("index", 8 bytes at 0)')
     for name, words, wanted, useless in (
         ("C", [], [], []),
+        ("C, no sync", ["-DRANGE"], [promised], [('sync_file_range("index")', "makes nothing durable: the disk may still hold it in its cache")]),
         ("C, another file", ["-DWRONG"], [("log", 'pwrite("index", 8 bytes at 0)', at("it.c", APPENDS, "pwrite(index"), 3, 'pwrite("log", 64 bytes at 128)')], [('fdatasync("index")', 'is of "index", and has nothing of "log"')]),
     ):
         subprocess.run(["cc", "-g", *words, "-o", "it", "it.c"], cwd=folder, check=True)
@@ -232,12 +298,65 @@ def names_order(folder):
     told = [(it["why"], it["after"]["text"], it["check"]["said"]) for it in answer["helpless"]]
     found += differs("what no sync helps against", told, [("nothing lost", 'rename("cur", "old")', "there is no cur\n")])
     text = 'Right after rename("cur", "old") it fails with nothing lost, until rename("new", "cur"): the calls are in the wrong order, or have to be one.'
-    return found + ([] if text in " ".join(done.stdout.split()) else [f"it says {done.stdout}"]) + differs("the status", done.returncode, 1)
+    found += [] if text in " ".join(done.stdout.split()) else [f"it says {done.stdout}"]
+    # (without the last sync of the folder that is missing too, and isn't hidden by the order)
+    Path(folder, "moves.sh").write_text(MOVES.replace("sync .; mark saved", "mark saved"))
+    again, answer, left = run(folder, ["--check", check], ["sh", "moves.sh"])
+    found += left + differs("what is missing", [(it["name"], it["before"]["text"], it["lost"][0]["text"]) for it in answer["missing"]], [("", "mark saved-1", 'rename("new", "cur")')])
+    found += differs("what no sync helps against then", [it["why"] for it in answer["helpless"]], ["nothing lost"])
+    return found + differs("the statuses", (done.returncode, again.returncode), (1, 1))
+
+
+def names_linked(folder):
+    """What is wrong with the lines of a program that lld linked, whose segments begin within pages."""
+    Path(folder, "it.c").write_text(LINKED)
+    Path(folder, "helper.c").write_text(HELPER)
+    subprocess.run(["cc", "-O1", "-fomit-frame-pointer", "-c", "helper.c"], cwd=folder, check=True)
+    subprocess.run(["cc", "-O1", "-g", "-fomit-frame-pointer", "-fuse-ld=lld", "-o", "it", "it.c", "helper.o"], cwd=folder, check=True)
+    wanted = [("new", 'rename("new", "kept")', at("it.c", LINKED, 'put("new"'), 1, 'write("new", 5 bytes at 0)')]
+    return explains("a program of lld", folder, "[ ! -e kept ] || [ -s kept ]", ["./it"], wanted)
+
+
+def names_move(folder):
+    """What is wrong with what is said of a call that has to be made later."""
+    Path(folder, "first.py").write_text(COUNTS_FIRST)
+    Path(folder, "counts.sh").write_text(COUNTS)
+    done, answer, found = run(folder, ["--check", "sh counts.sh"], [sys.executable, "first.py"])
+    told = [(it["why"], it["after"]["text"], it["moved"]["behind"]["text"], it["moved"]["stay"], it["moved"]["missing"]) for it in answer["helpless"]]
+    wanted = ("nothing lost", 'pwrite("index", 1 bytes at 0)', 'fsync("log")', 0, ['fsync of "index" before each mark, 2 times'])
+    text = 'Tried: moved behind fsync("log"), no sync helps in none.'
+    return found + differs("what is moved", told, [wanted]) + ([] if text in " ".join(done.stdout.split()) else [f"it says {done.stdout}"])
+
+
+def names_first(folder):
+    """What is wrong with what is said where the check refuses what is there at first: that is told last, and hides nothing else."""
+    Path(folder, "never.sh").write_text(NEVER_EMPTY)
+    done, answer, found = run(folder, ["--check", REFUSES_FIRST], ["sh", "never.sh"])
+    wanted = [("", "mark saved-1", at("never.sh", NEVER_EMPTY, "mark "), 2, 'rename("new", "settings")')]
+    found += differs("what is missing", missing(answer), wanted)
+    found += differs("what no sync helps against", [(it["why"], it["after"], it["check"]["said"]) for it in answer["helpless"]], [("at first", None, "there are none\n")])
+    text = 'While it is being made, before the first mark: 2 No sync helps in .* It fails on what \\$FILES has at first, with nothing lost, until rename\\("new", "settings"\\):'
+    return found + ([] if re.search(text, " ".join(done.stdout.split())) else [f"it says {done.stdout}"])
+
+
+def names_mapped(folder):
+    """What is wrong with what is said of a program that stores in a mapped file: without --mapped how to record it, with it what it lacks."""
+    Path(folder, "stores.py").write_text(STORES)
+    check = '[ "$CRASH_MARKS" = 0 ] || [ "$(od -An -tu1 -j4096 -N1 db)" -ge "$CRASH_MARKS" ]'
+    done, answer, found = run(folder, ["--check", check], [sys.executable, "stores.py"])
+    found += differs("the answer without --mapped", (done.returncode, answer, "--mapped looks at" in done.stderr), (2, None, True))
+    done, answer, left = run(folder, ["--check", check, "--mapped"], [sys.executable, "stores.py"])
+    if answer is None:
+        return [*found, f"with --mapped: {done.returncode}: {done.stderr}"]
+    wanted = [("db", "mark saved 1", at("stores.py", STORES, "with open"), 2, 'stores to the mapped "db"')]
+    found += differs("what is missing", [(*it[:2], wanted[0][2], *it[3:]) for it in missing(answer)], wanted)
+    return found + left + differs("what fails with the syncs", (answer["tried"]["failing"], answer["tried"]["complete"]), (0, True))
 
 
 def says_at_once(folder):
     """What is wrong where the check fails on what the program left, where there is no mark, and where a word is refused."""
     found = []
+    Path(folder, "full/of").mkdir(parents=True)
     done, answer, left = run(folder, ["--check", "echo nothing there; false"], ["sh", "-c", 'echo x >"$FILES/x"; mark made'])
     said = "crashbpf-test: the check fails on what the program left, with nothing lost: status 1. It prints:\ncrashbpf-test:   nothing there\n"
     found += differs("what is said of such a check", (done.returncode, done.stderr, answer), (2, said, None)) + left
@@ -251,10 +370,14 @@ def says_at_once(folder):
         (["--check", "true", "-j", "65"], ["true"], "it is 1 to 64"),
         (["--check", "true"], ["true"], "the program changed no file of its folder"),
         (["--check", "true"], ["/no/program"], "(strace|crashbpf-test): .*/no/program"),
+        (["--check", "true", "--json", "absent/answer"], ["touch", "ran"], "absent/answer: No such file"),
+        (["--check", "true", "--sarif", "."], ["touch", "ran"], r"\.: Is a directory"),
+        (["--check", "true", "--keep", "full"], ["touch", "ran"], "full isn't empty"),
+        (["--check", "true", "--mapped", "--recording", "."], [], "--mapped are for a program that is run"),
     ):
         done, answer, left = run(folder, words, program)
         found += left + differs(f"the status of {words}", done.returncode, 2) + ([] if re.search(says, done.stderr) else [f"{words} says {done.stderr!r}"])
-    return found
+    return found + (["a program is run whose answer can't be written"] if Path(folder, "ran").exists() else [])
 
 
 def means(folder):
@@ -280,7 +403,13 @@ def keeps(folder):
     """What is wrong with what --keep keeps, and with a run that goes on from its recording."""
     found, kept = [], Path(folder, "kept")
     words = ["--check", f"sh {SAVING}/check.sh", "--no-cure"]
-    done, answer, left = run(folder, [*words, "--keep", "kept"], ["sh", SAVING / "save.sh"])
+    done, answer, left = run(folder, [*words, "--keep", "kept", "--page", "page"], ["sh", SAVING / "save.sh"])
+    page = Path(folder, "page").read_text()
+    heads = [f"<h2>{number}&ensp;fsync of {html.escape(it)}" for number, it in ((1, "the folder before each mark"), (2, '"new" before rename('))]
+    lanes = re.findall("<tr><th>(.*?)</th>(.*?)</tr>", page)
+    found += differs("what the page lacks", [it for it in heads if it not in page], []) + differs("what it takes from elsewhere", re.findall("src=|href=|url\\(", page), [])
+    found += differs("its lanes", [it[0] for it in lanes], ["answer", "names", "new"])
+    found += differs("how often something is lost, or an answer is told, in each", [(it[1].count("class=lost"), it[1].count("<b>")) for it in lanes], [(0, 6), (3, 0), (3, 0)])
     for number, it in enumerate(answer["missing"], 1):
         again = subprocess.run(["sh", kept / str(number) / "again"], cwd="/", env={**os.environ, "TMPDIR": folder}).returncode
         found += differs(f"what {number} ends in again", f"status {again}", it["check"]["ended"])
@@ -302,13 +431,17 @@ def ends_well(folder):
     running.send_signal(signal.SIGTERM)
     printed, said = running.communicate()
     found = differs("the status", running.returncode, 2) + ([] if "stopped" in said else [f"it says {said!r}"])
-    return found + [f"{it} is left" for it in Path(folder).iterdir()]
+    found += [f"{it} is left" for it in Path(folder).iterdir()]
+    # (while it imports what it needs)
+    Path(folder, "argparse.py").write_text("import os, signal\nos.kill(os.getpid(), signal.SIGINT)\n")
+    done = subprocess.run([COMMAND, "--help"], capture_output=True, text=True, env={**os.environ, "PYTHONPATH": folder})
+    return found + differs("what is said of an early signal", (done.returncode, done.stderr), (2, "crashbpf-test: stopped before anything was found\n"))
 
 
 def agrees(folder):
     """What is wrong with the images that are made here: each is that of `crashbpf export`, with losses and tears."""
     from commands.each import product
-    from commands.each.stream import RECORD, SECTOR, images
+    from commands.each.stream import RECORD, SECTOR, images, inputs
     from commands.record import traced
     from commands.test.explore import lost_of
     from commands.test.source import Source
@@ -321,6 +454,7 @@ def agrees(folder):
     given = [*log.write(folder), "--bound", "1", "--tears"]
     total = int(subprocess.run(["crashbpf", "images", *given], capture_output=True, text=True).stdout.split()[-1])
     export, device, wrong = product.Export("crashbpf", SimpleNamespace(of_images=lambda: given)), bytearray(log.base), []
+    inputs(export.file)
     for it in images(export.file, log.sectors, total):
         for at in range(0, len(it.records or b""), RECORD):
             start = SECTOR * int.from_bytes(it.records[at : at + 8], "little")
@@ -343,6 +477,13 @@ def rows():
     else:
         print("not run: a program in C, since there is no cc")
     yield "calls in a wrong order", names_order
+    if shutil.which("cc") and shutil.which("ld.lld"):
+        yield "a program of lld", names_linked
+    else:
+        print("not run: a program of lld, since there is no cc or no ld.lld")
+    yield "a call to be moved", names_move
+    yield "a check that refuses the beginning", names_first
+    yield "a mapped file", names_mapped
     yield "what is said at once", says_at_once
     yield "words of the check", means
     yield "what is kept", keeps

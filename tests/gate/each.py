@@ -32,7 +32,7 @@ import report_model
 from commands.each import stream
 from commands.shared import faults, recording
 from designs import DESIGNS
-from model import Run, escaped
+from model import Run, escaped, number_of_report
 from notation import MARK, TOP, D, F, M, S, W, log
 from page_model import page_of_report
 from shells import differs, sh, try_all
@@ -91,7 +91,8 @@ def report(run, words, text_of, first=False):
     if first:
         last = f"images {total} first {lines[0].split()[1] if lines else 'none'}\n"
         lines = lines[:1]
-    return "".join(["crash report 2\n", head, "\n", f"program 0 outside {told(words)}\n", *lines, last])
+    said = [] if first else [f"inputs {number_of_report(run)} programs 1\n"]
+    return "".join(["crash report 2\n", *said, head, "\n", f"program 0 outside {told(words)}\n", *lines, last])
 
 
 # The notes of marks that promise too much, and of what a bound leaves out, which `says_notes` tests.
@@ -431,22 +432,30 @@ def exported(folder, run):
     return subprocess.run(["crashbpf", "export", *put(folder, run)], cwd=folder, capture_output=True, check=True).stdout
 
 
+def read_export(text, total):
+    """The images of the text of an export."""
+    file = io.BytesIO(text)
+    stream.inputs(file)
+    return list(stream.images(file, 4, total))
+
+
 def refuses_cut_exports(folder):
     """What is wrong with exports that are cut off anywhere, or say what can't be: none is taken for one of fewer images."""
     run = Run([W(0, 1, 1), W(1, 1, 2), F, M("end"), W(0, 1, 3)])
     text, total = exported(folder, run), len(firsts(run))
-    found = differs("the number of images", len(list(stream.images(io.BytesIO(text), 4, total))), total)
+    found = differs("the number of images", len(read_export(text, total)), total)
     head, last = text[: text.rindex(b"total ")], text[text.rindex(b"total ") :]
     count = int(last.split()[3])
     others = [text[:end] for end in range(len(text))] + [text + b"\n", text + last, head + head + last, last, b"total 0 new 0\n"]
     others += [text.replace(b" same 0\n", b" same 9\n"), text.replace(b" same ", b" new ", 1), text.replace(b" new 1\n", b" new 2\n", 1)]
+    others += [text.replace(b"inputs ", b"inputs 0", 1), text.split(b"\n", 1)[1], text.replace(b"\n", b" programs 1\n", 1)]
     others += [text.replace(b"image 1 ", b"image 2 ", 1), text.replace(b" new 1\n", b" new 01\n", 1), text.replace(b"choice -", b"choice ", 1)]
     others += [head + b"total %d new %d\n" % it for it in ((total + 1, count), (total, count + 1), (total - 1, count), (total, 0))]
     at = text.index(b" new 1\n") + len(b" new 1\n")
     others += [text[:at] + struct.pack("<Q", it) + text[at + 8 :] for it in (4, 2**63)]
     for other in others:
         try:
-            list(stream.images(io.BytesIO(other), 4, total))
+            read_export(other, total)
             found.append(f"an export is taken: {other[-60:]!r}")
         except faults.Refusal:
             pass

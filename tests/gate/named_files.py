@@ -4,13 +4,15 @@
     python3 tests/gate/named_files.py [SEED COUNT]
 
 It needs Python alone. Rows are strace's texts, one for each call and each table, with the entries and with what a crash may leave.
-Random runs, COUNT by each table, are compared with a plain model of the tables (named_model.py): each state of the files that the
-model allows is one that an image of the log has, and no other. What a table allows the weaker ones allow too.
+rows/file_calls.py has a row for each call and flag.
+Random runs, COUNT by each table, are told as texts of strace, each step by one of the calls that do it (file_runs.py). They are compared with a plain model of the tables (named_model.py): each state of the files that the
+model allows is one that an image of the log has, and no other. What a table allows the weaker ones allow too. `tests/by_hand/planted_calls.py` plants faults that these runs have to find.
 
 Prints a line for each row that failed, and last `N passed, M failed`.
 """
+import contextlib
+import dataclasses
 import io
-import math
 import os
 import random
 import re
@@ -27,7 +29,10 @@ import rooms
 rooms.enter()
 
 import named_model
-from notation import SECTOR, TOP
+from file_runs import content_of, plan_of, text_of
+from model import Run
+from notation import SECTOR, TOP, Entry
+from rows.file_calls import CALLS
 from rows.recording import entries_of
 from strace_texts import FILES, HERE, MARKS, strace
 
@@ -43,20 +48,22 @@ from commands.record.orders import FILE, FOLDER, OTHER, TABLES, Names, Size, Tre
 KINDS = {disk.WRITE: "write", disk.FLUSH: "flush", disk.FUA: "fua", disk.MARK: "mark"}
 # What stands before the number of what a name is of.
 SIGNS = {FILE: "", FOLDER: "/", OTHER: "@"}
-BY_TABLE = ("ordered", "writeback", "strict", "ext4")
+BY_TABLE = ("ordered", "writeback", "strict", "ext4", "xfs", "btrfs")
 # What a table allows a weaker one allows too.
-WEAKER = (("ordered", "writeback"), ("ext4", "writeback"), ("writeback", "strict"))
+WEAKER = (("ordered", "writeback"), ("ext4", "writeback"), ("ext4", "xfs"), ("xfs", "ext4"), ("ordered", "strict"), ("ext4", "strict"), ("btrfs", "strict"))
+# Of a file the first sectors of its first two blocks: by `writeback` runs are compared in these, since sectors have many versions.
+LOOKED = frozenset({0, 8})
 
 
 # The calls, by each table
 
 
-def followed(text, table, before=None, folders=(), begun=0):
+def followed(text, table, before=None, folders=(), begun=0, pages=False):
     """What is followed of a text of strace. Raises Refused."""
     with tempfile.NamedTemporaryFile() as file:
         file.write(text)
         file.flush()
-        return traced.follow_names(file.name, FILES, before or {}, folders, (), HERE, MARKS, table, begun)
+        return traced.follow_names(file.name, FILES, before or {}, folders, (), HERE, MARKS, table, begun, pages=pages)
 
 
 def told(entry):
@@ -88,8 +95,9 @@ MADE = ["names a=0"]
 # The bytes that are written after the unlink are seen only where it is lost.
 REST = ["fua names a=0", "flush", "names", "bytes 0", "flush", "flush"]
 
-# The name, the text, the entries by `ordered`, `writeback`, `strict` and `ext4`, or by all of them where they are the same; what stood
-# there before. Where there are three `ext4` has those of `writeback`.
+# The name, the text, the entries by `ordered`, `writeback`, `strict`, `ext4` and `btrfs`, or by all of them where they are the same; what
+# stood there before. Where there are fewer `ext4` has those of `writeback`, and `btrfs` those of `strict`; `xfs` has those of `ext4`.
+# By `writeback` they are those without blocks that are used again.
 ROWS = [
     ("a file is made", OPEN, MADE),
     ("creat", "creat('/r/files/a', 0644) = 3<a>", MADE),
@@ -119,30 +127,52 @@ ROWS = [
     ("rename to another folder", OPEN + IN + "renameat(AT_FDCWD</r/files>, 'a', 9<in>, 'b') = 0", *[[*MADE, "names a=0 in=/1", "names 1/b=0 in=/1"]] * 2, ["names a=0", "names in=/1", "names 1/b=0"]),
     ("renameat2", OPEN + B + "renameat2(AT_FDCWD</r/files>, 'a', AT_FDCWD</r/files>, 'b', RENAME_EXCHANGE) = 0", *[[*MADE, "names a=0 b=1", "names a=1 b=0"]] * 2, [*MADE, "names b=1", "names a=0 b=1", "names a=1 b=0"]),
     ("a folder gets another name", IN + OPEN.replace("files/a", "files/in/a").replace("<a>", "<in/a>") + "rename('/r/files/in', '/r/files/out') = 0\nwrite(3<out/a>, 'A*512', 512) = 512", ["names in=/1", "names 1/a=0 in=/1", "names 1/a=0 out=/1", "fua bytes 0", "size 0 512"], ["names in=/1", "names 1/a=0 in=/1", "names 1/a=0 out=/1", "bytes 0", "size 0 512"], ["names in=/1", "names 1/a=0", "names out=/1", "bytes 0", "size 0 512"]),
-    ("fsync after a rename", OPEN + "rename('/r/files/a', '/r/files/b') = 0\nfsync(3<b>) = 0", *[[*MADE, "names b=0", "fua names a=0"]] * 2, [*MADE, "names b=0"], [*MADE, "names b=0", "flush"]),
+    ("fsync after a rename", OPEN + "rename('/r/files/a', '/r/files/b') = 0\nfsync(3<b>) = 0", *[[*MADE, "names b=0", "fua names a=0"]] * 2, [*MADE, "names b=0"], *[[*MADE, "names b=0", "flush"]] * 2),
     ("fdatasync after a rename", OPEN + "rename('/r/files/a', '/r/files/b') = 0\nfdatasync(3<b>) = 0", *[[*MADE, "names b=0", "fua names a=0"]] * 2, [*MADE, "names b=0"]),
-    ("fsync after a rename of another file", OPEN + "fsync(3<a>) = 0\n" + B + "rename('/r/files/b', '/r/files/c') = 0\nfsync(3<a>) = 0", *[[*MADE, "flush", "names a=0 b=1", "names a=0 c=1"]] * 2, [*MADE, "names b=1", "names c=1"], [*MADE, "flush", "names a=0 b=1", "names a=0 c=1"]),
-    ("link", OPEN + "link('/r/files/a', '/r/files/b') = 0\nunlink('/r/files/a') = 0\n" + "fsync(3<a>(deleted)) = 0", *[[*MADE, "names a=0 b=0", "names b=0", "fua names a=0"]] * 2, [*MADE, "names b=0", "names"], [*MADE, "names a=0 b=0", "names b=0", "flush"]),
+    ("fsync after a rename of another file", OPEN + "fsync(3<a>) = 0\n" + B + "rename('/r/files/b', '/r/files/c') = 0\nfsync(3<a>) = 0", *[[*MADE, "flush", "names a=0 b=1", "names a=0 c=1"]] * 2, [*MADE, "names b=1", "names c=1"], [*MADE, "flush", "names a=0 b=1", "names a=0 c=1"], [*MADE, "flush", "names b=1", "names c=1"]),
+    ("link", OPEN + "link('/r/files/a', '/r/files/b') = 0\nunlink('/r/files/a') = 0\n" + "fsync(3<a>(deleted)) = 0", *[[*MADE, "names a=0 b=0", "names b=0", "fua names a=0"]] * 2, [*MADE, "names b=0", "names"], [*MADE, "names a=0 b=0", "names b=0", "flush"], [*MADE, "names b=0", "names", "fua names b=0"]),
     ("a symbolic link", OPEN + "symlink('a', '/r/files/b') = 0\nrename('/r/files/b', '/r/files/c') = 0\nunlink('/r/files/c') = 0", *[[*MADE, "names a=0 b=@0", "names a=0 c=@0", "names a=0"]] * 2, [*MADE, "names b=@0", "names c=@0", "names"]),
     ("a path through a link", IN + "symlinkat('in', AT_FDCWD</r/files>, 'l') = 0\n" + OPEN.replace("<a>", "<in/a>") + "rename('/r/files/l/a', '/r/files/b') = 0", *[["names in=/1", "names in=/1 l=@0", "names 1/a=0 in=/1 l=@0", "names b=0 in=/1 l=@0"]] * 2, ["names in=/1", "names l=@0", "names 1/a=0", "names b=0"]),
     ("a path through a link that was replaced", IN + "symlink('/elsewhere', '/r/files/l') = 0\nunlink('/r/files/l') = 0\nsymlink('/r/files/in', '/r/files/l') = 0\nmkdir('/r/files/l/x', 0777) = 0", *[["names in=/1", "names in=/1 l=@0", "names in=/1", "names in=/1 l=@1", "names 1/x=/2 in=/1 l=@1"]] * 2, ["names in=/1", "names l=@0", "names", "names l=@1", "names 1/x=/2"]),
     ("one more name of a link", "symlink('a', '/r/files/b') = 0\nlink('/r/files/b', '/r/files/c') = 0", *[["names b=@0", "names b=@0 c=@0"]] * 2, ["names b=@0", "names c=@0"]),
     ("a FIFO and a socket", "mknodat(AT_FDCWD</r/files>, 'a', S_IFIFO|0600) = 0\nopenat(AT_FDCWD</elsewhere>, '/r/files/a', O_RDWR) = 3<a>\nwrite(3<a>, 'A*512', 512) = 512\nbind(4<socket:[1]>, {sa_family=AF_UNIX, sun_path='/r/files/b'}, 110) = 0\nunlink('/r/files/b') = 0\nbind(5<socket:[2]>, {sa_family=AF_UNIX, sun_path='elsewhere'}, 110) = 0", *[["names a=@0", "names a=@0 b=@1", "names a=@0"]] * 2, ["names a=@0", "names b=@1", "names"]),
     ("two that make files at once", TWO_AT_ONCE, *[["names a=0", "names b=1", "names a=0 b=1"]] * 2, ["names a=0", "names b=1"]),
-    ("two at once, of which one is durable first", "openat(AT_FDCWD</elsewhere>, '/r/files/c', O_RDWR|O_CREAT, 0644) = 5<c>\n" + THREAD + "unlink('/r/files/c' <unfinished ...>\n101 " + OPEN + "101 fsync(3<a>) = 0\n<... unlink resumed>) = 0\n101 +++ exited with 0 +++", *[["names c=0", "names a=1 c=0", "flush", "names a=1"]] * 2, ["names c=0", "names a=1", "names"]),
+    ("two at once, of which one is durable first", "openat(AT_FDCWD</elsewhere>, '/r/files/c', O_RDWR|O_CREAT, 0644) = 5<c>\n" + THREAD + "unlink('/r/files/c' <unfinished ...>\n101 " + OPEN + "101 fsync(3<a>) = 0\n<... unlink resumed>) = 0\n101 +++ exited with 0 +++", *[["names c=0", "names a=1 c=0", "flush", "names a=1"]] * 2, ["names c=0", "names a=1", "names"], None, ["names c=0", "names a=1", "fua names a=1", "names"]),
     ("a file by mknod", "mknod('/r/files/a', S_IFREG|0600) = 0", MADE),
     ("a long name", OPEN.replace("files/a", "files/" + "n" * 255).replace("<a>", "<" + "n" * 255 + ">"), ["names " + "n" * 255 + "=0"]),
     ("mkdir and rmdir", IN + "rmdir('/r/files/in') = 0", ["names in=/1", "names"]),
     ("unlinkat of a folder", IN + "unlinkat(9</r/files>, 'in', AT_REMOVEDIR) = 0", ["names in=/1", "names"]),
-    ("fsync of a new file", OPEN + WRITE + "fsync(3<a>) = 0", [*MADE, "fua bytes 0", "size 0 512", "flush"], [*MADE, "bytes 0", "size 0 512", "flush"], [*MADE, "bytes 0", "size 0 512", "fua bytes 0", "fua size 0 512"]),
+    ("fsync of a new file", OPEN + WRITE + "fsync(3<a>) = 0", [*MADE, "fua bytes 0", "size 0 512", "flush"], [*MADE, "bytes 0", "size 0 512", "flush"], [*MADE, "bytes 0", "size 0 512", "fua bytes 0", "fua size 0 512"], None, [*MADE, "bytes 0", "size 0 512", "flush"]),
     ("fdatasync", AGAIN + WRITE + "lseek(3<a>, 0, SEEK_END) = 600\n" + WRITE + "fdatasync(3<a>) = 0", ["bytes 0", "bytes 1-2", "size 0 1112", "flush"], {b"a": b"x" * 600}),
     ("fsync of the folder", OPEN + TOP_FOLDER + "fsync(9</r/files>) = 0", [*MADE, "flush"]),
     ("fsync of the folder alone", OPEN + WRITE + TOP_FOLDER + "fsync(9</r/files>) = 0", [*MADE, "fua bytes 0", "size 0 512", "fua names a=0"], [*MADE, "bytes 0", "size 0 512", "fua names a=0"]),
     ("fsync of another folder", IN + OPEN + "openat(AT_FDCWD</elsewhere>, '/r/files/in', O_RDONLY|O_DIRECTORY) = 9<in>\nfsync(9<in>) = 0", *[["names in=/1", "names a=0 in=/1", "fua names in=/1"]] * 2, ["names in=/1", "names a=0"]),
-    ("fsync of a file, and names after it", OPEN + WRITE + B + "fsync(3<a>) = 0", [*MADE, "fua bytes 0", "size 0 512", "names a=0 b=1", "fua size 0 512", "fua names a=0"], [*MADE, "bytes 0", "size 0 512", "names a=0 b=1", "fua bytes 0", "fua size 0 512", "fua names a=0"], [*MADE, "bytes 0", "size 0 512", "names b=1", "fua bytes 0", "fua size 0 512"]),
+    ("fsync of a file, and names after it", OPEN + WRITE + B + "fsync(3<a>) = 0", [*MADE, "fua bytes 0", "size 0 512", "names a=0 b=1", "fua size 0 512", "fua names a=0"], [*MADE, "bytes 0", "size 0 512", "names a=0 b=1", "fua bytes 0", "fua size 0 512", "fua names a=0"], [*MADE, "bytes 0", "size 0 512", "names b=1", "fua bytes 0", "fua size 0 512"], None, [*MADE, "bytes 0", "size 0 512", "names b=1", "fua bytes 0", "fua size 0 512", "fua names a=0"]),
     ("sync", OPEN + WRITE + "sync() = 0", [*MADE, "fua bytes 0", "size 0 512", "flush"], [*MADE, "bytes 0", "size 0 512", "flush"]),
     ("syncfs", OPEN + "syncfs(3<a>) = 0", [*MADE, "flush"]),
-    ("replaced by rename, without fsync of the folder", AGAIN + B + "write(4<b>, 'B*512', 512) = 512\nfsync(4<b>) = 0\nrename('/r/files/b', '/r/files/a') = 0", ["names a=0 b=1", "fua bytes 0", "size 1 512", "flush", "names a=1"], ["names a=0 b=1", "bytes 0", "size 1 512", "flush", "names a=1"], ["names a=0 b=1", "bytes 0", "size 1 512", "fua bytes 0", "fua size 1 512", "names a=1"], {b"a": b"x"}),
+    ("replaced by rename, without fsync of the folder", AGAIN + B + "write(4<b>, 'B*512', 512) = 512\nfsync(4<b>) = 0\nrename('/r/files/b', '/r/files/a') = 0", ["names a=0 b=1", "fua bytes 0", "size 1 512", "flush", "names a=1"], ["names a=0 b=1", "bytes 0", "size 1 512", "flush", "names a=1"], ["names a=0 b=1", "bytes 0", "size 1 512", "fua bytes 0", "fua size 1 512", "names a=1"], None, ["names a=0 b=1", "bytes 0", "size 1 512", "flush", "names a=1"], {b"a": b"x"}),
+    # (by btrfs another file may be gone that had the name before, unless it was synced itself)
+    ("fsync of a file whose name another had", OPEN + "rename('/r/files/a', '/r/files/c') = 0\n" + OPEN.replace("= 3", "= 5") + "fsync(5<a>) = 0", *[[*MADE, "names c=0", "names a=1 c=0", "flush"]] * 2, [*MADE, "names c=0", "names a=1 c=0"]),
+    ("fsync of a file whose name another had that was synced", OPEN + "fsync(3<a>) = 0\nunlink('/r/files/a') = 0\n" + OPEN.replace("= 3", "= 5") + "fsync(5<a>) = 0", *[[*MADE, "flush", "names", "names a=1", "flush"]] * 2, [*MADE, "names", "names a=1"], None, [*MADE, "flush", "names", "names a=1", "flush"]),
+    ("fsync of a file in a new folder", IN + OPEN.replace("files/a", "files/in/a").replace("<a>", "<in/a>") + "rename('/r/files/in', '/r/files/out') = 0\nfsync(3<out/a>) = 0", *[["names in=/1", "names 1/a=0 in=/1", "names 1/a=0 out=/1", "fua names 1/a=0 in=/1"]] * 2, ["names in=/1", "names 1/a=0", "names out=/1"], None, ["names in=/1", "names 1/a=0", "names out=/1", "fua names 1/a=0", "fua names in=/1", "names out=/1"]),
+]
+
+# By `writeback`, what is written to which file: of a block that is used again what it held comes first, and who had it shows what is written
+# to it, and after that what it has. The name, the text, the entries of bytes with the number of the file, the first sector, and of each
+# block the first byte of its first sector; what was there before.
+TWO = {b"a": b"a" * 5000, b"b": b"b" * 700}
+AGAIN_ROWS = [
+    ("a new block of which nobody had one", OPEN + WRITE, "0@0 b; 0@0 A"),
+    ("a block that is there", AGAIN + WRITE + WRITE, "0@0 A; 0@1 A", {b"a": b"x" * 600}),
+    ("the rest of a block that is there", AGAIN + "pwrite64(3<a>, 'A*4096', 4096, 512) = 4096", "0@8 b; 0@1 AA", {b"a": b"x" * 600}),
+    ("an unlink, and a new file", OPEN.replace("files/a", "files/c").replace("<a>", "<c>") + "unlink('/r/files/a') = 0\npwrite64(3<c>, 'C*9000', 9000, 0) = 9000", "2@0 aab; 2@0 CCC; 0@0 CC; 0@0 aa", TWO),
+    ("a rename over a file, and a new file of one block", "rename('/r/files/b', '/r/files/a') = 0\n" + OPEN.replace("files/a", "files/c").replace("<a>", "<c>") + "pwrite64(3<c>, 'C*100', 100, 0) = 100\npwrite64(3<c>, 'D*100', 100, 100) = 100", "2@0 a; 2@0 C; 0@0 C; 0@0 a; 2@0 C; 0@0 C; 0@0 a", TWO),
+    ("a block at another place", OPEN.replace("files/a", "files/c").replace("<a>", "<c>") + "unlink('/r/files/b') = 0\npwrite64(3<c>, 'C*100', 100, 8192) = 100", "2@16 b; 2@16 C; 1@0 C; 1@0 b", TWO),
+    ("a block of the file that is gone last", "unlink('/r/files/b') = 0\nunlink('/r/files/a') = 0\n" + OPEN.replace("files/a", "files/c").replace("<a>", "<c>") + "pwrite64(3<c>, 'C*100', 100, 0) = 100", "2@0 a; 2@0 C; 0@0 C; 0@0 a", TWO),
+    ("a block that two had before", "unlink('/r/files/b') = 0\n" + OPEN.replace("files/a", "files/c").replace("<a>", "<c>") + "pwrite64(3<c>, 'C*100', 100, 0) = 100\nunlink('/r/files/c') = 0\n" + OPEN.replace("files/a", "files/d").replace("3<a>", "4<d>") + "pwrite64(4<d>, 'D*100', 100, 0) = 100", "2@0 b; 2@0 C; 1@0 C; 1@0 b; 3@0 C; 3@0 D; 1@0 D; 2@0 D; 1@0 b; 2@0 C", TWO),
+    ("O_TRUNC, and other bytes", AGAIN.replace("O_RDWR", "O_RDWR|O_TRUNC") + "pwrite64(3<a>, 'A*100', 100, 0) = 100", "0@0 a; 0@0 A; 0@0 A; 0@0 a", TWO),
+    ("blocks that are reserved", OPEN.replace("files/a", "files/c").replace("<a>", "<c>") + "fallocate(3<c>, 0, 0, 8192) = 0\nunlink('/r/files/b') = 0\npwrite64(3<c>, 'C*100', 100, 0) = 100", "2@0 C; 1@0 C; 1@0 b", TWO),
+    ("nothing of a file that is gone durably", TOP_FOLDER + "unlink('/r/files/b') = 0\nfsync(9</r/files>) = 0\n" + OPEN.replace("files/a", "files/c").replace("<a>", "<c>") + "pwrite64(3<c>, 'C*100', 100, 0) = 100", "2@0 b; 2@0 C", TWO),
 ]
 
 # The name, the text, and what is said, with the line of the text that shows it.
@@ -171,19 +201,146 @@ REFUSED = [
 ]
 
 
+@contextlib.contextmanager
+def without_again():
+    """By `writeback` no blocks are used again."""
+    rules = TABLES["writeback"]
+    TABLES["writeback"] = dataclasses.replace(rules, again=False)
+    try:
+        yield
+    finally:
+        TABLES["writeback"] = rules
+
+
+def by_table(ordered, writeback=None, strict=None, ext4=None, btrfs=None):
+    """What is wanted by each table."""
+    writeback = ordered if writeback is None else writeback
+    strict = writeback if strict is None else strict
+    ext4 = writeback if ext4 is None else ext4
+    return ordered, writeback, strict, ext4, ext4, strict if btrfs is None else btrfs
+
+
 def row_faults(name, text, *wanted):
     """What is wrong with the entries of a text, by each table."""
     before = wanted[-1] if isinstance(wanted[-1], dict) else {}
     wanted = [it for it in wanted if not isinstance(it, dict)]
     found = []
-    last = wanted[-1] if len(wanted) < 3 else wanted[1]
-    for table, these in zip(BY_TABLE, [*wanted, *[wanted[-1]] * (3 - len(wanted)), *[last] * (len(wanted) < 4)]):
+    for table, these in zip(BY_TABLE, by_table(*wanted)):
         try:
-            made = [told(it) for it in followed(strace(text), table, before).disk.entries]
+            with without_again():
+                made = [told(it) for it in followed(strace(text), table, before).disk.entries]
         except Refused as refused:
             made = [f"refused: {refused}"]
         found += [] if made == these else [f"{name}, {table}: {made}"]
     return found
+
+
+def again_faults(name, text, wanted, before=None):
+    """What is wrong with the entries of bytes of a text, by `writeback`."""
+    tracing = followed(strace(text), "writeback", before or {})
+    rooms = {room: file.number for file in tracing.tree.files.values() for room in file.rooms}
+    made = []
+    for it in tracing.disk.entries:
+        if it.kind == disk.WRITE and it.file in rooms:
+            firsts = bytes(it.data[SECTOR * at] for at in range(it.count) if at == 0 or (it.sector + at) % 8 == 0)
+            made.append(f"{rooms[it.file]}@{it.sector} {firsts.decode()}")
+    return [] if "; ".join(made) == wanted else [f"{name}, writeback: {'; '.join(made)}"]
+
+
+# What stands before each row of CALLS, and how many entries it makes.
+FOUND, FOUND_FOLDERS = {b"a": b"x" * 600, b"b": b"y" * 600}, [b"in"]
+BEFORE = """\
+openat(AT_FDCWD</elsewhere>, '/r/files/a', O_RDWR) = 3<a>
+openat(AT_FDCWD</elsewhere>, '/r/files/b', O_RDWR) = 4<b>
+openat(AT_FDCWD</elsewhere>, '/r/files/in', O_RDONLY|O_DIRECTORY) = 8<in>
+openat(AT_FDCWD</elsewhere>, '/r/files', O_RDONLY|O_DIRECTORY) = 9</r/files>
+mkdir('/r/files/x', 0777) = 0
+pwrite64(3<a>, 'C*512', 512, 0) = 512
+pwrite64(4<b>, 'C*512', 512, 0) = 512
+"""
+BEGUN = 3
+
+
+def path_of(slot, state):
+    """The path of a slot by some names."""
+    folder, name = slot
+    above = next((it for it, held in state.items() if held == (FOLDER, folder)), None)
+    return (path_of(above, state) + "/" if above else "") + name.decode()
+
+
+def renamed(before, after):
+    """What is different in names, as rows/file_calls.py has it."""
+    called = {held: path_of(slot, before) for slot, held in sorted(before.items(), reverse=True)}
+    gone = {held: slot for slot, held in before.items() if slot not in after}
+    parts = []
+    for slot, held in sorted(after.items()):
+        path, old = path_of(slot, after), called.get(held)
+        if slot not in before:
+            parts.append(f"{path_of(gone.pop(held), before)}>{path}" if held in gone else f"+{path}={old}" if old else f"+{path}")
+        elif before[slot] != held:
+            parts.append(f"{path}={old}")
+            gone.pop(before[slot], None)
+    return " ".join(["names", *(f"-{path_of(slot, before)}" for slot in sorted(gone.values())), *parts])
+
+
+def brief(tracing):
+    """The entries of a row of CALLS, as it has them."""
+    owners, state, found = told_entries.owners(tracing.tree), dict(tracing.tree.one.initial), []
+    for it in tracing.disk.entries:
+        durable = "durable " if it.kind == disk.FUA else ""
+        if it.kind in (disk.FLUSH, disk.MARK):
+            found.append(KINDS[it.kind])
+        elif isinstance(it.file, Names):
+            before, state = state, it.file.state(struct.unpack_from("<Q", it.data)[0])
+            found.append("durable names" if durable else renamed(before, state))
+        elif isinstance(it.file, Size):
+            found.append(f"{durable}size {owners[it.file].first.decode()} {struct.unpack_from('<Q', it.data)[0]}")
+        else:
+            last = it.sector + it.count - 1
+            found.append(f"{durable}bytes {owners[it.file].first.decode()} {it.sector}" + (f"-{last}" if last > it.sector else ""))
+    return "; ".join(found[BEGUN:])
+
+
+def call_fault(call, text, wanted):
+    """What is wrong with what a recording has of a call."""
+    try:
+        found = brief(followed(strace(BEFORE + text), "ext4", FOUND, FOUND_FOLDERS))
+    except Refused as refused:
+        found = f"refused {refused}"
+    good = re.match("refused .*" + wanted[8:], found) if wanted.startswith("refused") else found == wanted
+    return None if good else f"{call}: {found}"
+
+
+def permission_fault():
+    """What is wrong with the note of permissions that were changed."""
+    tracing = followed(strace(BEFORE + "fchmod(3<a>, 0600) = 0\nchmod('/elsewhere/a', 0600) = 0\nfchmodat(9</r/files>, 'in', 0700) = 0"), "ext4", FOUND, FOUND_FOLDERS)
+    wanted = "permissions were changed (a by calls:8, in by calls:10): each image has those of the end, so what a crash does to them isn't tested"
+    return None if tracing.notes == [wanted] else f"permissions: {tracing.notes}"
+
+
+DIRECT = OPEN.replace("O_RDWR", "O_RDWR|O_DIRECT").replace("= 3", "= 4")
+AT_A_SYNC = "fsync(3<a> <unfinished ...>\n101 pwrite64(3<a>, 'B*100', 100, 0) = 100\n101 pwrite64(4<a>, 'C*512', 512, 1024) = 512\n101 pwrite64(3<a>, 'D*100', 100, 0) = 100\n<... fsync resumed>) = 0\n101 +++ exited with 0 +++"
+TWO_OF_A_PAGE = THREAD + "pwrite64(3<a>, 'A*512', 512, 0 <unfinished ...>\n101 pwrite64(3<a>, 'B*512', 512, 1024) = 512\n<... pwrite64 resumed>) = 512\n101 +++ exited with 0 +++"
+# By pages, by `ext4`: the name, the text, the entries, or what is said; what stood there before.
+BY_PAGES = [
+    ("a write over what is there", AGAIN + "pwrite64(3<a>, 'A*1', 1, 4099) = 1", ["bytes 8-15"], {b"a": b"x" * 6000}),
+    ("a write to three pages", AGAIN + "pwrite64(3<a>, 'A*5000', 5000, 4000) = 5000", ["bytes 0-7", "bytes 8-15", "bytes 16-23", "size 0 8192", "size 0 9000"], {b"a": b"x" * 6000}),
+    ("O_DIRECT", AGAIN + DIRECT.replace("|O_CREAT, 0644", "") + "pwrite64(4<a>, 'A*1024', 1024, 3584) = 1024\npwrite64(3<a>, 'A*1024', 1024, 3584) = 1024\nfcntl(4<a>, F_SETFL, O_RDWR) = 0\npwrite64(4<a>, 'A*512', 512, 0) = 512", ["bytes 7-8", "bytes 0-7", "bytes 8-15", "bytes 0-7"], {b"a": b"x" * 6000}),
+    ("what is written while a sync lasts", OPEN + DIRECT.replace("|O_CREAT, 0644", "") + THREAD + WRITE + AT_A_SYNC, [*MADE, "bytes 0-7", "size 0 512", "bytes 0-7", "bytes 2", "size 0 1536", "bytes 0-7", "fua bytes 0-7", "fua size 0 512", "fua names a=0", "bytes 0-7", "bytes 2", "bytes 0-7"]),
+    ("shorter, with writes in flight", AGAIN + WRITE * 2 + "ftruncate(3<a>, 100) = 0", ["bytes 0-7", "bytes 0-7", "bytes 0-7", "bytes 0", "bytes 0", "size 0 100 room 1"], {b"a": b"x" * 1200}),
+    ("two of a page at once", AGAIN + TWO_OF_A_PAGE, "calls:3: .*another call wrote the same page at once", {b"a": b"x" * 6000}),
+]
+
+
+def by_pages_faults(name, text, wanted, before=None):
+    """What is wrong with the entries of a text that is followed by pages. By calls none is refused."""
+    try:
+        made = [told(it) for it in followed(strace(text), "ext4", before, pages=True).disk.entries]
+    except Refused as refused:
+        made = str(refused)
+        followed(strace(text), "ext4", before)
+    good = re.match(wanted, made) if isinstance(wanted, str) and isinstance(made, str) else made == wanted
+    return [] if good else [f"by pages, {name}: {made}"]
 
 
 # A file from outside, `source` in `outside`, which gets a name in the folder. The name, the text, and the entries, or what is said.
@@ -264,152 +421,27 @@ def entries_fault():
 
 # Random runs
 
-# How many contents of a file a crash may leave in a random run, at most: the model has each of them by itself.
-MOST_FLYING = 500
-
-
-def plan_of(chance):
-    """A random run, as steps of words. Each fits what the steps before it left."""
-    names, sizes, folders, steps, begun, value = {}, [], [0], [], 0, 0
-    # how many versions of each sector may be left
-    flying = {}
-    if chance.random() < 0.6:
-        size = chance.choice((0, 300, 512, 1000, 4096))
-        steps.append(("base", (0, b"a"), size))
-        names[0, b"a"] = ("file", 0)
-        sizes.append(size)
-    for _ in range(chance.randint(2, 9)):
-        kind = chance.choice("mmwwwwwtrruclsssffSbeddDxk")
-        files = [it for it, held in names.items() if held[0] == "file"]
-        free = [it for it in ((folder, name) for folder in folders for name in (b"a", b"b")) if it not in names]
-        if kind == "m" and free:
-            slot = chance.choice(free)
-            names[slot] = ("file", len(sizes))
-            sizes.append(0)
-            steps.append(("make", slot))
-        elif kind == "D" and free and len(folders) < 2:
-            slot = chance.choice(free)
-            names[slot] = ("folder", len(folders))
-            steps.append(("folder", slot))
-            folders.append(len(folders))
-        elif kind in "wd" and sizes:
-            number = chance.randrange(len(sizes))
-            start = chance.choice((sizes[number], sizes[number], max(sizes[number] - 200, 0), 0, 512))
-            length = chance.choice((100, 200, 512, 700, 1024) if start else (100, 512, 600, 4096 + 300))
-            written = range(start // SECTOR, -(-(start + length) // SECTOR))
-            more = {**flying, **{(number, at): flying.get((number, at), 1) + 1 for at in written}}
-            if start + length > 5500 or math.prod(it for (file, _), it in more.items() if file == number) > MOST_FLYING:
-                continue
-            flying = more
-            value += 1
-            steps.append(("through" if kind == "d" else "write", number, start, bytes([value]) * length))
-            sizes[number] = max(sizes[number], start + length)
-        elif kind == "t" and sizes:
-            number = chance.randrange(len(sizes))
-            size = chance.choice((0, 0, 100, 512, 700, sizes[number] + 300))
-            if size != sizes[number] and size < 5500:
-                steps.append(("resize", number, size))
-                sizes[number] = size
-        elif kind == "u" and files:
-            slot = chance.choice(files)
-            del names[slot]
-            steps.append(("remove", slot))
-        elif kind == "r" and names:
-            slot = chance.choice(sorted(names))
-            to = chance.choice([*free, *(it for it in files if names[slot][0] == "file" and names[it] != names[slot])] or [slot])
-            if to == slot or names[slot][0] == "folder" and to[0] == names[slot][1]:
-                continue
-            exchange = to in names and chance.random() < 0.3
-            steps.append(("exchange" if exchange else "rename", slot, to))
-            names[slot], names[to] = names.get(to), names[slot]
-            if not exchange:
-                del names[slot]
-        elif kind == "l" and files and free:
-            slot, to = chance.choice(files), chance.choice(free)
-            names[to] = names[slot]
-            steps.append(("link", slot, to))
-        elif kind == "s" and sizes:
-            steps.append(("sync", chance.randrange(len(sizes))))
-            flying = {it: count for it, count in flying.items() if it[0] != steps[-1][1]}
-        elif kind == "f" and sizes:
-            steps.append(("sync data", chance.randrange(len(sizes))))
-        elif kind == "S":
-            steps.append(("sync folder", chance.choice(folders)))
-        elif kind == "x" and chance.random() < 0.5:
-            steps.append(("sync all",))
-        elif kind == "b" and sizes:
-            steps.append(("begin", chance.randrange(len(sizes))))
-            begun += 1
-        elif kind == "e" and begun:
-            begun -= 1
-            steps.append(("end",))
-        elif kind == "k" and chance.random() < 0.5:
-            steps.append(("mark",))
-        if kind in "sfSxe" and chance.random() < 0.4:
-            steps.append(("mark",))
-    return steps
-
-
-def content_of(size):
-    return bytes(100 + it % 100 for it in range(size // 100 + 1) for _ in range(100))[:size]
-
-
-def tree_of(steps, table, joined=None):
-    """What commands/record makes of a run."""
-    tree, begun = Tree(table, disk.Disk(), joined), []
-    for what, *words in steps:
-        file = tree.files[words[0]] if words and isinstance(words[0], int) and what != "sync folder" else None
-        if what == "base":
-            tree.begin(words[0], content_of(words[1]))
-        elif what == "make":
-            tree.make_file(words[0])
-        elif what == "folder":
-            tree.make_folder(words[0])
-        elif what in ("write", "through"):
-            tree.write(file, words[1], words[2], what == "through")
-        elif what == "resize":
-            tree.resize(file, words[1])
-        elif what == "remove":
-            tree.remove(words[0])
-        elif what in ("rename", "exchange"):
-            tree.rename(*words, what == "exchange")
-        elif what == "link":
-            tree.link(*words)
-        elif what == "sync":
-            tree.end_sync(tree.begin_file(file))
-        elif what == "sync data":
-            tree.end_sync(tree.begin_file(file, data=True))
-        elif what == "sync folder":
-            tree.end_sync(tree.begin_folder(words[0]))
-        elif what == "sync all":
-            tree.end_sync(tree.begin_all())
-        elif what == "begin":
-            begun.append(tree.begin_file(file))
-        elif what == "end":
-            tree.end_sync(begun.pop(0))
-        else:
-            tree.disk.mark(b"")
-    return tree
-
-
-def model_of(steps, table):
+def model_of(steps, table, looked=None, unit=SECTOR):
     """What the model makes of it."""
-    model, begun = named_model.Model(table), []
+    model, begun = named_model.Model(table, looked, unit), []
     if steps and steps[0][0] == "base":
         model.base[steps[0][1]] = ("file", 0)
-        model.files.append(named_model.File(content_of(steps[0][2])))
+        model.files.append(named_model.File(content_of(steps[0][2]), unit))
+    model.later = [set(words[:2]) for what, *words in steps if what in ("rename", "exchange")]
     model.crash()
     for what, *words in steps:
         if what == "make":
             model.make_file(words[0])
         elif what == "folder":
             model.make_folder(words[0])
-        elif what == "write":
+        elif what in ("write", "hole"):
             model.write(*words)
         elif what == "through":
             model.synced(model.seen(words[0], model.write(*words), data=True))
         elif what == "resize":
             model.resize(*words)
+        elif what == "allocate":
+            model.allocate(*words)
         elif what == "remove":
             model.change({words[0]: None})
         elif what in ("rename", "exchange", "link"):
@@ -434,15 +466,25 @@ def model_of(steps, table):
     return model
 
 
-def laid_of(steps, table):
-    joined = tree_of(steps, table).ties() if table == "strict" else None
-    return named_layout.Laid(tree_of(steps, table, joined))
+def laid_of(steps, table, chance, pages=False):
+    """What is recorded of a text of a run."""
+    text, before = text_of(steps, chance, not pages)
+    return named_layout.Laid(followed(text, table, before, pages=pages).tree)
 
 
-def log_states(laid):
-    """Every state of the files that an image of a log has, with the number of marks."""
+def log_states(laid, looked=None):
+    """Every state of the files that an image of a log has, with the number of marks: by pages where these were written."""
     entries = [(KINDS[it.kind], 0 if it.file is None else laid.firsts[it.file] + it.sector, it.data) for it in laid.entries()]
-    return named_model.log_leaves(entries, laid.image(), [(it.sector, it.slots) for it in laid.sets])
+    return named_model.log_leaves(entries, laid.image(), [(it.sector, it.slots) for it in laid.sets], looked, laid.tree.disk.pages)
+
+
+def looked_at(states, looked):
+    """States with those sectors of the files alone that are looked at."""
+    return {(marks, frozenset((path, content if content is None else seen_of(content, looked)) for path, content in tree)) for marks, tree in states}
+
+
+def seen_of(content, looked):
+    return len(content), b"".join(content[SECTOR * at : SECTOR * (at + 1)] for at in sorted(looked))
 
 
 A, D = (0, b"a"), (0, b"d")
@@ -457,30 +499,56 @@ PLANS = {
     "names that a rename ties together later": [("make", A), ("make", D), ("sync", 1), ("mark",), ("rename", A, D), ("sync folder", 0)],
     "names after a size": [("make", A), ("write", 0, 0, b"x" * 100), ("make", D), ("sync", 0), ("mark",)],
     "a sync of a file that nobody shows": [("base", A, 512), ("remove", A), ("through", 0, 312, b"x" * 700), ("make", A), ("write", 0, 1012, b"y" * 100), ("sync", 0), ("mark",)],
+    "replaced, and its blocks are used again": [("base", A, 512), ("make", D), ("write", 1, 0, b"x" * 600), ("sync", 1), ("rename", D, A), ("mark",), ("make", D), ("write", 2, 0, b"y" * 4200), ("write", 2, 100, b"z" * 100), ("mark",), ("resize", 2, 100), ("mark",), ("sync", 2)],
+    "shorter, and its blocks are used again": [("base", A, 4396), ("resize", 0, 100), ("make", D), ("write", 1, 0, b"y" * 4200), ("mark",), ("write", 0, 100, b"z" * 4196), ("sync", 0), ("mark",)],
+    "a name that another file had": [("make", A), ("rename", A, D), ("make", A), ("sync", 1), ("mark",), ("sync", 0), ("mark",)],
     "replaced": [("base", A, 100), ("make", D), ("write", 0, 0, b"x" * 50), ("write", 1, 0, b"x" * 600), ("sync", 1), ("rename", D, A), ("mark",), ("sync folder", 0)],
 }
 
 
-def run_faults(seed):
+def run_faults(seed, faults=None):
     """What is wrong with a random run, by each table."""
-    return plan_faults(f"run {seed}", plan_of(random.Random(seed)))
+    chance = random.Random(seed)
+    return (faults or plan_faults)(f"run {seed}", plan_of(chance), chance)
 
 
-def plan_faults(name, steps):
+def plan_faults(name, steps, chance):
     """What is wrong with a run, by each table. States are told apart by the marks before them, so one stands at the end."""
     found, allowed, steps = [], {}, [*steps, ("mark",)]
     for table in TABLES:
-        wanted, laid = model_of(steps, table).left, laid_of(steps, table)
-        made = log_states(laid)
-        allowed[table] = wanted
+        looked = LOOKED if table == "writeback" or name.endswith("used again") else None
+        try:
+            wanted, laid = model_of(steps, table, looked).left, laid_of(steps, table, chance)
+        except Refused as refused:
+            return [f"{name}, {table}: refused: {refused}: {steps}"]
+        made = log_states(laid, looked)
+        allowed[table] = wanted, looked
         if made != wanted:
             found.append(f"{name}, {table}: {len(wanted - made)} states are missing, {len(made - wanted)} impossible: {steps}")
         if named_layout.read_map(laid.map_text()) != (laid.sets, laid.rooms, laid.sectors, [], {}):
             found.append(f"{name}, {table}: the map is read as another")
     for strong, weak in WEAKER:
-        more = allowed[strong] - allowed[weak]
+        (one, seen), (other, looked) = allowed[strong], allowed[weak]
+        more = (looked_at(one, LOOKED) if looked and not seen else one) - other
         if more:
             found.append(f"{name}: {weak} doesn't allow {len(more)} states that {strong} allows: {steps}")
+    return found
+
+
+def pages_faults(name, steps, chance):
+    """What is wrong with a run that is written by pages, by each table: a crash leaves each page as it was at some time, and the log has
+    entries of one page each."""
+    found, steps = [], [*steps, ("mark",)]
+    for table in TABLES:
+        try:
+            wanted, laid = model_of(steps, table, unit=named_model.BLOCK).left, laid_of(steps, table, chance, True)
+        except Refused as refused:
+            return [f"{name}, {table}, by pages: refused: {refused}: {steps}"]
+        made = log_states(laid)
+        if made != wanted:
+            found.append(f"{name}, {table}, by pages: {len(wanted - made)} states are missing, {len(made - wanted)} impossible: {steps}")
+        if any(it.kind == disk.WRITE and it.sector // disk.PAGE != (it.sector + it.count - 1) // disk.PAGE for it in laid.tree.disk.entries):
+            found.append(f"{name}, {table}, by pages: a write of more than a page: {steps}")
     return found
 
 
@@ -508,7 +576,7 @@ AT_ONCE = [
 
 def at_once_fault(others, then, wanted):
     """What is wrong with the names that a crash leaves of changes that were made at once."""
-    for table in ("ext4", "ordered", "writeback"):
+    for table in ("ext4", "ordered", "writeback", "xfs"):
         tree = Tree(table, disk.Disk())
         files = {"x": tree.make_file((0, b"x"))}
         tree.end_sync(tree.begin_all())
@@ -547,11 +615,36 @@ def once_fault(laid):
     return None
 
 
+# A file is replaced by one that was synced, and another is written then: where the rename is lost its blocks may be used again.
+KEPT = [("base", A, 4096), ("make", D), ("write", 1, 0, b"n" * 600), ("sync", 1), ("rename", D, A), ("mark",), ("make", D), ("write", 2, 0, b"y" * 600)]
+
+
+def kept_fault():
+    """What is wrong with a file that is replaced: by `writeback` one loss leaves it with bytes of another, and by no other table any does."""
+    for table in TABLES:
+        laid = laid_of(KEPT, table, random.Random(1))
+        entries = [(KINDS[it.kind], 0 if it.file is None else laid.firsts[it.file] + it.sector, it.data) for it in laid.entries()]
+        marked = [at for at, it in enumerate(entries) if it[0] == "mark"][0]
+        names = [(it.sector, it.slots) for it in laid.sets]
+        once = set()
+        for cut in range(marked + 1, len(entries) + 1):
+            last = max((at for at in range(cut) if entries[at][0] == "flush"), default=0)
+            for lost in (at for at in range(last, cut) if entries[at][0] == "write"):
+                rest = [it for at, it in enumerate(entries[:cut]) if at != lost]
+                kept = {first + at: {data[SECTOR * at : SECTOR * (at + 1)]} for _, first, data in rest for at in range(len(data) // SECTOR)}
+                once |= set(named_model.Reader(laid.image(), kept, names).trees())
+        with_others = [tree for tree in once if b"y" * 300 in dict(tree).get(b"a", b"")]
+        any_lost = [tree for _, tree in log_states(laid, LOOKED) if b"y" * 300 in dict(tree).get(b"a", (0, b""))[1]]
+        if bool(with_others) != (table == "writeback") or bool(any_lost) != (table == "writeback"):
+            return f"a file that is replaced, {table}: {len(with_others)} states of one loss, and {len(any_lost)} of any, have bytes of another"
+    return None
+
+
 def long_fault():
     """What is wrong with a chain of many changes: after a flush it begins anew, and no image has a row of more than some."""
     steps = [("make", A), *(step for turn in range(200) for step in (("write", 0, 100 * turn, b"x" * 100), ("sync", 0)))]
     for table in TABLES:
-        laid = laid_of(steps, table)
+        laid = laid_of(steps, table, random.Random(1))
         (size,) = {it.size for it in laid.rooms}
         image, row, most = bytearray(laid.image()), 0, 0
         for it in laid.entries():
@@ -573,6 +666,18 @@ def log_fault(laid):
     wanted = [(laid.firsts[it.file] + it.sector if it.file else 0, it.kind, b"" if it.kind == disk.MARK else it.data) for it in laid.entries()]
     inside = all(sector + len(data) // SECTOR <= laid.sectors for sector, _, data in found)
     return None if found == wanted and inside else "the log has other entries"
+
+
+def flags_fault(laid):
+    """What is wrong with a log whose flushes are flags of the writes after them, as one of too many entries has them: it has other images."""
+    entries, sets = list(laid.entries()), []
+    if len(entries) > 12:
+        return None
+    for these in (entries, layout.with_flags(entries)):
+        found = [Entry(it.sector, it.count, it.flags, it.text, it.data) for it in entries_of(b"".join(layout.log_of(these, laid.firsts, laid.sectors)[0]))]
+        run = Run(found, laid.sectors, bound=len(found), by="write", base=laid.image())
+        sets.append({(run.marks(it.cut), it.content()) for it in run.images()})
+    return None if sets[0] == sets[1] and not any(one.kind == disk.FLUSH and other.count and not other.flushes for one, other in zip(these, these[1:])) else "flushes as flags give other images"
 
 
 def folder_of(path):
@@ -606,8 +711,8 @@ def bytes_faults(seed, count):
     found = []
     for turn in range(count):
         chance = random.Random(seed + turn)
-        laid = laid_of(plan_of(chance), chance.choice(TABLES))
-        found += [f"run {seed + turn}: {it}" for it in (log_fault(laid), image_fault(laid, chance), once_fault(laid)) if it]
+        laid = laid_of(plan_of(chance), chance.choice(list(TABLES)), chance)
+        found += [f"run {seed + turn}: {it}" for it in (log_fault(laid), image_fault(laid, chance), once_fault(laid), flags_fault(laid) if turn < 40 else None) if it]
     return found
 
 
@@ -691,10 +796,16 @@ def map_faults():
 def main(words):
     seed, count = (int(it) for it in (*words, *("1", "250")[len(words) :]))
     rows = [row_faults(*it) for it in ROWS] + [refused_faults(*it) for it in REFUSED]
-    rows += [plan_faults(*it) for it in PLANS.items()]
-    rows += [comes_faults(), map_faults(), bytes_faults(seed, count), [it for it in [long_fault(), entries_fault()] if it]]
+    rows += [again_faults(*it) for it in AGAIN_ROWS]
+    rows += [plan_faults(*it, random.Random(seed)) for it in PLANS.items()]
+    rows += [comes_faults(), map_faults(), bytes_faults(seed, count), [it for it in [long_fault(), entries_fault(), kept_fault()] if it]]
     rows += [[it for it in [at_once_fault(*row)] if it] for row in AT_ONCE]
+    rows += [[it for it in [call_fault(call, text, wanted)] if it] for call, _, text, wanted in CALLS]
+    rows.append([it for it in [permission_fault()] if it])
     rows.append([it for turn in range(count) for it in run_faults(seed + turn)])
+    rows += [by_pages_faults(*it) for it in BY_PAGES]
+    rows += [pages_faults(*it, random.Random(seed)) for it in PLANS.items()]
+    rows.append([it for turn in range(count) for it in run_faults(seed + turn, pages_faults)])
     for line in [it for these in rows for it in these]:
         print("FAILED", line)
     failed = sum(1 for it in rows if it)

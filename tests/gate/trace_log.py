@@ -30,7 +30,9 @@ import rooms
 
 rooms.enter()
 
-from notation import DISCARD, FLUSH, FUA, MARK, METADATA, SECTOR, TOP, D, Entry, F, M, S, W, header, log, super_block
+from model import Run
+from notation import DISCARD, FLUSH, FUA, MARK, METADATA, SECTOR, TOP, D, Entry, F, M, S, W, header, log, random_entry, super_block
+from rows.recording import entries_of
 
 from commands.record import trace_log
 
@@ -339,6 +341,48 @@ def places(folder):
     yield None if good else f"a trace in another folder: status {done.returncode}, '{done.stderr.decode()}'"
 
 
+# A trace, and the entries that it becomes with `--split 2`.
+SPLIT = [
+    ("writes within a page, and no writes", "write 0 1 fill 1 flush fua\nwrite 2 2 fill 2 fua\nflush\nmark a\ndiscard 0 4 fua", [W(0, 1, 1, FLUSH | FUA), W(2, 2, 2, FUA), F, M("a"), D(0, 4, FUA)]),
+    ("a write of more pages", "write 1 3 fill 1", [W(1, 1, 1), W(2, 2, 1)]),
+    ("two sectors of two pages", "write 1 2 data data", [S(1, DATA[:512]), S(2, DATA[512:1024])]),
+    ("a flush flag", "write 0 4 fill 1 flush", [W(0, 2, 1, FLUSH), W(2, 2, 1)]),
+    ("FUA", "write 1 3 fill 1 fua", [W(1, 1, 1), W(2, 2, 1), W(1, 1, 1, FUA), W(2, 2, 1, FUA)]),
+    ("both", "write 1 3 fill 1 fua flush", [W(1, 1, 1, FLUSH), W(2, 2, 1), W(1, 1, 1, FUA), W(2, 2, 1, FUA)]),
+    ("a log", "write 0 4 fill 9\nlog wide.log 1 3", [W(0, 2, 9), W(2, 2, 9), W(1, 1, 0xAA, FLUSH | METADATA), W(2, 1, 0xAA, METADATA), D(0, 4)]),
+]
+WIDE = [F, W(1, 2, 0xAA, FLUSH | METADATA), D(0, 4)]
+# How many random logs are split.
+SPLITS = 40
+
+
+def images_of(entries, by):
+    """Every image of a log of a device of four sectors, whatever is lost, with its epoch and marks."""
+    parts = sum(it.count if by == "sector" else 1 for it in entries)
+    run = Run(entries, bound=parts, by=by)
+    return {(run.epoch(it.cut), run.marks(it.cut), b"".join(it.sector(at) for at in range(4))) for it in run.images()}
+
+
+def split(folder):
+    """Yields what is wrong with logs that are split: each image of a log, whatever it lacks, is one of the log that it becomes."""
+    Path(folder, "wide.log").write_bytes(log(WIDE))
+    for name, trace, wanted in SPLIT:
+        made = trace_log.made(trace, folder, 4, split=2)
+        yield None if made == log(wanted) else f"split, {name}: {made!r}"
+    for seed in range(SPLITS):
+        chance = random.Random(seed)
+        flags = ((0.2, FLUSH), (0.4, FUA))
+        entries = [random_entry(chance, 4, (0.1, 0.2, 0.3), (1, 2, 3, 4), flags, lambda: bytes([chance.randrange(256)]) * SECTOR) for _ in range(4)]
+        Path(folder, "random.log").write_bytes(log(entries))
+        text = trace_log.made("log random.log", folder, 4, split=2)
+        found = [Entry(it.sector, it.count, it.flags, it.text, it.data) for it in entries_of(text)]
+        lost = [by for by in ("sector", "write") if images_of(entries, by) - images_of(found, by)]
+        large = any(it.count > 2 and not it.flags & DISCARD for it in found)
+        yield f"split, log {seed}: images are lost by {', '.join(lost)}, or a write is too large: {entries}" if lost or large else None
+    done = run(folder, "trace", "made.log", "--split", "65537")
+    yield None if done.returncode == 2 and b"a page has 1 to 65536 sectors" in done.stderr else f"--split 65537: {done}"
+
+
 # Words of random traces.
 WORDS = "write discard flush mark log fill data fua at 0 1 2 3 4 5 512 513 0x1 -1 255 256 1e9 18446744073709551615 18446744073709551616 # \0 é".split(" ")
 WORDS += [*FILES, *LINKS, *HOLES, "pipe", "/dev/zero", "..", ".", "", "\t", "\r", "\n", "\n", "\n"]
@@ -410,6 +454,7 @@ def main(words):
         found += streams(folder)
         found += places(folder)
         found += large(folder)
+        found += split(folder)
         found += [fuzzed(folder, *map(int, words or ("7", "1000")))]
     wrong = [it for it in found if it]
     for line in wrong:

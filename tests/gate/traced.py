@@ -53,6 +53,10 @@ def entries_of(tracing):
 
 OPEN = "openat(AT_FDCWD</elsewhere>, 'x', O_RDWR|O_CREAT, 0644) = 3<db>\n"
 WAL = "openat(AT_FDCWD</elsewhere>, 'x', O_RDWR|O_CREAT, 0644) = 4<wal>\n"
+PIPE = "pipe2([5<pipe:[1]>, 6<pipe:[1]>], O_CLOEXEC) = 0\n"
+TAKEN = "splice(5<pipe:[1]>, NULL, 3<db>, NULL, 512, 0) = 512\n"
+THREAD = "clone(child_stack=0x7f, flags=CLONE_VM|CLONE_FILES|CLONE_THREAD) = 101\n"
+GONE = "101 +++ exited with 0 +++\n"
 HALF = b"A" * 100 + b"B" * 20 + b"A" * 392
 
 # The name, the text, the entries; and what stood there before, where something did.
@@ -117,6 +121,12 @@ FOLLOWED = [
     ("a copy through O_DSYNC", OPEN + "write(3<db>, 'A*512', 512) = 512\n" + WAL.replace("O_CREAT", "O_CREAT|O_DSYNC") + "copy_file_range(3<db>, [0], 4<wal>, [0], 512, 0) = 512", [("w", "db", 0, A), ("w", "wal", 0, A)]),
     ("copies to what isn't recorded move the place", OPEN + "sendfile(7<socket:[1]>, 3<db>, NULL, 512) = 512\nsplice(3<db>, NULL, 8<pipe:[2]>, NULL, 512, 0) = 512\nwrite(3<db>, 'C*512', 512) = 512\nsendfile(7<socket:[1]>, 3<db>, [0] => [9], 9) = 9\nwrite(3<db>, 'C*512', 512) = 512\ntee(8<pipe:[2]>, 9<pipe:[3]>, 512, 0) = 512",
      [("w", "db", 2, C), ("w", "db", 3, C)], {b"db": A + B}),
+    ("a copy of what was written to a pipe", OPEN + PIPE + "write(6<pipe:[1]>, 'B*600', 600) = 600\nwritev(6<pipe:[1]>, [{iov_base='A*424', iov_len=424}], 1) = 424\nread(0x5, 0x7f0000, 0x64) = 100\nread(0x5, 0x7f0000, 0x64) = -1 EAGAIN (Resource temporarily unavailable)\n" + TAKEN + "splice(5<pipe:[1]>, NULL, 3<db>, NULL, 512, 0) = 412",
+     [("w", "db", 0, B[:500] + A[:12]), ("w", "db", 1, A[:412] + bytes(100))]),
+    ("a copy while a write to the pipe lasts", OPEN + PIPE + THREAD + "write(6<pipe:[1]>, 'A*1024', 1024 <unfinished ...>\n101 " + TAKEN + "101 read(0x5, 0x7f0000, 0x64) = 100\n<... write resumed>) = 1000\nwrite(6<pipe:[1]>, 'B*600', 600) = 600\n101 " + TAKEN + GONE, [("w", "db", 0, A), ("w", "db", 1, A[:388] + B[:124])]),
+    ("a file through two pipes", OPEN + WAL + PIPE + "dup(5<pipe:[1]>) = 9<pipe:[1]>\npipe([7<pipe:[2]>, 8<pipe:[2]>]) = 0\nwrite(4<wal>, 'A*512', 512) = 512\nsplice(4<wal>, [0] => [512], 6<pipe:[1]>, NULL, 512, 0) = 512\ntee(5<pipe:[1]>, 8<pipe:[2]>, 512, 0) = 512\n" + TAKEN.replace("5<", "9<") + "splice(7<pipe:[2]>, NULL, 3<db>, NULL, 512, 0) = 512",
+     [("w", "wal", 0, A), ("w", "db", 0, A), ("w", "db", 1, A)]),
+    ("a pipe that a child writes", OPEN + PIPE + "clone(child_stack=NULL, flags=CLONE_CHILD_SETTID|SIGCHLD, child_tidptr=0x7f) = 101\n101 dup2(6<pipe:[1]>, 1) = 1<pipe:[1]>\n101 write(1<pipe:[1]>, 'A*512', 512) = 512\n" + GONE + TAKEN, [("w", "db", 0, A)]),
     ("a reflink", OPEN + WAL + "ioctl(4<wal>, BTRFS_IOC_CLONE or FICLONE, 3) = 0\nioctl(4<wal>, BTRFS_IOC_CLONE_RANGE or FICLONERANGE, {src_fd=3<db>, src_offset=512, src_length=0, dest_offset=0}) = 0", [("w", "wal", 0, A + B), ("w", "wal", 0, B)], {b"db": A + B}),
     ("a file that is copied after its reader closed it", OPEN + WAL + "close(3<db>) = 0\n" + OPEN + "copy_file_range(3<db>, NULL, 4<wal>, NULL, 512, 0) = 512", [("w", "wal", 0, A)], {b"db": A}),
     ("signals and remarks", OPEN + "--- SIGCHLD {si_signo=SIGCHLD, si_code=CLD_EXITED} ---\nwrite(3<db>, 'A*512', 512) = 512", [("w", "db", 0, A)]),
@@ -144,6 +154,13 @@ REFUSED = [
     ("a copy from a place that isn't known", OPEN + "copy_file_range(5</other>, NULL, 3<db>, NULL, 512, 0) = 512", "calls:2: .*from where in /other it copied isn't known; have it in .FILES by --base"),
     ("a copy of a file that isn't there", OPEN + "sendfile(3<db>, 5</no/other>, [0] => [512], 512) = 512", "calls:2: .*what /no/other held isn't known"),
     ("a copy from a pipe", OPEN + "splice(5<pipe:[1]>, NULL, 3<db>, NULL, 512, 0) = 512", "calls:2: .*what came from there isn't known; that is for the guest"),
+    ("two that write to a pipe at once", OPEN + PIPE + THREAD + "write(6<pipe:[1]>, 'A*512', 512 <unfinished ...>\n101 write(6<pipe:[1]>, 'B*512', 512) = 512\n<... write resumed>) = 512\n" + GONE + TAKEN, "calls:8: .*what came through the pipe isn't known: two calls wrote to it at once"),
+    ("another that reads at once", OPEN + PIPE + THREAD + "write(6<pipe:[1]>, 'A*900', 900) = 900\nsplice(5<pipe:[1]>, NULL, 3<db>, NULL, 512, 0 <unfinished ...>\n101 read(0x5, 0x7f0000, 0x64) = 100\n<... splice resumed>) = 512\n" + GONE, "calls:5: .*another call read from it at once"),
+    ("another that reads all the time", OPEN + PIPE + THREAD + "write(6<pipe:[1]>, 'A*900', 900) = 900\n101 read(0x5, 0x7f0000, 0x64 <unfinished ...>\n" + TAKEN + "101 <... read resumed>) = 100\n" + GONE, "calls:6: .*another call read from it at once"),
+    ("more than was written to a pipe", OPEN + PIPE + "write(6<pipe:[1]>, 'A*100', 100) = 100\n" + TAKEN, "calls:4: .*not all of it was seen to be written"),
+    ("a pipe of packets", OPEN + PIPE.replace("O_CLOEXEC", "O_DIRECT") + "write(6<pipe:[1]>, 'A*512', 512) = 512\n" + TAKEN, "calls:4: .*it is one of packets"),
+    ("a pipe that pages are given to", OPEN + PIPE + "vmsplice(6<pipe:[1]>, [{iov_base=0x7f, iov_len=512}], 1, 0) = 512\n" + TAKEN, "calls:4: .*vmsplice isn't followed there"),
+    ("a pipe that is handed over", OPEN + PIPE + "write(6<pipe:[1]>, 'A*512', 512) = 512\nsendmsg(9<socket:[7]>, {msg_control=[{cmsg_type=SCM_RIGHTS, cmsg_data=[6<pipe:[1]>]}]}, 0) = 1\n" + TAKEN, "calls:5: .*sendmsg isn't followed there"),
     ("a copy from nowhere", OPEN + "splice(5, NULL, 3<db>, NULL, 512, 0) = 512", "calls:2: .*what came from there isn't known"),
     ("a copy of the marks", MARKED + "sendfile(3<db>, 5</r/marks>, [0] => [5], 5) = 5", "calls:4: .*what came from there isn't known"),
     ("a copy to the marks", MARKED + "sendfile(5</r/marks>, 3<db>, [0] => [5], 5) = 5", "calls:4: .*a copy to there isn't followed"),
@@ -248,7 +265,7 @@ SOURCE = [
     ("more than it has", "copy_file_range(5<source>, NULL, 3<db>, NULL, 9999, 0) = 1537", "it hasn't as many bytes"),
     ("an unlinked file", "sendfile(3<db>, 5<source>(deleted), NULL, 512) = 512", "held isn't known: it is unlinked"),
     ("a file that is renamed", "rename('x', 'source') = 0\nsendfile(3<db>, 5<source>, NULL, 512) = 512", "held isn't known: the program renames it"),
-    ("a folder that is renamed", "sendfile(3<db>, 5<source>, NULL, 512) = 512\nrename('/r', 'folder') = 0\nsendfile(3<db>, 5<source>, NULL, 512) = 512", "held isn't known: the program renames it"),
+    ("a folder that is renamed", "sendfile(3<db>, 5<source>, NULL, 512) = 512\nrename('/other', 'folder') = 0\nsendfile(3<db>, 5<source>, NULL, 512) = 512", "held isn't known: the program renames it"),
 ]
 
 

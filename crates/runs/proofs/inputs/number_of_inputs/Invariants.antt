@@ -1,6 +1,0 @@
-use Rattle.std.proofs.Common.{◌≡◌, map, take}
-use Rattle.runs.specs.Inputs.{inputs_number}
-use Rattle.runs.proofs.inputs.number_of_inputs.Given as goal
-
-abbrev pub invariant-loop-program : goal.invariant-loop-program
-invariant-loop-program l = l.number ≡ inputs_number l.log (take l.program-index (map (λ f. f.items) l.programs))
