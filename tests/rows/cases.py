@@ -466,7 +466,7 @@ NOTED = [
     noted_beside("tears", "", BOTH, ["cases with more torn parts than 1 are left out: 196", "every loss is covered, with at most 1 of the parts torn"]),
     # of some of the cuts nothing is said but what was left out
     noted_beside("tears, of some cuts", "--from 1", BOTH, ["cases with more torn parts than 1 are left out: 196"]),
-    noted_beside("tears, of the cuts before flushes", "--cuts flush", BOTH, ["cases with more torn parts than 1 are left out: 196", NO_FLUSH]),
+    noted_beside("tears, of the cuts before flushes", "--cuts flush", BOTH, [NO_FLUSH, "cases with more torn parts than 1 are left out: 196"]),
     noted_beside("lost, of some cuts", "--at-most 1 --to 2", BOTH, ["cases with more lost or torn parts than 1 are left out: 1"]),
     noted_beside("lost", "--at-most 1", BOTH, ["cases with more lost or torn parts than 1 are left out: 1", "without --at-most every loss is covered"]),
 ]
