@@ -68,7 +68,7 @@
 //! let images = count(&plan, 1, false)?;
 //! let wanted = WantedImages { by: By::Sector, bound: 1, tears: false, from: 0, to: images };
 //! let output = Output::new(Vec::new(alloc));
-//! let (written, output) = export(alloc, &PlannedImages::of(&log, &plan, wanted), output);
+//! let (written, output) = export(alloc, &[], &PlannedImages::of(&log, &plan, wanted), output);
 //! // written: Ok(()); output.into_writer() begins with the line 'image 0 cut 0 epoch 0 marks 0 choice - new 0',
 //! // and ends with 'total 6 new 3'
 //! ```
