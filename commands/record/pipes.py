@@ -117,7 +117,7 @@ class Pipes:
             self.lose(call, "it is one of packets")
 
     def fill(self, call, flight, pipe, done):
-        """A call has written so many bytes to a pipe."""
+        """A call has written `done` bytes to a pipe, or nobody knows how many where that is None."""
         pipe.writer = None if pipe.writer is call else pipe.writer
         if done is None or call.failed() and call.error not in NOT_BEGUN and not call.error.startswith("ERESTART"):
             pipe.unknown = "what a call wrote isn't known"

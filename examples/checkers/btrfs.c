@@ -260,7 +260,7 @@ LOCAL(check) u64 whole_block(u64 block)
 	return NONE;
 }
 
-/* Keeps a chunk, whose item stands at a byte and has so many bytes. */
+/* Keeps the chunk at logical address `first`, whose item of `bytes` bytes stands at byte `at`. */
 LOCAL(check) u64 fault_of_chunk(u64 first, u64 at, u64 bytes)
 {
 	struct chunk_item it;

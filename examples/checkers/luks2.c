@@ -459,7 +459,7 @@ LOCAL(check) u64 one_begins(u64 array, u64 bytes, u64 mask)
 #define PARTS 64
 static u64 first_of[PARTS], length_of[PARTS];
 
-/* Whether two of so many parts have a byte in common. */
+/* Whether two of the first `parts` parts share a byte. */
 LOCAL(check) u64 overlap(u64 parts)
 {
 	for (u64 i = 0; i < parts; i++) {

@@ -57,8 +57,8 @@ EXT4 = "mkfs.ext4 -q -F -E nodiscard"
 
 @dataclass(frozen=True)
 class Kind:
-    """A kind of file system: its table, which is to allow what it leaves, its sectors, how it is made and mounted, its modules. All but its
-    journal may be slow to write: how many milliseconds that takes. Of a disk that is nearly full so many blocks of 4,096 bytes are left."""
+    """A kind of file system: its table, which is to allow what it leaves, its sectors, how it is made and mounted, its modules. A write
+    outside its journal takes `slow` milliseconds. On a disk that is nearly full `left` blocks of 4,096 bytes are free; 0 is any other disk."""
 
     table: str
     sectors: int
