@@ -256,7 +256,7 @@ OPTIONS = [
         {**files(LOG), "r": b"crash report 2\n"},
         "refused 16 at 2",
         "the file of --report isn't the report of this log with these options, or is cut off: the number says at which line that shows; at"
-        " line 2 the options or the base are others, or it is of the first failing image alone (docs/OUTPUT.md, The report)",
+        " line 2 the options, the base or the log that it says are others, or it is of the first failing image alone (docs/OUTPUT.md, The report)",
     ),
     noted("parts", "images log --sectors 4 --by page", {}, "refused 13 at 10", "--by is sector or write"),
     noted(
@@ -267,6 +267,14 @@ OPTIONS = [
         "the log has no image of that number with these --cuts, --by, --bound and --tears; 'crashbpf images' tells how many it has",
     ),
     noted("a bound that none of these is", "export log --sectors 4 --bound any", {}, "refused 13 at 2", "--bound is 0 to 3"),
+    noted(
+        "a report of cases that says its log",
+        "explore log p --sectors 4 --inputs --bound any",
+        {},
+        "refused 13 at 2",
+        "--inputs doesn't stand beside --bound any: it is a line of the report, and with --bound any there are cases",
+    ),
+    noted("a bound of a report that says its log", "explore log p --sectors 4 --inputs --bound 4", {}, "refused 13 at 2", "--bound is 0 to 3"),
     noted("torn", "explore log p0 --sectors 4 --bound any --torn 1", {}, "refused 13 at 20", "--torn is 1 to 3, beside --bound any and --tears"),
     noted("at most", "explore log p0 --sectors 4 --at-most 1", {}, "refused 13 at 21", "--at-most is 1 to 64, beside --bound any"),
     noted("a cache, of any number of losses", "explore log p0 --sectors 4 --bound any --cache 9", {}, "refused 13 at 4", "--cache doesn't stand beside --bound any"),

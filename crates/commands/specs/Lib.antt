@@ -1,6 +1,7 @@
 -- What a command answers, and what holds of reports.
 pub mod Stored
 pub mod Acting
+pub mod Knowing
 pub mod Exits
 pub mod Once
 pub mod Laws

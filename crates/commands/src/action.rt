@@ -8,6 +8,8 @@ ghost use Rattle.runs.specs.Explore.{RefusesWanted};
 ghost use Rattle.request.specs.Refusals.{file_refusal};
 ghost use Rattle.runs.specs.declared.explore_command.WantedAnswer.TheVariants as wants;
 ghost use Rattle.commands.specs.Acting.{first_held, second_held, lines_held, files_of, held_by, initial_of, recording, status_of, HoldsRecording, RefusesRecording, AnswersRun, AnswersFiles, AnswersExplore, AnswersMarked, first_line, marked_report, title_length, with_inputs, AnswersCases, wanted_by, AnswersCuts, RefusesCuts, AnswersRetold, RefusesReportOf, retold_refusal, AnswersAny, RefusesAny, form_of, Shows, AnswersOf, Answers, JoinsCases, JoinsEither, JoinsTexts, RefusesTexts, are_cases, cases_refusal, join_refusal, most_texts, RefusesWith, RefusesCases, RefusesLook, RefusesToAct, RefusesFiles};
+ghost use Rattle.commands.specs.Knowing.{KnowsRun, KnowsFiles, KnowsExplored, KnowsCases, KnowsVerified, KnowsTried, Knows};
+ghost use Rattle.request.specs.Found.{IsEmpty};
 ghost use Rattle.commands.specs.Stored.{stored_log, stored_programs, stored_settings};
 ghost use Rattle.request.specs.declared.settings.Telling.TheVariants as tells;
 
@@ -159,6 +161,7 @@ fn programs_of(alloc: Global, files: &[Option<Vec<u8>>]) -> Result<Vec<Vec<u8>>,
 fn answer_of(bytes: Vec<u8>, failing: bool, facts: RunFacts) -> Acted
     ensures bytes { result.bytes ≡ bytes }
     ensures status { result.status ≡ status_of failing }
+    ensures facts { result.facts ≡ facts }
 {
     Acted {
         bytes,
@@ -175,6 +178,7 @@ fn explore_files<G: Gate + Sync, R: Threads + Wait + Sync>(
     question: &Question<'_>,
 ) -> Result<Acted, Refusal>
     ensures answers { IfOk result (λ answer. AnswersRun question.now.wanted question.now.options.now question.now.recording.now (map (λ f. f.items) question.now.programs.now) answer.bytes.items answer.status) }
+    ensures knows { IfOk result (λ answer. KnowsRun question.now.wanted question.now.options.now question.now.recording.now (map (λ f. f.items) question.now.programs.now) answer.status answer.facts) }
     ensures refused { IfErr result (RefusesWanted question.now.wanted question.now.recording.now (map (λ f. f.items) question.now.programs.now) question.now.options.now) }
 {
     let RunAnswer { explored, facts } = run_with(rt, alloc, gate, question)?;
@@ -191,6 +195,7 @@ fn act_explore<G: Gate + Sync, R: Threads + Wait + Sync>(
     files: &HeldFiles<'_>,
 ) -> Result<Acted, Refusal>
     ensures answers { IfOk result (λ answer. AnswersExplore wanted words (held_by files.now) answer.bytes.items answer.status) }
+    ensures knows { IfOk result (λ answer. KnowsExplored wanted words (held_by files.now) answer.status answer.facts) }
     ensures refused { IfErr result (RefusesWith words (RefusesFiles wanted (held_by files.now))) }
 {
     let options = options_of(words)?;
@@ -259,6 +264,7 @@ fn act_marked<G: Gate + Sync, R: Threads + Wait + Sync>(
     files: &HeldFiles<'_>,
 ) -> Result<Acted, Refusal>
     ensures answers { IfOk result (λ answer. AnswersMarked words (held_by files.now) answer.bytes.items answer.status) }
+    ensures knows { IfOk result (λ answer. KnowsExplored (wants.Told tells.Report) words (held_by files.now) answer.status answer.facts) }
     ensures refused { IfErr result (RefusesWith words (RefusesFiles (wants.Told tells.Report) (held_by files.now))) }
 {
     let wanted = WantedAnswer::Told(Telling::Report);
@@ -299,6 +305,7 @@ fn act_cases<G: Gate + Sync, R: Threads + Wait + Sync>(
     files: &HeldFiles<'_>,
 ) -> Result<Acted, Refusal>
     ensures answers { IfOk result (λ answer. AnswersCases cured words losses (held_by files.now) answer.bytes.items answer.status) }
+    ensures knows { IfOk result (λ answer. KnowsCases cured words losses (held_by files.now) answer.status answer.facts) }
     ensures refused { IfErr result (RefusesWith words (RefusesCases cured losses (held_by files.now))) }
 {
     let options = options_of(words)?;
@@ -316,6 +323,7 @@ fn explore_readable<G: Gate + Sync, R: Threads + Wait + Sync>(
     options: &Options,
 ) -> Result<Acted, Refusal>
     ensures answers { IfOk result (λ answer. AnswersFiles wanted options.now (held_by files.now) answer.bytes.items answer.status) }
+    ensures knows { IfOk result (λ answer. KnowsFiles wanted options.now (held_by files.now) answer.status answer.facts) }
     ensures refused { IfErr result (RefusesFiles wanted (held_by files.now) options.now) }
 {
     let Some((first, others)) = files.named.split_first() else {
@@ -350,6 +358,7 @@ fn act_stored<G: Gate + Sync, R: Threads + Wait + Sync>(
     gate: &G,
 ) -> Result<Acted, Refusal>
     ensures answers { IfOk result (λ answer. AnswersRun (wants.Told tells.Report) stored_settings (recording stored_log []) stored_programs answer.bytes.items answer.status) }
+    ensures knows { IfOk result (λ answer. KnowsRun (wants.Told tells.Report) stored_settings (recording stored_log []) stored_programs answer.status answer.facts) }
     ensures refused { IfErr result (λ r. (r ≡ memory_refusal) ⊎ RefusesWanted (wants.Told tells.Report) (recording stored_log []) stored_programs stored_settings r) }
 {
     let options = stored_options();
@@ -396,6 +405,7 @@ fn act_look(
     files: &HeldFiles<'_>,
 ) -> Result<Acted, Refusal>
     ensures answers { IfOk result (λ answer. AnswersOf words (λ s text. Shows look s text) (held_by files.now) answer.bytes.items answer.status) }
+    ensures knows { IfOk result (λ answer. IsEmpty answer.facts) }
     ensures refused { IfErr result (RefusesWith words (λ s. RefusesRecording (held_by files.now) (λ text. RefusesLook look s text))) }
 {
     let options = options_of(words)?;
@@ -425,6 +435,7 @@ fn act_any_image(
     files: &HeldFiles<'_>,
 ) -> Result<Acted, Refusal>
     ensures answers { IfOk result (λ answer. AnswersAny words cut in_words (held_by files.now) answer.bytes.items answer.status) }
+    ensures knows { IfOk result (λ answer. IsEmpty answer.facts) }
     ensures refused { IfErr result (RefusesWith words (RefusesAny cut (held_by files.now))) }
 {
     let options = options_of(words)?;
@@ -452,6 +463,7 @@ fn act_cuts(
     files: &HeldFiles<'_>,
 ) -> Result<Acted, Refusal>
     ensures answers { IfOk result (λ answer. AnswersCuts words losses parts (held_by files.now) answer.bytes.items answer.status) }
+    ensures knows { IfOk result (λ answer. IsEmpty answer.facts) }
     ensures refused { IfErr result (RefusesWith words (RefusesCuts losses parts (held_by files.now))) }
 {
     let options = options_of(words)?;
@@ -483,6 +495,7 @@ fn act_retold(
     files: &HeldFiles<'_>,
 ) -> Result<Acted, Refusal>
     ensures answers { IfOk result (λ answer. AnswersRetold telling words (held_by files.now) answer.bytes.items answer.status) }
+    ensures knows { IfOk result (λ answer. IsEmpty answer.facts) }
     ensures refused { IfErr result (RefusesWith words (RefusesReportOf telling (held_by files.now))) }
 {
     let options = options_of(words)?;
@@ -500,6 +513,7 @@ fn act_retold(
 #[inline(never)]
 fn act_import(alloc: Global, limits: Limits, files: &HeldFiles<'_>) -> Result<Acted, Refusal>
     ensures answers { IfOk result (λ answer. Answers (asks.Import limits) (held_by files.now) answer.bytes.items answer.status) }
+    ensures knows { IfOk result (λ answer. IsEmpty answer.facts) }
     ensures refused { IfErr result (RefusesToAct (asks.Import limits) (held_by files.now)) }
 {
     let raw = files.first()?;
@@ -516,6 +530,7 @@ fn act_verify(
     files: &HeldFiles<'_>,
 ) -> Result<Acted, Refusal>
     ensures answers { IfOk result (λ answer. Answers (asks.Verify words listed) (held_by files.now) answer.bytes.items answer.status) }
+    ensures knows { IfOk result (λ answer. KnowsVerified words (held_by files.now) answer.facts) }
     ensures refused { IfErr result (RefusesToAct (asks.Verify words listed) (held_by files.now)) }
 {
     let options = options_of(words)?;
@@ -532,6 +547,7 @@ fn act_verify(
 #[inline(never)]
 fn act_check(alloc: Global, words: TrialWords, files: &HeldFiles<'_>) -> Result<Acted, Refusal>
     ensures answers { IfOk result (λ answer. Answers (asks.Check words) (held_by files.now) answer.bytes.items answer.status) }
+    ensures knows { IfOk result (λ answer. KnowsTried words (held_by files.now) answer.facts) }
     ensures refused { IfErr result (RefusesToAct (asks.Check words) (held_by files.now)) }
 {
     let trial = trial_of(words)?;
@@ -547,6 +563,7 @@ fn act_check(alloc: Global, words: TrialWords, files: &HeldFiles<'_>) -> Result<
 #[inline(never)]
 fn act_asm(alloc: Global, files: &HeldFiles<'_>) -> Result<Acted, Refusal>
     ensures answers { IfOk result (λ answer. Answers asks.Asm (held_by files.now) answer.bytes.items answer.status) }
+    ensures knows { IfOk result (λ answer. IsEmpty answer.facts) }
     ensures refused { IfErr result (RefusesToAct asks.Asm (held_by files.now)) }
 {
     let source = files.first()?;
@@ -558,6 +575,7 @@ fn act_asm(alloc: Global, files: &HeldFiles<'_>) -> Result<Acted, Refusal>
 #[inline(never)]
 fn act_list(alloc: Global, numbered: bool, files: &HeldFiles<'_>) -> Result<Acted, Refusal>
     ensures answers { IfOk result (λ answer. Answers (asks.List numbered) (held_by files.now) answer.bytes.items answer.status) }
+    ensures knows { IfOk result (λ answer. IsEmpty answer.facts) }
     ensures refused { IfErr result (RefusesToAct (asks.List numbered) (held_by files.now)) }
 {
     let code = files.first()?;
@@ -605,6 +623,7 @@ fn join_texts(alloc: Global, part: bool, texts: &[Vec<u8>]) -> Result<Acted, Ref
     requires some { 0 < length texts.now }
     requires few { length texts.now ≤ most_texts }
     ensures answers { IfOk result (λ answer. JoinsEither part (map (λ f. f.items) texts.now) answer.bytes.items answer.status) }
+    ensures knows { IfOk result (λ answer. IsEmpty answer.facts) }
     ensures refused { IfErr result (RefusesTexts part (map (λ f. f.items) texts.now)) }
 {
     if are_cases(texts) {
@@ -624,6 +643,7 @@ fn join_texts(alloc: Global, part: bool, texts: &[Vec<u8>]) -> Result<Acted, Ref
 #[inline(never)]
 fn act_join(alloc: Global, part: bool, files: &HeldFiles<'_>) -> Result<Acted, Refusal>
     ensures answers { IfOk result (λ answer. Answers (asks.Join part) (held_by files.now) answer.bytes.items answer.status) }
+    ensures knows { IfOk result (λ answer. IsEmpty answer.facts) }
     ensures refused { IfErr result (RefusesToAct (asks.Join part) (held_by files.now)) }
 {
     if files.named.is_empty() {
@@ -656,6 +676,7 @@ pub(crate) fn act_known<G: Gate + Sync, R: Threads + Wait + Sync>(
     files: &HeldFiles<'_>,
 ) -> Result<Acted, Refusal>
     ensures answers { IfOk result (λ answer. Answers words.now.request (held_by files.now) answer.bytes.items answer.status) }
+    ensures knows { IfOk result (λ answer. Knows words.now.request (held_by files.now) answer.status answer.facts) }
     ensures refused { IfErr result (RefusesToAct words.now.request (held_by files.now)) }
 {
     match words.request() {

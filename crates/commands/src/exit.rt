@@ -2,7 +2,7 @@
 
 ghost use Rattle.std.specs.Prelude.{◌≡◌};
 ghost use Rattle.commands.specs.Acting.{files_of};
-ghost use Rattle.commands.specs.Exits.{Exits};
+ghost use Rattle.commands.specs.Exits.{Exits, Informs};
 
 use crate::action::{HeldFiles, act_known};
 use base::refusal::Refusal;
@@ -39,7 +39,8 @@ pub fn perform<G: Gate + Sync, R: Threads + Wait + Sync>(
     files: &[Option<Vec<u8>>],
     base: &Option<Option<Vec<u8>>>,
 ) -> Exit
-    ensures { Exits words.now.request (files_of (λ f. f.items) files.now base.now words.now.choice) result.output.items result.refusal result.status }
+    ensures ends { Exits words.now.request (files_of (λ f. f.items) files.now base.now words.now.choice) result.output.items result.refusal result.status }
+    ensures informs { Informs words.now.request (files_of (λ f. f.items) files.now base.now words.now.choice) result.refusal result.status result.facts }
 {
     let held = HeldFiles {
         named: files,

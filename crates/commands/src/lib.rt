@@ -137,6 +137,6 @@ pub use request::facts::{Recording, RunFacts};
 pub use request::{
     Extent, OptionPlace, OptionWords, Options, Request, Settings, Telling, Which, fault_line,
 };
-pub use runs::{Explored, Question, explore, explore_with};
+pub use runs::{Explored, explore, explore_with};
 pub use streamed::{Streamed, perform_export};
 pub use workers::{Gate, OpenGate};

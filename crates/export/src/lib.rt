@@ -15,7 +15,7 @@
 //! | Call | Answer |
 //! |---|---|
 //! | `PlannedImages::of(log, plan, wanted)` | the images of a plan that are wanted: from a number to before another, by a bound, with tears or without |
-//! | `export(alloc, &asked, output)` | writes their text, as it is made |
+//! | `export(alloc, head, &asked, output)` | writes a head, and then their text, as it is made |
 //! | `Output::new(writer)`, `emit(&mut output, bytes)` | a writer that is asked no more once a write has failed, and writing all of some bytes to it |
 //!
 //! # Place
@@ -27,7 +27,7 @@
 //!
 //! # What is proved
 //!
-//! `export` writes `export_text` (`specs/Export.antt`) to the byte. Where memory is refused or the writer takes no more, the
+//! `export` writes its head and then `export_text` (`specs/Export.antt`), to the byte. Where memory is refused or the writer takes no more, the
 //! first bytes of it were written, and not all (`TakesPart`, `specs/Streaming.antt`): so the last line is then missing or cut. An
 //! image is told to be `same` exactly where an earlier one has the same bytes and as many marks before its cut, and the first of
 //! these is named. Of a new one the records are exactly the sectors whose bytes differ from those of the last new image before

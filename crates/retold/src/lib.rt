@@ -19,7 +19,8 @@
 //! Where `retell` answers, the bytes are a report of the log with these options, to the byte (`IsReport` of `join`), and what is told is of
 //! exactly its lines (`IsRetold` in `specs/Retold.antt`): the groups of `why` are those of its failing images and outcomes at each cut, and
 //! the flushes are the fewest that lie in each of their windows (`specs/Told.antt`). Where the fault is `Report`, the bytes are the report
-//! of no such run, or longer than 1 GiB (`RefusesRetold`). At which line that shows is tested, not proved. That of the report of checkers
+//! of no such run, or longer than 1 GiB (`RefusesRetold`). Where its second line says of which log, options and programs it is, it has to be
+//! of these, with as many programs (`IsGiven`). At which line a fault shows is tested, not proved. That of the report of checkers
 //! `why` and `page` tell as of the checkers are laws of `commands`, `why_of_report_is_why` and `page_of_report_is_page`.
 //!
 //! # Choices

@@ -531,7 +531,7 @@ const NOT_IN_LOG: &str =
 
 /// What a report has to be.
 const NOT_REPORT: &str =
-    "the file of --report isn't the report of this log with these options, or is cut off: the number says at which line that shows; at line 2 the options or the base are others, or it is of the first failing image alone (docs/OUTPUT.md, The report)";
+    "the file of --report isn't the report of this log with these options, or is cut off: the number says at which line that shows; at line 2 the options, the base or the log that it says are others, or it is of the first failing image alone (docs/OUTPUT.md, The report)";
 
 /// What the option or the number at a place has to be.
 fn option_rule(place: u64) -> &'static str {
@@ -590,6 +590,15 @@ fn report_bound_rule(options: OptionWords) -> &'static str {
     }
 }
 
+/// What the bound has to be of a report that says of which log it is: it has images, and `any` has cases.
+fn marked_bound_rule(options: OptionWords) -> &'static str {
+    if options.settings.bound == u64::MAX {
+        "--inputs doesn't stand beside --bound any: it is a line of the report, and with --bound any there are cases"
+    } else {
+        option_rule(2)
+    }
+}
+
 /// What the file has to be by which a device has its size.
 fn sized_rule(words: &Words) -> &'static str {
     match (words.base(), words.limits()) {
@@ -627,6 +636,7 @@ fn rule_of(words: &Words, place: u64) -> &'static str {
         }
         (1 | 14, _) if words.is_sized() => sized_rule(words),
         (2, Request::Retold(options, _)) => report_bound_rule(options),
+        (2, Request::Marked(options)) => marked_bound_rule(options),
         (2, Request::Image(options, _)) => bound_rule(options),
         (2, Request::Show(options, _)) => bound_rule(options),
         _ => rule_within(place, words.limits()),

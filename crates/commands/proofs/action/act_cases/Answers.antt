@@ -4,6 +4,7 @@ use Rattle.request.proofs.Results.{both_ok, one_err}
 use Rattle.request.specs.declared.any_losses.AnyLosses.{AnyLosses}
 use Rattle.runs.specs.declared.explore_command.WantedAnswer.{WantedAnswer}
 use Rattle.commands.specs.Acting.{held_by, wanted_by, AnswersFiles, for_words, for_settings, RefusesFiles, for_losses, for_cases_of}
+use Rattle.commands.specs.Knowing.{KnowsFiles}
 use Rattle.commands.proofs.action.act_cases.Goals as goal
 
 pub returns-in_err-options-clause-refused : goal.returns-in_err-options-clause-refused
@@ -34,4 +35,14 @@ returns-clause-answers g c =
       good = c.in_ok-meant.ensures.1;
       answers = subst (λ (l : AnyLosses). AnswersFiles (wanted_by c.args.cured l) c.in_ok-options.options (held_by c.args.files.now) x.bytes.items x.status) (sym c.in_ok-meant.ensures.0)
           (subst (λ (w : WantedAnswer). AnswersFiles w c.in_ok-options.options (held_by c.args.files.now) x.bytes.items x.status) c.wanted_by.ensures is);
+    })
+
+pub returns-clause-knows : goal.returns-clause-knows
+returns-clause-knows g c =
+    both_ok c.explore_readable.result _ _ _ c.explore_readable.ensures.knows c.explore_readable.ensures.knows
+    (λ x is same. record {
+      settings = c.in_ok-options.options;
+      asked = c.in_ok-options.ensures;
+      knows = subst (λ (l : AnyLosses). KnowsFiles (wanted_by c.args.cured l) c.in_ok-options.options (held_by c.args.files.now) x.status x.facts) (sym c.in_ok-meant.ensures.0)
+          (subst (λ (w : WantedAnswer). KnowsFiles w c.in_ok-options.options (held_by c.args.files.now) x.status x.facts) c.wanted_by.ensures is);
     })

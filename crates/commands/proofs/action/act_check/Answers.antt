@@ -47,3 +47,20 @@ returns-clause-answers c = rw c.answer_of.ensures.bytes (record {
   tried = c.in_ok-report.ensures.tried;
   ends = c.answer_of.ensures.status;
 })
+
+pub returns-clause-knows : goal.returns-clause-knows
+returns-clause-knows c = rw c.answer_of.ensures.facts (record {
+  trial = c.in_ok-trial.trial;
+  asked = c.in_ok-trial.ensures;
+  program = c.in_ok-code.code.now;
+  image = c.in_ok-image.image.now;
+  read = c.in_ok-code.ensures;
+  shown = c.in_ok-image.ensures;
+  knows = record {
+    found = c.in_ok-report.report.unreached;
+    is = c.in_ok-report.ensures.unreached;
+    unreached = c.of_program.ensures.unreached;
+    blind = c.of_program.ensures.blind;
+    left = c.of_program.ensures.left_out;
+  };
+})

@@ -16,3 +16,8 @@ pub returns-clause-answers : goal.returns-clause-answers
 returns-clause-answers g c =
     both_ok c.explore_readable.result _ _ _ c.explore_readable.ensures.answers c.explore_readable.ensures.answers
     (λ x is same. record { settings = c.in_ok-options.options; asked = c.in_ok-options.ensures; answers = is })
+
+pub returns-clause-knows : goal.returns-clause-knows
+returns-clause-knows g c =
+    both_ok c.explore_readable.result _ _ _ c.explore_readable.ensures.knows c.explore_readable.ensures.knows
+    (λ x is same. record { settings = c.in_ok-options.options; asked = c.in_ok-options.ensures; knows = is })

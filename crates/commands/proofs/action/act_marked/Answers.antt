@@ -34,3 +34,6 @@ returns-clause-refused g c =
     let own = c.in_ok-acted.ensures.answers in
     rw c.of_memory.ensures
     (for_settings c.in_ok-options.options memory_refusal c.in_ok-options.ensures (for_memory (files_readable (held_by c.args.files.now) own.log own.programs own.read)))
+
+pub returns-in-Ok-clause-knows : goal.returns-in-Ok-clause-knows
+returns-in-Ok-clause-knows g c = record { settings = c.in_ok-options.options; asked = c.in_ok-options.ensures; knows = c.in_ok-acted.ensures.knows }

@@ -27,3 +27,18 @@ returns-clause-answers c = record {
   asked = c.in_ok-options.ensures;
   answers = record { held = c.in_ok-code.code.now; read = c.in_ok-code.ensures; is = c.in_ok-report.ensures.accepted; ends = refl };
 }
+
+pub returns-clause-knows : goal.returns-clause-knows
+returns-clause-knows c = record {
+  settings = c.in_ok-options.options;
+  asked = c.in_ok-options.ensures;
+  program = c.in_ok-code.code.now;
+  read = c.in_ok-code.ensures;
+  knows = record {
+    found = c.in_ok-report.report.unreached;
+    is = c.in_ok-report.ensures.unreached;
+    unreached = c.of_program.ensures.unreached;
+    blind = c.of_program.ensures.blind;
+    left = c.of_program.ensures.left_out;
+  };
+}

@@ -1,6 +1,7 @@
 use Rattle.std.proofs.Common.{◌≡◌, ◌∙◌, ap, sym, subst, map, position, is_none, None}
 use Rattle.std.proofs.lemmas.Result.{err_from_is_err_and}
 use Rattle.commands.specs.Acting.{for_run, AnswersRun}
+use Rattle.commands.specs.Knowing.{KnowsRun}
 use Rattle.runs.specs.Explore.{RefusesWanted}
 use Rattle.commands.proofs.Acts.{no_file, no_log, no_program, no_base, files_read, memory_wanting}
 use Rattle.request.proofs.Results.{both_ok, one_err}
@@ -54,3 +55,17 @@ pub returns-in-Err-clause-refused : goal.returns-in-Err-clause-refused
 returns-in-Err-clause-refused g c =
     let readable : position is_none c.in-Some.others.now ≡ None = sym c.first_unreadable.ensures ∙ c.in_default-first_unreadable.is in
     memory_wanting (λ f. f.items) c.args.files.now.named.now c.in-Some.first.now c.in-Some.others.now c.in-Some-first.log _ _ _ c.in-Some.ensures.cases.0 c.in-Some-first.is readable c.of_memory.ensures
+
+pub returns-in-Ok-clause-knows : goal.returns-in-Ok-clause-knows
+returns-in-Ok-clause-knows g c =
+    let readable : position is_none c.in-Some.others.now ≡ None = sym c.first_unreadable.ensures ∙ c.in_default-first_unreadable.is in
+    both_ok c.explore_files.result _ _ _ c.explore_files.ensures.knows c.explore_files.ensures.knows
+    (λ answer known same. record {
+      log = c.as_slice.result.now;
+      programs = map (λ f. f.items) c.as_slice-in-Ok.result.now;
+      initial = c.in_ok-initial.initial.now;
+      based = c.in_ok-initial.ensures;
+      read = files_read (λ f. f.items) c.args.files.now.named.now c.in-Some.first.now c.in-Some.others.now c.in-Some-first.log c.as_slice.result.now _
+          c.in-Some.ensures.cases.0 c.in-Some-first.is readable c.as_slice.ensures.value (ap (map (λ f. f.items)) c.as_slice-in-Ok.ensures.value ∙ c.in-Ok.ensures);
+      knows = subst (λ text. KnowsRun c.args.wanted c.args.options.now text (map (λ f. f.items) c.as_slice-in-Ok.result.now) answer.status answer.facts) c.of-recording.ensures known;
+    })
