@@ -20,7 +20,7 @@ sys.dont_write_bytecode = True
 import man_page
 
 TOP = Path(__file__).resolve().parent.parent
-FILES = ("LOG", "RAW", "PROGRAM", "SOURCE", "FILE", "IMAGE", "BASE", "REPORT", "PATH")
+FILES = ("LOG", "RAW", "PROGRAM", "SOURCE", "FILE", "IMAGE", "BASE", "REPORT", "PATH", "FOLDER", "DIR")
 NOTE = "Made by tools/completions.py of the program's help."
 
 
@@ -172,13 +172,14 @@ def fish_quoted(text):
     return "'" + text.replace("\\", "\\\\").replace("'", "\\'") + "'"
 
 
-def fish_option(option, when):
-    """Returns a line of fish for an option, with when it is offered."""
+def fish_option(option, when, program="crashbpf"):
+    """Returns a line of fish for an option of a program, with when it is offered, where that isn't always."""
     names = " ".join(f"-l {it[2:]}" if it.startswith("--") else f"-s {it[1:]}" for it in option.names)
     value = ""
     if option.value:
         value = f" -x -a {fish_quoted(' '.join(option.words))}" if option.words else " -r -F" if is_file(option.value) else " -x"
-    return f"complete -c crashbpf -n {fish_quoted(when)} {names}{value} -d {fish_quoted(option.says)}"
+    begun = f"complete -c {program}" + (f" -n {fish_quoted(when)}" if when else "")
+    return f"{begun} {names}{value} -d {fish_quoted(option.says)}"
 
 
 def fish(commands, general):
@@ -195,6 +196,35 @@ def fish(commands, general):
         if any(is_file(name) for name in it.arguments):
             lines.append(f"complete -c crashbpf -n {fish_quoted(when)} -F")
     return "\n".join(lines) + "\n"
+
+
+def bash_alone(program):
+    """The file for bash of a program without commands. After `--` stand the words of another program."""
+    name = program.name.replace("-", "_")
+    chosen = [it for it in program.options if it.words]
+    asked = [it for it in program.options if it.value and not it.words and not is_file(it.value)]
+    lines = [f"# Completions of {program.name} for bash. {NOTE}", f"_{name}() {{"]
+    lines += ["    local word=${COMP_WORDS[COMP_CWORD]} before=${COMP_WORDS[COMP_CWORD - 1]} words=", "    COMPREPLY=()"]
+    lines += ['    [[ " ${COMP_WORDS[*]:0:COMP_CWORD} " != *" -- "* ]] || { compopt -o default; return; }', '    case "$before" in']
+    lines += [f"    {'|'.join(it.names)}) words='{' '.join(it.words)}' ;;" for it in chosen]
+    lines += [f"    {'|'.join(name for it in asked for name in it.names)}) return ;;"] if asked else []
+    lines += [f"    *) [[ $word != -* ]] || words='{flags(program.options)}' ;;", "    esac", '    if [ -n "$words" ]; then']
+    lines += ['        mapfile -t COMPREPLY < <(compgen -W "$words" -- "$word")', "    else", "        compopt -o filenames"]
+    lines += ['        mapfile -t COMPREPLY < <(compgen -f -- "$word")', "    fi", "}", f"complete -F _{name} {program.name}"]
+    return "\n".join(lines) + "\n"
+
+
+def zsh_alone(program):
+    """The file for zsh of a program without commands."""
+    words = [word for option in program.options for word in zsh_option(option)]
+    lines = [f"#compdef {program.name}", f"# Completions of {program.name} for zsh. {NOTE}", "_arguments \\"]
+    return "\n".join([*lines, *(f"  {word} \\" for word in words), "  '*:file:_files'"]) + "\n"
+
+
+def fish_alone(program):
+    """The file for fish of a program without commands."""
+    lines = [f"# Completions of {program.name} for fish. {NOTE}"]
+    return "\n".join([*lines, *(fish_option(it, None, program.name) for it in program.options)]) + "\n"
 
 
 def files(page):

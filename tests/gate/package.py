@@ -16,8 +16,8 @@ The tar file is unpacked once more, and its own README.md is followed in an empt
 `sh`, with the programs of the package on the path and links to NEEDED of the system alone. What README.md shows of the program that
 saves settings has to be printed. Where there is no strace that is left out.
 
-Of the completions bash is asked what it completes; zsh and fish, where they are there, read theirs alone. For what isn't there
-a line says so.
+Of the completions bash is asked what it completes; zsh and fish, where they are there, read theirs alone. In each man page, as man shows
+it, stand the options of the program's help. For what isn't there a line says so.
 
 Prints a line for each row that failed, and last `N passed, M failed`. It takes some ten seconds.
 """
@@ -42,6 +42,9 @@ from notation import TOP
 
 # The folders of the repository that tools/package reads, beside README.md and CONTRIBUTING.md.
 READ = ("docs", "bench", "commands", "include", "examples", "tools")
+# The programs of a package, and what each has there; of zsh's folders that of the tar file.
+NAMES = ("crashbpf", "crashbpf-cc", "crashbpf-each", "crashbpf-files", "crashbpf-record", "crashbpf-test")
+OF_EACH = ("bin/{}", "share/man/man1/{}.1.gz", "share/bash-completion/completions/{}", "share/fish/vendor_completions.d/{}.fish", "share/zsh/site-functions/_{}")
 PATH = f"{os.environ['PATH']}:/usr/sbin:/sbin"
 INSTALLED = """\
 Package: {name}
@@ -117,11 +120,10 @@ def holds(made):
         begin = "./usr/" if kind == ".deb" else f"{path.name.removesuffix('.tar.gz')}/"
         names[kind] = {it.name.removeprefix(begin).replace("vendor-completions", "site-functions") for it in members if it.isfile()}
     found += differs("what one of both alone holds", names[".deb"] ^ names[".gz"], {"README.md"})
-    wanted = {"bin/crashbpf", "bin/crashbpf-cc", "bin/crashbpf-record", "bin/crashbpf-files", "bin/crashbpf-test", "share/man/man1/crashbpf.1.gz", "share/doc/crashbpf/copyright"}
-    wanted |= {"share/bash-completion/completions/crashbpf", "share/fish/vendor_completions.d/crashbpf.fish", "share/zsh/site-functions/_crashbpf"}
+    wanted = {form.format(name) for form in OF_EACH for name in NAMES} | {"share/doc/crashbpf/copyright"}
     shown = ("README.md", "CONTRIBUTING.md", "docs/COMMANDS.md", "docs/OUTPUT.md", "docs/REFUSALS.md", "docs/page.png", "include/checker.h", "examples/tree/root.c", "examples/tree/wrong.log", "examples/saving/save.sh", "commands/record/trace_log.py")
     shown += tuple(f"examples/many_machines/{it}" for it in ("README.md", "lay_out", "run_part", "join_all", "array.sh"))
-    wanted |= {f"share/crashbpf/{it}" for it in shown} | {"bin/crashbpf-each", "share/crashbpf/commands/each/stream.py"}
+    wanted |= {f"share/crashbpf/{it}" for it in shown} | {"share/crashbpf/commands/each/stream.py"}
     wanted |= {"README.md", "share/doc/crashbpf/README.md"}
     found += differs("what is of the source", [it for it in names[".gz"] if it.endswith((".rt", ".antt"))], [])
     return found + differs("what is missing", wanted - names[".gz"], set()) + dead_links(names[".gz"])
@@ -305,10 +307,19 @@ COMPLETED = {
     ("crashbpf", "list", "--sl"): "--slots",
     ("crashbpf", "explore", "--sectors", ""): "",
     ("crashbpf", "explore", "gi"): "given",
+    ("crashbpf-test", "--reco"): "--recording",
+    ("crashbpf-test", "--base", "gi"): "given",
+    ("crashbpf-test", "--bound", ""): "",
+    ("crashbpf-test", "--check", "true", "--", "--reco"): "",
+    ("crashbpf-record", "--files", "x"): "xfs",
+    ("crashbpf-each", "--tim"): "--timeout",
+    ("crashbpf-each", "gi"): "given",
+    ("crashbpf-cc", "--mut"): "--mutants",
+    ("crashbpf-files", "gi"): "given",
 }
 COMPLETE = """\
-source "$1"; shift; compopt() { :; }
-COMP_WORDS=("$@"); COMP_CWORD=$(($# - 1)); _crashbpf; printf %s "${COMPREPLY[*]}"
+source "$1/$2"; shift; compopt() { :; }
+COMP_WORDS=("$@"); COMP_CWORD=$(($# - 1)); "_${1//-/_}"; printf %s "${COMPREPLY[*]}"
 """
 
 
@@ -320,15 +331,33 @@ def completes(path, folder):
     share = root / "usr/local/share"
     Path(folder, "given").touch()
     found = []
-    for shell, name in (("zsh", "zsh/site-functions/_crashbpf"), ("fish", "fish/vendor_completions.d/crashbpf.fish")):
-        if shutil.which(shell):
-            found += differs(f"the status of {shell} -n", run([shell, "-n", share / name]).returncode, 0)
+    for shell, form in (("zsh", "zsh/site-functions/_{}"), ("fish", "fish/vendor_completions.d/{}.fish")):
+        for name in NAMES if shutil.which(shell) else ():
+            found += differs(f"the status of {shell} -n for {name}", run([shell, "-n", share / form.format(name)]).returncode, 0)
     if not shutil.which("bash"):
         print("not run: completions, since there is no bash")
         return found
     for words, wanted in COMPLETED.items():
-        done = run(["bash", "-c", COMPLETE, "bash", share / "bash-completion/completions/crashbpf", *words], cwd=folder)
-        found += differs(f"what bash completes of {' '.join(words)!r}", done.stdout, wanted)
+        done = run(["bash", "-c", COMPLETE, "bash", share / "bash-completion/completions", *words], cwd=folder)
+        found += differs(f"what bash completes of {' '.join(words)!r}", done.stdout + done.stderr, wanted)
+    return found
+
+
+def are_read(path, folder):
+    """What is wrong with the man pages: each option of a program's help has to stand in what man shows, and man has no complaint."""
+    if not shutil.which("man"):
+        print("not run: man pages, since there is no man")
+        return []
+    root = Path(folder, "root")
+    root.mkdir()
+    install_tar(path, root)
+    found = []
+    for name in NAMES:
+        page = root / f"usr/local/share/man/man1/{name}.1.gz"
+        shown = run(["man", "--warnings", "-l", page], env={**os.environ, "MANWIDTH": "100", "LC_ALL": "C"})
+        options = set(re.findall(r"(?m)^ +(--?[a-z][\w-]*)", run([root / "usr/local/bin" / name, "--help"]).stdout))
+        found += [f"man says of {name}: {shown.stderr[-300:]}"] if shown.stderr or shown.returncode else []
+        found += [f"the page of {name} lacks {it}" for it in sorted(options) if not re.search(rf"(?<![\w-]){it}(?![\w-])", shown.stdout)]
     return found
 
 
@@ -342,6 +371,7 @@ def main(words):
             "the same bytes again": lambda room: same_again(made, room, program),
             "what both hold": lambda room: holds(made),
             "what shells complete": lambda room: completes(made[".gz"], room),
+            "man pages": lambda room: are_read(made[".gz"], room),
             "the Debian package in a clean root": lambda room: runs(made[".deb"], install_deb, "usr", room),
             "the tar file in a clean root": lambda room: runs(made[".gz"], install_tar, "usr/local", room),
             "the tar file's own README.md": lambda room: begins(made[".gz"], room),
