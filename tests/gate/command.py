@@ -380,6 +380,17 @@ def says_at_once(folder):
     return found + (["a program is run whose answer can't be written"] if Path(folder, "ran").exists() else [])
 
 
+def looks_elsewhere(folder):
+    """What is wrong where a check takes whatever the folder has: it is told; and where it looks at its files, nothing is."""
+    Path(folder, "kept").write_text("x\n")
+    program, found = ["sh", "-c", 'echo x >"$FILES/kept"; sync "$FILES/kept" "$FILES"; mark made'], []
+    for check, said in ((f"grep -q x {folder}/kept", True), ('[ "$CRASH_MARKS" = 0 ] || grep -q x kept', False)):
+        done, _answer, left = run(folder, ["--check", check], program)
+        found += left + differs(f"the status of {check}", done.returncode in (0, 3), True)
+        found += differs(f"whether it is told of {check}", "the check takes an empty folder too" in done.stderr, said)
+    return found
+
+
 def means(folder):
     """What is wrong with which words of a check are files of the folder at hand."""
     from commands.test.judge import absolute
@@ -485,6 +496,7 @@ def rows():
     yield "a check that refuses the beginning", names_first
     yield "a mapped file", names_mapped
     yield "what is said at once", says_at_once
+    yield "a check that looks elsewhere", looks_elsewhere
     yield "words of the check", means
     yield "what is kept", keeps
     yield "signals", ends_well
