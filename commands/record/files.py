@@ -198,6 +198,8 @@ class Flight:
     # how many changes of names there were, and the last version of them; nothing for the one that is the last now
     turn: int = 0
     version: int | None = None
+    # how many entries the log had
+    entries: int = 0
     # the descriptors of its process when it began, and the numbers of these that it uses; by such numbers, the calls that used them since
     # it began, and those that gave them to something else
     table: Table | None = None

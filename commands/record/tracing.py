@@ -216,6 +216,7 @@ class Tracing(Copying):
             flight.closing = process.table.opened(call.number(0))
         elif call.name == "chdir":
             flight.at = process.folder[0]
+        flight.entries = len(self.disk.entries)
         if flight.opened is not None or flight.other is not None:
             flight.moved, flight.turned = (flight.opened or flight.other).moved, (flight.opened or flight.other).turned
         if isinstance(flight.file, File):
@@ -591,7 +592,7 @@ class Tracing(Copying):
             raise Refused(f"{call}: it wrote more than it was given")
         data = data[: call.result]
         if opened.file is MARKS:
-            return self.mark(call, data)
+            return self.mark(call, data, flight.entries)
         flags = self.write_flags(call)
         start = self.place(call, flight, opened, flags)
         if data:
@@ -644,8 +645,9 @@ class Tracing(Copying):
         if through:
             self.disk.force(file, first, sectors)
 
-    def mark(self, call, data):
-        """A text for the marks: lines of a number, which isn't looked at, and a name."""
+    def mark(self, call, data, entries):
+        """A text for the marks: lines of a number, which isn't looked at, and a name. It is a promise from where the call began on: what was
+        made durable since then stands after it. The log had so many entries then."""
         if not data.endswith(b"\n"):
             raise Refused(f"{call}: a mark is one whole line")
         for line in data[:-1].split(b"\n"):
@@ -654,7 +656,8 @@ class Tracing(Copying):
                 raise Refused(f"{call}: a mark is a number, a space, and a text of at most 480 bytes")
             if found[1]:
                 self.still(call, "a mark is made")
-                self.disk.mark(found[1])
+                self.disk.mark(found[1], entries)
+                entries += 1
 
     def end_read(self, call, process, flight):
         """Moves the place of an opened file past what was read."""

@@ -132,6 +132,7 @@ FOLLOWED = [
     ("a close within a write of another thread", OPEN + THREAD + "write(3<db>, 'A*512', 512 <unfinished ...>\n101 close(3<db>) = 0\n<... write resumed>) = 512\n" + GONE, [("w", "db", 0, A)]),
     ("a write and a close within an open that gives the number again", OPEN + THREAD + "101 openat(AT_FDCWD</elsewhere>, 'x', O_RDWR|O_CREAT, 0644 <unfinished ...>\nwrite(3<db>, 'A*512', 512) = 512\nclose(3<db>) = 0\n101 <... openat resumed>) = 3<wal>\nwrite(3<wal>, 'B*512', 512) = 512\n" + GONE, [("w", "db", 0, A), ("w", "wal", 0, B)]),
     ("a dup2 of another number at once, and one of a process of its own", OPEN + WAL + THREAD + "fork() = 102\nwrite(3<db>, 'A*512', 512 <unfinished ...>\n101 dup2(4<wal>, 5) = 5<wal>\n102 dup2(4<wal>, 3) = 3<wal>\n<... write resumed>) = 512\n102 +++ exited with 0 +++\n" + GONE, [("w", "db", 0, A)]),
+    ("a mark begins before a sync of another thread has ended", OPEN + THREAD + "write(3<db>, 'A*512', 512) = 512\nopenat(AT_FDCWD</elsewhere>, 'm', O_WRONLY|O_APPEND) = 5</r/marks>\n101 fsync(3<db> <unfinished ...>\nwrite(5</r/marks>, '0 one@0 two@', 12 <unfinished ...>\n101 <... fsync resumed>) = 0\n<... write resumed>) = 12\n" + GONE, [("w", "db", 0, A), ("m", "one"), ("m", "two"), ("f",)]),
     ("signals and remarks", OPEN + "--- SIGCHLD {si_signo=SIGCHLD, si_code=CLD_EXITED} ---\nwrite(3<db>, 'A*512', 512) = 512", [("w", "db", 0, A)]),
 ]
 
