@@ -50,8 +50,11 @@ class Entries(list):
     call, slots = None, ()
 
     def append(self, entry):
+        self.insert(len(self), entry)
+
+    def insert(self, at, entry):
         entry.call, entry.slots = self.call, self.slots
-        super().append(entry)
+        super().insert(at, entry)
 
     def extend(self, more):
         for it in more:
@@ -180,8 +183,9 @@ class Disk:
             it.durable, it.since, it.held = it.newest + 1, [], data[SECTOR * at : SECTOR * (at + 1)]
         self.forget(file, range(first, first + count))
 
-    def mark(self, text):
-        self.entries.append(Entry(MARK, data=text))
+    def mark(self, text, at=None):
+        """A mark stands last, or before the entry with a number."""
+        self.entries.insert(len(self.entries) if at is None else at, Entry(MARK, data=text))
 
     def begin_sync(self, files):
         """A sync of these files begins. Returns what it will make durable."""

@@ -72,6 +72,8 @@ class Opened:
     moved: int = 0
     # whether it is written past the page cache, by O_DIRECT
     direct: bool = False
+    # how often that or `append` was changed
+    turned: int = 0
 
 
 class Table(dict):
@@ -166,6 +168,7 @@ class Flight:
     # what isn't recorded of its first descriptor
     other: Opened | None = None
     moved: int = 0
+    turned: int = 0
     grown: int = 0
     # how many changes of the file there were, and how many copies from it
     changes: int = 0
@@ -195,6 +198,14 @@ class Flight:
     # how many changes of names there were, and the last version of them; nothing for the one that is the last now
     turn: int = 0
     version: int | None = None
+    # how many entries the log had
+    entries: int = 0
+    # the descriptors of its process when it began, and the numbers of these that it uses; by such numbers, the calls that used them since
+    # it began, and those that gave them to something else
+    table: Table | None = None
+    numbers: set = field(default_factory=set)
+    used: dict = field(default_factory=dict)
+    given: dict = field(default_factory=dict)
 
 
 @dataclass(frozen=True)

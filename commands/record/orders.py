@@ -61,6 +61,8 @@ class Rules:
     one: bool = True
     # fsync of a file has its own names durable
     own: bool = False
+    # an exchange of two names is no change of the files that have them
+    quiet: bool = False
     # the bytes of a new block are there where the size shows them
     filled: bool = False
     # a block that was freed is used again before that is durable, and shows what it held where the new bytes are lost
@@ -71,7 +73,7 @@ TABLES = {
     "ext4": Rules(own=True),
     "ordered": Rules(filled=True),
     "writeback": Rules(again=True),
-    "xfs": Rules(own=True),
+    "xfs": Rules(own=True, quiet=True),
     "btrfs": Rules(one=False, own=True),
     "strict": Rules(one=False),
 }
@@ -351,8 +353,9 @@ class Tree:
         found = self.disk.sectors.get(names)
         return found[0].newest if found else 0
 
-    def change(self, slots, made=None):
-        """Slots change, to what they hold now or to nothing. `made` is the number of a folder that is new."""
+    def change(self, slots, made=None, is_own=True):
+        """Slots change, to what they hold now or to nothing. `made` is the number of a folder that is new. With `is_own` it is a change of the
+        files that had or have these names, which their fsync may have durable."""
         sets = {self.set_of(it) for it in slots}
         assert len(sets) == 1
         before = {slot: self.now.get(slot) for slot in slots}
@@ -375,7 +378,7 @@ class Tree:
                 self.disk.write(names, 0, copy_text(number))
             self.made |= {made: (names, max(names.changes))} if made is not None else {}
         else:
-            self.follow(names, slots, made, changed)
+            self.follow(names, slots, made, changed, is_own)
         self.disk.entries.slots = ()
         self.recent.append(self.past(names, before, slots))
         self.beside = []
@@ -403,7 +406,7 @@ class Tree:
         it = self.disk.sectors.get(self.one, {}).get(0)
         return it.durable if it is not None else 0
 
-    def follow(self, names, slots, made, changed):
+    def follow(self, names, slots, made, changed, is_own):
         """Writes the version of a set that follows the one before it. Where others were made at once with it, a crash may leave it with
         the first of these, for each number of them, and so as many versions are written: first it alone."""
         undone = {slot: held for it in reversed(self.beside) for slot, held in it.before.items()}
@@ -419,7 +422,7 @@ class Tree:
         for kind, number in changed:
             if kind == FILE:
                 file = self.files[number]
-                file.named, file.lost = first, 0 if file.names else last
+                file.named, file.lost = first if is_own else file.named, 0 if file.names else last
         if self.beside:
             self.groups.append((self.beside[0].version, first, last))
         for kind, number in (held for it in self.beside for held in it.before.values() if held):
@@ -520,7 +523,7 @@ class Tree:
     def rename(self, slot, to, exchange=False):
         self.tie(slot, to)
         if slot != to:
-            self.change({slot: self.now[to] if exchange else None, to: self.now[slot]})
+            self.change({slot: self.now[to] if exchange else None, to: self.now[slot]}, is_own=not (exchange and self.rules.quiet))
 
     def link(self, slot, to):
         self.change({to: self.now[slot]})

@@ -20,6 +20,7 @@ from commands.record.disk import PAGE as PAGES, SECTOR
 from commands.record.files import MARKS, File, Flight, Maker, Opened, Other, Process, Range, Space, Table, flags_of, skips
 from commands.record.known import ASKED, BROKEN, CHANGES, COPIES, HARMLESS, KINDS, MADE_APART, MOVES, NOT_BEGUN, NOT_DONE, NOT_RESERVED, NOT_SYNCED, OPENS, READS, RWF
 from commands.record.known import SYNCS, THROUGH, UNSEEN, WRITES
+from commands.record.numbers import Numbers
 from commands.record.pipes import Pipes
 from commands.record.told import told, words_of
 
@@ -55,7 +56,7 @@ class Tracing(Copying):
         # what a line has that names the folder
         self.mentioned = hexed(self.folder)
         # what looks say of mapped files, where these are recorded
-        self.mapped, self.pipes = None, Pipes(self)
+        self.mapped, self.pipes, self.numbers = None, Pipes(self), Numbers(self)
         # a change of names or sizes within which its process ended
         self.unfinished = None
         self.handled = {name: getattr(self, f"end_{it}") for it, names in KINDS.items() for name in names}
@@ -197,6 +198,7 @@ class Tracing(Copying):
         if self.mentioned in call.text:
             self.agree(call, process, call.text)
         flight = self.flights[call.process] = Flight(call=call)
+        self.numbers.begin(call, process, flight)
         if call.name in SYNCS:
             self.begin_sync(call, process, flight)
         elif call.name == "msync" and self.mapped is not None:
@@ -214,8 +216,9 @@ class Tracing(Copying):
             flight.closing = process.table.opened(call.number(0))
         elif call.name == "chdir":
             flight.at = process.folder[0]
+        flight.entries = len(self.disk.entries)
         if flight.opened is not None or flight.other is not None:
-            flight.moved = (flight.opened or flight.other).moved
+            flight.moved, flight.turned = (flight.opened or flight.other).moved, (flight.opened or flight.other).turned
         if isinstance(flight.file, File):
             flight.grown, flight.changes, flight.copies = flight.file.grown, len(flight.file.changed), len(flight.file.copied)
         self.pipes.begin(call, flight)
@@ -244,6 +247,7 @@ class Tracing(Copying):
             if self.unfinished is not None:
                 raise Refused(f"{self.unfinished}: its process ended within it, so whether it was done isn't known, and names or sizes change after that: {call}")
             raise Refused(f"{call}: a change that fails so leaves nothing that is known; record again, on a disk that is well")
+        self.numbers.used(call, flight)
         if flight.other is not None and call.name not in COPIES:
             self.move_other(call, flight)
         if handler is not None:
@@ -260,6 +264,7 @@ class Tracing(Copying):
         elif self.mentioned in call.text and " = -1 E" not in call.text:
             self.refuse_unless_skipped(call)
         self.pipes.end(call, process, flight)
+        self.numbers.given(call, flight)
 
     def is_change(self, call):
         """Whether a call changes names or sizes."""
@@ -286,6 +291,7 @@ class Tracing(Copying):
         """The process of a call ended within it."""
         flight = self.flights.pop(call.process, None)
         self.pipes.over(call, flight)
+        self.numbers.over(call, flight)
         if self.is_change(call) and self.may_change(call, flight or Flight()):
             self.unfinished = self.unfinished or call
         if call.name in (*WRITES, *MOVES, *COPIES, "ioctl") and flight and flight.file is not None and call.name not in ("lseek",):
@@ -410,7 +416,7 @@ class Tracing(Copying):
             return
         process.table.put(call.result, process.table.opened(call.number(0)), "O_CLOEXEC" in call.text)
 
-    def end_fcntl(self, call, process, _flight):
+    def end_fcntl(self, call, process, flight):
         """Follows what fcntl makes of a descriptor: a copy, whether exec closes it, whether writes append."""
         if call.failed() or call.result is None:
             return
@@ -420,8 +426,13 @@ class Tracing(Copying):
         elif command == "F_SETFD":
             process.table.put(call.number(0), known, "FD_CLOEXEC" in call.word(2))
         elif known is not None and command == "F_SETFL":
+            before = known.append, known.direct
             known.append, known.direct = "O_APPEND" in call.word(2), "O_DIRECT" in call.word(2)
             known.moved += 1
+            if before != (known.append, known.direct):
+                known.turned += 1
+                if known.file in flight.touched:
+                    raise Refused(f"{call}: another call wrote {shown(os.fsdecode(known.file.name))} at once, and which was first isn't known; another try may pass")
 
     def end_ioctl(self, call, process, flight):
         """Follows the ioctls of close-on-exec and reflinks, and refuses others that may write a recorded file."""
@@ -581,7 +592,7 @@ class Tracing(Copying):
             raise Refused(f"{call}: it wrote more than it was given")
         data = data[: call.result]
         if opened.file is MARKS:
-            return self.mark(call, data)
+            return self.mark(call, data, flight.entries)
         flags = self.write_flags(call)
         start = self.place(call, flight, opened, flags)
         if data:
@@ -612,6 +623,8 @@ class Tracing(Copying):
         if offset < -1 or offset == -1 and call.name in ("pwrite64", "pwritev"):
             raise Refused(f"{call}: its place can't be read")
         append = opened.append or "RWF_APPEND" in flags
+        if flight.turned != opened.turned:
+            raise Refused(f"{call}: another call changed the flags of the descriptor at once, so where it wrote isn't known; another try may pass")
         if append and flight.grown != file.grown or offset == -1 and flight.moved != opened.moved:
             raise Refused(f"{call}: another call moved the end or the place at once, so where it wrote isn't known")
         start = file.size if append else opened.at if offset == -1 else offset
@@ -632,8 +645,9 @@ class Tracing(Copying):
         if through:
             self.disk.force(file, first, sectors)
 
-    def mark(self, call, data):
-        """A text for the marks: lines of a number, which isn't looked at, and a name."""
+    def mark(self, call, data, entries):
+        """A text for the marks: lines of a number, which isn't looked at, and a name. It is a promise from where the call began on: what was
+        made durable since then stands after it. The log had so many entries then."""
         if not data.endswith(b"\n"):
             raise Refused(f"{call}: a mark is one whole line")
         for line in data[:-1].split(b"\n"):
@@ -642,7 +656,8 @@ class Tracing(Copying):
                 raise Refused(f"{call}: a mark is a number, a space, and a text of at most 480 bytes")
             if found[1]:
                 self.still(call, "a mark is made")
-                self.disk.mark(found[1])
+                self.disk.mark(found[1], entries)
+                entries += 1
 
     def end_read(self, call, process, flight):
         """Moves the place of an opened file past what was read."""

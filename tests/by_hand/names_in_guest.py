@@ -221,23 +221,24 @@ def states_of(folder, name, table):
 
 
 def journal_of(base):
-    """The first sector of the journal of an ext4, and the sector after it, which lie in one piece."""
+    """The pieces of the journal of an ext4, in their order: of each the first sector and the sector after it."""
     said = wanted(run(["debugfs", "-R", "stat <8>", base]), "debugfs")
     size = int(re.search(r"(?m)^Block size: +(\d+)", wanted(run(["dumpe2fs", "-h", base]), "dumpe2fs"))[1])
-    (first, last), *more = re.findall(r"\(\d+-\d+\):(\d+)-(\d+)", said)
-    if more:
-        sys.exit("the journal lies in several pieces")
-    return int(first) * size // SECTOR, (int(last) + 1) * size // SECTOR
+    found = re.findall(r"\(\d+(?:-\d+)?\):(\d+)(?:-(\d+))?", said)
+    return sorted((int(first) * size // SECTOR, (int(last or first) + 1) * size // SECTOR) for first, last in found)
 
 
 def slow_lines(kind, base):
     """The lines by which a guest has a device of which all but the journal is slow to write."""
-    it, watched, (first, last) = KINDS[kind], "/dev/mapper/watched", journal_of(base)
+    it, watched, at, table = KINDS[kind], "/dev/mapper/watched", 0, []
 
     def slow(begin, end):
-        return f"{begin} {end - begin} delay {watched} {begin} 0 {watched} {begin} {it.slow} {watched} {begin} 0"
+        return [f"{begin} {end - begin} delay {watched} {begin} 0 {watched} {begin} {it.slow} {watched} {begin} 0"] if end > begin else []
 
-    table = [slow(0, first), f"{first} {last - first} linear {watched} {first}", slow(last, it.sectors)]
+    for first, last in journal_of(base):
+        table += [*slow(at, first), f"{first} {last - first} linear {watched} {first}"]
+        at = last
+    table += slow(at, it.sectors)
     return ["dmsetup create slow --noudevsync <<'END' && dmsetup mknodes || exit 1", *table, "END", "DEVICE=/dev/mapper/slow"]
 
 

@@ -50,7 +50,7 @@ KINDS = {disk.WRITE: "write", disk.FLUSH: "flush", disk.FUA: "fua", disk.MARK: "
 SIGNS = {FILE: "", FOLDER: "/", OTHER: "@"}
 BY_TABLE = ("ordered", "writeback", "strict", "ext4", "xfs", "btrfs")
 # What a table allows a weaker one allows too.
-WEAKER = (("ordered", "writeback"), ("ext4", "writeback"), ("ext4", "xfs"), ("xfs", "ext4"), ("ordered", "strict"), ("ext4", "strict"), ("btrfs", "strict"))
+WEAKER = (("ordered", "writeback"), ("ext4", "writeback"), ("ext4", "xfs"), ("xfs", "writeback"), ("ordered", "strict"), ("xfs", "strict"), ("btrfs", "strict"))
 # Of a file the first sectors of its first two blocks: by `writeback` runs are compared in these, since sectors have many versions.
 LOOKED = frozenset({0, 8})
 
@@ -90,13 +90,15 @@ IN = "mkdir('/r/files/in', 0777) = 0\n"
 WRITE = "write(3<a>, 'A*512', 512) = 512\n"
 THREAD = "clone(child_stack=0x7f, flags=CLONE_VM|CLONE_FILES|CLONE_THREAD) = 101\n"
 TWO_AT_ONCE = THREAD + "openat(AT_FDCWD</elsewhere>, '/r/files/b', O_RDWR|O_CREAT, 0644 <unfinished ...>\n101 " + OPEN + "<... openat resumed>) = 4<b>\n101 +++ exited with 0 +++\n"
+SWAPPED = "renameat2(AT_FDCWD</r/files>, 'a', AT_FDCWD</r/files>, 'b', RENAME_EXCHANGE) = 0\n"
 SYNCED = OPEN + WRITE + TOP_FOLDER + "fsync(9</r/files>) = 0\nfsync(3<a>) = 0\n"
 MADE = ["names a=0"]
 # The bytes that are written after the unlink are seen only where it is lost.
 REST = ["fua names a=0", "flush", "names", "bytes 0", "flush", "flush"]
 
 # The name, the text, the entries by `ordered`, `writeback`, `strict`, `ext4` and `btrfs`, or by all of them where they are the same; what
-# stood there before. Where there are fewer `ext4` has those of `writeback`, and `btrfs` those of `strict`; `xfs` has those of `ext4`.
+# stood there before. Where there are fewer `ext4` has those of `writeback`, and `btrfs` those of `strict`; `xfs` has those of `ext4`, where a
+# last list doesn't have its own.
 # By `writeback` they are those without blocks that are used again.
 ROWS = [
     ("a file is made", OPEN, MADE),
@@ -125,9 +127,11 @@ ROWS = [
     ("rename over a file", OPEN + B + "rename('/r/files/a', '/r/files/b') = 0\npwrite64(3<b>, 'A*512', 512, 4096) = 512", [*MADE, "names a=0 b=1", "names b=0", "fua bytes 8", "size 0 4608"], [*MADE, "names a=0 b=1", "names b=0", "bytes 8", "size 0 4608"], [*MADE, "names b=1", "names a=0 b=1", "names b=0", "bytes 8", "size 0 4608"]),
     ("rename of a name to itself", OPEN + "rename('/r/files/a', '/r/files/a') = 0", MADE),
     ("rename to another folder", OPEN + IN + "renameat(AT_FDCWD</r/files>, 'a', 9<in>, 'b') = 0", *[[*MADE, "names a=0 in=/1", "names 1/b=0 in=/1"]] * 2, ["names a=0", "names in=/1", "names 1/b=0"]),
-    ("renameat2", OPEN + B + "renameat2(AT_FDCWD</r/files>, 'a', AT_FDCWD</r/files>, 'b', RENAME_EXCHANGE) = 0", *[[*MADE, "names a=0 b=1", "names a=1 b=0"]] * 2, [*MADE, "names b=1", "names a=0 b=1", "names a=1 b=0"]),
+    ("renameat2", OPEN + B + SWAPPED, *[[*MADE, "names a=0 b=1", "names a=1 b=0"]] * 2, [*MADE, "names b=1", "names a=0 b=1", "names a=1 b=0"]),
     ("a folder gets another name", IN + OPEN.replace("files/a", "files/in/a").replace("<a>", "<in/a>") + "rename('/r/files/in', '/r/files/out') = 0\nwrite(3<out/a>, 'A*512', 512) = 512", ["names in=/1", "names 1/a=0 in=/1", "names 1/a=0 out=/1", "fua bytes 0", "size 0 512"], ["names in=/1", "names 1/a=0 in=/1", "names 1/a=0 out=/1", "bytes 0", "size 0 512"], ["names in=/1", "names 1/a=0", "names out=/1", "bytes 0", "size 0 512"]),
     ("fsync after a rename", OPEN + "rename('/r/files/a', '/r/files/b') = 0\nfsync(3<b>) = 0", *[[*MADE, "names b=0", "fua names a=0"]] * 2, [*MADE, "names b=0"], *[[*MADE, "names b=0", "flush"]] * 2),
+    # (xfs changes neither of two files whose names are exchanged)
+    ("fsync after an exchange", OPEN + B + SWAPPED + "fsync(3<b>) = 0", *[[*MADE, "names a=0 b=1", "names a=1 b=0", "fua names a=0"]] * 2, [*MADE, "names b=1", "names a=0 b=1", "names a=1 b=0"], [*MADE, "names a=0 b=1", "names a=1 b=0", "flush"], None, [*MADE, "names a=0 b=1", "names a=1 b=0", "fua names a=0"]),
     ("fdatasync after a rename", OPEN + "rename('/r/files/a', '/r/files/b') = 0\nfdatasync(3<b>) = 0", *[[*MADE, "names b=0", "fua names a=0"]] * 2, [*MADE, "names b=0"]),
     ("fsync after a rename of another file", OPEN + "fsync(3<a>) = 0\n" + B + "rename('/r/files/b', '/r/files/c') = 0\nfsync(3<a>) = 0", *[[*MADE, "flush", "names a=0 b=1", "names a=0 c=1"]] * 2, [*MADE, "names b=1", "names c=1"], [*MADE, "flush", "names a=0 b=1", "names a=0 c=1"], [*MADE, "flush", "names b=1", "names c=1"]),
     ("link", OPEN + "link('/r/files/a', '/r/files/b') = 0\nunlink('/r/files/a') = 0\n" + "fsync(3<a>(deleted)) = 0", *[[*MADE, "names a=0 b=0", "names b=0", "fua names a=0"]] * 2, [*MADE, "names b=0", "names"], [*MADE, "names a=0 b=0", "names b=0", "flush"], [*MADE, "names b=0", "names", "fua names b=0"]),
@@ -212,12 +216,12 @@ def without_again():
         TABLES["writeback"] = rules
 
 
-def by_table(ordered, writeback=None, strict=None, ext4=None, btrfs=None):
+def by_table(ordered, writeback=None, strict=None, ext4=None, btrfs=None, xfs=None):
     """What is wanted by each table."""
     writeback = ordered if writeback is None else writeback
     strict = writeback if strict is None else strict
     ext4 = writeback if ext4 is None else ext4
-    return ordered, writeback, strict, ext4, ext4, strict if btrfs is None else btrfs
+    return ordered, writeback, strict, ext4, ext4 if xfs is None else xfs, strict if btrfs is None else btrfs
 
 
 def row_faults(name, text, *wanted):
@@ -448,7 +452,7 @@ def model_of(steps, table, looked=None, unit=SECTOR):
             now = {slot: held for change in [model.base, *model.changes] for slot, held in change.items()}
             slot, to = words
             gone = {} if what == "link" else {slot: now.get(to) if what == "exchange" else None}
-            model.change({**gone, to: now[slot]})
+            model.change({**gone, to: now[slot]}, what == "exchange")
         elif what == "sync":
             model.synced(model.seen(words[0]))
         elif what == "sync data":
@@ -495,6 +499,7 @@ PLANS = {
     "a new folder is synced": [("folder", D), ("make", (1, b"a")), ("rename", (1, b"a"), A), ("sync folder", 1), ("mark",)],
     "a folder is synced before it is filled": [("folder", D), ("sync folder", 1), ("make", (1, b"a")), ("mark",), ("sync folder", 0)],
     "a new name of a file that is synced": [("make", A), ("rename", A, D), ("sync", 0), ("mark",)],
+    "names that are exchanged, and one is synced": [("make", A), ("make", D), ("write", 1, 0, b"x" * 100), ("sync", 1), ("exchange", A, D), ("sync", 0), ("mark",)],
     "a size after names": [("make", A), ("make", D), ("write", 0, 0, b"x" * 100), ("sync", 0), ("mark",)],
     "names that a rename ties together later": [("make", A), ("make", D), ("sync", 1), ("mark",), ("rename", A, D), ("sync folder", 0)],
     "names after a size": [("make", A), ("write", 0, 0, b"x" * 100), ("make", D), ("sync", 0), ("mark",)],

@@ -129,12 +129,20 @@ FOLLOWED = [
     ("a pipe that a child writes", OPEN + PIPE + "clone(child_stack=NULL, flags=CLONE_CHILD_SETTID|SIGCHLD, child_tidptr=0x7f) = 101\n101 dup2(6<pipe:[1]>, 1) = 1<pipe:[1]>\n101 write(1<pipe:[1]>, 'A*512', 512) = 512\n" + GONE + TAKEN, [("w", "db", 0, A)]),
     ("a reflink", OPEN + WAL + "ioctl(4<wal>, BTRFS_IOC_CLONE or FICLONE, 3) = 0\nioctl(4<wal>, BTRFS_IOC_CLONE_RANGE or FICLONERANGE, {src_fd=3<db>, src_offset=512, src_length=0, dest_offset=0}) = 0", [("w", "wal", 0, A + B), ("w", "wal", 0, B)], {b"db": A + B}),
     ("a file that is copied after its reader closed it", OPEN + WAL + "close(3<db>) = 0\n" + OPEN + "copy_file_range(3<db>, NULL, 4<wal>, NULL, 512, 0) = 512", [("w", "wal", 0, A)], {b"db": A}),
+    ("a close within a write of another thread", OPEN + THREAD + "write(3<db>, 'A*512', 512 <unfinished ...>\n101 close(3<db>) = 0\n<... write resumed>) = 512\n" + GONE, [("w", "db", 0, A)]),
+    ("a write and a close within an open that gives the number again", OPEN + THREAD + "101 openat(AT_FDCWD</elsewhere>, 'x', O_RDWR|O_CREAT, 0644 <unfinished ...>\nwrite(3<db>, 'A*512', 512) = 512\nclose(3<db>) = 0\n101 <... openat resumed>) = 3<wal>\nwrite(3<wal>, 'B*512', 512) = 512\n" + GONE, [("w", "db", 0, A), ("w", "wal", 0, B)]),
+    ("a dup2 of another number at once, and one of a process of its own", OPEN + WAL + THREAD + "fork() = 102\nwrite(3<db>, 'A*512', 512 <unfinished ...>\n101 dup2(4<wal>, 5) = 5<wal>\n102 dup2(4<wal>, 3) = 3<wal>\n<... write resumed>) = 512\n102 +++ exited with 0 +++\n" + GONE, [("w", "db", 0, A)]),
+    ("a mark begins before a sync of another thread has ended", OPEN + THREAD + "write(3<db>, 'A*512', 512) = 512\nopenat(AT_FDCWD</elsewhere>, 'm', O_WRONLY|O_APPEND) = 5</r/marks>\n101 fsync(3<db> <unfinished ...>\nwrite(5</r/marks>, '0 one@0 two@', 12 <unfinished ...>\n101 <... fsync resumed>) = 0\n<... write resumed>) = 12\n" + GONE, [("w", "db", 0, A), ("m", "one"), ("m", "two"), ("f",)]),
     ("signals and remarks", OPEN + "--- SIGCHLD {si_signo=SIGCHLD, si_code=CLD_EXITED} ---\nwrite(3<db>, 'A*512', 512) = 512", [("w", "db", 0, A)]),
 ]
 
 MARKED = OPEN + "write(3<db>, 'A*512', 512) = 512\nopenat(AT_FDCWD</elsewhere>, 'm', O_WRONLY|O_APPEND) = 5</r/marks>\n"
 MAPPED = "mmap(NULL, 4096, PROT_READ, MAP_SHARED, 3<db>, 0) = 0x700000\n"
 THREAD = "clone(child_stack=0x7f, flags=CLONE_VM|CLONE_FILES|CLONE_THREAD) = 101\n"
+# Two threads that share two files; what is said where a number is used and given at once; an open that gives a number again.
+BOTH = OPEN + WAL + THREAD
+NUMBER = "which file descriptor 3 was of isn't known; another try may pass"
+NEXT = "openat(AT_FDCWD</elsewhere>, 'x', O_RDWR|O_CREAT, 0644) = 3<next>\n"
 FULL = OPEN + WAL + "pwrite64(3<db>, 'A*512', 512, 0) = 512\n"
 
 # The name, the text, and what is said, with the line of the text that shows it.
@@ -211,6 +219,18 @@ REFUSED = [
     ("two writes at once", OPEN + THREAD + "pwrite64(3<db>, 'A*100', 100, 0 <unfinished ...>\n101 pwrite64(3<db>, 'B*100', 100, 200) = 100\n<... pwrite64 resumed>) = 100\n101 +++ exited with 0 +++", "calls:3: .*wrote the same sectors at once"),
     ("two writes at one place", OPEN + THREAD + "write(3<db>, 'A*512', 512 <unfinished ...>\n101 write(3<db>, 'B*512', 512) = 512\n<... write resumed>) = 512\n101 +++ exited with 0 +++", "calls:3: .*where it wrote isn't known"),
     ("a read at once", OPEN + THREAD + "write(3<db>, 'A*512', 512 <unfinished ...>\n101 read(0x3, 0x7f, 0x10) = 0x10\n<... write resumed>) = 512\n101 +++ exited with 0 +++", "calls:3: .*where it wrote isn't known"),
+    ("a dup2 of the number within a write", BOTH + "write(3<db>, 'A*512', 512 <unfinished ...>\n101 dup2(4<wal>, 3) = 3<wal>\n<... write resumed>) = 512\n" + GONE, f"calls:4: .*{NUMBER}: calls:5: "),
+    ("a write within a dup2 of the number", BOTH + "101 dup3(4<wal>, 3, O_CLOEXEC <unfinished ...>\nwrite(3<db>, 'A*512', 512) = 512\n101 <... dup3 resumed>) = 3<wal>\n" + GONE, f"calls:4: .*{NUMBER}: calls:5: "),
+    ("a dup2 that begins within a write, and ends after it", BOTH + "write(3<db>, 'A*512', 512 <unfinished ...>\n101 dup2(4<wal>, 3 <unfinished ...>\n<... write resumed>) = 512\n101 <... dup2 resumed>) = 3<wal>\n" + GONE, f"calls:5: .*{NUMBER}: calls:4: "),
+    ("a dup2 of the number that never ended", BOTH + "101 dup2(4<wal>, 3 <unfinished ...>\nwrite(3<db>, 'A*512', 512) = 512\n" + GONE, f"calls:4: .*{NUMBER}: calls:5: "),
+    ("a dup2 of the number within a sync", BOTH + "write(3<db>, 'A*512', 512) = 512\nfsync(3<db> <unfinished ...>\n101 dup2(4<wal>, 3) = 3<wal>\n<... fsync resumed>) = 0\n" + GONE, f"calls:5: .*{NUMBER}: calls:6: "),
+    ("a recorded file for the number within a write to another", BOTH + "openat(AT_FDCWD</elsewhere>, 'y', O_WRONLY) = 9</elsewhere/y>\nwrite(9</elsewhere/y>, 'A*512', 512 <unfinished ...>\n101 dup2(4<wal>, 9) = 9<wal>\n<... write resumed>) = 512\n" + GONE, f"calls:5: .*descriptor 9 was of isn't known; another try may pass: calls:6: "),
+    ("a close and an open within a write", BOTH + "write(3<db>, 'A*512', 512 <unfinished ...>\n101 close(3<db>) = 0\n101 " + NEXT + "<... write resumed>) = 512\n" + GONE, f"calls:4: .*{NUMBER}: calls:6: "),
+    ("a close within a write, which an open gives again", BOTH + THREAD.replace("101", "102") + "101 " + NEXT.replace(" = 3<next>", "").replace("0644)", "0644 <unfinished ...>") + "write(3<db>, 'A*512', 512 <unfinished ...>\n102 close(3<db>) = 0\n<... write resumed>) = 512\n101 <... openat resumed>) = 3<next>\n102 +++ exited with 0 +++\n" + GONE, f"calls:5: .*{NUMBER}: calls:6: "),
+    ("a close and a pipe within a sync", BOTH + "write(3<db>, 'A*512', 512) = 512\nfsync(3<db> <unfinished ...>\n101 close(3<db>) = 0\n101 pipe([3<pipe:[1]>, 9<pipe:[1]>]) = 0\n<... fsync resumed>) = 0\n" + GONE, f"calls:5: .*{NUMBER}: calls:7: "),
+    ("a close and a socket within a write", BOTH + "write(3<db>, 'A*512', 512 <unfinished ...>\n101 close(3<db>) = 0\n101 socket(AF_UNIX, SOCK_STREAM, 0) = 3<socket:[1]>\n<... write resumed>) = 512\n" + GONE, f"calls:4: .*{NUMBER}: calls:6: "),
+    ("O_APPEND within a write of a place", OPEN + THREAD + "pwrite64(3<db>, 'A*512', 512, 512 <unfinished ...>\n101 fcntl(3<db>, F_SETFL, O_RDWR|O_APPEND) = 0\n<... pwrite64 resumed>) = 512\n" + GONE, "calls:3: .*changed the flags of the descriptor at once"),
+    ("a write of a place within O_APPEND", OPEN + THREAD + "101 fcntl(3<db>, F_SETFL, O_RDWR|O_APPEND <unfinished ...>\npwrite64(3<db>, 'A*512', 512, 512) = 512\n101 <... fcntl resumed>) = 0\n" + GONE, "calls:3: .*another call wrote db at once"),
     ("a write that never ended", OPEN + "write(3<db>, 'A*512', 512 <unfinished ...>", "calls:2: .*ended within the call"),
     ("a write without an answer", OPEN + "write(3<db>, 'A*512', 512) = ?", "calls:2: .*what it wrote isn't known"),
     ("a mark in pieces", MARKED + "write(5</r/marks>, '0 on', 4) = 4", "calls:4: .*a mark is one whole line"),

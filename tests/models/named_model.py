@@ -142,13 +142,13 @@ class Model:
 
     # What is done
 
-    def change(self, slots):
-        """Changes slots to what they hold then, and notes which files have other names by that."""
+    def change(self, slots, is_exchange=False):
+        """Changes slots to what they hold then, and notes which files have other names by that; by `xfs` an exchange is no change of theirs."""
         now = {slot: held for change in [self.base, *self.changes] for slot, held in change.items()}
         self.changes.append(slots)
         for slot, held in slots.items():
             for kind, number in (it for it in (now.get(slot), held) if it):
-                if kind == "file":
+                if kind == "file" and not (is_exchange and self.table == "xfs"):
                     self.files[number].named = len(self.changes)
         there = [held for held in self.names_now().values() if held]
         for number in dict.fromkeys(held[1] for held in (now.get(slot) for slot in slots) if held and held[0] == "file"):
