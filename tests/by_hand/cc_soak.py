@@ -25,7 +25,7 @@ import rooms
 rooms.enter()
 
 from c_programs import Writer
-from native import SPENT, Checker, compiled, judged, logged, native
+from native import CC, SPENT, STRAY, Checker, judged, logged, native
 from notation import SECTOR
 from soaking import Soak, options, run_all
 
@@ -53,25 +53,32 @@ class Compared(Soak):
 
     def __init__(self, program, folder):
         super().__init__(program, folder)
-        self.refused, self.made, self.answers, self.spent = Counter(), Counter(), 0, 0
+        self.refused, self.count, self.answers, self.spent = Counter(), Counter(), 0, 0
+
+    def made(self, source, compiler):
+        """The program that crashbpf-cc makes, or what it says in its place. It is verified where it runs, for its budget by guards."""
+        out = self.folder / "p"
+        done = subprocess.run([sys.executable, CC, source, "check", out, "--compiler", compiler, *TURNS], capture_output=True, text=True)
+        said = re.findall(r"^cc: .*", done.stderr, re.M)
+        return (out.read_bytes(), "") if done.returncode == 0 else (None, said[0] if said else done.stderr[:80])
 
     def differs(self, number, seed):
         chance = random.Random(f"{seed} {number}")
         source = self.folder / "random.c"
         source.write_text(Writer(chance).checker())
-        checker = Checker(source, sectors=SECTORS)
+        checker = Checker(source, sectors=SECTORS, options=["--guards"])
         entries, cuts = logged([image(chance) for _ in range(self.images)], chance)
         judge = native(checker, self.folder)
         wanted = judge(cuts)
         found = {}
         for compiler in self.compilers:
-            code, said = compiled(checker, compiler, self.folder, Path(self.program), TURNS)
-            if code is None:
-                self.refused[f"{compiler}: {re.sub(r'[0-9]+', 'N', said)}"] += 1
+            code, said = self.made(source, compiler)
+            answers = judged(self.program, checker, entries, cuts, self.folder) if code else [(said, "")]
+            if not answers[0][0].isdigit() and answers[0][0] != STRAY:
+                self.refused[f"{compiler}: {re.sub(r'[0-9]+', 'N', answers[0][0])}"] += 1
                 continue
-            self.made[compiler] += 1
-            (self.folder / "p").write_bytes(code)
-            found[compiler] = judged(self.program, checker, entries, cuts, self.folder)
+            self.count[compiler] += 1
+            found[compiler] = answers
         lines = [it for compiler, own in found.items() for it in self.compared(compiler, own, wanted)]
         if lines:
             lines.append(self.kept(number, checker, cuts))
@@ -102,7 +109,7 @@ class Compared(Soak):
 
     def said(self):
         refused = "".join(f"\n  {count} {said}" for said, count in self.refused.most_common(12))
-        made = ", ".join(f"{count} by {it}" for it, count in self.made.items())
+        made = ", ".join(f"{count} by {it}" for it, count in self.count.items())
         return f"; {made}; {self.answers} answers compared, {self.spent} with spent turns{refused}"
 
 

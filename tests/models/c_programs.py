@@ -161,6 +161,7 @@ class Writer:
         return f"u{size}_at{self.chance.choice(['', '_be']) if size > 8 else ''}({place})", f"u{size}"
 
     def element(self, room, depth):
+        """An element of an array or a table, or a field of a struct."""
         if room.structs and self.chance.random() < 0.3:
             return self.field(room, depth)
         if not room.arrays + room.tables:
@@ -179,6 +180,7 @@ class Writer:
         return f"{name}({', '.join(self.as_type(room, it, depth) for it in kinds)})", kind
 
     def builtin(self, room, depth):
+        """What a compiler has of its own for bits and bytes."""
         word, kind = self.chance.choice([("popcountll", "u64"), ("popcount", "u32"), ("bswap16", "u16"), ("bswap32", "u32"), ("bswap64", "u64"), ("ctzll", "u64"), ("clz", "u32"), ("ffsll", "u64"), ("parity", "u32")])
         given = self.as_type(room, kind, depth)
         given = f"({given} | 1)" if word in ("ctzll", "clz") else given
@@ -260,6 +262,7 @@ class Writer:
         return f"{name} = {self.as_type(room, kind, 0)};"
 
     def added(self, room, _nested):
+        """Something that is added to a variable without a sign, or done to its bits."""
         some = [it for it in room.numbers if it[1] in UNSIGNED]
         if not some:
             return ";"
@@ -402,13 +405,13 @@ class Writer:
             parts.append(self.declared(room, True) + "\n")
         room.numbers = room.numbers or [("v0", "u64")]
         parts.append("static u64 v0 = 3;\n" * (room.numbers[0][0] == "v0"))
-        for _ in range(chance.randrange(1, 4)):
+        for _ in range(chance.randrange(3)):
             parts.append(self.function(room, chance.random() < 0.5, chance.random() < 0.2))
-        if chance.random() < 0.3:
+        if chance.random() < 0.2:
             parts.append(self.table(room))
         own = Room(room)
         self.pure, self.returned = False, "u64"
-        body = "\n".join(self.statement(own, 0, True) for _ in range(chance.randrange(4, 12)))
+        body = "\n".join(self.statement(own, 0, True) for _ in range(chance.randrange(3, 8)))
         sums = [f"(u64){name}" for name, _ in own.numbers]
         sums += [f"bytes_of({name}, sizeof {name})" for name, _, _ in own.arrays] + [f"strlen({name})" for name, _ in own.texts]
         sums += [f"(u64){it}{field.format(i=3, j=1)}" for it in own.structs for field in FIELDS]
