@@ -31,6 +31,9 @@ RECURSIVE = "a loop, with a stack of its own in a static array where one is need
 MEMORY_CALLS = "memcmp, memcpy, memset and memmove are those of checker.h; else set, copy and compare field by field"
 STACK = re.compile("stack limit|stack frame|stack size")
 
+SIZED_SAID = re.compile(r"dynamic stack allocation|dynamic_stackalloc")
+ALLOCA = re.compile("(__builtin_)?alloca$")
+
 # The functions of a compiler's own library, by their names.
 LIBRARY = [
     (re.compile(r"__(sync|atomic)_\w+$"), ATOMIC),
@@ -48,7 +51,7 @@ SAYINGS = [
     (re.compile(r"[Tt]hread-local storage"), THREADED),
     (re.compile(r"too many args|too many function arguments|pass by value not supported|arguments on the stack"), TOO_MANY),
     (re.compile(r"StructRet|small returns|only integer returns"), ANSWERED),
-    (re.compile(r"dynamic stack allocation|dynamic_stackalloc"), SIZED),
+    (SIZED_SAID, SIZED),
     (re.compile(r"[Aa]tomic(_|\w*Swap|Load|RMW|CmpSwap)"), ATOMIC),
 ]
 ERROR = re.compile(r"(?m)^(?:(.+?):(\d+):\d+: )?(?:(?:fatal )?error|sorry, unimplemented): (.*)$")

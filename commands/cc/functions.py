@@ -9,7 +9,7 @@ there, as where a table of constants is indexed past its end.
 import re
 from dataclasses import dataclass
 
-from commands.cc.tables import NO_TYPES, named
+from commands.cc.tables import NO_TYPES, in_local, named
 
 WORD = re.compile(r"[A-Za-z_$]")
 ATTRIBUTES = {"__attribute__", "__attribute"}
@@ -30,6 +30,14 @@ class FunctionTable:
 
     def place(self, _source=None):
         return self.file, self.line
+
+    def in_local(self):
+        """Why it can't be called in a function that is LOCAL, and what helps."""
+        return in_local(self.name)
+
+    def told(self):
+        """What is said where its calls have become code."""
+        return f"calls by the table {self.name} are code; by an index without a function"
 
 
 @dataclass

@@ -178,7 +178,7 @@ def declarator(source, at, last, own):
 
 def circular(source, functions):
     """The functions of these that may be called while they run. One that is called by a pointer may be called from anywhere."""
-    taken = {source.word(at) for at in source.addresses()}
+    taken = set() if source.by_names else {source.word(at) for at in source.addresses()}
     called = {it.name: taken | {source.word(at) for at in source.calls(it)} for it in functions}
     return [it for it in functions if reaches(called, it.name)]
 

@@ -6,7 +6,9 @@ Nothing is known of types: a function is told by its shape, a loop by its word. 
 import re
 from dataclasses import dataclass
 
+from commands.cc.locals import declaration
 from commands.cc.program import Refusal
+from commands.cc.tables import NO_TYPES
 
 TOKEN = re.compile(
     r"""(?P<marker>^\#[^\n]*)|(?P<space>\s+)|(?P<word>[A-Za-z_$][\w$]*)|(?P<number>\.?\d(?:[eEpP][+-]|[\w.])*)"""
@@ -89,6 +91,8 @@ class Source:
         self.text = text
         self.tokens = tokens_of(text)
         self.functions, self.loops, self.statements = [], [], []
+        # Whether each call names its function.
+        self.by_names = False
         try:
             self.outside()
         except RecursionError:
@@ -146,10 +150,31 @@ class Source:
         return []
 
     def addresses(self, name=None):
-        """The tokens that name functions, or this one, and don't call them."""
+        """The tokens that name functions, or this one, and don't call them. In a function that has a variable of its name, that is meant."""
         names = {it.name for it in self.functions} if name is None else {name}
         declared = {at for it in self.functions for at in range(it.declared, it.body)}
-        return [at for at in range(len(self.tokens)) if self.own_name(at, names) and self.word(at + 1) != "(" and at not in declared]
+        found = [at for at in range(len(self.tokens)) if self.own_name(at, names) and self.word(at + 1) != "("]
+        variables = [at for at in found if self.is_declared(at)] + [it.at for it in self.variables_named(names)]
+        hidden = {(self.word(at), self.scope_of(at)) for at in variables}
+        return [at for at in found if at not in declared and at not in variables and (self.word(at), self.scope_of(at)) not in hidden]
+
+    def scope_of(self, at):
+        """The first token of the function in which a token stands, its parameters too; or of the token itself."""
+        return next((it.declared for it in self.functions if it.declared <= at < it.end), at)
+
+    def variables_named(self, names):
+        """The variables of functions that have one of these names, as their declarations give them."""
+        found = [declaration(self, first, last, None) for first, last in self.statements if names & {it.text for it in self.tokens[first:last]}]
+        return [it for own in found if own for it in own.locals if it.name in names]
+
+    def is_declared(self, at):
+        """Whether a name is that of a variable or a parameter which is declared there: it stands after a type."""
+        before = at - 1
+        while self.word(before) == "*" or self.word(before) in ("const", "restrict"):
+            before -= 1
+        word = self.word(before)
+        typed = bool(re.match(r"[A-Za-z_$]", word)) and word not in NO_TYPES
+        return typed and (before == at - 1 or self.word(at + 1) in (",", ")", ";", "=", "["))
 
     def closed(self, at):
         """The token after the bracket that closes the one at this place."""

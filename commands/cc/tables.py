@@ -30,6 +30,18 @@ class Table:
         token = source.tokens[self.at]
         return token.file, token.line
 
+    def in_local(self):
+        """Why it can't be indexed in a function that is LOCAL, and what helps."""
+        return in_local(self.name)
+
+
+def in_local(name):
+    """The same, of a table of this name."""
+    return (
+        f"the table {name} is indexed in a function that is LOCAL, by what may lie past its end",
+        "test the index there with an answer that its caller tests: the function can't end the run",
+    )
+
 
 def tables_of(source):
     """The arrays of constants of a source, each declared for itself: static const u8 name[..] = ..;"""
