@@ -6,7 +6,7 @@ image is wanted. What was told once stays so: later records stand after those th
 """
 from typing import NamedTuple
 
-from commands.each.served_log import SECTOR, WHOLE, kept
+from commands.each.served_log import SECTOR, WHOLE
 
 EIGHTH = SECTOR // 8
 EVERY = 0xFF

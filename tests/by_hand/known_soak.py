@@ -1,5 +1,5 @@
 #!/usr/bin/env python3
-"""Tries the rules of records (patches/served/OUTPUT-known.md) on many random runs, by the model known_model.py.
+"""Tries the rules of records (docs/OUTPUT.md, 'Records of a program of yours') on many random runs, by the model known_model.py.
 
     python3 tests/by_hand/known_soak.py [--runs N] [--seed S] [--only NUMBER]
 
@@ -18,7 +18,7 @@ that are damaged are refused with their number and line. It takes some ten minut
 import argparse
 import random
 import sys
-from dataclasses import dataclass, replace
+from dataclasses import replace
 
 sys.dont_write_bytecode = True
 
@@ -28,33 +28,15 @@ rooms.enter()
 
 import export_model
 import known_model
-from case_parts_model import join_cases
-from cases_model import LOST, Cut, Losses, cases, choices, cut_ranges, image_of, judged_cuts, ranged, read_case, read_line
-from cure_cases_model import cure_cases
-from known_model import Refused, head_text, record_text, told
+from cases_model import LOST, Cut, Losses, cases, choices, image_of, judged_cuts, read_case, read_line
+from known_model import Ended, Refused, head_text, record_text, told
 from model import Checker, covered
 from notation import FLUSH, FUA, SECTOR, random_entry
 from parts_model import WideRun
-from why_model import case_causes
 
 # At most as many choices are made of a cut, and as many rounds of a run in which only some is judged.
 MOST, MOST_ROUNDS = 256, 200
 WORDS, SUM = "./check {}", "5f0c"
-
-
-@dataclass(frozen=True)
-class Ended:
-    """What a judge ends in, as a record and as a report say it."""
-
-    said: str
-
-    @property
-    def text(self):
-        return self.said + " codes -" * self.said.startswith("answer")
-
-    @property
-    def good(self):
-        return self.said == "answer 0"
 
 
 def some_entry(chance, sectors, values):
@@ -221,36 +203,11 @@ def ends_hold(it, status, text):
             yield f"cut {cut.number} was searched to {count} cases, of which {sum(fails)} fail, and {len(own.pending)} are pending"
     stopped = sum(bool(own.pending) for _cut, own in it.cuts())
     is_whole = not found["open"] and not found["beyond"] and not stopped
-    if text.endswith(" complete\n") != is_whole or f" open {found['open']} stopped {stopped}" not in text:
+    if text.endswith((" complete\n", " of these cuts\n")) != is_whole or f" open {found['open']} stopped {stopped}" not in text:
         yield f"the text ends {text.splitlines()[-1]}, and there are {dict(found)} of {stopped} stopped cuts"
     fails = any(not good for _cut, own in it.cuts() for _case, _ending, good in own.leaves)
     if status != (1 if fails else 0 if is_whole else 3):
         yield f"the status is {status}"
-
-
-def causes_hold(it, run, judge, losses):
-    """What isn't as the rules say of what `why` and `cure` tell by records, beside the same of the judge as a checker."""
-    checker = Checker(it.checker.about, judge)
-    for name, make in (("why", case_causes), ("cure", cure_cases)):
-        found, wanted = make(it.run, [it.checker], losses), make(run, [checker], losses)
-        if " open 0 stopped 0" in found and found.replace(" open 0 stopped 0", "") != wanted:
-            yield f"{name} tells {found}, and not {wanted}"
-
-
-def join_holds(rounds):
-    """What isn't as the rules say of texts of ranges that are joined, in any order; one of other inputs or another sum isn't."""
-    run, losses, chance = rounds.run, rounds.losses, rounds.chance
-    parts = cut_ranges(run, losses, chance.randint(1, 3))
-    texts = [known_model.explored(told(ranged(run, *it), rounds.content, losses, rounds.inputs))[1] for it in parts]
-    late, early = parts[0][0] > 0, parts[-1][1] < len(run.entries)
-    whole = ranged(run, parts[0][0], parts[-1][1]) if late or early else ranged(run, None, None)
-    wanted = known_model.explored(told(whole, rounds.content, losses, rounds.inputs))
-    found = join_cases(chance.sample(texts, len(texts)), True)
-    if found != wanted:
-        yield f"texts of ranges come to {found}, and not to {wanted}"
-    for what, old, new in (("inputs", f"inputs {rounds.inputs}", f"inputs {rounds.inputs ^ 1}"), ("a sum", f"sum {SUM}", "sum 5f0d")):
-        if len(texts) > 1 and join_cases([texts[0], texts[1].replace(old.encode(), new.encode())], True) != (2, (62, 1)):
-            yield f"other {what} aren't seen"
 
 
 def refused(run, content, losses, inputs):
@@ -324,10 +281,8 @@ def run_holds(number, seed):
         said.append(f"the text isn't that of a checker: {same}")
     if not rounds.is_wide and leaves_of(it.run, it.checker, losses) != leaves_of(run, Checker("", judge), losses):
         said.append("the leaves aren't those of a checker")
-    if not rounds.is_wide and not losses.at_failing and not losses.cases:
-        said += causes_hold(it, run, judge, losses)
     said += ends_hold(it, *(found[0], found[1].decode()))
-    said += [*join_holds(rounds), *damage_holds(rounds)]
+    said += damage_holds(rounds)
     other = with_options(chance, run.recorded, run.sectors, run.base, run.by)
     if is_small(other):
         other_losses = Losses(None, chance.choice([None, 1]), chance.random() < 0.3, None)

@@ -185,7 +185,7 @@ def compared(row, folder, cases, parts):
                 continue
             for fates in itertools.product(*[["whole", "drop"]] * len(risky)):
                 choice = {name: fate for name, fate in zip(risky, fates) if fate != "whole"}
-                image = images.image(cut, text_of(choice))
+                image = images.image_of(cut, choice)
                 content = b"".join(map(image.sector, range(images.sectors)))
                 key = hashlib.sha256(content).digest(), images.marks[cut]
                 if key not in known:

@@ -33,8 +33,8 @@ from cases_model import Losses, choices, image_of
 from commands.each.served_log import LogImages
 from commands.each.served_mount import Mount
 from commands.each.served_server import ENDS, SAID, TOLD, received, sent
-from known_model import head_text, record_text, told
-from known_soak import Ended, is_small, some_entry
+from known_model import Ended, head_text, record_text, told
+from known_soak import is_small, some_entry
 from notation import SECTOR, log
 from parts_model import WideRun
 

@@ -24,8 +24,7 @@ import rooms
 
 rooms.enter()
 
-from cases_model import LOST, TORN, Losses, cases, cut_ranges, judged_cuts, ranged, some_checker, some_entry, status
-from known_model import PROGRAM, SUM
+from cases_model import LOST, TORN, Losses, cases, cut_ranges, judged_cuts, ranged, some_checker, some_entry
 from model import Run
 from notation import SECTOR
 from parts_model import NUMBER, NUMBERS, below, is_program, joined
@@ -39,13 +38,10 @@ OPTIONS = re.compile(
 )
 CASE = re.compile(
     f"cut (?P<cut>{NUMBER}) epoch (?P<epoch>{NUMBER}) marks (?P<marks>{NUMBER}) program (?P<program>{NUMBER}) case (?P<case>{NUMBER}) "
-    f"(?:answer (?P<answer>{NUMBER}) codes (?P<codes>-|{NUMBERS})|fault 8[0-8] slot (?P<slot>{NUMBER})|stray at slot (?P<stray>{NUMBER})"
-    f"|out of steps|(?P<outside>signal (?P<signal>{NUMBER})|out of time))"
+    f"(?:answer (?P<answer>{NUMBER}) codes (?P<codes>-|{NUMBERS})|fault 8[0-8] slot (?P<slot>{NUMBER})|stray at slot (?P<stray>{NUMBER})|out of steps)"
     f" choice (?P<choice>[^ ]+) kept (?P<kept>[^ ]+)(?: among (?P<among>[^ ]+))? free (?P<free>{NUMBER}) flush (?:(?P<first>{NUMBER})[.][.](?P<last>{NUMBER})|none)"
 )
-TOTALS = re.compile(
-    f"cuts ({NUMBER}) cases ({NUMBER}) failing ({NUMBER}) torn beyond ({NUMBER}) lost beyond ({NUMBER})(?: open ({NUMBER}) stopped ({NUMBER}))?( complete| of these cuts)?"
-)
+TOTALS = re.compile(f"cuts ({NUMBER}) cases ({NUMBER}) failing ({NUMBER}) torn beyond ({NUMBER}) lost beyond ({NUMBER})( complete| of these cuts)?")
 MOST_CASES = 1 << 24
 MOST_FILES, MOST_BYTES = 4096, 1 << 30
 
@@ -53,7 +49,7 @@ MOST_FILES, MOST_BYTES = 4096, 1 << 30
 @dataclass(frozen=True)
 class Read:
     """A part as its text has it: the number of its inputs, its options without the range, the range as it is given, the programs, and what
-    was found. Of records the programs are one, with its sum, or none; and the totals have two numbers more."""
+    was found."""
 
     inputs: object
     options: str
@@ -105,14 +101,6 @@ def known(found, options):
     return None if None in lists or found["among"] == "-" else lists
 
 
-def is_ending(found, of_records):
-    """Whether a line ends in what a program of its kind may end in: a checker, or one of which there are records."""
-    if not of_records:
-        return found["outside"] is None
-    status, signal = int(found["answer"] or 1), int(found["signal"] or 1)
-    return (found["outside"] is not None or found["codes"] == "-") and status <= 255 and 1 <= signal <= 127
-
-
 def is_case(found, options, programs, span):
     """Whether a line of a case is one that a run with that head may print."""
     cut, numbers = int(found["cut"]), [found[it] for it in ("epoch", "marks", "case", "answer", "slot", "stray", "free")]
@@ -141,9 +129,9 @@ def read_options(line):
     return found if right and first <= last <= entries and len(flushes) <= 64 and all(it < entries for it in flushes) else None
 
 
-def extent_of(cuts, given, *beside):
-    """What the last line says where no case was left out, is open or waits: whether each cut of the log was asked for, by the kind of the cuts and their range."""
-    if any(beside):
+def extent_of(cuts, given, torn, lost):
+    """What the last line says where no case was left out: whether each cut of the log was asked for, by the kind of the cuts and their range."""
+    if torn or lost:
         return ""
     return " complete" if cuts == "all" and given == (None, None) else " of these cuts"
 
@@ -153,11 +141,10 @@ def read_totals(line, lines, options, span):
     found = TOTALS.fullmatch(line)
     if not found:
         return None
-    cuts, total, failing, torn, lost, *more = (int(it) for it in found.groups()[:7] if it is not None)
-    right = failing == len(lines) <= total <= MOST_CASES - sum(more[:1]) and cuts <= span[1] - span[0] + 1 and below(64, torn, lost)
-    enough = cuts >= max(len({int(it["cut"]) for it in lines}), *more[1:], 0)
-    extent = extent_of(options["cuts"], (options["from"], options["to"]), torn, lost, *more)
-    return (cuts, total, failing, torn, lost, *more) if right and enough and (found[8] or "") == extent else None
+    cuts, total, failing, torn, lost = map(int, found.groups()[:5])
+    right = failing == len(lines) <= total <= MOST_CASES and cuts <= span[1] - span[0] + 1 and below(64, torn, lost)
+    enough = cuts >= len({int(it["cut"]) for it in lines}) and (found[6] or "") == extent_of(options["cuts"], (options["from"], options["to"]), torn, lost)
+    return (cuts, total, failing, torn, lost) if right and enough else None
 
 
 def read_cases(text):
@@ -166,28 +153,21 @@ def read_cases(text):
         lines = text.decode("ascii").split("\n")
     except UnicodeDecodeError:
         return None
-    if len(lines) < 5 or lines[0] != FIRST or lines[-1] != "" or not TOTALS.fullmatch(lines[-2]):
+    if len(lines) < 5 or lines[0] != FIRST or lines[-1] != "":
         return None
-    of_records = TOTALS.fullmatch(lines[-2])[6] is not None
     said = INPUTS.fullmatch(lines[1])
     inputs = said and said[1]
     lines = lines[1:] if said else lines
     options = read_options(lines[1])
     programs = list(takewhile(lambda line: line.startswith("program "), lines[2:-2]))
-    if of_records:
-        programs = lines[2:4] if programs else []
-        are_programs = not programs or PROGRAM.fullmatch(programs[0]) and len(programs) == 2 and SUM.fullmatch(programs[1])
-    else:
-        are_programs = 1 <= len(programs) <= 8 and all(is_program(it, number) for number, it in enumerate(programs))
-    if not options or not are_programs:
+    if not options or not 1 <= len(programs) <= 8 or not all(is_program(it, number) for number, it in enumerate(programs)):
         return None
-    if (inputs is None) != (options["from"] is options["to"] is None and not of_records) or not below(64, inputs):
+    if (inputs is None) != (options["from"] is options["to"] is None) or not below(64, inputs):
         return None
     entries = int(options["entries"])
     span = int(options["from"] or 0), int(options["to"] or entries)
     found = [CASE.fullmatch(it) for it in lines[2 + len(programs) : -2]]
-    count = min(1, len(programs)) if of_records else len(programs)
-    if not all(found) or not all(is_case(it, options, count, span) and is_ending(it, of_records) for it in found):
+    if not all(found) or not all(is_case(it, options, len(programs), span) for it in found):
         return None
     marks = [tuple(int(it[word]) for word in ("cut", "program", "case")) for it in found]
     places = {(it["cut"], it["epoch"], it["marks"]) for it in found}
@@ -203,10 +183,9 @@ def text_of(inputs, options, given, programs, lines, totals):
     """The text of a run, its range as it is given, with the number of its inputs where there is one."""
     words = "".join(f" {word} {it}" for word, it in zip(("from", "to"), given) if it is not None)
     before, base, number = options.partition(" base ")
-    cuts, total, failing, torn, lost, *more = totals
-    extent = extent_of(OPTIONS.fullmatch(options)["cuts"], given, torn, lost, *more)
-    of_records = f" open {more[0]} stopped {more[1]}" if more else ""
-    last = f"cuts {cuts} cases {total} failing {failing} torn beyond {torn} lost beyond {lost}{of_records}{extent}"
+    cuts, total, failing, torn, lost = totals
+    extent = extent_of(OPTIONS.fullmatch(options)["cuts"], given, torn, lost)
+    last = f"cuts {cuts} cases {total} failing {failing} torn beyond {torn} lost beyond {lost}{extent}"
     return "".join(f"{it}\n" for it in (FIRST, *([] if inputs is None else [f"inputs {inputs}"]), before + words + base + number, *programs, *lines, last))
 
 
@@ -238,10 +217,9 @@ def join_cases(texts, some=False):
             return 2, (63 if end < start else 64, other)
     parts = [reads[it] for it in row]
     totals = tuple(map(sum, zip(*(it.totals for it in parts))))
-    of_records = len(totals) > 5
-    counts = [sum(it.totals[1] + sum(it.totals[5:6]) for it in parts[: number + 1]) for number in range(len(parts))]
-    if counts[-1] > MOST_CASES:
+    if totals[1] > MOST_CASES:
         # With that file there are too many.
+        counts = [sum(it.totals[1] for it in parts[: number + 1]) for number in range(len(parts))]
         return 2, (12, row[next(number for number, it in enumerate(counts) if it > MOST_CASES)])
     if not some and parts[0].span()[0] > 0:
         return 2, (63, row[0])
@@ -250,9 +228,8 @@ def join_cases(texts, some=False):
     if not below(64, *totals):
         totals = tuple(min(it, 2**64 - 1) for it in totals)
     lines, given = [line for it in parts for line in it.lines], joined_range(parts[0], parts[-1])
-    inputs = None if given == (None, None) and not of_records else parts[0].inputs
-    text = text_of(inputs, parts[0].options, given, parts[0].programs, lines, totals)
-    return status(text), text.encode()
+    inputs = None if given == (None, None) else parts[0].inputs
+    return 1 if lines else 0, text_of(inputs, parts[0].options, given, parts[0].programs, lines, totals).encode()
 
 
 def join_texts(texts, some=False):

@@ -1,7 +1,7 @@
 """Records of a program in place of checkers, and the texts that are told by them, in the plainest form.
 
-Written from patches/served/OUTPUT-known.md and from nothing of the program under test. The search is that of cases_model.py, with records
-as the judge.
+Written from docs/OUTPUT.md, 'Records of a program of yours', and from nothing of what is tested. The search is that of cases_model.py, with
+records as the judge.
 """
 import re
 from collections import Counter
@@ -235,6 +235,21 @@ def notes(it):
 
 
 # What who judges writes
+
+
+@dataclass(frozen=True)
+class Ended:
+    """What a judge ends in, as a record and as a report say it."""
+
+    said: str
+
+    @property
+    def text(self):
+        return self.said + " codes -" * self.said.startswith("answer")
+
+    @property
+    def good(self):
+        return self.said == "answer 0"
 
 
 def ranges(sectors):

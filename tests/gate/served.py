@@ -1,11 +1,13 @@
 #!/usr/bin/env python3
-"""Tries `crashbpf-each --bound any` with programs that behave and with hostile ones, and runs that are killed.
+"""Tests `crashbpf-each --bound any` with programs that behave and with hostile ones, and runs that are killed.
 
-    python3 tests/by_hand/served.py [PROGRAM]
+    python3 tests/gate/served.py [PROGRAM]
 
-PROGRAM is as in run.py. The steps are those of known_step.py. What is printed is compared with the model by a checker that looks at the same
-bytes. A hostile program ends in its verdict or in a line that says why, and no mount, process or folder is left. It needs FUSE, and root for
-the row of a disk that is full. It takes some minutes, and is no part of the gate.
+PROGRAM is as in run.py. What is printed is compared with the model known_model.py by a checker that looks at the same bytes. A hostile
+program ends in its verdict or in a line that says why, and no mount, process or folder is left. Where images can't be served, as where there
+is no FUSE, that is all that is tested: that it is refused with what is missing. A line says that the rest wasn't run.
+
+Prints a line for each row that failed, and last `N passed, M failed`. It takes half a minute.
 """
 import os
 import shutil
@@ -23,18 +25,20 @@ rooms.enter()
 
 import known_model
 from cases_model import ANY, Losses, cases
-from known_soak import Ended
+from commands.each.words import parse
+from commands.shared.faults import Refusal
+from known_model import Ended
 from model import Checker, Run
 from notation import TOP, D, F, M, W, log
 from shells import differs, try_all
 
-EACH, STEP = TOP / "commands/each/crashbpf-each", TOP / "tests/by_hand/known_step.py"
+EACH = TOP / "commands/each/crashbpf-each"
 MACHINES, RECOVERY = TOP / "examples/many_machines", TOP / "examples/recovery"
 SMALL = Run([W(0, 2, 1), W(2, 1, 2), F, W(1, 2, 3), M("one"), W(3, 1, 4), W(0, 1, 5), F, M("two"), D(0, 2)])
 # Commits, each of a sector and a header that names it, without the flushes that they need.
 COMMITS = Run([it for number in range(1, 7) for it in (W(number, 1, number), W(0, 1, number))], sectors=8)
 WORDS, USUAL = ["disk.log", "--sectors", "4", "--bound", "any"], ["disk.log", "--sectors", "4"]
-OF_COMMITS = ["disk.log", "--sectors", "8"]
+OF_COMMITS = ["disk.log", "--sectors", "8", "--bound", "any"]
 RECORDS = "crashbpf-each.known"
 
 # Reads the first byte of sector 3, or where that is 0 those of the sectors 0 and 1.
@@ -96,7 +100,7 @@ def put(folder, program=JUDGE, run=SMALL):
 
 def started(folder, *words, program=("python3", "judge.py", "{}"), usual=WORDS):
     """Starts crashbpf-each."""
-    surroundings = {**os.environ, "CRASHBPF_STEP": str(STEP), "CRASH_CUT": "7", "TMPDIR": str(Path(folder, "runs"))}
+    surroundings = {**os.environ, "CRASH_CUT": "7", "TMPDIR": str(Path(folder, "runs"))}
     Path(folder, "runs").mkdir(exist_ok=True)
     pipes = {"stdin": subprocess.DEVNULL, "stdout": subprocess.PIPE, "stderr": subprocess.PIPE}
     return subprocess.Popen([EACH, *usual, *words, "--", *program], cwd=folder, env=surroundings, text=True, start_new_session=True, **pipes)
@@ -159,7 +163,7 @@ def test_resumed(folder):
     with Path(folder, RECORDS).open("a") as file:
         file.write("ran cut 3 cho")
     _status, printed, said = each(folder, "--resume", program=("python3", "./judge.py", "{}"))
-    found += differs("with other words", (printed, "it is of another program or its words" in said), ("", True))
+    found += differs("with other words", (printed, "is of another program or its words" in said), ("", True))
     text = Path(folder, "judge.py").read_text()
     Path(folder, "judge.py").write_text(text + "#\n")
     _status, printed, said = each(folder, "--resume")
@@ -205,27 +209,43 @@ def test_cured(folder):
     return found + differs("what is left", left(folder), [])
 
 
-def test_usual(folder):
-    """Where nothing is said of a bound every loss is taken; where it can't be had one loss is, and a clean run isn't called that."""
+def without_fuse(folder, *words):
+    """Runs crashbpf-each where there is no FUSE."""
+    text = 'mount --bind /dev/null /dev/fuse && exec "$@"'
+    return subprocess.run(["unshare", "-m", "sh", "-c", text, "sh", EACH, *words], cwd=folder, capture_output=True, text=True, stdin=subprocess.DEVNULL)
+
+
+def test_unserved(folder):
+    """Where no image can be served it is refused with what is missing."""
     put(folder)
-    status, printed, said = each(folder, usual=USUAL)
-    found = differs(f"the text: {said}", printed, expected(SMALL, ANY, sum_in(printed)))
-    status, printed, said = each(folder, "--first", usual=USUAL)
-    found += differs(f"with --first: {said}", printed.startswith("crash report "), True)
-    Path(folder, "judge.py").write_text("")
-    text = f"mount --bind /dev/null /dev/fuse && exec {EACH} {' '.join(USUAL)} -- python3 judge.py {{}}"
-    done = subprocess.run(["unshare", "-m", "sh", "-c", text], cwd=folder, env={**os.environ, "CRASHBPF_STEP": str(STEP)}, capture_output=True, text=True)
-    says = "note: one loss at a time is judged, and not every loss: " in done.stderr
-    found += differs(f"without FUSE: {done.stdout} {done.stderr}", (done.returncode, says, done.stdout.startswith("crash report ")), (3, True, True))
-    text = text.replace(" -- ", " --bound any -- ")
-    done = subprocess.run(["unshare", "-m", "sh", "-c", text], cwd=folder, env={**os.environ, "CRASHBPF_STEP": str(STEP)}, capture_output=True, text=True)
-    return found + differs(f"where it was asked for: {done.stderr}", (done.returncode, "can't be had" in done.stderr), (2, True))
+    done = without_fuse(folder, *WORDS, "--", "python3", "judge.py", "{}")
+    return differs(f"where it was asked for: {done.stderr}", (done.returncode, done.stdout, "can't be had: " in done.stderr), (2, "", True))
+
+
+def refused(words):
+    """What words are refused with, or that they aren't."""
+    try:
+        parse([*words, "--", "true"])
+    except Refusal as fault:
+        return str(fault)
+    return "nothing"
+
+
+def test_options(_folder):
+    """What doesn't stand beside it, or without it, is refused."""
+    wrong = (
+        ("of images", [*WORDS, "--first"], [*WORDS, "--read-only"]),
+        ("beside --cure", [*WORDS, "--cure", "--cases", "2"], [*WORDS, "--cure", "--part", "1/2"], [*WORDS, "--cure", "--cuts", "all"]),
+        ("is 1 to ", [*WORDS, "--cases", "0"], [*WORDS, "--part", "3/2"], [*WORDS, "--spot", "0"]),
+        ("with --bound any", [*USUAL, "--cure"], [*USUAL, "--at-most", "1"], [*USUAL, "--spot", "2"], [*USUAL, "--bound", "2", "--stay"]),
+    )
+    return [it for says, *rows in wrong for words in rows for it in differs(f"{words} refused with {refused(words)}", says in refused(words), True)]
 
 
 def test_parts(folder):
     """Parts are judged by processes, one of which is killed and taken up again; put together they come to the text of the run."""
     put(folder, JUDGE.replace("import os, sys", "import os, sys, time; time.sleep(0.2)"))
-    surroundings = {**os.environ, "CRASHBPF_STEP": str(STEP), "EACH": str(EACH)}
+    surroundings = {**os.environ, "EACH": str(EACH)}
     sh = lambda text: subprocess.run(["sh", "-c", text, "sh", MACHINES], cwd=folder, env=surroundings, capture_output=True, text=True)
     done = sh(f'"$1"/lay_out_each run 3 {" ".join(WORDS)} -j 1 -- python3 judge.py {{}}')
     found = differs(f"the status of lay_out_each: {done.stderr}", done.returncode, 0)
@@ -304,7 +324,7 @@ def test_full(folder):
     room.mkdir()
     text = f"mount -t tmpfs -o size=16k none {room} && cd {room} && cp {folder}/disk.log {folder}/judge.py . && (dd if=/dev/zero of=rest bs=512 2>/dev/null; true) && exec {EACH} {' '.join(WORDS)} -- python3 judge.py {{}}"
     put(folder)
-    done = subprocess.run(["unshare", "-m", "sh", "-c", text], env={**os.environ, "CRASHBPF_STEP": str(STEP)}, capture_output=True, text=True)
+    done = subprocess.run(["unshare", "-m", "sh", "-c", text], capture_output=True, text=True)
     return differs(f"what is said: {done.stderr}", (done.returncode, "No space left" in done.stderr), (2, True))
 
 
@@ -314,7 +334,8 @@ ROWS = {
     "a cure": test_cured,
     "parts": test_parts,
     "a program that stays": test_stays,
-    "what is usual": test_usual,
+    "where there is no FUSE": test_unserved,
+    "options": test_options,
     "a server that is killed": test_killed,
     **{name: hostile(name) for name in HOSTILE},
     "a disk that is full": test_full,
