@@ -1,12 +1,13 @@
 #!/usr/bin/env python3
 """Holds `crashbpf-each --bound any` against brute force on the logs of the examples, and beside the runs of `--bound 1`.
 
-    python3 tests/by_hand/outside.py FOLDER [--parts N] [--only NAME ..] [-j N] [PROGRAM]
+    python3 tests/by_hand/outside.py FOLDER [--parts N] [--only NAME ..] [--alone] [-j N] [PROGRAM]
 
 For each log the program that judges is run on served images until every loss is told. Then each choice of each cut with at most N parts at
 risk (8 where it isn't given) is made a plain file, as the log's entries say it, and judged there without a server. Images with the same
 bytes and as many marks are judged once. Each choice has to end as its case says. A line for each log says how often the program was run and
-how long that took, with `--bound 1` and for every loss, and how many choices differ. FOLDER keeps the logs.
+how long that took, with `--bound 1` and for every loss, and how many choices differ. With `--alone` there are no runs of `--bound 1`. FOLDER keeps
+the logs.
 
 It needs strace, e2fsprogs, sqlite3, python3-lmdb and FUSE, and is no part of the gate. PROGRAM is as in run.py.
 """
@@ -200,19 +201,19 @@ def compared(row, folder, cases, parts):
     return found
 
 
-def try_row(row, folder, parts, runners):
+def try_row(row, folder, given):
     """Returns whether a row holds, and says what was found of it."""
     make(row, folder)
-    total, new, before = bounded(row, folder, runners)
-    status, printed, said, seconds = each(row, folder, ["--bound", "any"], runners)
+    total, new, before = (0, 0, 0.0) if given.alone else bounded(row, folder, given.j)
+    status, printed, said, seconds = each(row, folder, ["--bound", "any"], given.j)
     ran = RUN.search(said)
     if not ran:
         print(f"{row.name}: {said.strip()}", flush=True)
         return False
-    brute = compared(row, folder, Cases(printed), parts)
+    brute = compared(row, folder, Cases(printed), given.parts)
     last = printed.splitlines()[-1]
     print(f"{row.name}: bound 1 {total} images, {new} runs, {before:.1f} s; every loss {ran[1]} runs in {ran[3]} rounds, {seconds:.1f} s, status {status}, {last}", flush=True)
-    print(f"  brute force to {parts} parts: {brute.choices} choices, {brute.images} images, {brute.differences} differences", flush=True)
+    print(f"  brute force to {given.parts} parts: {brute.choices} choices, {brute.images} images, {brute.differences} differences", flush=True)
     return not brute.differences
 
 
@@ -222,6 +223,7 @@ def main():
     parser.add_argument("program", nargs="?", default=str(TOP / "crates/crashbpf/out/crashbpf"))
     parser.add_argument("--parts", type=int, default=8)
     parser.add_argument("--only", nargs="*")
+    parser.add_argument("--alone", action="store_true")
     parser.add_argument("-j", type=int, default=2)
     given = parser.parse_args()
     os.environ["CRASHBPF"] = str(Path(given.program).resolve())
@@ -229,7 +231,7 @@ def main():
     folder.mkdir(exist_ok=True)
     (folder / "check.sh").write_text(CHECK)
     (folder / "write.sh").write_text(WRITE)
-    held = [try_row(it, folder, given.parts, given.j) for it in ROWS if not given.only or it.name in given.only]
+    held = [try_row(it, folder, given) for it in ROWS if not given.only or it.name in given.only]
     print(f"{sum(held)} passed, {len(held) - sum(held)} failed")
     return 0 if all(held) else 1
 
