@@ -7,7 +7,7 @@ import socket
 import tempfile
 import time
 
-from commands.each.runner import ANSWER, TOLD, serve
+from commands.each.runner import ANSWER, TOLD, FileRunner, serve
 from commands.each.stream import RECORD
 from commands.shared.ends import SIGNALS
 from commands.shared.faults import Refusal
@@ -34,14 +34,14 @@ class Seat:
         self.process, self.channel, self.image = process, channel, None
         self.records = {}
 
-    def tell(self, image, mark):
-        """Gives it an image to judge."""
+    def tell(self, image, mark, is_again=False):
+        """Gives it an image to judge, maybe again."""
         records = b"".join(self.records.values())
         self.records.clear()
         sizes = len(image.choice), len(mark), len(records)
         self.image = image.number
         try:
-            self.channel.sendall(TOLD.pack(image.number, image.cut, image.marks, *sizes) + image.choice + mark + records)
+            self.channel.sendall(TOLD.pack(image.number, image.cut, image.marks, is_again, *sizes) + image.choice + mark + records)
         except OSError:
             # (it says why in its answer, or is gone)
             pass
@@ -57,7 +57,7 @@ class Seat:
         return data
 
     def heard(self):
-        """Returns the number of the image that it was at, its verdict, and whether processes were left."""
+        """Returns the number of the image that it was at, its verdict, whether processes were left, and what is said beside that."""
         try:
             refused, kind, number, left, length = ANSWER.unpack(self.exactly(ANSWER.size))
             said = self.exactly(length)
@@ -66,19 +66,18 @@ class Seat:
         if refused:
             raise Refusal(said.decode(errors="replace"))
         image, self.image = self.image, None
-        return image, Verdict(kind, number), left
+        return image, Verdict(kind, number), left, said
 
 
 class Crew:
-    """All runners. Their folders stand in the given one."""
+    """All runners, which `make` makes. Their folders stand in the given one."""
 
-    def __init__(self, folder, given):
-        self.folder, self.seats = folder, []
-        rooms = [os.path.join(folder, str(it)) for it in range(given.runners)]
+    def __init__(self, folder, given, make=FileRunner):
+        self.rooms, self.seats = [os.path.join(folder, str(it)) for it in range(given.runners)], []
         # (all of them first: a runner that ends takes away the folder above where nothing is in it)
-        for room in rooms:
+        for room in self.rooms:
             os.mkdir(room)
-        for room in rooms:
+        for room in self.rooms:
             ours, theirs = socket.socketpair()
             # (a signal that came in between would end both as if they were one; a runner is never ended by one)
             signal.pthread_sigmask(signal.SIG_BLOCK, SIGNALS)
@@ -86,7 +85,7 @@ class Crew:
             if process == 0:
                 for it in [ours, *(seat.channel for seat in self.seats)]:
                     it.close()
-                serve(room, given, theirs)
+                serve(room, given, theirs, make)
             theirs.close()
             self.seats.append(Seat(process, ours))
             signal.pthread_sigmask(signal.SIG_UNBLOCK, SIGNALS)
@@ -121,4 +120,5 @@ class Crew:
             while os.waitpid(it.process, os.WNOHANG)[0] == 0 and time.monotonic() < deadline:
                 time.sleep(0.002)
         self.seats = []
-        shutil.rmtree(self.folder, ignore_errors=True)
+        for it in self.rooms:
+            shutil.rmtree(it, ignore_errors=True)

@@ -11,11 +11,16 @@ from commands.shared.faults import Refusal
 
 # A program of one instruction, `exit`: with `--checked 0` it takes no step, so that crashbpf tells what a run is without one.
 EXIT = b"\x95" + bytes(7)
-PART = re.compile(r"part 0\.\.[01] of (0|[1-9]\d*) inputs \d+", re.A)
+PART = re.compile(r"part 0\.\.[01] of (0|[1-9]\d*) inputs (\d+)", re.A)
 MARK = re.compile(rb'entry \d+ .*\bmark\b.* text "(.*)"')
 PROMISES = ("note: marks that promise ", "note: a write before each of them ")
-RISK = re.compile(r"cut \d+ epoch \d+ marks \d+ at risk (\d+) in flight \d+", re.A)
+RISK = re.compile(r"cut (\d+) epoch \d+ marks \d+ at risk (\d+) in flight \d+", re.A)
 NO_IMAGE = "refused 13 at 17"
+# On which options the images hang of which records are.
+OF_RECORDS = ("--sectors", "--base", "--by", "--large")
+# By which the bytes of files are summed, and what takes that back.
+FACTOR = 1099511628211
+INVERSE = pow(FACTOR, -1, 2**64)
 
 
 def found():
@@ -42,22 +47,61 @@ def asked(program, words):
     return done.returncode, done.stdout, done.stderr
 
 
-def head(program, given, folder):
-    """Returns the line of the options, as the report has it, and the number of all images. A file is made in the folder, and taken away."""
+def explored(program, folder, words):
+    """Explores by a program that takes no step. A file is made in the folder, and taken away. Returns the status and what is printed."""
     path = Path(folder, "exit")
     path.write_bytes(EXIT)
-    first = ["--first"] if given.first else []
+    try:
+        return asked(program, ["explore", *words, str(path), "--checked", "0"])
+    finally:
+        path.unlink()
+
+
+def part(program, given, folder, words):
+    """Returns the first lines of the text of a part of a run, and what its second line counts and sums."""
     for images in ("0..1", "0..0"):
-        words = ["explore", *given.of_images(), str(path), "--checked", "0", "--images", images, *first]
-        status, printed, said = asked(program, words)
+        status, printed, said = explored(program, folder, [*words, "--images", images])
         if status != 2 or first_line(said) != NO_IMAGE:
             break
-    path.unlink()
     lines = printed.decode(errors="replace").split("\n")
-    part = PART.fullmatch(lines[1]) if status in (0, 1) and len(lines) > 3 else None
-    if not part or lines[0] != "crash part 1" or not lines[2].startswith("sectors "):
+    found = PART.fullmatch(lines[1]) if status in (0, 1) and len(lines) > 3 else None
+    if not found or lines[0] != "crash part 1" or not lines[2].startswith("sectors "):
         raise Refusal(f"crashbpf refuses the log {given.log}, or its options: {first_line(said)}")
-    return lines[2], int(part[1])
+    return lines, int(found[1]), int(found[2])
+
+
+def head(program, given, folder):
+    """Returns the line of the options, as the report has it, and the number of all images."""
+    lines, total, _inputs = part(program, given, folder, [*given.of_images(), *["--first"] * given.first])
+    return lines[2], total
+
+
+def summed(number, content, back=False):
+    """Goes on with the number of some files (docs/OUTPUT.md, 'The text of a part') by the bytes of one more, or takes those of the last back."""
+    found = [*content, *len(content).to_bytes(8, "little")]
+    for byte in reversed(found) if back else found:
+        number = ((number - byte - 1) * INVERSE if back else number * FACTOR + byte + 1) % 2**64
+    return number
+
+
+def inputs(program, given, folder):
+    """Returns the number of the inputs of records: of the log, and of what its images hang on beside that. crashbpf sums the log with the
+    program of one instruction, whose bytes are taken back."""
+    lines, _total, number = part(program, given, folder, [*given.of_images(OF_RECORDS), "--bound", "0"])
+    device, _cuts, more = lines[2].partition(" cuts ")
+    by, base = "write" if " by write" in more else "sector", more.partition(" base ")[2]
+    said = f"{device} by {by}{' base ' if base else ''}{base}\n"
+    return summed(summed(number, EXIT, True), said.encode())
+
+
+def case_options(program, given, folder):
+    """Returns the line of the options, as a text of cases has it, and the notes beside such a text that aren't of a checker."""
+    status, printed, said = explored(program, folder, given.of_step())
+    lines = printed.decode(errors="replace").split("\n")
+    options = lines[2] if lines[1:2] and lines[1].startswith("inputs ") else lines[1] if len(lines) > 2 else ""
+    if status not in (0, 1) or lines[0] != "crash cases 1" or not options.startswith("sectors "):
+        raise Refusal(f"crashbpf refuses the log {given.log}, or its options: {first_line(said)}")
+    return options, [it for it in said.decode(errors="replace").splitlines() if it.startswith("note: ") and not it.startswith(("note: program ", *PROMISES))]
 
 
 def marks(program, given):
@@ -69,17 +113,25 @@ def marks(program, given):
     return [it[1] for it in map(MARK.fullmatch, printed.split(b"\n")) if it], notes
 
 
+def risks(program, given):
+    """Returns each cut at which cases are looked for, with the number of parts at risk there."""
+    words = given.of_images([it for it in (*VALUED, *FLAGS, "--at-most") if it != "--bound"])
+    status, printed, said = asked(program, ["images", *words, "--bound", "any"])
+    if status != 0:
+        raise Refusal(first_line(said))
+    return [(int(it[1]), int(it[2])) for it in map(RISK.fullmatch, printed.decode().splitlines()) if it]
+
+
 def beyond(program, given):
     """Returns a note of the cuts at which more parts may be lost at once than the bound has, or no note where there is none."""
     bound = int(given.value("--bound") or 1)
-    words = given.of_images([it for it in VALUED + FLAGS if it != "--bound"])
-    status, printed, said = asked(program, ["images", *words, "--bound", "any"])
-    if status != 0:
-        return [f"note: at how many cuts more is lost than --bound {bound} has isn't known: {first_line(said)}"]
-    risks = [int(it[1]) for it in map(RISK.fullmatch, printed.decode().splitlines()) if it]
-    more = sum(it > bound for it in risks)
+    try:
+        found = risks(program, given)
+    except Refusal as fault:
+        return [f"note: at how many cuts more is lost than --bound {bound} has isn't known: {fault}"]
+    more = sum(risk > bound for _cut, risk in found)
     parts = "part" if bound == 1 else "parts"
-    return [f"note: at {more} of {len(risks)} cuts a crash may lose more than {bound} {parts}, and such images aren't judged"] * (more > 0)
+    return [f"note: at {more} of {len(found)} cuts a crash may lose more than {bound} {parts}, and such images aren't judged"] * (more > 0)
 
 
 class Export:

@@ -1,22 +1,26 @@
-"""A runner: a process that holds the file of one image, patches it as it is told, and lets the program judge it.
+"""A runner: a process that lets the program judge one image after the other, as it is told.
 
-It is told of an image by a message: the sizes and numbers of `TOLD`, the choice, the text of the mark, and records. It answers
-by one of `ANSWER`, with the words of a refusal after it. It ends where the other side is closed, whatever it is at, and takes its folder away.
+It is told of an image by a message: the sizes and numbers of `TOLD`, the choice, the text of the mark, and records. It answers by one of
+`ANSWER`, with the words of a refusal after it, or with what is said beside the verdict. It ends where the other side is closed, whatever it is
+at, and takes its folder away.
 """
 import os
 import shutil
 import signal
 import struct
 import sys
+from contextlib import suppress
 from pathlib import Path
+from typing import NamedTuple
 
 from commands.each.image_file import ImageFile
 from commands.shared.faults import Refusal
 from commands.shared.program import Gone, adopt, run, tidy
 
-# Of an image its number, cut and marks, the lengths of the choice and of the mark's text, and the number of bytes of records.
-TOLD = struct.Struct("<QQQIIQ")
-# Whether it is a refusal, the kind and the number of the verdict, whether processes were left, and the length of words.
+# Of an image its number, cut and marks, whether it is run again, the lengths of the choice and of the mark's text, and the number of bytes
+# of records.
+TOLD = struct.Struct("<QQQ?IIQ")
+# Whether it is a refusal, the kind and the number of the verdict, whether processes were left, and the length of what is said.
 ANSWER = struct.Struct("<?BQ?I")
 SAYS_MORE = b"\n[crashbpf-each: %d bytes more were printed]\n"
 
@@ -29,47 +33,49 @@ def exactly(file, size):
     return data
 
 
-class Runner:
-    """What a runner has: its folder, the image's file, and what it is to run."""
+class Told(NamedTuple):
+    """An image to judge: its number, its cut and marks, whether it is run again, its choice, the text of the last mark, and the records of
+    what it changes."""
 
-    def __init__(self, folder, given, channel):
-        self.given, self.channel = given, channel
+    number: int
+    cut: int
+    marks: int
+    is_again: bool
+    choice: bytes
+    mark: bytes
+    records: bytes
+
+
+class Runner:
+    """What each runner has: its channel, the path of the image, and what it is to run."""
+
+    def __init__(self, given, channel, path):
+        self.given, self.channel, self.path = given, channel, path
         self.asked = channel.makefile("rb", 1 << 18)
-        self.room = Path(folder, "run")
-        self.room.mkdir()
-        watched = given.read_only
-        path = self.room / "image" if watched else Path(folder, "image")
-        self.image = ImageFile(path, given.sectors(), given.value("--base"), watched)
-        self.path = os.fsencode(self.room / "image")
         self.words = [self.path if it == "{}" else os.fsencode(it) for it in given.program]
         self.nothing = os.open(os.devnull, os.O_RDONLY | os.O_CLOEXEC)
 
     def go(self):
         """Judges images as they are told, until nobody tells one more."""
         while True:
-            number, cut, marks, choice, mark, size = TOLD.unpack(exactly(self.asked, TOLD.size))
-            told = {b"CRASH_CUT": b"%d" % cut, b"CRASH_MARKS": b"%d" % marks, b"CRASH_IMAGE": self.path}
-            told[b"CRASH_CHOICE"] = exactly(self.asked, choice)
-            told[b"CRASH_MARK"] = exactly(self.asked, mark)
-            self.image.patch(exactly(self.asked, size))
-            self.answer(self.judge(number, told))
+            number, cut, marks, is_again, *sizes = TOLD.unpack(exactly(self.asked, TOLD.size))
+            it = Told(number, cut, marks, is_again, *(exactly(self.asked, size) for size in sizes))
+            ended, said = self.judge(it)
+            self.channel.sendall(ANSWER.pack(False, *ended.verdict, ended.left, len(said)) + said)
 
-    def answer(self, ended):
-        self.channel.sendall(ANSWER.pack(False, *ended.verdict, ended.left, 0))
+    def surroundings(self, it):
+        """Returns what the program finds in its environment. With any number of losses nothing says where the image stands in the log."""
+        found = {**os.environb, b"CRASH_MARKS": b"%d" % it.marks, b"CRASH_IMAGE": self.path, b"CRASH_MARK": it.mark}
+        place = {b"CRASH_CUT": b"%d" % it.cut, b"CRASH_CHOICE": it.choice}
+        if not self.given.is_any():
+            return {**found, **place}
+        return {name: value for name, value in found.items() if name not in place}
 
-    def judge(self, number, told):
-        """Runs the program on the image that the file has now."""
-        if self.given.read_only:
-            self.image.watch()
-        else:
-            self.image.copy(self.path)
-        ended = run(self.words, {**os.environb, **told}, self.given.seconds, self.channel.fileno(), self.nothing)
-        if self.given.read_only:
-            self.image.test_unchanged(number)
-        if self.given.keep and not ended.verdict.is_good():
-            self.keep(number, ended)
-        tidy(self.room, ["image"] if self.given.read_only else [])
-        return ended
+    def end(self):
+        """Ends what outlives an image."""
+
+    def run(self, it):
+        return run(self.words, self.surroundings(it), self.given.seconds, self.channel.fileno(), self.nothing)
 
     def keep(self, number, ended):
         """Keeps a failing image, and what the program printed of it; each has its name when it is whole."""
@@ -79,19 +85,51 @@ class Runner:
         try:
             begun.write_bytes(ended.said + more)
             begun.rename(said)
-            self.image.copy(begun)
+            self.copy(begun)
             begun.rename(image)
         finally:
             begun.unlink(missing_ok=True)
 
 
-def serve(folder, given, channel):
-    """Is a runner in a folder of its own, until the other side is closed. Returns to nobody."""
+class FileRunner(Runner):
+    """A runner that holds the file of one image, and patches it as it is told."""
+
+    def __init__(self, folder, given, channel):
+        self.room = Path(folder, "run")
+        self.room.mkdir()
+        watched = given.read_only
+        path = self.room / "image" if watched else Path(folder, "image")
+        self.image = ImageFile(path, given.sectors(), given.value("--base"), watched)
+        super().__init__(given, channel, os.fsencode(self.room / "image"))
+
+    def judge(self, it):
+        """Runs the program on the image that the file has now."""
+        self.image.patch(it.records)
+        if self.given.read_only:
+            self.image.watch()
+        else:
+            self.image.copy(self.path)
+        ended = self.run(it)
+        if self.given.read_only:
+            self.image.test_unchanged(it.number)
+        if self.given.keep and not ended.verdict.is_good():
+            self.keep(it.number, ended)
+        tidy(self.room, ["image"] if self.given.read_only else [])
+        return ended, b""
+
+    def copy(self, path):
+        self.image.copy(path)
+
+
+def serve(folder, given, channel, make):
+    """Is a runner in a folder of its own, until the other side is closed. Returns to nobody. `make` makes it of these three."""
     for it in (signal.SIGINT, signal.SIGTERM, signal.SIGHUP, signal.SIGQUIT):
         signal.signal(it, signal.SIG_IGN)
     adopt()
+    runner = None
     try:
-        Runner(folder, given, channel).go()
+        runner = make(folder, given, channel)
+        runner.go()
     except (Gone, BrokenPipeError, ConnectionError):
         pass
     except (Refusal, OSError) as error:
@@ -101,6 +139,9 @@ def serve(folder, given, channel):
         except OSError:
             pass
     finally:
+        if runner is not None:
+            with suppress(Refusal, OSError):
+                runner.end()
         shutil.rmtree(folder, ignore_errors=True)
         # The folder of all runners is the main process's, but it may have been killed; the last one finds it empty.
         try:

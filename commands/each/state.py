@@ -62,11 +62,11 @@ def verdict_of(line):
     return int(number), Verdict(EXIT, int(status)) if status else Verdict(SIGNAL, int(ended_by))
 
 
-class State:
-    """The file of a run, and its verdicts by the number of the image."""
+class Journal:
+    """A file to which a run appends lines. A run that is stopped leaves it, and one with `--resume` goes on with it."""
 
-    def __init__(self, path, known_by, resume):
-        self.path, self.verdicts = path, {}
+    def __init__(self, path, resume):
+        self.path = path
         flags = os.O_RDWR | os.O_CLOEXEC | (0 if resume else os.O_CREAT)
         try:
             self.file = os.open(path, flags, 0o666)
@@ -75,20 +75,43 @@ class State:
             raise Refusal(f"another run goes on with {path}") from None
         except FileNotFoundError:
             raise Refusal(f"there is no {path} to go on with") from None
+        if not resume and os.fstat(self.file).st_size:
+            raise Refusal(f"{path} is of a run that was stopped: --resume goes on with it, and without the file it begins anew")
+
+    def whole_lines(self):
+        """Returns the lines that have their end, and how many bytes these are. What stands after them was being written when a run was
+        killed."""
+        with open(self.path, "rb") as file:
+            data = file.read()
+        whole = data[: data.rfind(b"\n") + 1]
+        return whole.decode(errors="replace").split("\n")[:-1], len(whole)
+
+    def append_at(self, size):
+        """Cuts the file off, and goes on there."""
+        os.ftruncate(self.file, size)
+        os.lseek(self.file, 0, os.SEEK_END)
+
+    def write(self, text):
+        data = text.encode()
+        while data:
+            data = data[os.write(self.file, data) :]
+
+
+class State(Journal):
+    """The file of a run, and its verdicts by the number of the image."""
+
+    def __init__(self, path, known_by, resume):
+        super().__init__(path, resume)
+        self.verdicts = {}
         head = [TITLE, *(f"{name} {value}" for name, value in known_by.items())]
         if resume:
             self.go_on(head)
-        elif os.fstat(self.file).st_size:
-            raise Refusal(f"{path} is of a run that was stopped: --resume goes on with it, and without the file it begins anew")
         else:
             self.write("".join(f"{it}\n" for it in head))
 
     def go_on(self, head):
         """Takes the verdicts of the file, which has to be of this run."""
-        with open(self.path, "rb") as file:
-            data = file.read()
-        whole = data.rpartition(b"\n")[0] + b"\n"
-        lines = whole.decode(errors="replace").split("\n")[:-1]
+        lines, size = self.whole_lines()
         for wanted, found in zip(head, [*lines, *[""] * len(head)]):
             if wanted != found:
                 name = wanted.split()[0]
@@ -99,13 +122,7 @@ class State:
             if found is None or found[0] in self.verdicts:
                 raise Refusal(f"{self.path} isn't gone on with: line {number} is no verdict")
             self.verdicts[found[0]] = found[1]
-        os.ftruncate(self.file, len(whole))
-        os.lseek(self.file, 0, os.SEEK_END)
-
-    def write(self, text):
-        data = text.encode()
-        while data:
-            data = data[os.write(self.file, data) :]
+        self.append_at(size)
 
     def add(self, number, verdict):
         self.write(f"image {number} {verdict.text()}\n")

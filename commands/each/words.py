@@ -1,4 +1,5 @@
 """The words of the command line: options of this program, LOG with the options of its images, and the program that judges."""
+import copy
 import os
 import re
 import shutil
@@ -13,12 +14,16 @@ USAGE += ", or with the folder of a recording in place of LOG --sectors N"
 # The options of `crashbpf images` that say which images there are, with a value and without one.
 VALUED = ("--sectors", "--flush", "--base", "--cuts", "--from", "--to", "--bound", "--by")
 FLAGS = ("--large", "--tears")
+# Those that stand beside `--bound any`, with a value and without one.
+OF_ANY, FLAGS_OF_ANY = ("--torn", "--at-most", "--cases"), ("--stop-at-failing",)
 # Those of `log`, which takes the same log.
 OF_LOG = ("--sectors", "--flush", "--large")
 # The options of this program.
-OWN_VALUED = {"-j": "runners", "--keep": "keep", "--timeout": "seconds"}
-OWN_FLAGS = {"--first": "first", "--resume": "resume", "--read-only": "read_only"}
-MOST_RUNNERS, MOST_SECONDS, MOST_SECTORS = 64, 86400, 33554432
+OWN_VALUED = {"-j": "runners", "--keep": "keep", "--timeout": "seconds", "--spot": "spot", "--part": "part"}
+OWN_FLAGS = {"--first": "first", "--resume": "resume", "--read-only": "read_only", "--cure": "cure", "--stay": "stay"}
+# Those of both kinds that stand beside `--bound any` alone, and those that never do.
+ONLY_ANY, NEVER_ANY = (*OF_ANY, *FLAGS_OF_ANY, "--spot", "--part", "--cure", "--stay"), ("--first", "--read-only")
+MOST_RUNNERS, MOST_SECONDS, MOST_SECTORS, MOST_SPOTS, MOST_PARTS, MOST_CASES = 64, 86400, 33554432, 1000000, 10000, 16777216
 SECTOR = 512
 # What runs a program on the files of an image.
 FILES = str(Path(__file__).resolve().parents[1] / "record/crashbpf-files")
@@ -28,8 +33,8 @@ NUMBER, DECIMAL = re.compile(r"0|[1-9]\d{0,18}", re.A), re.compile(r"\d{1,9}(\.\
 class Words:
     """What is asked for. `options` are those of the images, a pair of each name and its value, as they were given."""
 
-    first = resume = read_only = False
-    keep, seconds = None, 60.0
+    first = resume = read_only = cure = stay = False
+    keep, seconds, spot, part = None, 60.0, None, None
 
     def __init__(self, log, options, program):
         self.log, self.options, self.program = log, options, program
@@ -40,6 +45,23 @@ class Words:
 
     def sectors(self):
         return int(self.value("--sectors"))
+
+    def of_step(self):
+        """Those words of a step of `--bound any` that crashbpf takes."""
+        return self.of_images((*VALUED, *FLAGS, "--torn", "--at-most"))
+
+    def has(self, name):
+        return name in dict(self.options)
+
+    def asking(self, changes):
+        """Returns these words with other options of the images: each has a value, or is True for one without a value, or None for none."""
+        it = copy.copy(self)
+        kept = [pair for pair in self.options if pair[0] not in changes]
+        it.options = kept + [(name, None if value is True else value) for name, value in changes.items() if value is not None]
+        return it
+
+    def is_any(self):
+        return self.value("--bound") == "any"
 
     def of_images(self, names=VALUED + FLAGS):
         """The log and those of its options that have these names, as words of crashbpf."""
@@ -80,6 +102,20 @@ def seconds(value):
     return float(value)
 
 
+def spotted(value):
+    """Returns how many choices are compared, and by which seed, which may be given after a comma."""
+    count, _comma, seed = value.partition(",")
+    return number("--spot", count, MOST_SPOTS), int.from_bytes(os.urandom(4), "little") if seed == "" else number("the seed of --spot", seed, 1 << 32)
+
+
+def parted(value):
+    """Returns which part is judged, and of how many."""
+    part, slash, parts = value.partition("/")
+    if not slash or not NUMBER.fullmatch(parts) or not 1 <= int(parts) <= MOST_PARTS:
+        raise Refusal(f"--part is I/N, part I of N, and N is 1 to {MOST_PARTS}")
+    return number("I of --part I/N", part, int(parts)), int(parts)
+
+
 def halves(words):
     """Returns the words before the first `--`, and those after it."""
     if "--" not in words:
@@ -98,11 +134,11 @@ def split(words):
         name, equal, value = word.partition("=") if word.startswith("--") else (word, "", "")
         if re.fullmatch(r"-j.+", word):
             name, equal, value = "-j", "=", word[2:]
-        if name in VALUED or name in OWN_VALUED:
+        if name in VALUED + OF_ANY or name in OWN_VALUED:
             if not equal and not rest:
                 raise Refusal(f"{name} wants a value")
             found.append((name, value if equal else rest.pop(0)))
-        elif word in FLAGS or word in OWN_FLAGS:
+        elif word in FLAGS + FLAGS_OF_ANY or word in OWN_FLAGS:
             found.append((word, None))
         elif word.startswith("-"):
             raise Refusal(f"there is no option {word!r}; {USAGE}")
@@ -129,6 +165,30 @@ def of_recording(pairs, folder, program):
     return [(name, it.log()) if name == "" else (name, value) for name, value in pairs] + known, program
 
 
+def beside_any(given, names):
+    """Tests what stands beside `--bound any`."""
+    if not given.is_any():
+        other = next((it for it in names if it in ONLY_ANY), None)
+        if other:
+            raise Refusal(f"{other} is of every loss, with --bound any")
+        return
+    other = next((it for it in names if it in NEVER_ANY), None)
+    if other:
+        raise Refusal(f"{other} is of images, and with --bound any there are cases in their place")
+    if "--cases" in names:
+        number("--cases", given.value("--cases"), MOST_CASES)
+    beside_cure(names)
+
+
+def beside_cure(names):
+    """Tests what stands beside `--cure` and `--part`."""
+    other = next((it for it in names if it in ("--stop-at-failing", "--cases", "--part", "--cuts")), None)
+    if "--cure" in names and other:
+        raise Refusal(f"{other} doesn't stand beside --cure, which makes rounds of its own, over all cuts")
+    if "--part" in names and "--spot" in names:
+        raise Refusal("--spot compares choices of the whole run, and --part judges a part of it")
+
+
 def parse(words):
     """Returns what the words ask for."""
     before, program = halves(words)
@@ -143,10 +203,11 @@ def parse(words):
     twice = next((it for it in names if names.count(it) > 1), None)
     if twice:
         raise Refusal(f"{twice} stands there twice")
-    given = Words(logs[0], sized([it for it in pairs if it[0] in VALUED + FLAGS]), program)
+    given = Words(logs[0], sized([it for it in pairs if it[0] in VALUED + FLAGS + OF_ANY + FLAGS_OF_ANY]), program)
     number("--sectors", given.value("--sectors"), MOST_SECTORS)
-    if given.value("--bound") == "any":
-        raise Refusal("--bound is 0 to 3 here: a program of yours is given images, and with any number of losses there are cases in their place")
+    beside_any(given, names)
+    if "--stay" in names and "{}" in program:
+        raise Refusal("a program that stays is told its images by lines, so no word of it is {}, and the folder of a recording of files isn't for it")
     for name, value in pairs:
         if name == "-j":
             given.runners = number(name, value, MOST_RUNNERS)
@@ -154,6 +215,10 @@ def parse(words):
             given.seconds = seconds(value)
         elif name == "--keep":
             given.keep = value
+        elif name == "--spot":
+            given.spot = spotted(value)
+        elif name == "--part":
+            given.part = parted(value)
         elif name in OWN_FLAGS:
             setattr(given, OWN_FLAGS[name], True)
     return given

@@ -463,6 +463,9 @@ def read_map(text):
 class Image:
     """The files of an image, read by a map."""
 
+    # How many sectors of a chain are read at once, at first and later; most are short.
+    AT_ONCE = (8, 512)
+
     def __init__(self, device, found):
         self.device, (self.sets, rooms, self.sectors, self.others, self.modes) = device, found
         self.rooms = {}
@@ -479,9 +482,8 @@ class Image:
     def links(self, first, changes):
         """Yields the sectors of a chain of that many changes, up to the version that is in force."""
         link = self.read(first, 1)
-        number, some = struct.unpack_from("<Q", link)[0], 8
+        number, (some, more) = struct.unpack_from("<Q", link)[0], self.AT_ONCE
         yield link
-        # (most are short)
         while number < changes:
             count = min(some, changes - number)
             content, begun = self.read(first + number + 1, count), number
@@ -491,7 +493,7 @@ class Image:
                     return
                 number += 1
                 yield link
-            some = 512
+            some = more
 
     def names(self):
         """What each folder has: names with what they are of."""
@@ -524,12 +526,17 @@ class Image:
             raise Refused(f"the name {shown(os.fsdecode(name))} is of nothing")
         folder[name] = kind, number
 
-    def content(self, number):
-        """The bytes of the file the chain of whose size begins with a sector."""
+    def room(self, number):
+        """The size of the file the chain of whose size begins with a sector, and the first sector of its bytes."""
         for link in self.links(number, self.rooms[number][0].changes):
             _, size, first = LINK.unpack_from(link)
         if size and not any(it.first == first and size <= SECTOR * it.sectors for it in self.rooms[number]):
             raise Refused(f"the file of sector {number} has {size} bytes, and no room for them")
+        return size, first
+
+    def content(self, number):
+        """The bytes of such a file."""
+        size, first = self.room(number)
         return self.read(first, up(size, SECTOR) // SECTOR)[:size] if size else b""
 
     def contents(self):

@@ -37,8 +37,7 @@ import rooms
 rooms.enter()
 
 from model import Run
-from notation import MARK, SECTOR, TOP
-from rows.recording import entries_of
+from notation import MARK, SECTOR, TOP, entries_of
 
 RECORD = TOP / "commands/record"
 GUEST = TOP / "examples/recording/guest"

@@ -31,9 +31,8 @@ rooms.enter()
 import named_model
 from file_runs import content_of, plan_of, text_of
 from model import Run
-from notation import SECTOR, TOP, Entry
+from notation import SECTOR, TOP, Entry, entries_of
 from rows.file_calls import CALLS
-from rows.recording import entries_of
 from strace_texts import FILES, HERE, MARKS, strace
 
 RECORD = TOP / "commands/record"

@@ -38,15 +38,23 @@ TORN = [*LOST, *HEADS, *TAILS]
 
 @dataclass(frozen=True)
 class Losses:
-    """What is asked of losses: how many parts may be torn, and how many at most may not be whole; None for what isn't asked."""
+    """What is asked of losses: how many parts may be torn, and how many at most may not be whole; None for what isn't asked. Of records
+    (known_model.py) also whether the search of a cut ends at its first failing case, and after how many cases it ends."""
 
     torn: object = None
     most: object = None
+    at_failing: bool = False
+    cases: object = None
 
     def options(self):
         """The options of the command line that ask for it."""
-        words = [(it, value) for it, value in (("--torn", self.torn), ("--at-most", self.most)) if value is not None]
-        return "--bound any" + "".join(f" {name} {value}" for name, value in words)
+        words = [(it, value) for it, value in (("--torn", self.torn), ("--at-most", self.most), ("--cases", self.cases)) if value is not None]
+        return "--bound any" + "".join(f" {name} {value}" for name, value in words) + " --stop-at-failing" * self.at_failing
+
+    def end(self, found):
+        """Whether the search of a cut that has come to these cases ends there."""
+        failing = any(not good for _case, _ending, good in found.leaves[-1:])
+        return self.at_failing and failing or self.cases is not None and len(found.leaves) + len(found.open) >= self.cases
 
     def most_torn(self, run):
         return (self.torn or 1) if run.tears else 0
@@ -68,7 +76,10 @@ class View(Image):
 
 
 def ended(outcome):
-    """What a checker ended in, in words, and whether the image is good by it. It tells an answer and codes, or both words and that."""
+    """What a checker ended in, in words, and whether the image is good by it. It tells an answer and codes, or both words and that; and
+    records tell None of an image of which they don't know it."""
+    if outcome is None:
+        return None, None
     if isinstance(outcome, tuple):
         answer, codes = outcome
         return f"answer {answer} codes {','.join(map(str, codes)) or '-'}", answer == 0
@@ -151,11 +162,15 @@ class Case:
 
 @dataclass
 class Found:
-    """What the cases of a cut are, each with what the checker ends in there, and how many were left out."""
+    """What the cases of a cut are, each with what the checker ends in there, and how many were left out. Of records also those that are
+    open, and those that wait where the search has ended."""
 
     leaves: list = field(default_factory=list)
     torn_beyond: int = 0
     lost_beyond: int = 0
+    open: list = field(default_factory=list)
+    pending: list = field(default_factory=list)
+    ended: bool = False
 
 
 class Cut:
@@ -205,15 +220,23 @@ class Cut:
     def explore(self, checker, losses):
         """All cases, depth first."""
         found = Found()
-        found.leaves.extend(self.walk(checker, losses, found))
+        for case, ending, good in self.walk(checker, losses, found):
+            if ending is None:
+                found.open.append(case)
+            else:
+                found.leaves.append((case, ending, good))
+            found.ended = losses.end(found)
         return found
 
     def walk(self, checker, losses, found=None):
-        """The leaves, one after the other, each with what the checker ends in there and whether that is good."""
+        """The leaves, one after the other, each with what the checker ends in there and whether that is good; None for an open case."""
         yield from self.walk_case(Case(self, {}), checker, losses, Found() if found is None else found)
 
     def walk_case(self, case, checker, losses, found):
-        """Yields the failing leaves below a case, and counts those that are left out."""
+        """Yields the leaves below a case, and counts those that are left out."""
+        if found.ended:
+            found.pending.append(case)
+            return
         if case.torn() > losses.most_torn(self.run):
             found.torn_beyond += 1
             return
@@ -223,7 +246,7 @@ class Cut:
         view = case.representative()
         outcome = ended(checker.judge(view))
         split = self.split(case, list(view.looked))
-        if split is None:
+        if outcome == (None, None) or split is None:
             yield (case, *outcome)
             return
         part, groups = split
@@ -263,7 +286,7 @@ def head(run, checkers, losses):
     text += f" tears yes torn {losses.most_torn(run)}" if run.tears else " tears no"
     text += "" if losses.most is None else f" at-most {losses.most}"
     text += (" by write" if run.by == "write" else "") + run.told() + run.told_of_base() + "\n"
-    return text + "".join(f"program {number} {it.about}\n" for number, it in enumerate(checkers))
+    return text + "".join(f"program {number} {it.about}\n" for number, it in enumerate(checkers) if it.about)
 
 
 def case_line(case, program, number, ending):
@@ -282,7 +305,8 @@ def case_line(case, program, number, ending):
 def cases(run, checkers, losses=ANY, inputs=None):
     """What `explore --bound any` prints, by the number of the run's inputs, which a run of a range of the cuts tells; `?` stands for it where
     it isn't given."""
-    cuts, lines, total, failing, torn, lost = judged_cuts(run, losses), "", 0, 0, 0, 0
+    cuts, lines, total, failing, torn, lost, left = judged_cuts(run, losses), "", 0, 0, 0, 0, 0
+    stopped, of_records = 0, any(it.of_records for it in checkers)
     for cut in (Cut(run, number) for number in cuts):
         for program, checker in enumerate(checkers):
             found = cut.explore(checker, losses)
@@ -290,11 +314,13 @@ def cases(run, checkers, losses=ANY, inputs=None):
                 lines += "" if good else case_line(case, program, number, ending)
                 failing += not good
             total, torn, lost = total + len(found.leaves), torn + found.torn_beyond, lost + found.lost_beyond
+            left, stopped = left + len(found.open), stopped + bool(found.pending)
     is_whole = run.cuts == "all" and run.first is None and run.last is None
-    complete = "" if torn or lost else " complete" if is_whole else " of these cuts"
-    totals = f"cuts {len(cuts)} cases {total} failing {failing} torn beyond {torn} lost beyond {lost}{complete}\n"
+    complete = "" if torn or lost or left or stopped else " complete" if is_whole else " of these cuts"
+    told = f" open {left} stopped {stopped}" if of_records else ""
+    totals = f"cuts {len(cuts)} cases {total} failing {failing} torn beyond {torn} lost beyond {lost}{told}{complete}\n"
     text = head(run, checkers, losses) + lines + totals
-    if run.first is None and run.last is None:
+    if run.first is None and run.last is None and not of_records:
         return "crash cases 1\n" + text
     return OfInputs(f"crash cases 1\ninputs ?\n{text}") if inputs is None else f"crash cases 1\ninputs {inputs}\n{text}"
 
@@ -313,8 +339,10 @@ def first_case(run, checkers, losses=ANY, inputs=None):
 
 
 def status(text):
-    """The exit status beside a text of cases."""
-    return 0 if " failing 0 torn" in text else 1
+    """The exit status beside a text of cases. Of records a text that isn't complete is no clean one."""
+    if " failing 0 torn" not in text:
+        return 1
+    return 3 if " open " in text and not text.endswith((" complete\n", " of these cuts\n")) else 0
 
 
 # The cuts of a run, before it is made

@@ -43,7 +43,11 @@ def initial(run):
 
 def exported(run, first=0, last=None):
     """The text of the images from `first` to before `last`."""
-    images = list(run.images())[first:last]
+    return exported_images(run, list(run.images())[first:last])
+
+
+def exported_images(run, images):
+    """The text of these images."""
     shown, told, text = initial(run), [], f"inputs {number_of_report(run)}\n".encode()
     for image in images:
         content, marks = image.content(), image.marks()

@@ -214,10 +214,11 @@ class Run:
 @dataclass(frozen=True)
 class Checker:
     """A program as the report sees it: `about` is `slots L budget N` or `slots L limit N`; `judge` answers the answer and
-    the codes of an image."""
+    the codes of an image. In place of a program there may be records of one."""
 
     about: str
     judge: object
+    of_records: bool = False
 
 
 def failing_line(image, number, answer, codes):

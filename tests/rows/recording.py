@@ -6,7 +6,7 @@ What the tool makes of a trace byte by byte is tested by tests/gate/trace_log.py
 import struct
 
 from model import Checker, Run, explored
-from notation import DISCARD, MARK, SECTOR, TOP, D, Entry, F, Long, M, Row, S, W, log, named, report
+from notation import SECTOR, TOP, D, F, Long, M, Row, S, W, entries_of, log, named, report
 from rows.checkers import accepted, crc32c, judged, u16, u32
 from rows.worked import torn
 
@@ -19,18 +19,6 @@ LARGEST = 16384
 def made(name):
     """The log of a trace of examples/recording."""
     return trace_log.made((FOLDER / name).read_text(), FOLDER)
-
-
-def entries_of(content):
-    """The entries of a log whose text is in order."""
-    at, found = SECTOR, []
-    for _ in range(struct.unpack_from("<Q", content, 16)[0]):
-        sector, count, flags, length = struct.unpack_from("<4Q", content, at)
-        text = content[at + 32 : at + 32 + length]
-        end = at + SECTOR * (1 if flags & (DISCARD | MARK) else 1 + count)
-        found.append(Entry(sector, count, flags, text, content[at + SECTOR : end]))
-        at = end
-    return found
 
 
 MKFS = made("mkfs.trace")

@@ -12,9 +12,8 @@ import machine_model
 from commands.cc.mutants import filled_sectors
 from commands.record import trace_log
 from model import Checker, Run, explored
-from notation import SECTOR, TOP, Long, M, Row, S, explore
+from notation import SECTOR, TOP, Long, M, Row, S, entries_of, explore
 from rows.checkers import by_rule, u16, u32, u64
-from rows.recording import entries_of
 
 FOLDER = TOP / "examples/checkers"
 # The most sectors of a device without `--large`.

@@ -93,6 +93,18 @@ def log(entries):
     return super_block(len(entries)) + b"".join(it if isinstance(it, bytes) else it.encoded() for it in entries)
 
 
+def entries_of(content):
+    """The entries of a log whose text is in order."""
+    at, found = SECTOR, []
+    for _ in range(struct.unpack_from("<Q", content, 16)[0]):
+        sector, count, flags, length = struct.unpack_from("<4Q", content, at)
+        text = content[at + 32 : at + 32 + length]
+        end = at + SECTOR * (1 if flags & (DISCARD | MARK) else 1 + count)
+        found.append(Entry(sector, count, flags, text, content[at + SECTOR : end]))
+        at = end
+    return found
+
+
 # Programs
 
 

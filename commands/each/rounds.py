@@ -1,0 +1,205 @@
+"""Every loss of any number: rounds of what is wanted, judged on served images, until nothing is wanted any more."""
+import contextlib
+import functools
+import os
+import sys
+from collections import deque
+from typing import NamedTuple
+
+from commands.each import product
+from commands.each.crew import Crew
+from commands.each.curing import Cure
+from commands.each.progress import Progress
+from commands.each.known import Known
+from commands.each.records import Records, head_of, record
+from commands.each.served_mount import Mount
+from commands.each.served_runner import ServedRunner
+from commands.each.spot import Cases, compare
+from commands.each.step import Step, images_of
+from commands.each.stream import Image
+from commands.shared.faults import Refusal
+from commands.shared.verdicts import OUT_OF_TIME, SIGNAL, Verdict
+
+RECORDS = "crashbpf-each.known"
+SECONDS = 0.25
+# Each image of as many is run again.
+AGAIN = 16
+KILLED = 9
+
+
+class Job(NamedTuple):
+    """An image to run: for the first time, or again; then what it came to before, or None where that doesn't count."""
+
+    image: Image
+    is_again: bool = False
+    verdict: Verdict | None = None
+    looked: str = ""
+
+
+def is_doubtful(verdict):
+    """Whether it may be the machine that was slow or short of memory, and not the image."""
+    return verdict.kind == OUT_OF_TIME or verdict == (SIGNAL, KILLED)
+
+
+def first_number(folder):
+    """Returns a number above those of the images that are kept in a folder, if there is one."""
+    kept = [it.split(".")[0] for it in os.listdir(folder)] if folder else []
+    return max((int(it) + 1 for it in kept if it.isdigit()), default=0)
+
+
+class Rounds:
+    """The rounds of a run. `runs` counts how often the program was run, `judged` the images. With `cuts` those of other cuts aren't judged."""
+
+    def __init__(self, given, records, crew, marks, cuts=None):
+        self.records, self.crew, self.marks, self.cuts = records, crew, marks, cuts
+        self.is_told = None
+        self.round = self.runs = self.judged = self.failing = self.left = 0
+        self.jobs, self.at, self.alone, self.first = deque(), {}, deque(), first_number(given.keep)
+
+    def go(self, step):
+        """Judges until a step wants nothing."""
+        while wanted := [it for it in step.wanted() if self.cuts is None or it.cut in self.cuts]:
+            self.round, self.is_told = self.round + 1, step.is_told
+            self.judge(wanted, step.given.has("--stop-at-failing"))
+
+    def judge(self, wanted, stops):
+        """Judges the images of a round, as many at a time as there are runners, and in the end by itself what was doubtful."""
+        progress, before = Progress(len(wanted)), self.judged
+        self.jobs.extend(Job(it) for it in wanted)
+        try:
+            while self.jobs or self.at or self.alone:
+                self.hand_out()
+                self.hear(stops)
+                progress.say(self.judged - before, self.judged - before, self.failing)
+        finally:
+            progress.end()
+
+    def hand_out(self):
+        """Gives jobs to idle runners, but for images that a record tells by now; one that is doubtful only where all are idle."""
+        while self.jobs and (seat := self.crew.idle()) is not None:
+            job = self.jobs.popleft()
+            if job.is_again or not self.is_told(job.image):
+                self.tell(seat, job)
+        if not self.at and self.alone:
+            self.tell(self.crew.idle(), self.alone.popleft())
+
+    def tell(self, seat, job):
+        """Tells a runner of an image, under a number of its own."""
+        if job.image.marks > len(self.marks):
+            raise Refusal(f"image {job.image.number} has more marks than the log")
+        number, self.runs = self.first + self.runs, self.runs + 1
+        self.at[number] = job
+        seat.tell(job.image._replace(number=number), self.marks[job.image.marks - 1] if job.image.marks else b"", job.is_again)
+
+    def hear(self, stops):
+        """Waits for verdicts, but not for long."""
+        for number, verdict, left, said in self.crew.heard(SECONDS):
+            job = self.at.pop(number)
+            self.left += left
+            self.settle(job, verdict, said.decode(), stops)
+
+    def pass_over(self, failing):
+        """Leaves out what comes after a failing image at its cut: it isn't wanted any more."""
+        self.jobs = deque(it for it in self.jobs if it.is_again or it.image.cut != failing.cut or it.image.number < failing.number)
+
+    def settle(self, job, verdict, looked, stops):
+        """Records a verdict, or compares it with the one before."""
+        if is_doubtful(verdict) and not job.is_again:
+            self.alone.append(job._replace(is_again=True))
+        elif job.verdict is None:
+            self.records.add(job.image, verdict, looked)
+            self.judged += 1
+            self.failing += not verdict.is_good()
+            if not verdict.is_good() and stops:
+                self.pass_over(job.image)
+            if self.judged % AGAIN == 0:
+                self.jobs.append(job._replace(is_again=True, verdict=verdict, looked=looked))
+        elif verdict != job.verdict:
+            self.records.write(f"{record(job.image, verdict, looked)}\n")
+            where = f"cut {job.image.cut} choice {job.image.choice.decode()}"
+            raise Refusal(f"run again on one image the program ends otherwise, so it looks at more than the image: {job.verdict.text()}, then {verdict.text()}, at {where}")
+        elif looked != job.looked:
+            self.records.add(job.image, verdict, looked)
+
+
+def share(risks, part, parts):
+    """Returns the cuts of a part: of the cuts, the most at risk first, each goes to the part that has the least so far."""
+    loads, own = [0] * parts, set()
+    for cut, risk in sorted(risks, key=lambda it: (-it[1], it[0])):
+        least = loads.index(min(loads))
+        loads[least] += risk + 1
+        own |= {cut} if least == part - 1 else set()
+    return own
+
+
+class Answer(NamedTuple):
+    """The exit status, what is printed, what is noted, and the words of the run that the text is of."""
+
+    status: int
+    text: bytes
+    said: list
+    given: object
+
+
+def judged_part(step, rounds, path):
+    """Judges a part. Its text are its records, and its status is 1 where something fails of what is known."""
+    rounds.go(step)
+    status, _text, _said = step.text()
+    with open(path, "rb") as file:
+        return Answer(int(status == 1), file.read(), [], step.given)
+
+
+def answer(given, step, rounds, path):
+    """Does what is asked for: a cure, a part, or the text of cases."""
+    if given.cure:
+        cure = Cure(step, rounds)
+        status, text, said = cure.go()
+        return Answer(status, text, said, cure.step.given)
+    if given.part:
+        return judged_part(step, rounds, path)
+    rounds.go(step)
+    return Answer(*step.text(), given)
+
+
+def judged_any(given, program, folder, say, test_unchanged):
+    """Judges every loss, and prints what is asked for. Returns the exit status."""
+    path = os.path.join(given.keep, "known") if given.keep else RECORDS
+    marks, notes = product.marks(program, given)
+    known = Known(images_of(given), head_of(product.inputs(program, given, folder), given))
+    step = Step(program, given, folder, known)
+    cuts = share(product.risks(program, given), *given.part) if given.part else None
+    records, done = Records(path, known, given.resume), False
+    try:
+        with served_rounds(given, records, marks, folder, cuts) as rounds:
+            found = answer(given, step, rounds, path)
+        if given.spot:
+            compare(found.given, program, Cases(found.text.decode()), marks, folder)
+        test_unchanged()
+        sys.stdout.buffer.write(found.text)
+        sys.stdout.buffer.flush()
+        done = True
+    finally:
+        records.end(bool(given.keep) or not done and known.count > 0)
+    for note in [*notes, *found.said]:
+        say(note)
+    say(f"note: the program was run {rounds.runs} times, on {rounds.judged} images, in {rounds.round} rounds")
+    if given.spot:
+        say("note: as plain files {} choices by the seed {} end as their cases do".format(*given.spot))
+    if rounds.left:
+        say(f"note: after {rounds.left} images the program left processes running, which were ended")
+    return found.status
+
+
+@contextlib.contextmanager
+def served_rounds(given, records, marks, folder, cuts):
+    """Gives rounds on a mount of their own, which is gone afterwards."""
+    mount = Mount(folder, records.known.images, given.runners)
+    try:
+        crew = Crew(folder, given, functools.partial(ServedRunner, mount=mount))
+        try:
+            mount.handed_over()
+            yield Rounds(given, records, crew, marks, cuts)
+        finally:
+            crew.end()
+    finally:
+        mount.end()

@@ -1,0 +1,350 @@
+#!/usr/bin/env python3
+"""Tests `crashbpf-each --bound any` with programs that behave and with hostile ones, and runs that are killed.
+
+    python3 tests/gate/served.py [PROGRAM]
+
+PROGRAM is as in run.py. What is printed is compared with the model known_model.py by a checker that looks at the same bytes. A hostile
+program ends in its verdict or in a line that says why, and no mount, process or folder is left. Where images can't be served, as where there
+is no FUSE, that is all that is tested: that it is refused with what is missing. A line says that the rest wasn't run.
+
+Prints a line for each row that failed, and last `N passed, M failed`. It takes half a minute.
+"""
+import os
+import shutil
+import signal
+import subprocess
+import sys
+import time
+from pathlib import Path
+
+sys.dont_write_bytecode = True
+
+import rooms
+
+rooms.enter()
+
+import known_model
+from cases_model import ANY, Losses, cases
+from commands.each.words import parse
+from commands.shared.faults import Refusal
+from known_model import Ended
+from model import Checker, Run
+from notation import TOP, D, F, M, W, log
+from shells import differs, try_all
+
+EACH = TOP / "commands/each/crashbpf-each"
+MACHINES, RECOVERY = TOP / "examples/many_machines", TOP / "examples/recovery"
+SMALL = Run([W(0, 2, 1), W(2, 1, 2), F, W(1, 2, 3), M("one"), W(3, 1, 4), W(0, 1, 5), F, M("two"), D(0, 2)])
+# Commits, each of a sector and a header that names it, without the flushes that they need.
+COMMITS = Run([it for number in range(1, 7) for it in (W(number, 1, number), W(0, 1, number))], sectors=8)
+WORDS, USUAL = ["disk.log", "--sectors", "4", "--bound", "any"], ["disk.log", "--sectors", "4"]
+OF_COMMITS = ["disk.log", "--sectors", "8", "--bound", "any"]
+RECORDS = "crashbpf-each.known"
+
+# Reads the first byte of sector 3, or where that is 0 those of the sectors 0 and 1.
+JUDGE = """\
+import os, sys
+file = os.open(sys.argv[1], os.O_RDONLY)
+def byte(sector):
+    return os.pread(file, 1, 512 * sector)[0]
+marks = int(os.environ["CRASH_MARKS"])
+assert "CRASH_CUT" not in os.environ and "CRASH_CHOICE" not in os.environ
+found = byte(3) or byte(0) + byte(1)
+sys.exit(found % 3 if marks < 2 else found % 2)
+"""
+
+
+# The sector that the header names has to be there; where the program is told so a header of 4 is never good.
+COMMITTED = """\
+import os, sys
+file = os.open(sys.argv[1], os.O_RDONLY)
+def byte(sector):
+    return os.pread(file, 1, 512 * sector)[0]
+header = byte(0)
+sys.exit(header != 0 and (byte(header) != header or len(sys.argv) > 2 and header == 4))
+"""
+# The same judge as JUDGE, as one that stays; with a word it does something else at its fourth image.
+STAYS = """\
+import os, sys
+import stay
+assert not any(it in os.environ for it in ("CRASH_CUT", "CRASH_CHOICE", "CRASH_MARKS", "CRASH_IMAGE"))
+turn = 0
+def check(path, marks):
+    global turn
+    turn += 1
+    file = os.open(path, os.O_RDONLY)
+    byte = lambda sector: os.pread(file, 1, 512 * sector)[0]
+    found = byte(3) or byte(0) + byte(1)
+    os.close(file)
+    if len(sys.argv) > 1 and turn == 4:
+        exec(sys.argv[1])
+    return found % 3 if marks < 2 else found % 2
+stay.judge(check)
+"""
+
+
+def judge(view):
+    """What that program ends in."""
+
+    def byte(sector):
+        return view.sector(sector)[0]
+
+    found = byte(3) or byte(0) + byte(1)
+    return Ended(f"answer {found % 3 if view.marks() < 2 else found % 2}")
+
+
+def put(folder, program=JUDGE, run=SMALL):
+    Path(folder, "disk.log").write_bytes(log(run.recorded))
+    Path(folder, "judge.py").write_text(program)
+
+
+def started(folder, *words, program=("python3", "judge.py", "{}"), usual=WORDS):
+    """Starts crashbpf-each."""
+    surroundings = {**os.environ, "CRASH_CUT": "7", "TMPDIR": str(Path(folder, "runs"))}
+    Path(folder, "runs").mkdir(exist_ok=True)
+    pipes = {"stdin": subprocess.DEVNULL, "stdout": subprocess.PIPE, "stderr": subprocess.PIPE}
+    return subprocess.Popen([EACH, *usual, *words, "--", *program], cwd=folder, env=surroundings, text=True, start_new_session=True, **pipes)
+
+
+def each(folder, *words, program=("python3", "judge.py", "{}"), usual=WORDS):
+    """Runs crashbpf-each. Returns its status and what it printed on both outputs."""
+    running = started(folder, *words, program=program, usual=usual)
+    try:
+        printed, said = running.communicate(timeout=300)
+    except subprocess.TimeoutExpired:
+        os.kill(running.pid, signal.SIGTERM)
+        printed, said = running.communicate()
+        said += "it took too long"
+    return running.returncode, printed, said
+
+
+def left(folder):
+    """The mounts and folders of runs that are left."""
+    mounts = [it for it in Path("/proc/self/mountinfo").read_text().splitlines() if str(folder) in it]
+    return [*mounts, *(it.name for it in Path(folder, "runs").iterdir())]
+
+
+def expected(run, losses, total, program="python3 judge.py {}"):
+    about = f"outside {program}\nsum {total}"
+    return str(cases(run, [Checker(about, judge, of_records=True)], losses, known_model.inputs_of(run)))
+
+
+def sum_in(text):
+    return next((it.removeprefix("sum ") for it in text.splitlines() if it.startswith("sum ")), "")
+
+
+def test_texts(folder):
+    """The text is that of the model, for any number of runners, with tears, stops, ranges, flushes and by write."""
+    put(folder)
+    found = []
+    asked = [((), SMALL, ANY), (("--stop-at-failing",), SMALL, Losses(at_failing=True)), (("--cases", "2"), SMALL, Losses(cases=2))]
+    asked.append((("--tears", "--to", "2"), Run(SMALL.recorded, tears=True, last=2), ANY))
+    asked.append((("--by", "write", "--flush", "5", "--from", "2", "--to", "9"), Run(SMALL.recorded, by="write", flush=(5,), first=2, last=9), ANY))
+    for words, run, losses in asked:
+        for runners in ("1", "4"):
+            status, printed, said = each(folder, "-j", runners, *words)
+            wanted = expected(run, losses, sum_in(printed))
+            found += differs(f"the text with {words}", printed, wanted)
+            found += differs(f"the status with {words}: {said}", status, 1 if " failing 0 " not in wanted else 0 if wanted.endswith(" complete\n") else 3)
+    return found + differs("what is left", Path(folder, RECORDS).exists(), False)
+
+
+def test_resumed(folder):
+    """A run that is killed goes on with its records, and not with another program."""
+    put(folder, JUDGE.replace("import os, sys", "import os, sys, time; time.sleep(0.4)"))
+    running = started(folder, "-j", "1")
+    deadline = time.monotonic() + 60
+    while not (Path(folder, RECORDS).exists() and Path(folder, RECORDS).read_text().count("\nran ") > 2) and time.monotonic() < deadline:
+        time.sleep(0.05)
+    os.kill(running.pid, signal.SIGKILL)
+    running.communicate()
+    time.sleep(2)
+    found = differs("what is left of it", left(folder), [])
+    with Path(folder, RECORDS).open("a") as file:
+        file.write("ran cut 3 cho")
+    _status, printed, said = each(folder, "--resume", program=("python3", "./judge.py", "{}"))
+    found += differs("with other words", (printed, "is of another program or its words" in said), ("", True))
+    text = Path(folder, "judge.py").read_text()
+    Path(folder, "judge.py").write_text(text + "#\n")
+    _status, printed, said = each(folder, "--resume")
+    found += differs("with another program", (printed, "or a file that its words name" in said), ("", True))
+    Path(folder, "judge.py").write_text(text)
+    _status, printed, said = each(folder, "--resume")
+    return found + differs(f"the text: {said}", printed, expected(SMALL, ANY, sum_in(printed)))
+
+
+def test_killed(folder):
+    """A run ends with a line where its server is killed, or its mount is taken away, and leaves nothing."""
+    put(folder, JUDGE.replace("import os, sys", "import os, sys, time; time.sleep(0.4)"))
+    running = started(folder, "-j", "2")
+    deadline = time.monotonic() + 60
+    while not (Path(folder, RECORDS).exists() and "\nran " in Path(folder, RECORDS).read_text()) and time.monotonic() < deadline:
+        time.sleep(0.05)
+    children = [int(it) for it in Path(f"/proc/{running.pid}/task/{running.pid}/children").read_text().split()]
+    os.kill(min(children), signal.SIGKILL)
+    _printed, said = running.communicate(timeout=60)
+    found = differs(f"what is said: {said}", "the server of the images has ended" in said, True)
+    return found + differs("what is left", left(folder), [])
+
+
+def lines_of(text, beginning):
+    return [it for it in text.splitlines() if it.startswith(beginning)]
+
+
+def test_cured(folder):
+    """A cure finds the flushes that are missing and no other, whether it begins anew with one loss or not, and says what none cures."""
+    put(folder, COMMITTED, COMMITS)
+    needed = [f"flush before {2 * it + 1}" for it in range(6)]
+    status, printed, said = each(folder, "--cure", usual=OF_COMMITS)
+    found = differs(f"the flushes: {printed} {said}", (status, lines_of(printed, "flush before ")), (1, needed))
+    found += differs("the totals", printed.splitlines()[-1:] and printed.endswith(" open 0 stopped 0 complete\n"), True)
+    found += differs("the rounds of one loss", bool([it for it in lines_of(printed, "round ") if " one loss " in it]), True)
+    found += differs("what is tried without", len(lines_of(printed, "without ")) >= 6, True)
+    status, printed, said = each(folder, "--cure", "--to", "4", usual=OF_COMMITS)
+    found += differs(f"the flushes of a few: {said}", (status, lines_of(printed, "flush before ")), (1, needed[:2]))
+    status, printed, said = each(folder, "--cure", "--flush", "1,3,5,7,9,11", usual=OF_COMMITS)
+    found += differs(f"where none is missing: {said}", (status, lines_of(printed, "flush before ")), (0, []))
+    status, printed, said = each(folder, "--cure", program=("python3", "judge.py", "{}", "strict"), usual=OF_COMMITS)
+    found += differs(f"what no flush cures: {printed} {said}", (status, bool(lines_of(printed, "no flush cures cut "))), (1, True))
+    return found + differs("what is left", left(folder), [])
+
+
+def without_fuse(folder, *words):
+    """Runs crashbpf-each where there is no FUSE."""
+    text = 'mount --bind /dev/null /dev/fuse && exec "$@"'
+    return subprocess.run(["unshare", "-m", "sh", "-c", text, "sh", EACH, *words], cwd=folder, capture_output=True, text=True, stdin=subprocess.DEVNULL)
+
+
+def test_unserved(folder):
+    """Where no image can be served it is refused with what is missing."""
+    put(folder)
+    done = without_fuse(folder, *WORDS, "--", "python3", "judge.py", "{}")
+    return differs(f"where it was asked for: {done.stderr}", (done.returncode, done.stdout, "can't be had: " in done.stderr), (2, "", True))
+
+
+def refused(words):
+    """What words are refused with, or that they aren't."""
+    try:
+        parse([*words, "--", "true"])
+    except Refusal as fault:
+        return str(fault)
+    return "nothing"
+
+
+def test_options(_folder):
+    """What doesn't stand beside it, or without it, is refused."""
+    wrong = (
+        ("of images", [*WORDS, "--first"], [*WORDS, "--read-only"]),
+        ("beside --cure", [*WORDS, "--cure", "--cases", "2"], [*WORDS, "--cure", "--part", "1/2"], [*WORDS, "--cure", "--cuts", "all"]),
+        ("is 1 to ", [*WORDS, "--cases", "0"], [*WORDS, "--part", "3/2"], [*WORDS, "--spot", "0"]),
+        ("with --bound any", [*USUAL, "--cure"], [*USUAL, "--at-most", "1"], [*USUAL, "--spot", "2"], [*USUAL, "--bound", "2", "--stay"]),
+    )
+    return [it for says, *rows in wrong for words in rows for it in differs(f"{words} refused with {refused(words)}", says in refused(words), True)]
+
+
+def test_parts(folder):
+    """Parts are judged by processes, one of which is killed and taken up again; put together they come to the text of the run."""
+    put(folder, JUDGE.replace("import os, sys", "import os, sys, time; time.sleep(0.2)"))
+    surroundings = {**os.environ, "EACH": str(EACH)}
+    sh = lambda text: subprocess.run(["sh", "-c", text, "sh", MACHINES], cwd=folder, env=surroundings, capture_output=True, text=True)
+    done = sh(f'"$1"/lay_out_each run 3 {" ".join(WORDS)} -j 1 -- python3 judge.py {{}}')
+    found = differs(f"the status of lay_out_each: {done.stderr}", done.returncode, 0)
+    running = [subprocess.Popen([f"{folder}/run/run_part", f"{folder}/run", str(it)], env=surroundings, stderr=subprocess.PIPE) for it in (1, 2, 3)]
+    kept, deadline = Path(folder, "run/kept.1/known"), time.monotonic() + 120
+    while not (kept.exists() and "\nran " in kept.read_text()) and time.monotonic() < deadline:
+        time.sleep(0.05)
+    children = Path(f"/proc/{running[0].pid}/task/{running[0].pid}/children").read_text().split()
+    os.kill(int(children[0]), signal.SIGKILL)
+    found += differs("the statuses", [it.wait() for it in running], [2, 0, 0])
+    done = sh('"$1"/join_each run')
+    found += differs("what is missing", (done.returncode, done.stderr), (2, "join_each: not judged yet: 1\n"))
+    time.sleep(2)
+    before = kept.read_text().count("\nran ")
+    found += differs("a part that is taken up again", (sh('run/run_part run 1').returncode, before > 0), (0, True))
+    done = sh('"$1"/join_each run')
+    ran = "note: the program was run 0 times" in done.stderr
+    found += differs(f"the text: {done.stderr}", (ran, done.stdout), (True, expected(SMALL, ANY, sum_in(done.stdout))))
+    records = [Path(folder, f"run/text.{it}").read_text().count("\nran ") for it in (1, 2, 3)]
+    return found + differs("the records of each part", all(records), True)
+
+
+def test_stays(folder):
+    """A program that stays comes to the same text, also where it ends in between, and what isn't an answer is refused."""
+    put(folder, STAYS)
+    shutil.copy(RECOVERY / "stay.py", folder)
+    found = []
+    for name, act in (("stays", "pass"), ("is killed", "os.kill(os.getpid(), 11)"), ("ends", "os._exit(9)"), ("fails", "raise ValueError")):
+        words = ["python3", "judge.py", *([act] if act != "pass" else [])]
+        for runners in ("1", "2"):
+            status, printed, said = each(folder, "--stay", "-j", runners, program=words)
+            found += differs(f"the text where it {name}: {said}", lines_of(printed, "cut"), lines_of(expected(SMALL, ANY, "1"), "cut"))
+    wrong = [("os._exit(0)", "this one ended without one"), ("os.write(answers.fileno(), b'good' + bytes([10]))", "by b'good")]
+    for act, wanted in wrong:
+        Path(folder, "judge.py").write_text(STAYS.replace("stay.judge(check)", "answers = os.fdopen(os.dup(1), 'w')\nstay.judge(check)"))
+        status, printed, said = each(folder, "--stay", "-j", "1", program=["python3", "judge.py", act])
+        found += differs(f"what is said of {act}: {printed} {said}", wanted in said, True)
+        Path(folder, RECORDS).unlink(missing_ok=True)
+    Path(folder, "judge.py").write_text(STAYS.replace("return found", "return turn % 2 or found"))
+    status, printed, said = each(folder, "--stay", "-j", "1", "--tears", program=["python3", "judge.py"])
+    found += differs(f"one that counts its images: {printed} {said}", (status, "ends otherwise" in said), (2, True))
+    return found + differs("what is left", left(folder), [])
+
+
+# A hostile program, the options beside it, and a part of what is printed on either output.
+HOSTILE = {
+    "endless reads": ("import sys\nwhile True: open(sys.argv[1], 'rb').read()", ["--timeout", "1", "--stop-at-failing"], " out of time choice - "),
+    "a million files": ("import os, sys\nfor it in range(10 ** 6): open(f'{os.path.dirname(sys.argv[1])}/{it}', 'w').close()", ["--timeout", "250"], "made more than 10000 files"),
+    "many bytes": ("import sys\nwith open(sys.argv[1], 'r+b') as file:\n for it in range(1000): file.write(bytes(1 << 20))", [], "or wrote more than"),
+    "many processes": ("import os, sys\nfor it in range(30):\n if os.fork() == 0: open(sys.argv[1], 'rb').read(); os._exit(0)\nopen(sys.argv[1], 'rb').read()", [], "complete\n"),
+    "left running": ("import os, sys, time\nif os.fork() == 0: os.setsid(); time.sleep(1000)", [], "left processes running"),
+    "beyond the end": ("import os, sys\nfile = os.open(sys.argv[1], os.O_RDWR)\nos.pwrite(file, b'1', 1 << 44)\ntry: os.pwrite(file, b'1', 1 << 60)\nexcept OSError: sys.exit(0)\nsys.exit(1)", [], "failing 0 "),
+    "the clock": ("import sys, time\nfile = open(sys.argv[1], 'rb', buffering=0)\nfile.seek(512 * (time.time_ns() // 1000 % 4)); sys.exit(file.read(1)[0] + time.time_ns() // 1000 % 5)", [], "crashbpf-each: "),
+    "the image is gone": ("import os, sys\nos.unlink(sys.argv[1])", [], "failing 0 "),
+    "killed by itself": ("import os\nos.kill(os.getpid(), 11)", ["--stop-at-failing"], " signal 11 choice - "),
+    "the mount is taken away": ("import os, subprocess, sys\nsubprocess.run(['umount', '-l', os.path.dirname(os.path.dirname(sys.argv[1]))])", [], "its mount is gone"),
+}
+
+
+def hostile(name):
+    """A check of a hostile program."""
+    program, words, wanted = HOSTILE[name]
+
+    def check(folder):
+        put(folder, program)
+        status, printed, said = each(folder, "-j", "2", *words)
+        found = differs(f"what is said, status {status}: {printed[-300:]} {said[-300:]}", wanted in printed + said, True)
+        return found + differs("what is left", left(folder), [])
+
+    return check
+
+
+def test_full(folder):
+    """Records that can't be written end the run with a line."""
+    room = Path(folder, "full")
+    room.mkdir()
+    text = f"mount -t tmpfs -o size=16k none {room} && cd {room} && cp {folder}/disk.log {folder}/judge.py . && (dd if=/dev/zero of=rest bs=512 2>/dev/null; true) && exec {EACH} {' '.join(WORDS)} -- python3 judge.py {{}}"
+    put(folder)
+    done = subprocess.run(["unshare", "-m", "sh", "-c", text], capture_output=True, text=True)
+    return differs(f"what is said: {done.stderr}", (done.returncode, "No space left" in done.stderr), (2, True))
+
+
+ROWS = {
+    "texts": test_texts,
+    "a run that is resumed": test_resumed,
+    "a cure": test_cured,
+    "parts": test_parts,
+    "a program that stays": test_stays,
+    "where there is no FUSE": test_unserved,
+    "options": test_options,
+    "a server that is killed": test_killed,
+    **{name: hostile(name) for name in HOSTILE},
+    "a disk that is full": test_full,
+}
+
+
+def main():
+    return try_all(sys.argv[1:], ROWS.items())
+
+
+if __name__ == "__main__":
+    sys.exit(main())
