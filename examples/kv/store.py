@@ -2,42 +2,24 @@
 
 An adapter in Python has a class `Store(folder, mode)` with get, put, remove, commit and close; get gives None where a key isn't there. It
 may have begin, which comes before the first put or remove of a commit, checkpoint, and verify, which says whether the store takes itself for
-whole. One in C has the functions of kv.h, and is compiled when it is first taken. Where a store has no transactions the adapter says so by
-IS_SINGLE, and a commit changes one key.
+whole. One in C has the functions of kv.h. Where a store has no transactions the adapter says so by IS_SINGLE, and a commit changes one key.
+
+A check is made of each crash image, so what takes long to import is imported where it is needed.
 """
 import argparse
-import ctypes
-import functools
-import hashlib
 import importlib.util
 import os
 import random
-import re
-import subprocess
-import tempfile
-from dataclasses import dataclass
-from pathlib import Path
+from collections import namedtuple
 
-HERE = Path(__file__).resolve().parent
+HERE = os.path.dirname(os.path.realpath(__file__))
 KEYS = [b"key-%d" % it for it in range(8)]
 # How many bytes a value has. The largest has several pages.
 SIZES = (0, 3, 40, 600, 600, 5000, 20000)
-
-
-@dataclass
-class Adapter:
-    """What opens a store, and whether a commit changes one key."""
-
-    open: object
-    is_single: bool
-
-
-@dataclass
-class Commit:
-    """The new values by their keys, None where one is removed; and what is done after the mark: nothing, or a word that says what."""
-
-    changes: dict
-    then: str
+# What opens a store, and whether a commit changes one key.
+Adapter = namedtuple("Adapter", "open is_single")
+# The new values by their keys, None where one is removed; and what is done after the mark: nothing, or a word that says what.
+Commit = namedtuple("Commit", "changes then")
 
 
 def parse(about):
@@ -87,73 +69,22 @@ def states(commits):
     return found
 
 
-class Failed(Exception):
-    """A call of a store in C failed."""
-
-
-class Library:
-    """A store by an adapter in C."""
-
-    ROOM = 1 << 20
-
-    def __init__(self, calls, folder, mode):
-        self.calls = calls
-        self.calls.kv_get.restype = ctypes.c_long
-        for name in ("begin", "checkpoint"):
-            if hasattr(self.calls, f"kv_{name}"):
-                setattr(self, name, functools.partial(self.do, name))
-        self.do("open", folder.encode(), mode.encode())
-
-    def do(self, name, *words):
-        if getattr(self.calls, f"kv_{name}")(*words):
-            raise Failed(name)
-
-    def get(self, key):
-        """Returns the value of a key, or None where it isn't there."""
-        value = ctypes.create_string_buffer(self.ROOM)
-        size = self.calls.kv_get(key, value, ctypes.c_long(self.ROOM))
-        if size < -1 or size > self.ROOM:
-            raise Failed("get")
-        return None if size == -1 else value.raw[:size]
-
-    def put(self, key, value):
-        self.do("put", key, value, ctypes.c_long(len(value)))
-
-    def remove(self, key):
-        self.do("remove", key)
-
-    def commit(self):
-        self.do("commit")
-
-    def close(self):
-        self.do("close")
-
-
-def library(path):
-    """Compiles an adapter in C, unless that was done, by the words that its first line says. Returns the library."""
-    text = path.read_text()
-    words = re.search(r"compiled with (.*?) \*/", text.split("\n")[0])
-    name = hashlib.sha256((text + (HERE / "kv.h").read_text()).encode()).hexdigest()[:16]
-    folder = Path(tempfile.gettempdir(), f"crashbpf-kv-{os.getuid()}")
-    folder.mkdir(mode=0o700, exist_ok=True)
-    out = folder / f"{path.stem}-{name}.so"
-    if not out.exists():
-        new = f"{out}.{os.getpid()}"
-        subprocess.run(["cc", "-O1", "-g", "-shared", "-fPIC", "-I", HERE, "-o", new, path, *(words[1].split() if words else ())], check=True)
-        os.rename(new, out)
-    return out
+def known():
+    """Returns the names of the adapters that are here."""
+    return sorted(it.split(".")[0] for it in os.listdir(f"{HERE}/adapters") if it.endswith((".py", ".c")))
 
 
 def adapter(word):
     """Returns an adapter, and the mode that stands after its name."""
     name, _, mode = word.partition(":")
-    paths = [Path(name), *(HERE / "adapters" / f"{name}{ending}" for ending in (".py", ".c"))]
-    path = next((it for it in paths if it.suffix and it.exists()), None)
+    paths = [name, f"{HERE}/adapters/{name}.py", f"{HERE}/adapters/{name}.c"]
+    path = next((it for it in paths if it.endswith((".py", ".c")) and os.path.exists(it)), None)
     if path is None:
-        raise SystemExit(f"there is no adapter {name}: {', '.join(sorted(it.stem for it in (HERE / 'adapters').iterdir()))}, or a file of your own")
-    if path.suffix == ".c":
-        calls = ctypes.CDLL(str(library(path)))
-        return Adapter(functools.partial(Library, calls), hasattr(calls, "kv_is_single")), mode
+        raise SystemExit(f"there is no adapter {name}: there are {', '.join(known())}, or a file of your own, as ./mine.py")
+    if path.endswith(".c"):
+        import library
+
+        return Adapter(*library.load(path)), mode
     spec = importlib.util.spec_from_file_location("adapter", path)
     made = importlib.util.module_from_spec(spec)
     spec.loader.exec_module(made)

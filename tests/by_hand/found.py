@@ -167,13 +167,13 @@ def call(it):
 def summary(answer):
     """What is compared of an answer."""
     found, tried = answer["explored"], answer["tried"]
-    early = [it for it in answer["missing"] + answer["helpless"] if it["check"]["marks"] == 0 and answer["marks"]]
-    late = sum(it["cases"] for it in answer["missing"] + answer["helpless"] if it not in early)
+    answers = answer["missing"] + answer["helpless"]
+    early = sum(it["cases"] for it in answers if it["check"]["marks"] == 0)
     bound = re.match(r"up to (\d)", found["losses"])
-    made = {"bound": bound[1] if bound else found["losses"], "cases": found["cases"], "failing": found["failing"], "acknowledged": late, "complete": found["complete"]}
+    made = {"bound": bound[1] if bound else found["losses"], "cases": found["cases"], "failing": found["failing"], "early": early, "complete": found["complete"]}
     made["missing"] = sorted({CHANCE.sub("*", f"{it['of']} {it['name']} before {it['before']['text']}") for it in answer["missing"]})
     made["helpless"] = sorted({f"{it['why']} after {call(it['after'])}" for it in answer["helpless"]})
-    made["statuses"] = sorted({it["check"]["ended"] for it in answer["missing"] + answer["helpless"]})
+    made["statuses"] = sorted({it["check"]["ended"] for it in answers})
     made["cured"] = tried and [tried["failing"], tried["cases"]]
     return made
 
