@@ -1,0 +1,2 @@
+# A text.
+echo one >text

@@ -1,0 +1,2 @@
+# Changes the label.
+fatlabel "$FILES/disk" NEW && mark changed

@@ -1,0 +1,2 @@
+# An empty Maildir.
+mkdir -p box/tmp box/new box/cur

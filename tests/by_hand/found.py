@@ -1,0 +1,250 @@
+#!/usr/bin/env python3
+"""Makes the rows of docs/FOUND.md anew, and compares them with what it says. By hand.
+
+    python3 tests/by_hand/found.py [--store] [--keep FOLDER] [NAME ..]
+    python3 tests/by_hand/found.py --document
+
+Each row is a program and a check that crashbpf-test is given: stores by examples/kv, all else by examples/found. NAME is a row, or the
+beginning of some; without one all are made. What a row comes to is compared with examples/found/found.json: how many cases there are,
+how many fail, which syncs lack, and what is left with them. Where counts differ from run to run only the syncs are compared, and whether
+cases fail. With --store the file is written. With --keep the answers are kept in a folder, each with its text.
+
+With --document nothing is run: the tables of docs/FOUND.md have to have the rows and the figures of that file, and no others.
+
+It wants the built program, which CRASHBPF names where it is another, strace, and the packages that the rows name; a row whose packages aren't
+there says what lacks. A line tells each row. The status is 1 where one is otherwise.
+"""
+import json
+import os
+import re
+import subprocess
+import sys
+import tempfile
+from dataclasses import dataclass
+from pathlib import Path
+
+sys.dont_write_bytecode = True
+
+import rooms
+
+rooms.enter()
+
+from notation import TOP
+
+TEST, KV, FOUND = TOP / "commands/test/crashbpf-test", TOP / "examples/kv", TOP / "examples/found"
+STORED, DOCUMENT = FOUND / "found.json", TOP / "docs/FOUND.md"
+SECONDS = 3600
+# What is told of a name that is made by chance.
+CHANCE = re.compile(r"[0-9a-f]{6,}|[A-Za-z0-9_.:]*\d{6}[A-Za-z0-9_.:,=]*|(?<=tmp_obj_)\w+|(?<=sed)\w{6}|\d+")
+
+
+@dataclass(frozen=True)
+class Row:
+    """A program in a setting, and its check."""
+
+    name: str
+    # what has to be installed; the first package is the program's own
+    packages: str
+    program: tuple
+    check: str
+    options: tuple = ()
+    # the script that makes what $FILES has at first, with its words
+    base: tuple = ()
+    # how many writes are lost at once; without it one, and up to three where these are few and nothing fails
+    bound: str = ""
+    # whether counts differ from run to run
+    varies: bool = False
+
+
+def kv(name, packages, adapter, options="", is_prefix=False, varies=False, bound="1"):
+    """Returns the row of a store."""
+    words = f"{adapter} --commits 3"
+    return Row(name, packages, (KV / "workload", *words.split()), f"{KV / 'check'} {words}{' --prefix' * is_prefix}", tuple(options.split()), (), bound, varies)
+
+
+def script(name, packages, folder, words="", base="", options="", varies=False, bound=""):
+    """Returns the row of scripts in a folder of examples/found."""
+    at = FOUND / folder
+    made = ("sh", at / "base.sh", *base.split())
+    return Row(name, packages, ("sh", at / "program.sh", *words.split()), f"sh {at / 'check.sh'}", tuple(options.split()), made, bound, varies)
+
+
+def sqlite_rows():
+    """Yields the rows of SQLite. By its document a commit may be lost where synchronous is OFF, or NORMAL in WAL."""
+    for journal in ("DELETE", "TRUNCATE", "PERSIST", "WAL"):
+        for synchronous in ("OFF", "NORMAL", "FULL", "EXTRA"):
+            is_prefix = synchronous == "OFF" or (journal, synchronous) == ("WAL", "NORMAL")
+            options = "--skip db-shm" if journal == "WAL" else ""
+            yield kv(f"sqlite-{journal}-{synchronous}".lower(), "libsqlite3-0", f"sqlite:{journal},{synchronous}", options, is_prefix)
+
+
+ROWS = [
+    *sqlite_rows(),
+    kv("lmdb", "python3-lmdb", "lmdb", "--skip lock.mdb"),
+    kv("lmdb-nometasync", "python3-lmdb", "lmdb:metasync", "--skip lock.mdb", is_prefix=True),
+    kv("lmdb-nosync", "python3-lmdb", "lmdb:sync", "--skip lock.mdb", is_prefix=True),
+    kv("lmdb-writemap", "python3-lmdb", "lmdb:writemap", "--skip lock.mdb --mapped"),
+    kv("lmdb-mapasync", "python3-lmdb", "lmdb:writemap,map_async", "--skip lock.mdb --mapped", is_prefix=True),
+    kv("leveldb-sync", "libleveldb1d python3-plyvel", "leveldb:sync", "--skip LOG* --skip LOCK", varies=True),
+    kv("leveldb", "libleveldb1d python3-plyvel", "leveldb", "--skip LOG* --skip LOCK", is_prefix=True, varies=True),
+    kv("rocksdb-sync", "librocksdb7.8 librocksdb-dev", "rocksdb:sync", "--skip LOG* --skip LOCK", varies=True),
+    kv("rocksdb", "librocksdb7.8 librocksdb-dev", "rocksdb", "--skip LOG* --skip LOCK", is_prefix=True, varies=True),
+    kv("berkeley", "libdb5.3 python3-bsddb3", "berkeley", "--skip __db.0*"),
+    kv("gdbm", "libgdbm6 libgdbm-dev", "gdbm", "--mapped"),
+    kv("gdbm-nommap", "libgdbm6 libgdbm-dev", "gdbm:NOMMAP"),
+    kv("tdb", "libtdb1 python3-tdb", "tdb", "--mapped"),
+    kv("tdb-nommap", "libtdb1 python3-tdb", "tdb:NOMMAP"),
+    kv("kyoto", "libkyotocabinet16v5 libkyotocabinet-dev", "kyoto", "--mapped"),
+    kv("kyoto-nommap", "libkyotocabinet16v5 libkyotocabinet-dev", "kyoto:NOMMAP"),
+    kv("tokyo", "libtokyocabinet9 libtokyocabinet-dev", "tokyo", "--mapped"),
+    kv("tokyo-nommap", "libtokyocabinet9 libtokyocabinet-dev", "tokyo:NOMMAP"),
+    kv("redis-always", "redis-server python3-redis", "redis:always", "--skip socket", varies=True),
+    script("git", "git", "git"),
+    script("git-all", "git", "git", base="all"),
+    script("dpkg", "dpkg", "dpkg"),
+    script("dpkg-unsafe", "dpkg", "dpkg", "--force-unsafe-io"),
+    script("sgdisk", "gdisk", "gpt", "sgdisk"),
+    script("sfdisk", "fdisk gdisk", "gpt", "sfdisk"),
+    script("luks-change", "cryptsetup-bin", "luks", "luksChangeKey"),
+    script("luks-change-slot", "cryptsetup-bin", "luks", "luksChangeKey --key-slot 0"),
+    script("luks-add", "cryptsetup-bin", "luks", "luksAddKey"),
+    script("tune2fs-uuid", "e2fsprogs", "ext4", "tune2fs -U random"),
+    script("resize2fs-grow", "e2fsprogs", "ext4", "resize2fs", "2M"),
+    script("resize2fs-shrink", "e2fsprogs", "ext4", "resize2fs -M"),
+    script("fatlabel", "dosfstools", "fat"),
+    script("maildrop", "maildrop", "mail", "maildrop"),
+    script("procmail", "procmail", "mail", "procmail"),
+    script("python-maildir", "python3", "mail", "python"),
+    script("vim", "vim", "editor", "vim"),
+    script("vim-n", "vim", "editor", "vim-n"),
+    script("nano", "nano bsdutils", "editor", "nano"),
+    script("emacs", "emacs-nox", "editor", "emacs"),
+    script("ed", "ed", "editor", "ed"),
+    script("sed", "sed", "editor", "sed"),
+]
+
+
+def version(package):
+    """Returns which version of a package is there, or nothing."""
+    done = subprocess.run(["dpkg-query", "-W", "-f", "${db:Status-Abbrev} ${Version}", package], capture_output=True, text=True)
+    state, _, found = done.stdout.partition("  ")
+    return found if state.startswith("ii") else ""
+
+
+def surroundings(room):
+    """The environment of a row: what is remembered elsewhere changes no answer."""
+    return {**os.environ, "HOME": room, "LC_ALL": "C", "GIT_CONFIG_NOSYSTEM": "1", "CRASHBPF": os.environ.get("CRASHBPF", str(TOP / "crates/crashbpf/out/crashbpf"))}
+
+
+def options(row, room):
+    """The options of a row, with its base, which is made in a folder."""
+    if not row.base:
+        return row.options
+    base = Path(room, "base/files")
+    base.mkdir(parents=True)
+    subprocess.run(row.base, cwd=base, env=surroundings(room), check=True)
+    return ("--base", base, *row.options)
+
+
+def asked(row, keep, runners):
+    """Gives a row to crashbpf-test. Returns its answer, or what it said where there is none."""
+    with tempfile.TemporaryDirectory(prefix="crashbpf-found.") as room:
+        out = Path(keep or room, f"{row.name}.json")
+        bound = ("--bound", row.bound) if row.bound else ()
+        words = [TEST, "-j", str(runners), *bound, "--no-lines", "--json", out, *options(row, room), "--check", row.check, "--", *row.program]
+        out.unlink(missing_ok=True)
+        done = subprocess.run(words, env=surroundings(room), cwd=TOP, stdin=subprocess.DEVNULL, capture_output=True, text=True, errors="replace", timeout=SECONDS)
+        if keep:
+            Path(keep, f"{row.name}.txt").write_text(done.stdout + done.stderr)
+        return json.loads(out.read_text()) if out.exists() else " ".join(done.stderr.split()[-60:])
+
+
+def call(it):
+    """A call, without what is by chance."""
+    return CHANCE.sub("*", it["text"]) if it else "the beginning"
+
+
+def summary(answer):
+    """What is compared of an answer."""
+    found, tried = answer["explored"], answer["tried"]
+    answers = answer["missing"] + answer["helpless"]
+    early = sum(it["cases"] for it in answers if it["check"]["marks"] == 0)
+    bound = re.match(r"up to (\d)", found["losses"])
+    made = {"bound": bound[1] if bound else found["losses"], "cases": found["cases"], "failing": found["failing"], "early": early, "complete": found["complete"]}
+    made["missing"] = sorted({CHANCE.sub("*", f"{it['of']} {it['name']} before {it['before']['text']}") for it in answer["missing"]})
+    made["helpless"] = sorted({f"{it['why']} after {call(it['after'])}" for it in answer["helpless"]})
+    made["statuses"] = sorted({it["check"]["ended"] for it in answers})
+    made["cured"] = tried and [tried["failing"], tried["cases"]]
+    return made
+
+
+def is_same(row, found, stored):
+    """Whether a row is as it is stored."""
+    if not row.varies:
+        return {**found, "version": ""} == {**stored, "version": ""}
+    return [found["missing"], found["helpless"], found["failing"] > 0] == [stored["missing"], stored["helpless"], stored["failing"] > 0]
+
+
+def told(name, it):
+    """The line of a row."""
+    cured = "" if not it["cured"] else f"; with them {it['cured'][0]} of {it['cured'][1]}"
+    return f"{name}: {it['failing']} of {it['cases']} fail, complete {it['complete']}; {', '.join([*it['missing'], *it['helpless']]) or 'nothing lacks'}{cured}"
+
+
+def made(row, keep, runners):
+    """Makes a row. Returns its line, and what it comes to, or nothing."""
+    lacking = [it for it in row.packages.split() if not version(it)]
+    if lacking and not os.environ.get("FOUND_ANYHOW"):
+        return f"{row.name}: can't be run here, there is no {', '.join(lacking)}", None
+    answer = asked(row, keep, runners)
+    if isinstance(answer, str):
+        return f"{row.name}: no answer: {answer}", None
+    found = {"version": version(row.packages.split()[0]), **summary(answer)}
+    return told(row.name, found), found
+
+
+def cells(line):
+    return [it.strip() for it in line.strip().strip("|").split("|")]
+
+
+def document():
+    """Yields what docs/FOUND.md has otherwise than what is stored."""
+    known = json.loads(STORED.read_text())
+    rows = {it[0].strip("`"): it for it in map(cells, DOCUMENT.read_text().splitlines()) if re.fullmatch(r"`[a-z0-9-]+`", it[0]) and len(it) > 4}
+    yield from (f"{name}: no row in {DOCUMENT.name}" for name in known if name not in rows)
+    yield from (f"{name}: not in {STORED.name}" for name in rows if name not in known)
+    for name in sorted(known.keys() & rows.keys()):
+        it = known[name]
+        figures = [f"{it['failing']:,} of {it['cases']:,}", f"{it['cured'][0]:,} of {it['cured'][1]:,}" if it["cured"] else "-"]
+        yield from (f"{name}: {figure} isn't in its row" for figure in figures if figure not in rows[name])
+
+
+def main(words):
+    is_stored, keep, runners = "--store" in words, None, os.environ.get("FOUND_RUNNERS", "2")
+    if "--document" in words:
+        found = list(document())
+        print("\n".join([*found, f"{len(found)} findings"]))
+        return 1 if found else 0
+    if "--keep" in words:
+        at = words.index("--keep")
+        keep = Path(words[at + 1]).resolve()
+        keep.mkdir(exist_ok=True)
+        del words[at : at + 2]
+    names, wrong = [it for it in words if it != "--store"], 0
+    for row in ROWS:
+        if names and not any(row.name == it or it.endswith("*") and row.name.startswith(it[:-1]) for it in names):
+            continue
+        line, found = made(row, keep, runners)
+        print(line, flush=True)
+        known = json.loads(STORED.read_text()) if STORED.exists() else {}
+        if found and is_stored:
+            STORED.write_text(json.dumps({it.name: {**known, row.name: found}[it.name] for it in ROWS if it.name in {*known, row.name}}, indent=1) + "\n")
+        elif found and not is_same(row, found, known.get(row.name, found)):
+            print(f"otherwise than stored: {told(row.name, known[row.name])}", flush=True)
+            wrong += 1
+        wrong += found is None
+    return wrong > 0
+
+
+if __name__ == "__main__":
+    sys.exit(main(sys.argv[1:]))
