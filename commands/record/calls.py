@@ -12,6 +12,8 @@ from collections import deque
 from dataclasses import dataclass, field
 
 HEX = r"(?:\\x[0-9a-f]{2})*"
+# What stands in the place of a very long string, which is kept beside the text.
+KEPT = r"@\d+\.\d+"
 HEAD = re.compile(r"(\d{1,10}) +(.*)", re.S)
 CALL = re.compile(r"(\w+)\(")
 RESUMED = re.compile(r"<\.\.\. (\w+) resumed>")
@@ -20,12 +22,13 @@ SUPERSEDED = re.compile(r"\+\+\+ superseded by execve in pid (\d{1,10}) \+\+\+")
 TOLD = re.compile(r"--- .* ---|\[ Process PID=\d+ runs in \w+ mode\. \]")
 UNFINISHED = " <unfinished ...>"
 # A string, the path of a descriptor, a remark, a bracket, a comma, and what stands between these.
-TOKEN = re.compile(rf'"{HEX}"(?:\.\.\.)?|<{HEX}>(?:\(deleted\))?|/\*.*?\*/|[()\[\]{{}}]|,|[^"<>/()\[\]{{}},]+|[<>/]')
+TOKEN = re.compile(rf'"(?:{HEX}|{KEPT})"(?:\.\.\.)?|<{HEX}>(?:\(deleted\))?|/\*.*?\*/|[()\[\]{{}}]|,|[^"<>/()\[\]{{}},]+|[<>/]')
 RESULT = re.compile(rf"\) += (0x[0-9a-f]{{1,16}}|-?\d{{1,20}}|\?)(?:<({HEX})>(\(deleted\))?)?(?: ([A-Z]\w*) \(.*\))?((?: .*)?)", re.S)
 NAMED = re.compile(rf"(?<![\w\\])(\d{{1,10}}|AT_FDCWD)<({HEX})>(\(deleted\))?")
-STRING = re.compile(rf'"({HEX})"(\.\.\.)?')
-# The most characters of a line, and of one that is shown; and how many a string has at least that is looked at as a whole.
-LINE, SHOWN, LONG = 1 << 29, 300, 1 << 12
+STRING = re.compile(rf'"({HEX}|{KEPT})"(\.\.\.)?')
+# The most characters of a line, and of one that is shown; how many a string has at least that is looked at as a whole, and one that is
+# kept beside its line, which no path is.
+LINE, SHOWN, LONG, VERY_LONG = 1 << 29, 300, 1 << 12, 1 << 16
 
 
 class Refused(Exception):
@@ -59,6 +62,8 @@ class Call:
     last: int = 0
     # whether another thread changed the folder of the process while it was in flight
     astray: bool = False
+    # the very long strings of its text, by what stands in their place
+    kept: dict = field(default_factory=dict, repr=False)
 
     def number(self, at):
         """The number that a word is."""
@@ -90,8 +95,12 @@ class Call:
         """Whether it ended without having done anything."""
         return self.error is not None
 
+    def short(self):
+        """Its text, of a very long string the begin alone."""
+        return re.sub(f'"({KEPT})"', lambda it: f'"{hexed(self.kept.get(it[1], b"")[:64])}"..', self.text)
+
     def __str__(self):
-        return f"calls:{self.line}: {shown(f'{self.process} {self.text}')}"
+        return f"calls:{self.line}: {shown(f'{self.process} {self.short()}')}"
 
 
 def number(text):
@@ -107,23 +116,37 @@ def hexed(data):
     return "".join(f"\\x{it:02x}" for it in data)
 
 
-def long_bytes(text):
+def long_bytes(raw):
     """The bytes of a long text in hex, or nothing where it isn't one. A pattern would take seconds for megabytes."""
-    raw, count = text.encode(), len(text) // 4
-    if len(raw) != 4 * count or raw[0::4] != b"\\" * count or raw[1::4] != b"x" * count:
+    count = len(raw) // 4
+    if len(raw) != 4 * count or raw[0::4].count(b"\\") != count or raw[1::4].count(b"x") != count:
         return None
-    digits = bytearray(2 * count)
-    digits[0::2], digits[1::2] = raw[2::4], raw[3::4]
     try:
-        return binascii.unhexlify(digits)
+        return binascii.unhexlify(raw.translate(None, b"\\x"))
     except binascii.Error:
         return None
+
+
+def without_long(number, line):
+    """A line without its very long strings: each of its steps would copy them. Returns it with these, by what stands in their place."""
+    kept, parts, at = {}, [], 0
+    while len(line) > VERY_LONG:
+        begin = line.find(b'"', at) + 1
+        end = line.find(b'"', begin) if begin else -1
+        if end < 0:
+            break
+        data = long_bytes(line[begin:end]) if end - begin > VERY_LONG else None
+        name = f"@{number}.{len(kept)}"
+        parts += [line[at:begin], line[begin:end] if data is None else name.encode(), b'"']
+        kept |= {} if data is None else {name: data}
+        at = end + 1
+    return b"".join([*parts, line[at:]]), kept
 
 
 def string(text, call):
     """Returns the bytes of a string in hex, which strace has to give whole."""
     if len(text) > LONG and text[0] == text[-1] == '"':
-        found = long_bytes(text[1:-1])
+        found = long_bytes(text[1:-1].encode())
         if found is not None:
             return found
     found = STRING.fullmatch(text)
@@ -131,6 +154,10 @@ def string(text, call):
         raise Refused(f"{call}: {text[:40]} is no string in hex")
     if found[2]:
         raise Refused(f"{call}: strace cut its string off")
+    if found[1] in call.kept:
+        return call.kept[found[1]]
+    if "@" in found[1]:
+        raise Refused(f"{call}: {text[:40]} is no string in hex")
     return unhexed(found[1])
 
 
@@ -202,17 +229,22 @@ def read(call, begun):
 
 
 def lines_of(stream, among=()):
-    """The lines of strace's text with their numbers; where `among` has words those alone that have one of these, and no very long one."""
-    number = 0
-    while line := stream.readline(LINE + 1):
+    """The lines of strace's text with their numbers, and the very long strings that they have; where `among` has words those alone that
+    have one of these, and no very long one."""
+    number, most = 0, MOST_MADE if among else LINE
+    while line := stream.readline(most + 1):
         number += 1
+        is_long = len(line) > most
+        while among and line and not line.endswith(b"\n"):
+            line = stream.readline(PASSED)
         if not line.endswith(b"\n"):
             raise Refused(f"calls:{number}: the line is cut off")
-        if among and (len(line) > MOST_MADE or not any(it in line for it in among)):
+        if among and (is_long or not any(it in line for it in among)):
             continue
+        line, kept = without_long(number, line)
         if not line.isascii():
             raise Refused(f"calls:{number}: it isn't of strace -xx")
-        yield number, line[:-1].decode()
+        yield number, line[:-1].decode(), kept
 
 
 def happened(stream, wanted, among=()):
@@ -222,7 +254,7 @@ def happened(stream, wanted, among=()):
     Only calls with the names of `wanted` are read, the others have no words. Lines are left out as `lines_of` says. A call that nothing came between begins and ends
     at its line."""
     begun = {}
-    for line, text in lines_of(stream, among):
+    for line, text, kept in lines_of(stream, among):
         head = HEAD.fullmatch(text)
         if not head:
             raise Refused(f"calls:{line}: no line of strace: {shown(text)}")
@@ -250,13 +282,14 @@ def happened(stream, wanted, among=()):
             if call is None or call.name != resumed[1]:
                 raise Refused(f"calls:{line}: it ends a call that didn't begin: {shown(text)}")
             call.text += text[resumed.end() :]
+            call.kept |= kept
         else:
             found = CALL.match(text)
             if not found:
                 raise Refused(f"calls:{line}: no line of strace: {shown(text)}")
             if process in begun:
                 raise Refused(f"calls:{line}: process {process} begins a call within another: {shown(text)}")
-            call = Call(process, found[1], text, line)
+            call = Call(process, found[1], text, line, kept=kept)
         call.last, unfinished = line, call.text.endswith(UNFINISHED)
         if unfinished:
             call.text = call.text[: -len(UNFINISHED)]
@@ -284,6 +317,8 @@ class Made:
 MAKES = ("clone", "clone3", "fork", "vfork")
 # What their lines have, and those of processes that end, and how long such a line is at most.
 OF_MAKES, MOST_MADE = (b"clone", b"fork", b"+++"), 1 << 16
+# How much of a longer line is passed over at a time.
+PASSED = 1 << 20
 
 
 def child_of(call):

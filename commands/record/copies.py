@@ -97,7 +97,7 @@ class Copying:
         path, gone = self.path_outside(call, source, from_)
         if path in self.pipes.found:
             return self.pipes.taken(call, path)
-        if source is MARKS or path is None or not path.startswith(b"/"):
+        if source is MARKS or path is None or not path.startswith(b"/") or self.name(path) in self.others:
             raise Refused(f"{call}: what came from there isn't known; that is for the guest")
         if start is None:
             raise Refused(f"{call}: from where in {shown(os.fsdecode(path))} it copied isn't known; {ADVICE}")

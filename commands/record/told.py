@@ -99,7 +99,7 @@ def told(tracing, call):
             return of_bytes(tracing, call)
     except Refused:
         pass
-    return shown(call.text)
+    return shown(call.short())
 
 
 # What entries are of
