@@ -25,6 +25,8 @@ rooms.enter()
 
 import known_model
 from cases_model import ANY, Losses, cases
+from cases_model import status as status_of
+from commands.each.served_mount import missing
 from commands.each.words import parse
 from commands.shared.faults import Refusal
 from known_model import Ended
@@ -40,6 +42,8 @@ COMMITS = Run([it for number in range(1, 7) for it in (W(number, 1, number), W(0
 WORDS, USUAL = ["disk.log", "--sectors", "4", "--bound", "any"], ["disk.log", "--sectors", "4"]
 OF_COMMITS = ["disk.log", "--sectors", "8", "--bound", "any"]
 RECORDS = "crashbpf-each.known"
+# How many rows are tried side by side.
+AT_A_TIME = 3
 
 # Reads the first byte of sector 3, or where that is 0 those of the sectors 0 and 1.
 JUDGE = """\
@@ -140,12 +144,11 @@ def test_texts(folder):
     asked = [((), SMALL, ANY), (("--stop-at-failing",), SMALL, Losses(at_failing=True)), (("--cases", "2"), SMALL, Losses(cases=2))]
     asked.append((("--tears", "--to", "2"), Run(SMALL.recorded, tears=True, last=2), ANY))
     asked.append((("--by", "write", "--flush", "5", "--from", "2", "--to", "9"), Run(SMALL.recorded, by="write", flush=(5,), first=2, last=9), ANY))
-    for words, run, losses in asked:
-        for runners in ("1", "4"):
-            status, printed, said = each(folder, "-j", runners, *words)
-            wanted = expected(run, losses, sum_in(printed))
-            found += differs(f"the text with {words}", printed, wanted)
-            found += differs(f"the status with {words}: {said}", status, 1 if " failing 0 " not in wanted else 0 if wanted.endswith(" complete\n") else 3)
+    for runners, (words, run, losses) in zip("41414", asked):
+        status, printed, said = each(folder, "-j", runners, *words)
+        wanted = expected(run, losses, sum_in(printed))
+        found += differs(f"the text with {words}", printed, wanted)
+        found += differs(f"the status with {words}: {said}", status, status_of(wanted))
     return found + differs("what is left", Path(folder, RECORDS).exists(), False)
 
 
@@ -209,16 +212,11 @@ def test_cured(folder):
     return found + differs("what is left", left(folder), [])
 
 
-def without_fuse(folder, *words):
-    """Runs crashbpf-each where there is no FUSE."""
-    text = 'mount --bind /dev/null /dev/fuse && exec "$@"'
-    return subprocess.run(["unshare", "-m", "sh", "-c", text, "sh", EACH, *words], cwd=folder, capture_output=True, text=True, stdin=subprocess.DEVNULL)
-
-
 def test_unserved(folder):
     """Where no image can be served it is refused with what is missing."""
     put(folder)
-    done = without_fuse(folder, *WORDS, "--", "python3", "judge.py", "{}")
+    hidden = ["unshare", "-m", "sh", "-c", 'mount --bind /dev/null /dev/fuse && exec "$@"', "sh"] if not missing() else []
+    done = subprocess.run([*hidden, EACH, *WORDS, "--", "python3", "judge.py", "{}"], cwd=folder, capture_output=True, text=True, stdin=subprocess.DEVNULL)
     return differs(f"where it was asked for: {done.stderr}", (done.returncode, done.stdout, "can't be had: " in done.stderr), (2, "", True))
 
 
@@ -275,9 +273,8 @@ def test_stays(folder):
     found = []
     for name, act in (("stays", "pass"), ("is killed", "os.kill(os.getpid(), 11)"), ("ends", "os._exit(9)"), ("fails", "raise ValueError")):
         words = ["python3", "judge.py", *([act] if act != "pass" else [])]
-        for runners in ("1", "2"):
-            status, printed, said = each(folder, "--stay", "-j", runners, program=words)
-            found += differs(f"the text where it {name}: {said}", lines_of(printed, "cut"), lines_of(expected(SMALL, ANY, "1"), "cut"))
+        status, printed, said = each(folder, "--stay", "-j", "2", program=words)
+        found += differs(f"the text where it {name}: {said}", lines_of(printed, "cut"), lines_of(expected(SMALL, ANY, "1"), "cut"))
     wrong = [("os._exit(0)", "this one ended without one"), ("os.write(answers.fileno(), b'good' + bytes([10]))", "by b'good")]
     for act, wanted in wrong:
         Path(folder, "judge.py").write_text(STAYS.replace("stay.judge(check)", "answers = os.fdopen(os.dup(1), 'w')\nstay.judge(check)"))
@@ -293,7 +290,7 @@ def test_stays(folder):
 # A hostile program, the options beside it, and a part of what is printed on either output.
 HOSTILE = {
     "endless reads": ("import sys\nwhile True: open(sys.argv[1], 'rb').read()", ["--timeout", "1", "--stop-at-failing"], " out of time choice - "),
-    "a million files": ("import os, sys\nfor it in range(10 ** 6): open(f'{os.path.dirname(sys.argv[1])}/{it}', 'w').close()", ["--timeout", "250"], "made more than 10000 files"),
+    "a million files": ("import os, sys\nfor it in range(10 ** 6): os.mknod(f'{os.path.dirname(sys.argv[1])}/{it}')", ["-j", "1", "--timeout", "250"], "made more than 10000 files"),
     "many bytes": ("import sys\nwith open(sys.argv[1], 'r+b') as file:\n for it in range(1000): file.write(bytes(1 << 20))", [], "or wrote more than"),
     "many processes": ("import os, sys\nfor it in range(30):\n if os.fork() == 0: open(sys.argv[1], 'rb').read(); os._exit(0)\nopen(sys.argv[1], 'rb').read()", [], "complete\n"),
     "left running": ("import os, sys, time\nif os.fork() == 0: os.setsid(); time.sleep(1000)", [], "left processes running"),
@@ -311,7 +308,7 @@ def hostile(name):
 
     def check(folder):
         put(folder, program)
-        status, printed, said = each(folder, "-j", "2", *words)
+        status, printed, said = each(folder, *([] if "-j" in words else ["-j", "2"]), *words)
         found = differs(f"what is said, status {status}: {printed[-300:]} {said[-300:]}", wanted in printed + said, True)
         return found + differs("what is left", left(folder), [])
 
@@ -342,8 +339,17 @@ ROWS = {
 }
 
 
+def is_served():
+    """Whether images can be served here; else a line says what is missing."""
+    said = missing()
+    if said:
+        print(f"not run: all rows of images that are served. {said}")
+    return not said
+
+
 def main():
-    return try_all(sys.argv[1:], ROWS.items())
+    rows = ROWS if is_served() else {"where images can't be served": test_unserved}
+    return try_all(sys.argv[1:], rows.items(), AT_A_TIME)
 
 
 if __name__ == "__main__":
