@@ -905,6 +905,7 @@ POINTERS = [
     ("typedef T step(u64); T k() { step *p = f; return p(y) + (*p)(y); }", "typedef T step(u64); T k() { step *p = f:0; return ({ P = (p); A0 = (y); f=0 OTHER; }) + ({ P = ((*p)); A0 = (y); f=0 OTHER; }); }", "A0"),
     ("T k() { return a(1)->b[2].run(s->f, p->run()) * o.f; } S s = { f };", "T k() { return ({ P = (a(1)->b[2].run); A0 = (s->f); A1 = ( ({ P = (p->run); f=0 NONE; })); f=0 OTHER; }) * o.f; } S s = { f:0 };", "A0, A1"),
     ("T k() { return o.run(); } T m() { } S s = { m };", "T m() ; T k() { return ({ P = (o.run); m=0 OTHER; }); } T m() { } S s = { m:0 };", ""),
+    ("T k() { if (s->n) (y); return (s->run)(y) + (typeof(s->n))(y); } S s = { f };", "T k() { if (s->n) (y); return ({ P = ((s->run)); A0 = (y); f=0 OTHER; }) + (typeof(s->n))(y); } S s = { f:0 };", "A0"),
     ("T (*const helper)(u64) = (T (*)(u64))7; T k() { F p = f; return helper(y) + x * (*p)(y); }", None, ""),
     ("T k(u64 f) { u64 n = 1, g = 2; return o.run(f, g); } S s = { h };", "T k(u64 f) { u64 n = 1, g = 2; return ({ P = (o.run); A0 = (f); A1 = ( g); h=0 OTHER; }); } S s = { h:0 };", "A0, A1"),
 ]
