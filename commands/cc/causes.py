@@ -52,7 +52,7 @@ SAYINGS = [
     (re.compile(r"too many args|too many function arguments|pass by value not supported|arguments on the stack"), TOO_MANY),
     (re.compile(r"StructRet|small returns|only integer returns"), ANSWERED),
     (SIZED_SAID, SIZED),
-    (re.compile(r"[Aa]tomic(_|\w*Swap|Load|RMW|CmpSwap)"), ATOMIC),
+    (re.compile(r"[Aa]tomic(_|\w*Swap|Load|RMW|CmpSwap|Fence)"), ATOMIC),
 ]
 ERROR = re.compile(r"(?m)^(?:(.+?):(\d+):\d+: )?(?:(?:fatal )?error|sorry, unimplemented): (.*)$")
 # Where the compiler knows no file of the text, the place that it means comes in a note after the error.

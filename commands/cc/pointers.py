@@ -12,12 +12,14 @@ from dataclasses import dataclass
 from pathlib import Path
 
 from commands.cc.functions import ARGUMENT, parts
+from commands.cc.locals import TYPES_OF
 from commands.cc.tables import NO_TYPES
 
 WORD = re.compile(r"[A-Za-z_$]")
 POINTER = "crashbpf_pointer_"
-# The first number that stands for a function, of those that are no place in memory; and the distance between two.
-FIRST, STEP = 1 << 44, 8
+# The first number that stands for a function, and the distance between two. None is a place in memory, nor has one in its low half the number
+# of a helper: clang takes a call of a number for that of a helper.
+FIRST, STEP = (1 << 44) + 0x7F000000, 8
 CONST = {"const", "__const", "__const__"}
 
 
@@ -106,8 +108,14 @@ def pointer_before(source, at, names):
         return last
     if word == ")":
         first = opened(source, last)
-        return first if source.word(first + 1) == "*" and first + 2 < last and not is_type(source, first - 1) else 0
+        given = source.word(first + 1) == "*" and first + 2 < last
+        return first if (given or has_field(source, first, last)) and not is_type(source, first - 1) else 0
     return 0
+
+
+def has_field(source, first, last):
+    """Whether a field is named between two brackets, which no cast does but one to the type of something."""
+    return source.word(first + 1) not in TYPES_OF and any(WORD.match(source.word(at)) and is_field(source, at) for at in range(first, last))
 
 
 def is_field(source, at):

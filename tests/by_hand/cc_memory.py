@@ -214,6 +214,16 @@ DIVISIONS = """
 	return x / ((long long)c->marks + 6) * 100 + f(x, -7 * (int)c->marks) + x % 10 + s / (short)(c->marks + 2) + k % 5;
 """
 
+FUNCTIONS = "static u64 a(u64 n) { return n + 1; } static u64 b(u64 n) { return n + 2; } "
+OPS = "struct op { u64 kind; u64 (*run)(u64); }; static const struct op ops[] = { { 5, a }, { .run = &b, .kind = 7 }, { 0 } }; "
+# The functions that are called come later; large locals in one of them.
+SORTED = """
+typedef int order(const u8 *, const u8 *);
+static void sort(u8 *x, u64 n, order *by) { for (u64 i = 1; i < n; i++) for (u64 k = i; k > 0 && by(x + k - 1, x + k) > 0; k--) { u8 t = x[k]; x[k] = x[k - 1]; x[k - 1] = t; } }
+static int up(const u8 *x, const u8 *y) { return *x - *y; }
+static int down(const u8 *x, const u8 *y) { u8 b[600]; read_bytes(0, b, 600); return (b[*y] > b[*x]) - (b[*y] < b[*x]); }
+"""
+
 # Each row: what it is about, the text outside of the function, its body, and the answer.
 ROWS = [
     ("a variable", "static u32 count = 5;", "for (u64 i = 0; i < c->epoch; i++) count += i; return count;", 8),
@@ -287,6 +297,13 @@ ROWS = [
     ("large locals by macros, and jumps past them", SUM + MACROS, JUMPS, 13486810272315842473),
     ("large locals within each other", SUM + CHAIN, "u8 first[4000] = { 9 }; first[c->epoch] = 3; u64 n = outer(c->epoch) + inner(300); return n + sum(first, 4000) + outer(5);", 13409132304966593664),
     ("many small locals beside a large one", SUM + SMALL, SMALLS, 15882483407736627049),
+    ("a table of functions", FUNCTIONS + "static u64 (*const f[2])(u64) = { a, b };", "return f[c->marks](c->epoch);", 5),
+    ("a table of functions of two dimensions", FUNCTIONS + "static u64 (*const f[2][2])(u64) = { { a, b }, { b, a } };", "return f[c->marks][c->epoch & 1](9) * 100 + f[0][c->marks](c->epoch);", 1005),
+    ("a function by a pointer", FUNCTIONS, "u64 (*f)(u64) = c->marks ? a : b; return f(c->epoch);", 4),
+    ("a pointer to a function that changes", FUNCTIONS + "static u64 (*f)(u64) = a;", "u64 n = f(10); if (c->marks) f = b; return n * 100 + (*f)(c->epoch);", 1105),
+    ("functions in structs", FUNCTIONS + OPS, "return ops[c->marks].run(c->epoch) * 100 + ops[c->marks].kind + (ops[2].run == 0);", 508),
+    ("functions in structs that are looked for", FUNCTIONS + OPS, "for (const struct op *o = ops; o->run; o++) if (o->kind == c->epoch + 4) return o->run(ops[0].run(20)); return 0;", 23),
+    ("functions that are passed on, and come later", SUM + SORTED, "u8 x[20], y[20]; copy(0, x, 20); copy(20, y, 20); sort(x, c->epoch + 7, up); sort(y, c->marks + 9, down); return sum(x, 10) ^ sum(y, 10) << 1;", None),
     ("signed division", DIVIDED, DIVISIONS, 18446744073709536953),
     ("signed division by 1, and of the least number", "", "long long x = 1ll << 63; int y = -7; x += c->marks - 1; return x / (long long)c->marks + (u64)(y / (int)c->marks) * 3 + y % 2 * 1000;", 9223372036854774787),
     ("signed division by 0", "", "long long x = c->epoch - 10; return x / (long long)(c->marks - 1) * 5 + x % (long long)(c->marks - 1);", MASK - 6),
@@ -328,7 +345,14 @@ def on_stack():
     return a + b + d + e & MASK
 
 
+def sorted_bytes():
+    """What SORTED makes of the first bytes: by themselves, and the next ones by the bytes at those places."""
+    total = lambda given: sum(it * 31 ** (len(given) - 1 - at) for at, it in enumerate(given)) & MASK
+    return total(sorted(DEVICE[:10])) ^ total(sorted(DEVICE[20:30], key=lambda it: -DEVICE[it])) << 1 & MASK
+
+
 COMPUTED = {
+    "functions that are passed on, and come later": sorted_bytes,
     "the same, of a variable on the stack": on_stack,
     "a long text": of_text,
     "fletcher": fletcher,
@@ -336,7 +360,6 @@ COMPUTED = {
     "bits": lambda: bin(int.from_bytes(DEVICE[:100], "little") & ((1 << 397) - 1)).count("1") + 1000 * (DEVICE[1] & 1) + 10000 * (DEVICE[1] >> 3 & 1),
 }
 
-FUNCTIONS = "static u64 a(u64 n) { return n + 1; } static u64 b(u64 n) { return n + 2; } "
 POINTERS = """
 static u64 visit(u64 at, u64 (*f)(u64, const u8 *)) { u8 b[400]; read_bytes(at, b, 400); u64 n = f(at, b); return n * 3 + b[5]; }
 static u64 leaf(u64 at, const u8 *p) { return p[1] + at; }
@@ -348,12 +371,11 @@ SLOTS = f"static u64 f(u64 n) {{ u64 s = 0; {' '.join(f's = s * u64_at(n + {at})
 # Each row: what is refused, the text, what is said, and more words.
 REFUSED = [
     ("too much memory", "static u8 a[40000], b[40000];", "a[c->epoch] = 1; b[c->epoch] = 2; return a[1] + b[1];", "take 80000 bytes, and a program has 65536"),
-    ("a table of functions", FUNCTIONS + "static u64 (*const f[2])(u64) = { a, b };", "return f[c->marks](c->epoch);", "by a pointer"),
-    ("a function by a pointer", FUNCTIONS, "u64 (*f)(u64) = c->marks ? a : b; return f(c->epoch);", "by a pointer"),
+    ("a call by a pointer in a function that is LOCAL", FUNCTIONS + "static u64 (*f)(u64) = a; LOCAL(check) u64 g(u64 n) { return f(n); }", "if (c->marks) f = b; return g(c->epoch) + g(4);", "is in a function that is LOCAL"),
     ("recursion", "static u64 f(u64 n) { return n ? n * f(u64_at(n)) : 1; }", "return f(c->epoch);", "cc: it.c:2: f calls itself"),
     ("recursion by another function", "static u64 g(u64 n); static u64 f(u64 n) { return n ? g(n - 1) : 1; } static u64 g(u64 n) { return n ? f(n - 1) * u64_at(n) : 0; }", "return f(c->epoch);", "f calls g, which makes a circle"),
     ("recursion with a large local", "static u64 f(u64 n, const u8 *p) { u8 b[600]; copy(n, b, 512); return n ? f(n - 1, b) : p[4]; }", "return f(c->epoch, 0);", "f calls itself"),
-    ("a large local of a function that is called by a pointer from itself", POINTERS, "return visit(c->epoch, node);", "visit takes 400 bytes"),
+    ("a large local of a function that is called by a pointer from itself", POINTERS, "return visit(c->epoch, node);", "visit calls node, which makes a circle"),
     ("floating point", "", "u64 n = 0;\ndouble d = c->epoch;\n\nd *= 1.5;\nreturn d > n;", "cc: it.c:6: floating point"),
     ("a number of 128 bits", "", "unsigned __int128 x = c->epoch;\nx = (x << 64) / c->marks;\nreturn x;", "cc: it.c:6: a number of 128 bits"),
     ("variable arguments", VARIABLE, "return f(2, c->epoch, c->marks);", "cc: it.c:2: f has variable arguments"),

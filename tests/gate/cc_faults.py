@@ -35,6 +35,8 @@ from commands.cc.data import ROOM, Memory, with_data
 from commands.cc.functions import edits_of, function_tables
 from commands.cc.locals import Moved, can_be_told, circular, locals_of
 from commands.cc.mutants import Drawer
+from commands.cc.pointers import FIRST, STEP, sites_of
+from commands.cc.pointers import edits_of as pointer_edits
 from commands.cc.program import LDDW, SLOT, NoProgram, Object, slots_of
 from commands.cc.shrinking import smallest
 from commands.cc.source import Source
@@ -525,6 +527,7 @@ SAYINGS = [
     ("fatal error: error in backend: Cannot select: 0x1: ch = brind 0x2", "cc: source.c:9: a goto to a place that is computed"),
     ("source.c:8:1: sorry, unimplemented: indirect jumps are not available on this target", "cc: source.c:9: a goto to a place that is computed"),
     ("fatal error: error in backend: Cannot select: 0x1: i64 = AtomicLoadAdd", "cc: source.c:10: an atomic operation"),
+    ("fatal error: error in backend: Cannot select: 0x1: ch = AtomicFence 0x2", "cc: source.c:10: an atomic operation"),
     ("source.c:8:3: error: thread-local storage is not supported for the current target", "cc: source.c:8: a variable of a thread"),
     ("source.c:8:3: error: A call to built-in function 'abort' is not supported.", "cc: source.c:8: an end by abort or a trap"),
     ("PLEASE submit a bug report\nerror: no more", "cc: clang broke off on source.c"),
@@ -570,10 +573,17 @@ def sayings(place):
     status, _, said = place.run("source.c", "check", "out.bpf", "--no-guards")
     named = "\ncc: the locals of check and of what is inlined in it take more than 512 bytes\n    source.c:3: d of check takes 600 bytes\n    source.c:1: b of other takes 400 bytes\n    source.c:3: s of check takes 24 bytes\n"
     yield "locals that are too large", [] if status == 2 and named in said else [f"{status} {said}"]
+    place.holds(SIZED, elf([]))
+    (place.folder / "said").write_text("fatal error: error in backend: Unsupported dynamic stack allocation\n")
+    (place.folder / "sizes").write_text("it: 'char (*)[1][40][5]'\n")
+    status, _, said = place.run()
+    named = "cc: source.c:3: b is an array whose length is a variable\n    source.c:4: an array whose length is a variable\n    an array of the greatest length"
+    yield "arrays whose length is a variable", [] if status == 2 and said.startswith(named) else [f"{status} {said}"]
     (place.folder / "sizes").unlink()
     place.tool("clang", CLANG)
 
 
+SIZED = "static u64 other(u64 n)\n{ u64 a[5];\nu8 b[n];\nreturn alloca(n)[0]; }\nu64 check(void) { return other(3); }\nstatic u64 none(u64 n) { u8 e[n]; }\n"
 LARGE = "static u64 other(void) { u64 n; u8 b[400]; return n; }\nu64 check(void)\n{ struct it s, *p; u8 d[600] = { 1, other() };\nreturn other(); }\nstatic u64 none(void) { u8 e[900]; }\n"
 
 
@@ -886,6 +896,37 @@ def tables():
         yield f"a table of functions: {text}", [] if good else [edited]
 
 
+# A text, and what becomes of it, where P is the pointer and A the argument of a number, or none. `NAME=N` is a test that the pointer is the
+# number of that function, and its call. In front of it stand the same functions.
+POINTERS = [
+    ("S t[] = { { 1, f }, { 2, &g } }; T k() { return t[x].run(y + 1, z); }", "S t[] = { { 1, f:0 }, { 2, g:1 } }; T k() { return ({ P = (t[x].run); A0 = (y + 1); A1 = ( z); f=0 g=1 OTHER; }); }", "A0, A1"),
+    ("F t[2][1] = { { f }, { g } }; T k() { return t[x][0](y); }", "F t[2][1] = { { f:0 }, { g:1 } }; T k() { return ({ P = (t[x][0]); A0 = (y); f=0 g=1 OTHER; }); }", "A0"),
+    ("T k(T (*p)(u64)) { return p(y); } T m() { return k(h); }", "T k(T (*p)(u64)) { return ({ P = (p); A0 = (y); h=0 OTHER; }); } T m() { return k(h:0); }", "A0"),
+    ("typedef T step(u64); T k() { step *p = f; return p(y) + (*p)(y); }", "typedef T step(u64); T k() { step *p = f:0; return ({ P = (p); A0 = (y); f=0 OTHER; }) + ({ P = ((*p)); A0 = (y); f=0 OTHER; }); }", "A0"),
+    ("T k() { return a(1)->b[2].run(s->f, p->run()) * o.f; } S s = { f };", "T k() { return ({ P = (a(1)->b[2].run); A0 = (s->f); A1 = ( ({ P = (p->run); f=0 NONE; })); f=0 OTHER; }) * o.f; } S s = { f:0 };", "A0, A1"),
+    ("T k() { return o.run(); } T m() { } S s = { m };", "T m() ; T k() { return ({ P = (o.run); m=0 OTHER; }); } T m() { } S s = { m:0 };", ""),
+    ("T k() { if (s->n) (y); return (s->run)(y) + (typeof(s->n))(y); } S s = { f };", "T k() { if (s->n) (y); return ({ P = ((s->run)); A0 = (y); f=0 OTHER; }) + (typeof(s->n))(y); } S s = { f:0 };", "A0"),
+    ("T (*const helper)(u64) = (T (*)(u64))7; T k() { F p = f; return helper(y) + x * (*p)(y); }", None, ""),
+    ("T k(u64 f) { u64 n = 1, g = 2; return o.run(f, g); } S s = { h };", "T k(u64 f) { u64 n = 1, g = 2; return ({ P = (o.run); A0 = (f); A1 = ( g); h=0 OTHER; }); } S s = { h:0 };", "A0, A1"),
+]
+
+
+def pointers():
+    """What becomes of calls by pointers."""
+    for text, wanted, given in POINTERS:
+        source = Source(THREE + text)
+        sites = sites_of(source, source.functions)
+        edited = source.edited(list(pointer_edits(source, sites, lambda site: "END")))[len(THREE) :]
+        for old, new in ((r"__auto_type ", ""), ("crashbpf_pointer_", "P"), (r"crashbpf_argument_(\d+)_", r"A\1")):
+            edited = re.sub(old, new, edited)
+        fits = r"__builtin_types_compatible_p\(__typeof__\(\*P\), __typeof__\((\w)\)\)"
+        edited = re.sub(rf"{fits} && P == \(__typeof__\(P\)\)(\d+)ull \? __builtin_choose_expr\({fits}, \1, P\)\([^)]*\) : ", lambda it: f"{it[1]}={(int(it[2]) - FIRST) // STEP} ", edited)
+        edited = re.sub(r"\(\(__typeof__\((\w)\) \*\)(\d+)ull\)", lambda it: f"{it[1]}:{(int(it[2]) - FIRST) // STEP}", edited)
+        for arguments, name in ((given, "OTHER"), ("", "NONE")):
+            edited = edited.replace(f"({{ END (__typeof__(P({arguments})))0; }})", name)
+        yield f"a call by a pointer: {text}", [] if edited == (wanted or text) else [edited]
+
+
 def outputs(place, code):
     """Names of sources and outputs."""
     text, object_ = "u64 check(void)\n{\n\treturn 0;\n}\n", elf([("check", code, False)])
@@ -920,6 +961,7 @@ def rows(crashbpf, folder):
     yield from statics()
     yield from smallest_parts()
     yield from tables()
+    yield from pointers()
     place = Place(folder, crashbpf)
     yield from memory(place, crashbpf)
     yield from lines_of_calls(place, crashbpf)

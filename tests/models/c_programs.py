@@ -119,12 +119,14 @@ class Writer:
         return f"({kind})({a} {sign} {b})", kind
 
     def bits(self, room, depth):
+        """And, or, exclusive or, or the complement."""
         kind = self.chance.choice(TYPES)
         if self.chance.random() < 0.2:
             return f"({kind})~{self.as_type(room, kind, depth)}", kind
         return f"({kind})({self.as_type(room, kind, depth)} {self.chance.choice('&|^')} {self.as_type(room, kind, depth)})", kind
 
     def shifted(self, room, depth):
+        """A shift in either direction, by fewer places than there are bits."""
         kind = self.chance.choice(TYPES)
         far = f"({self.as_type(room, 'u32', depth)} & {BITS[kind] - 1})" if self.chance.random() < 0.6 else str(self.chance.randrange(BITS[kind]))
         if self.chance.random() < 0.5:
