@@ -66,6 +66,8 @@ NOT_RUN = {
     r"examples/recording/guest\b|\bused/|\bkernel\b|mounted": ("it needs QEMU, and --kernel", KERNEL),
     r"sbatch|parallel|try_slurm|join_all run >": ("it needs Slurm or several machines; tests/gate/many_machines.py runs parts as processes", []),
     r"tests/real_programs\.py": ("it is a test itself, which records databases", []),
+    r"lay_out_each": ("it needs /dev/fuse", FUSE[1:]),
+    r"--bound any .*-- (e2fsck|examples/recovery/ext4)": ("it needs /dev/fuse and e2fsck", [*FUSE[1:], "e2fsck"]),
     r"recovery/ext4": ("it needs e2fsck", ["e2fsck"]),
     r"recovery/lmdb": ("it needs strace and Debian's python3-lmdb", ["strace", "import lmdb"]),
     r"saving/|loose": ("it needs strace", ["strace"]),
@@ -91,7 +93,8 @@ HELD = {
     r"sed -n 's/^image .* \(program .*\) choice .*/\1/p' known.report | sort -u > known.answers; "
     f"{EXT2}",
     "docs/RECORDING.md": 'cp "$FIRST_TEXT" commit.trace; cp "$FIRST_C" check.c',
-    "examples/many_machines/README.md": "cp examples/pages/checker.bpf check.bpf; cp examples/pages/wrong.log disk.log; PATH=$PATH:$PWD/examples/many_machines",
+    "examples/many_machines/README.md": "cp examples/pages/checker.bpf check.bpf; cp examples/pages/wrong.log disk.log; PATH=$PATH:$PWD/examples/many_machines; "
+    "printf '#!/bin/sh\\n' > check; chmod +x check",
 }
 
 

@@ -1,7 +1,7 @@
 #!/usr/bin/env python3
 """Records databases, gives each crash image to them, and says what was found: the table of docs/RECOVERY.md. By hand.
 
-    python3 tests/by_hand/real_programs.py FOLDER [KERNEL]
+    python3 tests/by_hand/real_programs.py [--every] FOLDER [KERNEL [NAME]]
 
 FOLDER is made, and keeps the recordings: what is there is taken as it is, so that a run may be gone on with. KERNEL is as in
 tests/by_hand/record.py: with it the same databases are recorded in a guest too, on ext4.
@@ -11,6 +11,9 @@ by the program itself. It is `broken` where that fails, where its own check find
 A commit is `lost` where fewer are there than marks before the cut. The images are those of tests/models/model.py, and `crashbpf images`
 has to count as many. Equal images with as many marks are judged once. One image of each row is judged by crashbpf-files too,
 which has to say the same.
+
+With `--every` each row that is no guest's is judged by `crashbpf-each --bound any --stop-at-failing` in place of that: how often the program
+was run, and the last line of the text. With NAME only rows whose name has it are made; KERNEL may be empty then.
 
 It wants strace, sqlite3, liblmdb-dev, libleveldb-dev, a C compiler, and the built program, which CRASHBPF names where it is another;
 with KERNEL what `guest` wants, and e2fsprogs.
@@ -40,7 +43,7 @@ from model import Run
 from notation import MARK, SECTOR, TOP, entries_of
 
 RECORD = TOP / "commands/record"
-GUEST = TOP / "examples/recording/guest"
+GUEST, EACH = TOP / "examples/recording/guest", TOP / "commands/each/crashbpf-each"
 PROGRAM = os.environ.get("CRASHBPF", TOP / "crates/crashbpf/out/crashbpf")
 from commands.record import layout
 from commands.record import named_layout
@@ -311,7 +314,7 @@ def judged(name, log, base, sectors, judge):
     print("| {} | {} | {} | {} ({}) | {} | {} |".format(name, len(entries), run.bound, images, *rest), flush=True)
 
 
-def traced(folder, row):
+def traced(folder, row, is_every):
     """Records a row by strace, and judges it."""
     out, base = folder / row.name.replace(" ", "_"), folder / f"{row.name.replace(' ', '_')}.base"
     if not (out / "writes.log").exists():
@@ -323,8 +326,9 @@ def traced(folder, row):
         options = [*(["--base", base] if row.base else []), *(["--skip", row.skip] if row.skip else []), *(["--files", row.orders] if row.orders else []), *(["--mapped"] if row.kind == "WRITEMAP" else [])]
         done = subprocess.run([RECORD / "crashbpf-record", *options, out, "--", "sh", "-c", row.command], capture_output=True, text=True)
         if done.returncode:
-            print(f"| {row.name} | refused: {done.stderr.strip().splitlines()[-1]} |", flush=True)
-            return
+            return print(f"| {row.name} | refused: {done.stderr.strip().splitlines()[-1]} |", flush=True)
+    if is_every:
+        return every_loss(out, row)
     text = (out / "files.txt").read_text()
     found, sectors = ([named_layout.read_map(text)], named_layout.read_map(text)[2]) if row.orders else layout.read_map(text)
 
@@ -337,7 +341,26 @@ def traced(folder, row):
 
     judge = Judge(row.found, lay)
     judged(row.name, out / "writes.log", out / "base.img", sectors, judge)
-    by_files(out, row, judge, sectors)
+    return by_files(out, row, judge, sectors)
+
+
+def every_loss(out, row):
+    """Judges every loss of a recording, each cut to its first failing case, and prints how often the program was run."""
+    entries = entries_of((out / "writes.log").read_bytes())
+    first = next((at for at, it in enumerate(entries) if it.text == b"begin"), 0)
+    before = sum(bool(it.flags & MARK) and not it.text.startswith(b"commit-") for it in entries)
+    words = [EACH, "-j", "1", "--bound", "any", "--stop-at-failing", out, "--from", str(first), "--", "/usr/bin/python3", Path(__file__).resolve(), "--found", row.found.__name__, str(before)]
+    with tempfile.TemporaryDirectory() as room:
+        done = subprocess.run(words, cwd=room, capture_output=True, text=True, env={**os.environ, "CRASHBPF": str(PROGRAM)}, stdin=subprocess.DEVNULL)
+    ran_often = re.search(r"was run (\d+) times", done.stderr)
+    print(f"| {row.name} | {ran_often[1] if ran_often else done.stderr.strip()} | {(done.stdout.splitlines() or [''])[-1]} |", flush=True)
+
+
+def found_here(name, before):
+    """Judges the files of the current folder, by how many marks stand before those of commits. Returns 1 where they are broken, and 2 where
+    a commit is lost."""
+    found = globals()[name](os.getcwd())
+    return 1 if isinstance(found, str) else 2 if found < int(os.environ["CRASH_MARKS"]) - int(before) else 0
 
 
 def by_files(out, row, judge, sectors):
@@ -383,6 +406,9 @@ def in_guest(folder, kernel, journal, synchronous):
 
 
 def main(words):
+    if words[0] == "--found":
+        return found_here(*words[1:])
+    is_every, words = words[0] == "--every", words[words[0] == "--every" :]
     folder = Path(words[0]).resolve()
     folder.mkdir(exist_ok=True)
     for name in ("lmdb", "leveldb"):
@@ -393,11 +419,12 @@ def main(words):
     chosen = words[2] if len(words) > 2 else ""
     for row in rows():
         if chosen in row.name:
-            traced(folder, row)
-    if words[1:] and words[1]:
+            traced(folder, row, is_every)
+    if words[1:] and words[1] and not is_every:
         for journal, synchronous in GUESTS:
             if chosen in f"{journal} {synchronous}":
                 in_guest(folder, Path(words[1]).resolve(), journal, synchronous)
+    return 0
 
 
 if __name__ == "__main__":

@@ -486,7 +486,6 @@ REFUSED = {
     "disk.log --sectors 33554433 -- true": "--sectors is 1 to 33554432",
     "disk.log --sectors 20000 -- true": "crashbpf refuses the log disk.log, or its options: refused 13 at 1",
     "disk.log --sectors 1 -- true": "crashbpf refuses the log disk.log, or its options: refused 9 at 0",
-    "disk.log --sectors 4 --bound any -- true": "--bound is 0 to 3 here",
     "disk.log --sectors 4 --bound 4 -- true": "crashbpf refuses the log disk.log, or its options: refused 13 at 2",
     "disk.log --sectors 4 --base disk.log -- true": "crashbpf refuses the log disk.log, or its options: refused 13 at 14",
     "disk.log --sectors 4 --base absent -- true": ".*No such file.*absent",
