@@ -776,8 +776,14 @@ INLINED char *strchr_(const char *text, int byte)
 #define __builtin_strncmp(a, b, most) strncmp(a, b, most)
 #define __builtin_strchr(text, byte) strchr(text, byte)
 
-/* For the native build alone: a program prints nothing. */
-#define printf(...) ((void)0)
+/* A program prints nothing, and computes what would be printed. */
+#define printf(...)								\
+	({									\
+		_Pragma("GCC diagnostic push")					\
+		_Pragma("GCC diagnostic ignored \"-Wunused-value\"")		\
+		(void)(0, __VA_ARGS__);						\
+		_Pragma("GCC diagnostic pop")					\
+	})
 
 #endif
 

@@ -1,2 +1,2 @@
-/* A program prints nothing: checker.h leaves each printf out. This file is there for sources that are built natively too. */
+/* A program prints nothing: checker.h has a printf that computes what it is given. This file is there for sources that are built natively too. */
 #include <stddef.h>

@@ -304,6 +304,7 @@ ROWS = [
     ("functions in structs", FUNCTIONS + OPS, "return ops[c->marks].run(c->epoch) * 100 + ops[c->marks].kind + (ops[2].run == 0);", 508),
     ("functions in structs that are looked for", FUNCTIONS + OPS, "for (const struct op *o = ops; o->run; o++) if (o->kind == c->epoch + 4) return o->run(ops[0].run(20)); return 0;", 23),
     ("functions that are passed on, and come later", SUM + SORTED, "u8 x[20], y[20]; copy(0, x, 20); copy(20, y, 20); sort(x, c->epoch + 7, up); sort(y, c->marks + 9, down); return sum(x, 10) ^ sum(y, 10) << 1;", None),
+    ("what printf is given", "#include <stdio.h>", 'u64 n = c->epoch; if (n == 3) printf("%llu of %llu\\n", n++, c->marks); else printf("none"); printf("end\\n"); return n;', 4),
     ("signed division", DIVIDED, DIVISIONS, 18446744073709536953),
     ("signed division by 1, and of the least number", "", "long long x = 1ll << 63; int y = -7; x += c->marks - 1; return x / (long long)c->marks + (u64)(y / (int)c->marks) * 3 + y % 2 * 1000;", 9223372036854774787),
     ("signed division by 0", "", "long long x = c->epoch - 10; return x / (long long)(c->marks - 1) * 5 + x % (long long)(c->marks - 1);", MASK - 6),
