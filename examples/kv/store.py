@@ -28,6 +28,7 @@ def parse(about):
     made.add_argument("adapter")
     made.add_argument("--seed", type=int, default=1)
     made.add_argument("--commits", type=int, default=4)
+    made.add_argument("--made", type=int, default=0)
     made.add_argument("--prefix", action="store_true")
     return made.parse_args()
 

@@ -1,13 +1,14 @@
 #!/usr/bin/env python3
 """Makes the rows of docs/FOUND.md anew, and compares them with what it says. By hand.
 
-    python3 tests/by_hand/found.py [--store] [--keep FOLDER] [NAME ..]
+    python3 tests/by_hand/found.py [--store] [--no-cure] [--keep FOLDER] [NAME ..]
     python3 tests/by_hand/found.py --document
 
 Each row is a program and a check that crashbpf-test is given: stores by examples/kv, all else by examples/found. NAME is a row, or the
 beginning of some; without one all are made. What a row comes to is compared with examples/found/found.json: how many cases there are,
 how many fail, which syncs lack, and what is left with them. Where counts differ from run to run only the syncs are compared, and whether
-cases fail. With --store the file is written. With --keep the answers are kept in a folder, each with its text.
+cases fail. With --store the file is written. With --no-cure no syncs
+are tried, which takes a third of the time, and what is left with them isn't compared. With --keep the answers are kept in a folder, each with its text.
 
 With --document nothing is run: the tables of docs/FOUND.md have to have the rows and the figures of that file, and no others.
 
@@ -34,6 +35,8 @@ from notation import TOP
 TEST, KV, FOUND = TOP / "commands/test/crashbpf-test", TOP / "examples/kv", TOP / "examples/found"
 STORED, DOCUMENT = FOUND / "found.json", TOP / "docs/FOUND.md"
 SECONDS = 3600
+# The commits of stores: by this seed a key is overwritten, another removed, and a checkpoint is made after the second.
+SEED, COMMITS = 138, 3
 # What is told of a name that is made by chance.
 CHANCE = re.compile(r"[0-9a-f]{6,}|[A-Za-z0-9_.:]*\d{6}[A-Za-z0-9_.:,=]*|(?<=tmp_obj_)\w+|(?<=sed)\w{6}|\d+")
 
@@ -56,10 +59,12 @@ class Row:
     varies: bool = False
 
 
-def kv(name, packages, adapter, options="", is_prefix=False, varies=False, bound="1"):
-    """Returns the row of a store."""
-    words = f"{adapter} --commits 3"
-    return Row(name, packages, (KV / "workload", *words.split()), f"{KV / 'check'} {words}{' --prefix' * is_prefix}", tuple(options.split()), (), bound, varies)
+def kv(name, packages, adapter, options="", is_prefix=False, varies=False, is_new=True, bound="1"):
+    """Returns the row of a store. Where it isn't new the first of its commits is there before."""
+    words = f"{adapter} --seed {SEED} --commits {COMMITS}{'' if is_new else ' --made 1'}"
+    base = () if is_new else (KV / "workload", adapter, "--seed", str(SEED), "--commits", "1")
+    check = f"{KV / 'check'} {words}{' --prefix' * is_prefix}"
+    return Row(name, packages, (KV / "workload", *words.split()), check, tuple(options.split()), base, bound, varies)
 
 
 def script(name, packages, folder, words="", base="", options="", varies=False, bound=""):
@@ -75,7 +80,7 @@ def sqlite_rows():
         for synchronous in ("OFF", "NORMAL", "FULL", "EXTRA"):
             is_prefix = synchronous == "OFF" or (journal, synchronous) == ("WAL", "NORMAL")
             options = "--skip db-shm" if journal == "WAL" else ""
-            yield kv(f"sqlite-{journal}-{synchronous}".lower(), "libsqlite3-0", f"sqlite:{journal},{synchronous}", options, is_prefix)
+            yield kv(f"sqlite-{journal}-{synchronous}".lower(), "libsqlite3-0", f"sqlite:{journal},{synchronous}", options, is_prefix, is_new=False)
 
 
 ROWS = [
@@ -92,25 +97,25 @@ ROWS = [
     kv("berkeley", "libdb5.3 python3-bsddb3", "berkeley", "--skip __db.0*"),
     kv("gdbm", "libgdbm6 libgdbm-dev", "gdbm", "--mapped"),
     kv("gdbm-nommap", "libgdbm6 libgdbm-dev", "gdbm:NOMMAP"),
-    kv("tdb", "libtdb1 python3-tdb", "tdb", "--mapped"),
-    kv("tdb-nommap", "libtdb1 python3-tdb", "tdb:NOMMAP"),
-    kv("kyoto", "libkyotocabinet16v5 libkyotocabinet-dev", "kyoto", "--mapped"),
-    kv("kyoto-nommap", "libkyotocabinet16v5 libkyotocabinet-dev", "kyoto:NOMMAP"),
-    kv("tokyo", "libtokyocabinet9 libtokyocabinet-dev", "tokyo", "--mapped"),
-    kv("tokyo-nommap", "libtokyocabinet9 libtokyocabinet-dev", "tokyo:NOMMAP"),
+    kv("tdb", "libtdb1 python3-tdb", "tdb", "--mapped", is_new=False),
+    kv("tdb-nommap", "libtdb1 python3-tdb", "tdb:NOMMAP", is_new=False),
+    kv("kyoto", "libkyotocabinet16v5 libkyotocabinet-dev", "kyoto", "--mapped", is_new=False),
+    kv("kyoto-nommap", "libkyotocabinet16v5 libkyotocabinet-dev", "kyoto:NOMMAP", is_new=False),
+    kv("tokyo", "libtokyocabinet9 libtokyocabinet-dev", "tokyo", "--mapped", is_new=False),
+    kv("tokyo-nommap", "libtokyocabinet9 libtokyocabinet-dev", "tokyo:NOMMAP", is_new=False),
     kv("redis-always", "redis-server python3-redis", "redis:always", "--skip socket", varies=True),
     script("git", "git", "git"),
-    script("git-all", "git", "git", base="all"),
-    script("dpkg", "dpkg", "dpkg"),
-    script("dpkg-unsafe", "dpkg", "dpkg", "--force-unsafe-io"),
+    script("git-all", "git", "git", base="all", bound="1"),
+    script("dpkg", "dpkg", "dpkg", bound="1"),
+    script("dpkg-unsafe", "dpkg", "dpkg", "--force-unsafe-io", bound="1"),
     script("sgdisk", "gdisk", "gpt", "sgdisk"),
     script("sfdisk", "fdisk gdisk", "gpt", "sfdisk"),
     script("luks-change", "cryptsetup-bin", "luks", "luksChangeKey"),
     script("luks-change-slot", "cryptsetup-bin", "luks", "luksChangeKey --key-slot 0"),
     script("luks-add", "cryptsetup-bin", "luks", "luksAddKey"),
-    script("tune2fs-uuid", "e2fsprogs", "ext4", "tune2fs -U random"),
-    script("resize2fs-grow", "e2fsprogs", "ext4", "resize2fs", "2M"),
-    script("resize2fs-shrink", "e2fsprogs", "ext4", "resize2fs -M"),
+    script("tune2fs-uuid", "e2fsprogs", "ext4", "tune2fs -U random", bound="1"),
+    script("resize2fs-grow", "e2fsprogs", "ext4", "resize2fs", "2M", bound="1"),
+    script("resize2fs-shrink", "e2fsprogs", "ext4", "resize2fs -M", bound="1"),
     script("fatlabel", "dosfstools", "fat"),
     script("maildrop", "maildrop", "mail", "maildrop"),
     script("procmail", "procmail", "mail", "procmail"),
@@ -142,16 +147,16 @@ def options(row, room):
         return row.options
     base = Path(room, "base/files")
     base.mkdir(parents=True)
-    subprocess.run(row.base, cwd=base, env=surroundings(room), check=True)
+    subprocess.run(row.base, cwd=base, env={**surroundings(room), "FILES": str(base)}, check=True)
     return ("--base", base, *row.options)
 
 
-def asked(row, keep, runners):
+def asked(row, keep, options_more):
     """Gives a row to crashbpf-test. Returns its answer, or what it said where there is none."""
     with tempfile.TemporaryDirectory(prefix="crashbpf-found.") as room:
         out = Path(keep or room, f"{row.name}.json")
         bound = ("--bound", row.bound) if row.bound else ()
-        words = [TEST, "-j", str(runners), *bound, "--no-lines", "--json", out, *options(row, room), "--check", row.check, "--", *row.program]
+        words = [TEST, *options_more, *bound, "--no-lines", "--json", out, *options(row, room), "--check", row.check, "--", *row.program]
         out.unlink(missing_ok=True)
         done = subprocess.run(words, env=surroundings(room), cwd=TOP, stdin=subprocess.DEVNULL, capture_output=True, text=True, errors="replace", timeout=SECONDS)
         if keep:
@@ -168,9 +173,8 @@ def summary(answer):
     """What is compared of an answer."""
     found, tried = answer["explored"], answer["tried"]
     answers = answer["missing"] + answer["helpless"]
-    early = sum(it["cases"] for it in answers if it["check"]["marks"] == 0)
     bound = re.match(r"up to (\d)", found["losses"])
-    made = {"bound": bound[1] if bound else found["losses"], "cases": found["cases"], "failing": found["failing"], "early": early, "complete": found["complete"]}
+    made = {"bound": bound[1] if bound else found["losses"], "cases": found["cases"], "failing": found["failing"], "complete": found["complete"]}
     made["missing"] = sorted({CHANCE.sub("*", f"{it['of']} {it['name']} before {it['before']['text']}") for it in answer["missing"]})
     made["helpless"] = sorted({f"{it['why']} after {call(it['after'])}" for it in answer["helpless"]})
     made["statuses"] = sorted({it["check"]["ended"] for it in answers})
@@ -179,9 +183,10 @@ def summary(answer):
 
 
 def is_same(row, found, stored):
-    """Whether a row is as it is stored."""
+    """Whether a row is as it is stored. What isn't known on a side isn't compared."""
     if not row.varies:
-        return {**found, "version": ""} == {**stored, "version": ""}
+        left_out = {"version": "", **({} if found["cured"] and stored["cured"] else {"cured": None})}
+        return {**found, **left_out} == {**stored, **left_out}
     return [found["missing"], found["helpless"], found["failing"] > 0] == [stored["missing"], stored["helpless"], stored["failing"] > 0]
 
 
@@ -191,12 +196,12 @@ def told(name, it):
     return f"{name}: {it['failing']} of {it['cases']} fail, complete {it['complete']}; {', '.join([*it['missing'], *it['helpless']]) or 'nothing lacks'}{cured}"
 
 
-def made(row, keep, runners):
+def made(row, keep, more):
     """Makes a row. Returns its line, and what it comes to, or nothing."""
     lacking = [it for it in row.packages.split() if not version(it)]
     if lacking and not os.environ.get("FOUND_ANYHOW"):
         return f"{row.name}: can't be run here, there is no {', '.join(lacking)}", None
-    answer = asked(row, keep, runners)
+    answer = asked(row, keep, more)
     if isinstance(answer, str):
         return f"{row.name}: no answer: {answer}", None
     found = {"version": version(row.packages.split()[0]), **summary(answer)}
@@ -215,12 +220,13 @@ def document():
     yield from (f"{name}: not in {STORED.name}" for name in rows if name not in known)
     for name in sorted(known.keys() & rows.keys()):
         it = known[name]
-        figures = [f"{it['failing']:,} of {it['cases']:,}", f"{it['cured'][0]:,} of {it['cured'][1]:,}" if it["cured"] else "-"]
+        cured = f"{it['cured'][0]:,} of {it['cured'][1]:,}" if it["cured"] else "not tried" if it["missing"] else "-"
+        figures = [f"{it['failing']:,} of {it['cases']:,}", cured]
         yield from (f"{name}: {figure} isn't in its row" for figure in figures if figure not in rows[name])
 
 
 def main(words):
-    is_stored, keep, runners = "--store" in words, None, os.environ.get("FOUND_RUNNERS", "2")
+    is_stored, keep, more = "--store" in words, None, ["-j", os.environ.get("FOUND_RUNNERS", "2"), *(it for it in words if it == "--no-cure")]
     if "--document" in words:
         found = list(document())
         print("\n".join([*found, f"{len(found)} findings"]))
@@ -230,11 +236,11 @@ def main(words):
         keep = Path(words[at + 1]).resolve()
         keep.mkdir(exist_ok=True)
         del words[at : at + 2]
-    names, wrong = [it for it in words if it != "--store"], 0
+    names, wrong = [it for it in words if it not in ("--store", "--no-cure")], 0
     for row in ROWS:
         if names and not any(row.name == it or it.endswith("*") and row.name.startswith(it[:-1]) for it in names):
             continue
-        line, found = made(row, keep, runners)
+        line, found = made(row, keep, more)
         print(line, flush=True)
         known = json.loads(STORED.read_text()) if STORED.exists() else {}
         if found and is_stored:
