@@ -71,7 +71,7 @@ class Named:
 
     def __init__(self, looks, found, path):
         self.looks, self.image, self.path = looks, Traced(Device(looks), found), path
-        self.names, self.files, self.links, self.seen, self.masked = self.image.names(), {}, {}, set(), masked()
+        self.names, self.files, self.links, self.seen, self.masked = self.image.names(self.image.chains()), {}, {}, set(), masked()
         for inside in self.names.values():
             for it in inside.values():
                 self.links[it] = self.links.get(it, 0) + 1

@@ -7,6 +7,7 @@ A call is one line, or two where lines of others stand between its begin and its
 `<... write resumed>) = 5`. Of a text that isn't such a line, or that is cut off, nothing is made: it is refused with its line.
 """
 import binascii
+import functools
 import re
 from collections import deque
 from dataclasses import dataclass, field
@@ -185,14 +186,14 @@ def shown(text):
     return text if len(text) <= SHOWN else f"{text[:SHOWN]}.."
 
 
-def words_of(text, call, begun):
-    """The words between the brackets of a call, and what stands from the closing bracket on. `begun` is said of a call that
-    hasn't ended, in whose text there is no such bracket."""
-    at, depth, words, word = len(call.name) + 1, 1, [], []
+def words_of(text, at, begun):
+    """The words between the brackets of a call, which begin at a place, and what stands from the closing bracket on. `begun` is said of
+    a call that hasn't ended, in whose text there is no such bracket."""
+    depth, words, word = 1, [], []
     while at < len(text):
         token = token_at(text, at)
         if not token:
-            raise Refused(f"{call}: it can't be read from {text[at : at + 20]!r} on")
+            raise Refused(f"it can't be read from {text[at : at + 20]!r} on")
         if token in ")]}":
             depth -= 1
             if depth == 0:
@@ -206,26 +207,41 @@ def words_of(text, call, begun):
             word.append(token)
         at += len(token)
     if not begun:
-        raise Refused(f"{call}: it has no end")
+        raise Refused("it has no end")
     return [*words, "".join(word).strip()], ""
+
+
+def parsed(text, name, begun):
+    """The words of a call's text, and the parts of what it answered, which are none where it hasn't ended."""
+    words, rest = words_of(text, len(name) + 1, begun)
+    if begun:
+        return words, None
+    found = RESULT.fullmatch(rest)
+    if not found:
+        raise Refused("what it answered can't be read")
+    return words, found.groups()
+
+
+# (crashbpf-test follows the same calls many times)
+known = functools.lru_cache(maxsize=1 << 14)(parsed)
 
 
 def read(call, begun):
     """Reads the words of a call and what it answered."""
-    call.words, rest = words_of(call.text, call, begun)
-    if begun:
-        return call
-    found = RESULT.fullmatch(rest)
-    if not found:
-        raise Refused(f"{call}: what it answered can't be read")
-    value, path, gone, call.error, call.rest = found.groups()
+    try:
+        words, answered = (known if len(call.text) <= LONG else parsed)(call.text, call.name, begun)
+    except Refused as why:
+        raise Refused(f"{call}: {why}") from None
+    call.words = list(words)
+    if answered is None:
+        return
+    value, path, gone, call.error, call.rest = answered
     call.gone = gone is not None
     call.result = None if value == "?" else number(value)
     call.path = None if path is None else unhexed(path)
     call.whole = True
     if call.result == -1 and not call.error:
         raise Refused(f"{call}: it failed, and its error can't be read")
-    return call
 
 
 def lines_of(stream, among=()):

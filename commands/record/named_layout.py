@@ -21,6 +21,7 @@ The device has in this order: a chain for each set of names, and one for the siz
 The names themselves stand in the map alone, and so does what is neither file nor folder: a symbolic link with its text, one of
 which the text is of a path in $FILES, a FIFO, a socket. It has the permissions that files and folders had last, too.
 """
+import hashlib
 import os
 import re
 import stat
@@ -461,13 +462,14 @@ def read_map(text):
 
 
 class Image:
-    """The files of an image, read by a map."""
+    """The files of an image, read by a map. `known` may have what was found of other images of the same log, by what their chains say."""
 
     # How many sectors of a chain are read at once, at first and later; most are short.
     AT_ONCE = (8, 512)
 
-    def __init__(self, device, found):
+    def __init__(self, device, found, known=None):
         self.device, (self.sets, rooms, self.sectors, self.others, self.modes) = device, found
+        self.known = {} if known is None else known
         self.rooms = {}
         for it in rooms:
             self.rooms.setdefault(it.size, []).append(it)
@@ -479,36 +481,39 @@ class Image:
         self.device.seek(SECTOR * first)
         return self.device.read(SECTOR * sectors)
 
-    def links(self, first, changes):
-        """Yields the sectors of a chain of that many changes, up to the version that is in force."""
-        link = self.read(first, 1)
-        number, (some, more) = struct.unpack_from("<Q", link)[0], self.AT_ONCE
-        yield link
+    def chain(self, first, changes):
+        """The sectors of a chain of that many changes, one after the other up to the version that is in force."""
+        parts = [self.read(first, 1)]
+        number, (some, more) = struct.unpack_from("<Q", parts[0])[0], self.AT_ONCE
         while number < changes:
-            count = min(some, changes - number)
-            content, begun = self.read(first + number + 1, count), number
-            for at in range(count):
-                link = content[SECTOR * at : SECTOR * (at + 1)]
-                if struct.unpack_from("<Q", link)[0] != begun + at + 1:
-                    return
-                number += 1
-                yield link
-            some = more
+            count, at = min(some, changes - number), 0
+            content = self.read(first + number + 1, count)
+            while at < count and struct.unpack_from("<Q", content, SECTOR * at)[0] == number + at + 1:
+                at += 1
+            parts.append(content[: SECTOR * at])
+            if at < count:
+                break
+            number, some = number + at, more
+        return b"".join(parts)
 
-    def names(self):
-        """What each folder has: names with what they are of."""
+    def chains(self):
+        """The chains of the sets."""
+        return [self.chain(it.sector, it.changes) for it in self.sets]
+
+    def names(self, chains):
+        """What each folder has, by the chains of the sets: names with what they are of."""
         found = {}
-        for it in self.sets:
-            for (folder, name), (kind, number) in zip(it.slots, self.held(it)):
+        for it, chain in zip(self.sets, chains):
+            for (folder, name), (kind, number) in zip(it.slots, self.held(it, chain)):
                 if kind:
                     self.take(found.setdefault(folder, {}), kind, number, name)
         return found
 
-    def held(self, names):
+    def held(self, names, chain):
         """What each name of a set holds, by their places."""
         found = [(0, 0)] * len(names.slots)
-        for link in self.links(names.sector, names.changes):
-            _, copy, *words = NAMES_LINK.unpack_from(link)
+        for at in range(0, len(chain), SECTOR):
+            _, copy, *words = NAMES_LINK.unpack_from(chain, at)
             if copy:
                 content = self.read(copy, up(max(HELD.size * len(found), 1), SECTOR) // SECTOR)
                 found = [HELD.unpack_from(content, HELD.size * at) for at in range(len(found))]
@@ -528,8 +533,8 @@ class Image:
 
     def room(self, number):
         """The size of the file the chain of whose size begins with a sector, and the first sector of its bytes."""
-        for link in self.links(number, self.rooms[number][0].changes):
-            _, size, first = LINK.unpack_from(link)
+        chain = self.chain(number, self.rooms[number][0].changes)
+        _, size, first = LINK.unpack_from(chain, len(chain) - SECTOR)
         if size and not any(it.first == first and size <= SECTOR * it.sectors for it in self.rooms[number]):
             raise Refused(f"the file of sector {number} has {size} bytes, and no room for them")
         return size, first
@@ -539,10 +544,20 @@ class Image:
         size, first = self.room(number)
         return self.read(first, up(size, SECTOR) // SECTOR)[:size] if size else b""
 
-    def contents(self):
-        """Yields what there is: its path below $FILES, its kind, of a folder None, of a file its bytes, of one more name the path of the
-        first, and its permissions, where these are known. A folder comes before what is in it, and names stand in their order."""
-        names, made, waiting = self.names(), {}, [(b"", 0)]
+    def listed(self):
+        """What `contents` has, but of a file the sector of its size in place of its bytes. (Copies of names are never written, so it is the
+        same where the chains are.)"""
+        chains, sums = self.chains(), hashlib.sha256()
+        for it in chains:
+            sums.update(b"%d " % len(it) + it)
+        key = sums.digest()
+        if key not in self.known:
+            self.known[key] = list(self.walked(self.names(chains)))
+        return self.known[key]
+
+    def walked(self, names):
+        """Yields what there is by these names, as `listed` says."""
+        made, waiting = {}, [(b"", 0)]
         while waiting:
             path, number = waiting.pop()
             for name, (kind, inside) in sorted(names.pop(number, {}).items()):
@@ -556,7 +571,13 @@ class Image:
                     yield below, ANOTHER, made[inside], None
                 else:
                     made[inside] = below
-                    yield below, FILE, self.content(inside), self.modes.get((FILE, inside))
+                    yield below, FILE, inside, self.modes.get((FILE, inside))
+
+    def contents(self):
+        """Yields what there is: its path below $FILES, its kind, of a folder None, of a file its bytes, of one more name the path of the
+        first, and its permissions, where these are known. A folder comes before what is in it, and names stand in their order."""
+        for path, kind, held, mode in self.listed():
+            yield path, kind, self.content(held) if kind == FILE else held, mode
 
     def lay_out(self, folder):
         """Makes the files in a folder."""

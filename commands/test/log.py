@@ -41,8 +41,8 @@ class Log:
             self.passed.append(self.passed[-1] + (it.kind == MARK))
             self.flushed.append(number + 1 if it.kind == FLUSH else self.flushed[-1])
         self.texts = [it.data for it in self.entries if it.kind == MARK]
-        # (the device at the last flush that was asked for, since all before it is durable)
-        self.held = 0, self.base
+        # the device at the last flush that was asked for, since all before it is durable; and what is known of names
+        self.held, self.known = (0, self.base), {}
 
     # What a crash leaves
 
@@ -80,7 +80,7 @@ class Log:
 
     def contents(self, device):
         """The files of an image."""
-        return list(named_layout.Image(io.BytesIO(device), self.map).contents())
+        return list(named_layout.Image(io.BytesIO(device), self.map, self.known).contents())
 
     def at(self, cut, lost=()):
         """What the check sees at a cut: the files, with the marks that were passed."""

@@ -699,11 +699,40 @@ def interrupted(guests, number):
     return None if running.returncode == 2 and not left else f"signal {number}: status {running.returncode}, {said} left {left}"
 
 
+# What is run by crashbpf-record --guest. Of `stat` there is one of busybox too, and what is written outside of $FILES is gone.
+IN_GUEST = """\
+cd "$FILES" && cat kept && stat --version | head -n 1 && echo gone >$OUTSIDE/gone || exit 1
+printf one >new && sync new && mv new one && sync . && mark one || exit 1
+mark 'two words' || printf two >two
+exit 3
+"""
+
+
+def program(guests):
+    """What is wrong with a program that is recorded by crashbpf-record --guest, and with the files of its images."""
+    out, base, image = guests.folder / "program", guests.folder / "base", guests.folder / "files.img"
+    base.mkdir()
+    (base / "kept").write_text("kept\n")
+    done = subprocess.run([RECORD, "--guest", guests.kernel, "--base", base, out, "--", "sh", "-c", IN_GUEST], capture_output=True, text=True, env=os.environ | {"OUTSIDE": str(guests.folder)})
+    said = done.stdout.split("\n")
+    if done.returncode != 3 or said[0] != "kept" or "coreutils" not in said[1] or "mark: in a guest a mark is one word" not in said:
+        return [f"program: status {done.returncode}, {done.stdout}{done.stderr}"]
+    found = [f"{it} is left" for it in ("gone", "program/guest") if (guests.folder / it).exists()]
+    entries, before = entries_of((out / "writes.log").read_bytes()), (out / "base.img").read_bytes()
+    show = "for it in kept one two; do cat $it 2>/dev/null || printf ' no %s' $it; done"
+    for these, wanted in (([], " no one no two"), (durable(entries[: entries.index(M("one"))]), "one no two"), (entries, "onetwo")):
+        image.write_bytes(image_of(these, before))
+        ran = subprocess.run([RECORD.with_name("crashbpf-files"), out / "files.txt", image, "--", "sh", "-c", show], capture_output=True, text=True)
+        found += [] if (ran.returncode, ran.stdout) == (0, f"kept\n{wanted}") else [f"program: the files of an image are {ran.stdout!r}, {ran.stderr}"]
+    return found
+
+
 def guests_of(folder, kernel):
     """What is wrong with virtual machines of this kernel."""
     guests = Guests(folder, kernel)
     return [
         *marks(guests),
+        *program(guests),
         *versions(guests, "use", True),
         *versions(guests, "files", False),
         *(refused(guests, *it) for it in REFUSED),

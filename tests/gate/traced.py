@@ -4,7 +4,7 @@
     python3 tests/gate/traced.py [SEED COUNT]
 
 It needs Python alone, neither strace nor the built program: the texts stand here, or are made of those by cutting them off and
-changing bytes. The rule for several files on one device is compared with a plain model of files (files_model.py) on COUNT
+changing bytes. The files of an image of ext4 are taken out where e2fsprogs are there; a line says where that isn't run. The rule for several files on one device is compared with a plain model of files (files_model.py) on COUNT
 random runs, 3,000 where it isn't given. tests/by_hand/record.py records real programs, by hand.
 
 Prints a line for each row that failed, and last `N passed, M failed`. It takes some five seconds.
@@ -12,6 +12,7 @@ Prints a line for each row that failed, and last `N passed, M failed`. It takes 
 import os
 import random
 import re
+import shutil
 import subprocess
 import sys
 import tempfile
@@ -29,6 +30,7 @@ from strace_texts import FILES, HERE, MARKS, strace
 
 RECORD = TOP / "commands/record"
 from commands.record import disk
+from commands.record import guest
 from commands.record import layout
 from commands.record import traced
 from commands.record.calls import Refused
@@ -453,6 +455,12 @@ def log_fault():
     return None if (b"".join(parts), large) == (wanted, False) else "the log has other bytes"
 
 
+def run_files(folder, *words):
+    """Runs crashbpf-files. Returns its status, and what it printed."""
+    done = subprocess.run([sys.executable, RECORD / "crashbpf-files", *words], capture_output=True, text=True, cwd=folder)
+    return done.returncode, done.stdout, done.stderr
+
+
 def files_faults():
     """What is wrong with crashbpf-files: the files of an image, its statuses, and what it refuses."""
     found = []
@@ -461,10 +469,6 @@ def files_faults():
         image.write_bytes(A + B[:200] + bytes(SECTOR - 200) + bytes(SECTOR * 6) + C + bytes(SECTOR * 7))
         text.write_text(MAP)
         show = 'ls -R; cat db "in/a b"; [ "$PWD" = "$FILES" ]; exit 7'
-
-        def run(*words):
-            done = subprocess.run([sys.executable, RECORD / "crashbpf-files", *words], capture_output=True, text=True, cwd=folder)
-            return done.returncode, done.stdout, done.stderr
 
         listed = ".:\ndb\nin\n\n./in:\na b\n" + (A + B[:188]).decode() + C.decode()
         rows = [
@@ -477,16 +481,71 @@ def files_faults():
             ((text, folder + "/no", "--", "true"), 2, "", f"crashbpf-files: {folder}/no: No such file or directory\n"),
         ]
         for words, *wanted in rows:
-            done = run(*words)
+            done = run_files(folder, *words)
             found += [] if list(done) == wanted else [f"crashbpf-files {words[2:]}: {done}"]
         left = [it for it in os.listdir(tempfile.gettempdir()) if it.startswith("crashbpf-files.")]
     return found + [f"{it} is left" for it in left]
 
 
+# The tools of file systems stand where no user's path leads.
+SBIN = {**os.environ, "PATH": guest.PATH}
+# What a map of a file system has, and texts that are none.
+SYSTEM = "crashbpf files of a file system 1\nsystem ext4\nsectors 16384\nfolder files\nend\n"
+NO_SYSTEM = (SYSTEM.replace("ext4", "ext9"), SYSTEM.replace("16384", "x"), SYSTEM.replace("folder files", "folder ../files"), SYSTEM[:-4], SYSTEM + "end\n")
+
+
+def debugged(image, *lines):
+    """Has debugfs do some lines to an image. Returns what it prints."""
+    script = "".join(f"{it}\n" for it in lines)
+    return subprocess.run(["debugfs", "-w", "-f", "-", image], input=script, capture_output=True, text=True, env=SBIN).stdout
+
+
+def system_faults():
+    """What is wrong with crashbpf-files on an image of ext4: what the journal alone has counts, and so does a file that no other tool made."""
+    found = [f"a map is read: {it!r}" for it in NO_SYSTEM if refusal_of(guest.read_map, it) is None]
+    lacks = [it for it in ("mke2fs", "debugfs", "e2fsck") if shutil.which(it, path=SBIN["PATH"]) is None]
+    if lacks:
+        print(f"not run: the files of an image of ext4, since there is no {', '.join(lacks)} (Debian: e2fsprogs)")
+        return found
+    with tempfile.TemporaryDirectory() as folder:
+        base, block, text = Path(folder, "base"), Path(folder, "block"), Path(folder, "files.txt")
+        (base / "in").mkdir(parents=True)
+        (base / "in/a b").write_bytes(b"a" * 5000)
+        (base / "db").write_bytes(b"A" * 4096)
+        (base / "link").symlink_to("db")
+        os.chmod(base / "in", 0o700)
+        guest.lay_disk(folder, base, 16384)
+        image = Path(folder, guest.BASE)
+        text.write_text(SYSTEM)
+        block.write_bytes(b"B" * 4096)
+        place = debugged(image, "blocks /files/db").split()[-1]
+        # (a transaction that stands in the journal, and not in its place)
+        debugged(image, "journal_open", f"journal_write -b {place} {block}", "journal_close")
+        before = image.read_bytes()
+        show = "ls -R; stat -c %a in; head -c 3 db; readlink link; wc -c <'in/a b'"
+        done = run_files(folder, text, image, "--", "sh", "-c", show)
+        wanted = (0, ".:\ndb\nin\nlink\n\n./in:\na b\n700\nBBBdb\n5000\n", "")
+        found += [] if done == wanted else [f"crashbpf-files of ext4: {done}"]
+        found += [] if image.read_bytes() == before and before.count(b"A" * 4096) else ["crashbpf-files of ext4: the image is another one, or had no journal to replay"]
+        image.write_bytes(bytes(len(before)))
+        status, printed, said = run_files(folder, text, image, "--", "true")
+        found += [] if (status, printed) == (2, "") and re.fullmatch(rf"crashbpf-files: {re.escape(str(image))}: e2fsck ends with status 8: .*\n", said) else [f"crashbpf-files of no ext4: {status}, {said}"]
+    return found
+
+
+def refusal_of(act, *words):
+    """Why something is refused, or nothing."""
+    try:
+        act(*words)
+    except Refused as refused:
+        return str(refused)
+    return None
+
+
 def main(words):
     seed, count = (int(it) for it in (*words, *("1", "3000")[len(words) :]))
     found = [row_fault(*it) for it in FOLLOWED] + [refused_fault(*it) for it in REFUSED] + [log_fault()]
-    several = [source_faults(), cut_faults(), damage_faults(seed, count // 2), map_faults(), files_faults()]
+    several = [source_faults(), cut_faults(), damage_faults(seed, count // 2), map_faults(), files_faults(), system_faults()]
     several.append([it for it in (model_fault(seed + turn) for turn in range(count)) if it])
     wrong = [it for it in found if it] + [it for these in several for it in these]
     for line in wrong:

@@ -1,0 +1,211 @@
+"""Records in a virtual machine what a program does to a file system.
+
+The machine is that of examples/recording/guest: a kernel of Linux, and dm-log-writes on its disk. On the disk stands a file system
+with the folder $FILES. The program is run below a copy of this machine's files: the machine has them for reading, and what is
+written to them stands in its memory alone. So the program finds its libraries and what else it wants where it always does.
+
+crashbpf-files lays the files of an image out: it has the journal of a copy replayed, as mount would do it, and takes the files out.
+"""
+import os
+import re
+import shlex
+import shutil
+import struct
+import subprocess
+import tempfile
+from pathlib import Path
+
+from commands.record import traced
+from commands.record.calls import Refused
+from commands.record.device import last_image
+from commands.record.disk import MARK, SECTOR
+from commands.record.layout import limits_of, trace_log
+from commands.shared.recording import NAME, Recording
+
+GUEST = Path(__file__).resolve().parents[2] / "examples/recording/guest"
+LOG, BASE, DISK, CONSOLE, MAP = "writes.log", "base.img", "disk.img", "console", "files.txt"
+MADE = (LOG, BASE, DISK, MAP, NAME)
+# What stands in the folder of a recording that was refused.
+LEFT = (*MADE, CONSOLE)
+HEAD = "crashbpf files of a file system 1"
+# Where the disk is mounted, and the folder on it, $FILES.
+TOP, FILES = "/crashbpf", "files"
+SYSTEMS = ("ext4",)
+# How many sectors a disk has where nothing is said.
+SECTORS = 32_768
+MKFS = "mke2fs -q -F -t ext4 -b 4096 -E nodiscard,lazy_itable_init=0,lazy_journal_init=0,root_owner=0:0"
+DISCARD = 4
+BEGUN, ENDED = "the program begins", "the program has ended"
+# Tools of file systems stand where no user's path leads.
+PATH = os.pathsep.join([os.environ.get("PATH", os.defpath), "/usr/sbin", "/sbin"])
+
+SCRIPT = """\
+root=/over/root
+mkdir -p /share /over && mount -t tmpfs over /over && mkdir /over/upper /over/work $root || exit 125
+mount -t 9p -o trans=virtio,version=9p2000.L,ro,cache=loose,msize=262144 share /share || exit 125
+mount -t overlay -o lowerdir=/share,upperdir=/over/upper,workdir=/over/work over $root || exit 125
+mkdir -p $root{top} $root/run/crashbpf $root/dev $root/proc $root/sys || exit 125
+mount -t devtmpfs dev $root/dev && mount -t proc proc $root/proc && mount -t sysfs sys $root/sys || exit 125
+cat >$root/run/crashbpf/mark <<'MARK'
+#!/bin/sh
+[ $# = 1 ] || {{ echo 'mark: in a guest a mark is one word' >&2; exit 2; }}
+exec dmsetup message watched 0 mark "$1"
+MARK
+cat >$root/run/crashbpf/run <<'RUN'
+#!/bin/sh
+cd "$1" || exit 125
+shift
+exec "$@"
+RUN
+chmod +x $root/run/crashbpf/mark $root/run/crashbpf/run
+mount -t {kind} $DEVICE $root{top} || exit 125
+echo '{begun}'
+chroot $root /usr/bin/env -i {environment} /run/crashbpf/run {at} {words} </dev/null
+status=$?
+echo
+echo '{ended}'
+umount $root{top} || exit 125
+exit $status
+"""
+
+
+def tool(name, package):
+    """The path of a tool, or why there is no recording."""
+    found = shutil.which(name, path=PATH)
+    if found is None:
+        raise Refused(f"there is no {name} (Debian: {package})")
+    return found
+
+
+def done(words, what, good=(0,)):
+    """Runs a tool. Returns what it says on standard error."""
+    ran = subprocess.run(words, stdin=subprocess.DEVNULL, capture_output=True, env={**os.environ, "PATH": PATH, "LC_ALL": "C"})
+    if ran.returncode not in good:
+        said = [it for it in (ran.stderr + ran.stdout).decode(errors="replace").splitlines() if it.strip()]
+        raise Refused(f"{what}: {os.path.basename(words[0])} ends with status {ran.returncode}{': ' + said[-1].strip() if said else ''}")
+    return ran.stderr.decode(errors="replace")
+
+
+def lay_disk(folder, base, sectors):
+    """Makes the disk with the folder $FILES, in which is what --base has."""
+    tool("mke2fs", "e2fsprogs")
+    if not 1 <= sectors <= trace_log.LARGE.sectors or sectors % 8:
+        raise Refused(f"the disk has 8 to {trace_log.LARGE.sectors} sectors, a multiple of 8: say how many by --sectors")
+    path = os.path.join(folder, BASE)
+    with tempfile.TemporaryDirectory(prefix="crashbpf-record.") as room:
+        os.mkdir(os.path.join(room, FILES))
+        traced.lay_base(base, os.path.join(room, FILES))
+        with open(path, "xb") as file:
+            file.truncate(SECTOR * sectors)
+        done([*MKFS.split(), "-d", room, path], f"no file system of {sectors} sectors holds the base; --sectors")
+
+
+def script_of(kind, at, words):
+    """The script that runs the program in the machine."""
+    given = {**os.environ, "FILES": f"{TOP}/{FILES}", "PATH": f"{PATH}{os.pathsep}/run/crashbpf"}
+    known = [f"{name}={value}" for name, value in given.items() if re.fullmatch(r"[A-Za-z_]\w*", name) and "\n" not in value]
+    return SCRIPT.format(
+        top=TOP, kind=kind, begun=BEGUN, ended=ENDED, environment=shlex.join(known), at=shlex.quote(at), words=shlex.join(words)
+    )
+
+
+def said_by(console):
+    """What the program said, by the console of its machine; nothing where it didn't run to its end."""
+    text = console.replace(b"\r\n", b"\n")
+    found = re.search(rb"(?ms)^%s\n(.*)\n%s$" % (BEGUN.encode(), ENDED.encode()), text)
+    return found and found[1]
+
+
+def run(folder, kernel, kind, sectors, words):
+    """Runs the program in the machine. Returns its status, and what it said."""
+    room, at = os.path.join(folder, "guest"), os.getcwd()
+    tool("qemu-system-x86_64", "qemu-system-x86")
+    with tempfile.NamedTemporaryFile("w", errors="surrogateescape") as script:
+        script.write(script_of(kind, at, words))
+        script.flush()
+        surroundings = {**os.environ, "PATH": PATH, "BASE": os.path.join(folder, BASE), "SHARE": "/"}
+        running = subprocess.Popen([str(GUEST), kernel, str(sectors), room, script.name], env=surroundings, stdin=subprocess.DEVNULL, stderr=subprocess.PIPE)
+        try:
+            said = running.communicate()[1].decode(errors="replace").strip()
+        except BaseException:
+            running.terminate()
+            running.wait()
+            raise
+        finally:
+            for name in (LOG, DISK, CONSOLE):
+                if os.path.exists(os.path.join(room, name)):
+                    os.replace(os.path.join(room, name), os.path.join(folder, name))
+            shutil.rmtree(room, ignore_errors=True)
+    if running.returncode not in (0, 1):
+        # (QEMU may say something after it, as that it was ended)
+        why = [it for it in said.splitlines() if it.startswith("guest: ")] or said.splitlines() or ["nothing was recorded"]
+        raise Refused(why[-1].removeprefix("guest: ").replace(room, folder))
+    console = Path(folder, CONSOLE).read_bytes()
+    printed, status = said_by(console), re.search(rb"script ended with status (\d+)", console)
+    if printed is None or status is None or status[1] == b"125" and not printed:
+        raise Refused(f"the machine didn't run the program to its end; see {os.path.join(folder, CONSOLE)}")
+    return int(status[1]), printed
+
+
+def measured(log):
+    """How many entries a log has, how many marks of the program, and whether it takes --large."""
+    (entries,), at, units, marks = struct.unpack_from("<Q", log, 16), SECTOR, 0, 0
+    for _ in range(entries):
+        _, count, flags = struct.unpack_from("<3Q", log, at)
+        marks += bool(flags & MARK)
+        units += 0 if flags & MARK else count
+        at += SECTOR * (1 if flags & (DISCARD | MARK) else 1 + count)
+    usual = trace_log.USUAL
+    # (the last mark is that of dm-log-writes)
+    return entries, marks - 1, entries > trace_log.ENTRIES or units > usual.units or len(log) > usual.length
+
+
+def record(folder, kernel, kind, base, sectors, words):
+    """Records a program. Returns its status, and what is said of the log."""
+    sectors = SECTORS if sectors is None else sectors
+    lay_disk(folder, base, sectors)
+    begun = os.stat(os.path.join(folder, BASE)).st_ctime_ns
+    status, printed = run(folder, kernel, kind, sectors, words)
+    log = Path(folder, LOG).read_bytes()
+    entries, marks, is_large = measured(log)
+    if last_image(log, Path(folder, BASE).read_bytes()) != Path(folder, DISK).read_bytes():
+        raise Refused("the last image of the log isn't the disk of the machine")
+    large = is_large or limits_of(sectors) is trace_log.LARGE
+    Path(folder, MAP).write_text("\n".join([HEAD, f"system {kind}", f"sectors {sectors}", f"folder {FILES}", "end", ""]))
+    Recording(folder, sectors, large, BASE, MAP, files=f"{TOP}/{FILES}", at=os.getcwd(), begun=begun, program=list(words)).write()
+    said = printed.decode(errors="replace")
+    told = f"entries {entries} marks {marks} sectors {sectors}{', by the limits of --large' if large else ''}: crashbpf-each {shlex.quote(os.path.relpath(folder))} -- COMMAND"
+    return status, f"{said}{told}" if not said or said.endswith("\n") else f"{said}\n{told}"
+
+
+# Of an image
+
+
+def is_map(text):
+    """Whether a text is the map of a file system."""
+    return text.startswith(f"{HEAD}\n")
+
+
+def read_map(text):
+    """The kind of file system, how many sectors the disk has, and the folder of the files. What is no map is refused with its line."""
+    found = re.fullmatch(rf"{HEAD}\nsystem ({'|'.join(SYSTEMS)})\nsectors (\d{{1,8}})\nfolder (\w+)\nend\n", text)
+    if not found:
+        raise Refused("1: it is no map of a file system")
+    return found[1], int(found[2]), found[3]
+
+
+def lay_out(image, inside, folder):
+    """Lays out in a folder what an image of ext4 has in one of its folders, once its journal is replayed."""
+    check, debug = tool("e2fsck", "e2fsprogs"), tool("debugfs", "e2fsprogs")
+    with tempfile.TemporaryDirectory(prefix="crashbpf-files.") as room:
+        copy, out = os.path.join(room, "image"), os.path.join(room, "out")
+        shutil.copyfile(image, copy)
+        os.mkdir(out)
+        # (as when a machine comes up: it replays the journal, and mends what is safe to be mended)
+        done([check, "-p", copy], image, (0, 1))
+        said = [it for it in done([debug, "-R", f'rdump "/{inside}" "{out}"', copy], image).splitlines()[1:] if "changing ownership" not in it]
+        if said:
+            raise Refused(f"{image}: debugfs: {said[0]}")
+        for name in os.listdir(os.path.join(out, inside)):
+            shutil.move(os.path.join(out, inside, name), os.path.join(folder, name))
+        shutil.copystat(os.path.join(out, inside), folder)
