@@ -37,6 +37,9 @@ Which entries a call makes, a write below being a write entry that is in flight 
   a flush. Else FUA writes of what it makes durable, and after these a write of what came later. By `ext4` and `xfs` fsync has the names
   durable up to the last change of the file's own, by `btrfs` the file's own, and fdatasync hasn't.
 
+- by `strict` and `btrfs` where a sync of a file begins: a write of each state of the names that the log of such a sync leaves besides, in which
+  the file has its names, and what it isn't synced with may be gone. Then a write of the state with all changes.
+
 Left out are writes that no image shows: to a file without a name, where no crash can bring its name back, and of bytes where none
 can bring their size back.
 
