@@ -8,8 +8,7 @@
  *
  * open NAME, close NAME, append NAME LENGTH BYTE, write NAME PLACE LENGTH BYTE, truncate NAME SIZE, fsync NAME, fdatasync NAME,
  * range NAME (sync_file_range, which only begins to write), folder NAME (fsync of a folder), rename NAME NAME, exchange NAME NAME, link NAME NAME, unlink NAME,
- * mkdir NAME, rmdir NAME, sync,
- * sleep MILLISECONDS, mark TEXT. */
+ * mkdir NAME, rmdir NAME, sync, sleep MILLISECONDS, mark TEXT. */
 #define _GNU_SOURCE
 #include <dirent.h>
 #include <fcntl.h>
