@@ -37,12 +37,16 @@ Which entries a call makes, a write below being a write entry that is in flight 
   a flush. Else FUA writes of what it makes durable, and after these a write of what came later. By `ext4` and `xfs` fsync has the names
   durable up to the last change of the file's own, by `btrfs` the file's own, and fdatasync hasn't.
 
+- by `strict` and `btrfs` where a sync of a file begins: a write of each state of the names that the log of such a sync leaves besides, in which
+  the file has its names, and what it isn't synced with may be gone. Then a write of the state with all changes.
+
 Left out are writes that no image shows: to a file without a name, where no crash can bring its name back, and of bytes where none
 can bring their size back.
 
 docs/RECORDING.md has the tables with their sources. `tests/models/named_model.py` has the same as plain sets.
 """
 import functools
+import itertools
 import struct
 from collections import deque
 from dataclasses import dataclass, field
@@ -147,6 +151,11 @@ class Names:
     durable: dict = None
     count: int = 0
     left: dict = field(default_factory=lambda: {0: 0})
+    # the files and folders that syncs have put into a log with their names, in the order of the last of these; what such a log has left
+    # besides; and what that was found for
+    logged: dict = field(default_factory=dict)
+    others: list = field(default_factory=list)
+    looked: tuple = ()
 
     def __post_init__(self):
         self.durable = self.versions[0] = self.initial
@@ -202,6 +211,42 @@ class Names:
             self.versions.append(self.after(bits | bit))
             yield self.left[bits | bit]
 
+    def put_back(self, state, logged):
+        """What names become where a log puts back what is in it, by the names that it has now. Who had one of these goes with it."""
+        now, found, waiting, done = self.after(sum(self.changes)), dict(state), list(logged), set()
+        while waiting:
+            held = waiting.pop()
+            if held in done:
+                continue
+            done.add(held)
+            found = {slot: it for slot, it in found.items() if it != held}
+            for slot in [slot for slot, it in now.items() if it == held]:
+                waiting += [found[slot]] if slot in found else []
+                found[slot] = held
+        return found
+
+    def log(self, held):
+        """These are put into a log with their names."""
+        for it in sorted(held):
+            self.logged.pop(it, None)
+            self.logged[it] = None
+
+    def beside(self):
+        """Looks for the states that a crash leaves besides, by what a log puts back: a commit empties it, so it has what was put there since
+        some time. Returns the number of each new one; last that of the state with all changes."""
+        looked, found = (self.count, tuple(self.left), tuple(self.logged)), []
+        if looked == self.looked or not self.changes:
+            return found
+        self.looked, logged = looked, list(self.logged)
+        known = [self.versions[number] for number in self.left.values()]
+        for before, first in itertools.product(known, range(len(logged))):
+            state = self.put_back(before, logged[first:])
+            if state not in known and state not in self.others:
+                self.others.append(state)
+                self.versions.append(state)
+                found.append(len(self.versions) - 1)
+        return [*found, self.left[sum(self.changes)]] if found else []
+
     def settle(self, bits):
         """These changes are durable. Returns the numbers of the states that are left: first the durable one, last the one with all
         changes; or nothing where none of them is new."""
@@ -212,7 +257,8 @@ class Names:
         self.left = {it & ~bits: number for it, number in self.left.items() if it & bits == bits}
         self.changes = {bit: change for bit, change in self.changes.items() if not bit & bits}
         every = sum(self.changes)
-        return [self.left[it] for it in sorted(self.left, key=lambda it: (it != 0, it == every))]
+        self.others, self.looked = [], ()
+        return [*(self.left[it] for it in sorted(self.left, key=lambda it: (it != 0, it == every))), *self.beside()]
 
 
 @dataclass(frozen=True)
@@ -688,6 +734,8 @@ class Tree:
         """A sync of a file begins, or of some of its sectors; with `data` one that does no more than fdatasync. Returns what it will
         make durable."""
         room = file.rooms[-1]
+        if self.one is None:
+            self.log_names(file)
         found = self.disk.begin_sync([room, file.place])
         laid = [(room, it) for it in room.laid if sectors is None or it in sectors]
         if sectors is not None:
@@ -697,10 +745,9 @@ class Tree:
             found[self.one] = {0: stamp}
         return found, laid, self.own_names(file) if self.rules.own and not data and self.one is None else {}
 
-    def own_names(self, file):
-        """Where names are by themselves: the changes that gave a file the names that it has, and those that made the folders that these
-        are in, with all that they follow. Where these leave a name of something else, none of the set: a file that was moved away
-        may be gone."""
+    def names_with(self, file):
+        """Where names are by themselves: of each set with names of a file, or of the folders that were made for these, which of these it has,
+        and the changes that gave them the names that they have, with all that they follow."""
         found, bits = {}, {}
         for slot in file.slots:
             names = self.set_of(slot)
@@ -710,7 +757,21 @@ class Tree:
             names, bit = self.made[folder]
             found.setdefault(names, set()).add((FOLDER, folder))
             bits[names] = bits.get(names, 0) | names.with_all_before(bit)
-        return {names: its for names, its in bits.items() if names.leaves(its) <= found[names]}
+        return {names: (found[names], its) for names, its in bits.items()}
+
+    def own_names(self, file):
+        """The changes that gave a file the names that it has, and those that made the folders that these are in, with all that they follow.
+        Where these leave a name of something else, none of the set: a file that was moved away may be gone."""
+        return {names: its for names, (held, its) in self.names_with(file).items() if names.leaves(its) <= held}
+
+    def log_names(self, file):
+        """A sync of a file begins where names are by themselves. It puts the file into a log with its names, and no other file whose names these
+        follow. So a crash leaves them alone, too: what isn't durable of the others may be gone."""
+        for names, (held, _) in self.names_with(file).items():
+            names.log(held)
+        for names in [it for it in self.moving if it.logged]:
+            for number in names.beside():
+                self.disk.write(names, 0, copy_text(number))
 
     def grows_apart(self, file, sectors):
         """Whether bytes past the durable size of a file are in flight that aren't in these sectors."""

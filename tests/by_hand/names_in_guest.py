@@ -106,6 +106,8 @@ PROGRAMS = {
     "cut": "open big,append big 61440 A,fsync big,folder .,mark 1,truncate big 0,open next,append next 61440 C,range next,sleep 300,mark 2",
     "renamed": "open new,append new 700 A,fsync new,rename new kept,fsync kept,mark 1",
     "renamed-data": "open new,append new 700 A,fsync new,rename new kept,fdatasync kept,mark 1",
+    # (xfs changes neither of two files whose names are exchanged)
+    "exchanged": "open new,append new 700 A,fsync new,folder .,mark 1,exchange new kept,fsync new,mark 2,sleep 300",
     # (btrfs may leave the second file alone)
     "followed": "open a,append a 200 A,rename a b,open a,append a 100 B,fsync a,mark 1,sleep 300",
     # (here what the file systems write by themselves, after a second, stands in the log)

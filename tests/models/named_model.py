@@ -77,30 +77,42 @@ class Model:
         self.free = []
         # each change of names: the slots that it changes, and what they hold then; the numbers of those that are durable
         self.changes, self.sure, self.base, self.files, self.folders = [], set(), {}, [], 1
+        # where names are by themselves: of each set of slots that are tied together what syncs put into a log, in its order, and what of
+        # the names a crash leaves by that
+        self.logs, self.extras = {}, {}
 
     # What a crash may leave
 
     def name_states(self):
         """Every map of slots to what they hold that a crash may leave: after some of the changes, in their order."""
-        for chosen in self.chosen():
-            state = dict(self.base)
-            for number in sorted(chosen):
-                state.update(self.changes[number])
-            yield {slot: held for slot, held in state.items() if held is not None}
-
-    def chosen(self):
-        """Which changes a crash may leave. By `strict` each slot has its first changes, some number of them, and a change is there
-        for all of its slots or for none."""
         if self.table not in APART:
-            yield from (range(count) for count in range(max(self.sure, default=-1) + 1, len(self.changes) + 1))
+            for count in range(max(self.sure, default=-1) + 1, len(self.changes) + 1):
+                yield self.after(range(count), lambda _: True)
             return
-        slots = {slot for change in self.changes for slot in change}
+        tied = self.tied()
+        rest = {slot: held for slot, held in self.base.items() if not any(slot in it for it in tied)}
+        for chosen in itertools.product(*([*self.states_of(it), *self.extras.get(it, ())] for it in tied)):
+            yield {slot: held for part in (rest, *chosen) for slot, held in part.items()}
+
+    def after(self, numbers, wanted):
+        """What the wanted slots hold after some of the changes."""
+        state = dict(self.base)
+        for number in sorted(numbers):
+            state.update(self.changes[number])
+        return {slot: held for slot, held in state.items() if held is not None and wanted(slot)}
+
+    def states_of(self, slots):
+        """What slots that are tied together may hold. Each slot has its first changes, some number of them, and a change is there for all of
+        its slots or for none."""
         mine = [[number for number, change in enumerate(self.changes) if slot in change] for slot in slots]
+        sure, found = {it for it in self.sure if set(self.changes[it]) <= slots}, []
         for counts in itertools.product(*(range(len(it) + 1) for it in mine)):
-            found = {number for it, count in zip(mine, counts) for number in it[:count]}
+            there = {number for it, count in zip(mine, counts) for number in it[:count]}
             gone = {number for it, count in zip(mine, counts) for number in it[count:]}
-            if not found & gone and self.sure <= found:
-                yield found
+            state = self.after(there, slots.__contains__)
+            if not there & gone and sure <= there and state not in found:
+                found.append(state)
+        return found
 
     def contents(self, file):
         """Every content that a crash may leave of a file."""
@@ -283,6 +295,7 @@ class Model:
         these = {(number, time, at): len(it.versions) - 1 for at, it in file.sectors[time].items() if sectors is None or at in sectors}
         own = self.table in OWN and not data
         if self.table in APART:
+            self.log(number)
             names = self.own_names(number) if own else set()
         else:
             names = self.names_up_to(max(file.stamp, file.named) if own else file.stamp, lambda _: True)
@@ -291,14 +304,7 @@ class Model:
     def own_names(self, number):
         """By `btrfs` the changes that gave a file the names that it has, and that made the folders of these, each with all that stand before it
         in the same slots. Of slots that renames tie together none counts where what isn't durable of these changes leaves something else there."""
-        now, count = self.names_now(), len(self.changes)
-        names = [slot for slot, held in now.items() if held == ("file", number)]
-        folders = {folder for folder, _ in names}
-        while True:
-            more = {slot[0] for slot, held in now.items() if held and held[0] == "folder" and held[1] in folders} - folders
-            if not more:
-                break
-            folders |= more
+        count, (names, folders) = len(self.changes), self.where(number)
         wanted = [(("file", number), self.names_up_to(count, lambda change, slot=slot: slot in change)) for slot in names]
         for folder in folders:
             made = [at for at, change in enumerate(self.changes) if ("folder", folder) in change.values()]
@@ -314,11 +320,55 @@ class Model:
                 found |= changes
         return found
 
+    def where(self, number):
+        """The slots that a file has, and the folders that these are in."""
+        now = self.names_now()
+        names = [slot for slot, held in now.items() if held == ("file", number)]
+        folders = {folder for folder, _ in names}
+        while True:
+            more = {slot[0] for slot, held in now.items() if held and held[0] == "folder" and held[1] in folders} - folders
+            if not more:
+                return names, folders
+            folders |= more
+
+    # What a sync puts into a log, where names are by themselves
+
+    def log(self, number):
+        """A sync of a file begins: the file, and the folders that were made for it, are put into a log with the names that they have."""
+        names, folders = self.where(number)
+        put = [(("file", number), set(names))]
+        for folder in sorted(folders):
+            put += [(("folder", folder), set(it)) for it in self.changes if ("folder", folder) in it.values()][:1]
+        for slots in self.tied():
+            mine = [held for held, these in put if these & slots]
+            if mine:
+                self.logs[slots] = [*(it for it in self.logs.get(slots, ()) if it not in mine), *mine]
+            self.look(slots)
+        self.crash()
+
+    def look(self, slots):
+        """Adds what a crash leaves of slots by what was put into a log: all of it, or what was since a commit."""
+        found, log, states = self.extras.setdefault(slots, []), self.logs.get(slots, ()), self.states_of(slots)
+        for first, state in itertools.product(range(len(log)), states):
+            more = self.put_back(state, log[first:], slots)
+            if more not in states and more not in found:
+                found.append(more)
+
+    def put_back(self, state, log, slots):
+        """What slots hold once a log was put back. Who holds a slot that another gets is put back as well, or is gone."""
+        now, put = self.after(range(len(self.changes)), slots.__contains__), set(log)
+        while True:
+            more = {state[slot] for slot, held in now.items() if held in put and slot in state} - put
+            if not more:
+                break
+            put |= more
+        return {slot: held for slot, held in state.items() if held not in put} | {slot: held for slot, held in now.items() if held in put}
+
     def tied(self):
         """The slots in sets that renames tie together, in all of the run."""
         found = []
         for slots in (set(it) for it in [*self.changes, *self.later]):
-            found = [*(it for it in found if not it & slots), set().union(slots, *(it for it in found if it & slots))]
+            found = [*(it for it in found if not it & slots), frozenset().union(slots, *(it for it in found if it & slots))]
         return found
 
     def seen_folder(self, folder):
@@ -348,6 +398,10 @@ class Model:
             it.sure = max(it.sure, version)
         for number, size in sizes.items():
             self.files[number].sure = max(self.files[number].sure, size)
+        for slots in self.tied() if self.table in APART else ():
+            if any(set(self.changes[it]) <= slots for it in names - self.sure):
+                self.extras[slots], self.sure = [], self.sure | {it for it in names if set(self.changes[it]) <= slots}
+                self.look(slots)
         self.sure |= names
         self.crash()
 

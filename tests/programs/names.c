@@ -7,8 +7,8 @@
  * byte, as `65x600`, which is 600 times A.
  *
  * open NAME, close NAME, append NAME LENGTH BYTE, write NAME PLACE LENGTH BYTE, truncate NAME SIZE, fsync NAME, fdatasync NAME,
- * range NAME (sync_file_range, which only begins to write), folder NAME (fsync of a folder), rename NAME NAME, link NAME NAME, unlink NAME, mkdir NAME, rmdir NAME, sync,
- * sleep MILLISECONDS, mark TEXT. */
+ * range NAME (sync_file_range, which only begins to write), folder NAME (fsync of a folder), rename NAME NAME, exchange NAME NAME, link NAME NAME, unlink NAME,
+ * mkdir NAME, rmdir NAME, sync, sleep MILLISECONDS, mark TEXT. */
 #define _GNU_SOURCE
 #include <dirent.h>
 #include <fcntl.h>
@@ -106,6 +106,8 @@ static int done(const char *call, const char *a, const char *b, const char *c, c
 		return synced(a);
 	if (!strcmp(call, "rename"))
 		return rename(a, b);
+	if (!strcmp(call, "exchange"))
+		return renameat2(AT_FDCWD, a, AT_FDCWD, b, RENAME_EXCHANGE);
 	if (!strcmp(call, "link"))
 		return link(a, b);
 	if (!strcmp(call, "unlink"))
