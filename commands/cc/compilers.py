@@ -232,6 +232,7 @@ class Gcc:
         return self.run([*self.target, "-fsyntax-only", "-x", "cpp-output", "-"], text)
 
     def compile(self, text, options, out):
+        """Compiles the preprocessed text to the file `out`, as with clang."""
         # Constants that may be merged are named by symbols inside of their section, which aren't read (data.py).
         words = [*self.target, "-gdwarf", "-Werror=return-type", *APART, "-fno-merge-constants"]
         # Loops stay as with clang. A length of `copy` isn't kept in a register over a loop, where the verifier would round it up.
