@@ -784,6 +784,9 @@ INLINED char *strchr_(const char *text, int byte)
 		(void)(0, __VA_ARGS__);						\
 		_Pragma("GCC diagnostic pop")					\
 	})
+#define fprintf(file, ...) printf(__VA_ARGS__)
+#define puts(text) printf("%s", text)
+#define putchar(byte) printf("%c", byte)
 
 #endif
 

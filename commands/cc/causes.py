@@ -24,9 +24,16 @@ ANSWERED = ("a function that is LOCAL and answers more than one number", "INLINE
 SIZED = ("an array whose length is a variable", "an array of the greatest length, and a test of the length")
 JUMPED = ("a goto to a place that is computed, which a program hasn't", "a switch, with a goto for each label where it needs one")
 THREADED = ("a variable of a thread, which a program hasn't", "static without __thread")
+SET_JUMP = ("a jump by setjmp, which a program hasn't", "an answer of the function, which its caller tests")
+ASSEMBLY = ("assembly that no program has", "C in its place; KEEP(x) of checker.h where a compiler is to know nothing of x")
+ALLOCATED = ("memory of a library, which a program hasn't", "a static array of the greatest size: a run has 65536 bytes for these")
 ENDED = ("an end by abort or a trap, which a program hasn't", "a return, with an answer that says why")
 MAPPED = ("a map or a variable of a processor, which a program hasn't", "a static variable or array: a run has 65536 bytes for these")
 NO_LIBRARY = f"a checker has no library but {', '.join(OWN_LIBRARY)}: write it as a function of the file, under a name of its own"
+UNANSWERED = ("a path without an answer", "a return on each path: what comes of a path without one isn't defined")
+GONE_BACK = "for, while or do in its place, which get one; or TURN(times, return TURNS_SPENT); as the first statement after the label"
+CONSTRUCTED = ("a function that runs before all others, which a program hasn't", "a call of it as the first statement of the checker")
+DECLARED = "its definition in this file: no other file belongs to a program"
 RECURSIVE = "a loop, with a stack of its own in a static array where one is needed: no function calls itself, also by way of others"
 MEMORY_CALLS = "memcmp, memcpy, memset and memmove are those of checker.h; else set, copy and compare field by field"
 STACK = re.compile("stack limit|stack frame|stack size")
@@ -41,12 +48,18 @@ LIBRARY = [
     (re.compile(r"(fmod|floor|ceil|trunc|round|sqrt|pow|fabs|rint|fma|fmin|fmax|exp|log|log2|log10|sin|cos)[fl]?$"), FLOATING),
     (re.compile(r"__[a-z]*ti[a-z]*\d?$"), WIDE),
     (re.compile(r"__emutls\w*$"), THREADED),
-    (re.compile(r"(abort|_?exit|__builtin_trap)$"), ENDED),
+    (re.compile(r"(abort|_?exit|__assert_fail|__builtin_trap)$"), ENDED),
+    (re.compile(r"(malloc|calloc|realloc|reallocarray|free|strn?dup)$"), ALLOCATED),
+    (re.compile(r"_?(set|long)jmp$"), SET_JUMP),
 ]
 # What a compiler says, without a name of its library; in which order doesn't matter.
 SAYINGS = [
     (re.compile(r"VarArgs|variable argument lists|va_start"), VARIABLE),
+    (re.compile(r"__builtin_(set|long)jmp"), SET_JUMP),
+    (re.compile(r"no (con|de)structors"), CONSTRUCTED),
+    (re.compile(r"control reaches end of non-void"), UNANSWERED),
     (re.compile(r"indirect jump|[Cc]annot select.*brind"), JUMPED),
+    (re.compile(r"constraint .*in asm|impossible constraint|in .asm.|register/token name|unrecognized|unknown (opcode|instruction)|[Ii]llegal operands"), ASSEMBLY),
     (re.compile(r"indirect call"), POINTED),
     (re.compile(r"[Tt]hread-local storage"), THREADED),
     (re.compile(r"too many args|too many function arguments|pass by value not supported|arguments on the stack"), TOO_MANY),
@@ -54,7 +67,7 @@ SAYINGS = [
     (SIZED_SAID, SIZED),
     (re.compile(r"[Aa]tomic(_|\w*Swap|Load|RMW|CmpSwap|Fence)"), ATOMIC),
 ]
-ERROR = re.compile(r"(?m)^(?:(.+?):(\d+):\d+: )?(?:(?:fatal )?error|sorry, unimplemented): (.*)$")
+ERROR = re.compile(r"(?m)^(?:(.+?):(\d+):(?:\d+:)? )?(?:(?:fatal )?[Ee]rror|sorry, unimplemented): (.*)$")
 # Where the compiler knows no file of the text, the place that it means comes in a note after the error.
 MEANT = re.compile(r"could not determine the original source location for (.+):(\d+):\d+")
 CALLED = re.compile(r"built-in function '(\w+)'")
@@ -63,7 +76,9 @@ ATOMICS, BY_REGISTER = (0xC3, 0xDB), 0x8D
 SHOWN = 8
 # The words of atomics in a source, and the sections that Linux takes for maps and for variables of each processor.
 ATOMIC_WORD = re.compile(r"__(sync|atomic|c11_atomic)_\w+$|_Atomic$")
+CONSTRUCTORS, CONSTRUCTOR_WORD = re.compile(r"\.(preinit_array|init_array|fini_array|ctors|dtors)"), re.compile("(__)?(con|de)structor(__)?$")
 MAPS = re.compile(r"\.?maps$|\.data\.\.percpu|\.percpu$")
+SET_JUMP_WORD, ASSEMBLY_WORDS = re.compile("(__builtin_|_)?(set|long)jmp$"), ("asm", "__asm__", "__asm")
 # Locals of as many bytes aren't named.
 SMALL = 16
 
@@ -81,7 +96,8 @@ def too_large(function, locals_, guards, again):
     helps += [] if guards else ["that memory is there with guards alone: take --no-guards away, or read by position"]
     called = [it.name for it in again if any(local.declaration.function is it for local in large)]
     helps = [f"{' and '.join(called)} may be called by a pointer while it runs: a switch that calls each function by its name"] if called else helps
-    helps += [] if large else ["a struct as a parameter or an answer has its place there too: pass a pointer to a static one"]
+    passed = any(it.declaration.last == it.declaration.function.body for it in large)
+    helps += [] if large and not passed else ["a struct as a parameter or an answer has its place there too: pass a pointer to a static one"]
     return NoProgram(
         "\n    ".join([f"the locals of {function} and of what is inlined in it take more than 512 bytes", *lines[:SHOWN]]), *helps
     )
@@ -131,6 +147,16 @@ class Causes:
             for number, at in enumerate(way)
         ]
 
+    def backward(self):
+        """The jumps by goto that lead back, as causes: such a loop gets no bound."""
+        text = self.source
+        for function in self.reached():
+            tokens = range(function.body + 1, function.end)
+            labels = {text.word(at): at for at in tokens if text.word(at + 1) == ":" and text.word(at - 1) in (";", "{", "}", ":")}
+            for at in tokens:
+                if text.word(at) == "goto" and labels.get(text.word(at + 1), at) < at:
+                    yield text.place(at), f"a loop by goto {text.word(at + 1)}, which has no bound", GONE_BACK
+
     def variable(self):
         """The functions with variable arguments, as causes."""
         text = self.source
@@ -161,17 +187,29 @@ class Causes:
         if kind is POINTED:
             return list(self.pointed()) or [(place, f"a function {POINTED[0]}", POINTED[1])]
         if kind is JUMPED:
-            return self.at_words(lambda at: self.source.word(at) == "goto" and self.source.word(at + 1) == "*", kind) or list(self.pointed())
+            jumps = self.at_words(lambda at: self.source.word(at) == "goto" and self.source.word(at + 1) == "*", kind)
+            return jumps or self.at_words(lambda at: SET_JUMP_WORD.match(self.source.word(at)), SET_JUMP) or list(self.pointed())
+        if kind is ASSEMBLY:
+            return self.at_words(lambda at: self.source.word(at) in ASSEMBLY_WORDS, kind) or [(place, *kind)]
         if kind is ATOMIC and place is None:
             return self.at_words(lambda at: ATOMIC_WORD.match(self.source.word(at)), kind) or [(None, *kind)]
         return [(place, *kind)] if kind else None
 
-    def at_words(self, is_one, kind):
-        """A cause at each line of the functions that are needed, or outside of functions, in which a token is one."""
+    def at_words(self, is_one, kind, needed_alone=True):
+        """A cause at each line of the functions that are needed, or of all, or outside of functions, in which a token is one; those of the
+        checker's own file, if there are any."""
         text, needed = self.source, self.reached()
-        inner = {at for it in text.functions if it not in needed for at in range(it.declared, it.end)}
-        places = dict.fromkeys(text.place(at) for at in range(len(text.tokens)) if at not in inner and is_one(at))
-        return [(place, *kind) for place in places]
+        inner = {at for it in text.functions if it not in needed and needed_alone for at in range(it.declared, it.end)}
+        found = [at for at in range(len(text.tokens)) if at not in inner and is_one(at)]
+        files = {text.tokens[it.body].file for it in needed if it.name == self.function}
+        own = [at for at in found if text.tokens[at].file in files]
+        return [(place, *kind) for place in dict.fromkeys(text.place(at) for at in own or found)]
+
+    def constructed(self, sections):
+        """The refusal of functions that a native program runs by itself, or none: such a function has its address in a section."""
+        found = any(CONSTRUCTORS.match(it) for it in sections)
+        words = lambda at: CONSTRUCTOR_WORD.match(self.source.word(at)) and self.source.word(at - 1) in ("(", ",")
+        return refusal(self.at_words(words, CONSTRUCTED, False) or [(None, *CONSTRUCTED)]) if found else None
 
     def mapped(self, sections):
         """The refusal of variables in sections that Linux takes for maps, or none."""
@@ -196,6 +234,11 @@ class Causes:
         kind = of_library(need.name) if need.kind == "absent" else None
         if kind:
             return [(place, *kind)]
+        used = [at for at in range(len(self.source.tokens)) if self.source.word(at) == need.name] if need.kind == "absent" else []
+        if any(self.source.word(at + 1) == "(" for at in used):
+            return [(place, f"{need.name} is called, which the file hasn't", NO_LIBRARY)]
+        if used:
+            return [(place, f"{need.name} is used, which the file only declares", DECLARED)]
         if need.kind == "function":
             names = {self.source.word(at) for at in self.source.circle(self.function)}
             return self.recursion() if need.name in names else list(self.pointed(need.name))

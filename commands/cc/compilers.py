@@ -44,6 +44,18 @@ def hints_for(said):
         yield 'a checker begins with #include "checker.h"'
     if re.search(r"unknown type name .s(8|16|32|64)\b", said):
         yield "signed numbers are signed char, short, int and long long, or int8_t to int64_t of stdint.h"
+    if re.search(r"\bassert\.h\b", said):
+        yield "in place of assert(x) an answer: if (!(x)) return 1;"
+    if re.search(r"__builtin_(set|long)jmp", said):
+        yield "in place of setjmp an answer of the function, which its caller tests"
+    if re.search(r"non-void function does not return a value", said):
+        yield "a return on each path: what comes of a path without one isn't defined"
+    if re.search(r"function definition is not allowed here", said):
+        yield "functions stand beside one another: what one needs of another is a parameter"
+    if re.search(r"thread-local", said):
+        yield "a run has no threads: static without __thread"
+    if re.search(r"constraint .*in .?asm", said):
+        yield "a program has no assembly of another machine: C in its place"
     if re.search(r"unknown type name .bool\b", said):
         yield "bool is in stdbool.h: #include <stdbool.h>"
 
@@ -131,7 +143,7 @@ class Clang:
         return self.run([*self.target, *definitions, "-E", source])
 
     def check(self, source, definitions):
-        return self.run([*self.target, *definitions, "-Wall", "-Wno-pass-failed", "-fsyntax-only", source])
+        return self.run([*self.target, *definitions, "-Wall", "-Wno-pass-failed", "-Werror=return-type", "-fsyntax-only", source])
 
     def read(self, text):
         """Reads a preprocessed text, and makes nothing of it."""
@@ -220,10 +232,14 @@ class Gcc:
         return self.run([*self.target, "-fsyntax-only", "-x", "cpp-output", "-"], text)
 
     def compile(self, text, options, out):
+        """Compiles the preprocessed text to the file `out`, as with clang."""
         # Constants that may be merged are named by symbols inside of their section, which aren't read (data.py).
-        words = [*self.target, "-gdwarf", "-w", *APART, "-fno-merge-constants"]
+        words = [*self.target, "-gdwarf", "-Werror=return-type", *APART, "-fno-merge-constants"]
         # Loops stay as with clang. A length of `copy` isn't kept in a register over a loop, where the verifier would round it up.
         words += ["-fno-tree-loop-distribute-patterns", "-fno-move-loop-invariants", "-fno-ipa-cp", "-fno-ipa-sra"]
+        # gcc 12 knows that a byte which was loaded has zeros above it. Where it then keeps that byte on the stack, it stores the byte alone,
+        # and loads eight. The pass that knows it is left out.
+        words += ["-fdisable-rtl-combine"]
         return self.run([*words, *options, "-c", "-x", "cpp-output", "-", "-o", out], text)
 
     def turn(self, times, code, answer):

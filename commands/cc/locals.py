@@ -9,7 +9,7 @@ stay on the stack: a compiler may make a loop of one that calls itself, and inli
 Nothing is known of types here. How large a local is, the compiler says; which bytes an initializer gives, its object file has.
 """
 import re
-from dataclasses import dataclass, field
+from dataclasses import dataclass, field, replace
 
 from commands.cc.program import NoProgram
 
@@ -204,6 +204,34 @@ def locals_of(source, functions):
                 it.number = len(found)
                 found.append(it)
     return found
+
+
+def structs_of(source, functions):
+    """The structs that these functions take and answer, as locals: a parameter by its name, an answer by its type."""
+    found = []
+    for it in functions:
+        opened = next(at for at in range(it.declared, it.body) if source.word(at) == it.name) + 1
+        types = [at for at in range(it.declared, opened - 1) if source.word(at) in TAGGED]
+        if types and source.word(opened - 2) != "*":
+            answer = " ".join(source.word(at) for at in range(types[0], opened - 1))
+            found.append(Local(answer, opened - 1, opened - 1, opened, None, None, Declaration(source, opened - 1, opened - 1, it.body, it)))
+        for first, after in parameters(source, opened):
+            own = declaration(source, first, after, it)
+            found += [replace(local, declaration=replace(own, last=it.body)) for local in (own.locals if own else []) if not local.is_pointer() and not local.dimension]
+    for number, it in enumerate(found):
+        it.number = number
+    return found
+
+
+def parameters(source, opened):
+    """The parameters in these brackets, as pairs of tokens: the first and the one after."""
+    start = at = opened + 1
+    end = source.closed(opened) - 1
+    while at < end:
+        at = source.closed(at) if source.word(at) in ("(", "[", "{") else at + 1
+        if at >= end or source.word(at) == ",":
+            yield start, at
+            start = at = at + 1
 
 
 def probes(source, locals_):

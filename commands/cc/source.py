@@ -308,13 +308,13 @@ class Source:
         return bool(words & {"static", "inline", "__inline", "__inline__"})
 
     def inlined(self, checker):
-        """Edits that inline each function but the checker and the LOCAL ones: a place, how much goes, what comes."""
+        """Edits that inline each function but the checker, main, and the LOCAL ones: a place, how much goes, what comes."""
         for it in self.functions:
-            if it.name == checker or self.is_local(it):
+            if it.name in (checker, "main") or self.is_local(it):
                 continue
             inner = self.tokens[it.declared : it.body]
             for token in inner:
-                if token.text in ("noinline", "__noinline__"):
+                if token.text in ("noinline", "__noinline__", "weak", "__weak__"):
                     yield token.start, token.end, "__unused__"
             words = {token.text for token in inner}
             attributes = ["__attribute__((__always_inline__))"] if not words & {"always_inline", "__always_inline__"} else []

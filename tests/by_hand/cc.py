@@ -109,7 +109,7 @@ REFUSALS = [
     (SOURCE, "text", "cc: source.c:18 (slot N) needs .rodata", "--no-guards"),
     *((SOURCE, it, WITH_MEMORY) for it in ("counts", "tabled", "text")),
     (SOURCE, "summed", WITH_MEMORY),
-    (SOURCE, "absent", f"cc: source.c:9 (slot N) needs outside, {OUTSIDE} absent"),
+    (SOURCE, "absent", "cc: source.c:9: outside is called, which the file hasn't"),
     (SOURCE, "first", "cc: the section mine of first holds more than this function and what is LOCAL to it"),
     (SOURCE, "looped", "cc: the loop source.c:12 is in a function that is LOCAL, and has no TURN"),
     (SOURCE, "deep", "cc: the loop source.c:14 is in a function that is LOCAL, and has no TURN"),

@@ -63,6 +63,7 @@ class Compared(Soak):
         return (out.read_bytes(), "") if done.returncode == 0 else (None, said[0] if said else done.stderr[:80])
 
     def differs(self, number, seed):
+        """What the programs of a checker answer otherwise than its native build, or None where no compiler makes one."""
         chance = random.Random(f"{seed} {number}")
         source = self.folder / "random.c"
         source.write_text(Writer(chance).checker())

@@ -528,6 +528,13 @@ SAYINGS = [
     ("source.c:8:1: sorry, unimplemented: indirect jumps are not available on this target", "cc: source.c:9: a goto to a place that is computed"),
     ("fatal error: error in backend: Cannot select: 0x1: i64 = AtomicLoadAdd", "cc: source.c:10: an atomic operation"),
     ("fatal error: error in backend: Cannot select: 0x1: ch = AtomicFence 0x2", "cc: source.c:10: an atomic operation"),
+    ("source.c:8:1: sorry, unimplemented: indirect jumps, and no goto\nsource.c:8:3: error: A call to built-in function 'longjmp' is not", "cc: source.c:9: a goto to a place that is computed"),
+    ("source.c:8:3: error: A call to built-in function 'longjmp' is not supported.", "cc: source.c:8: a jump by setjmp"),
+    ("source.c:8:3: error: A call to built-in function 'calloc' is not supported.", "cc: source.c:8: memory of a library"),
+    ("source.c:3:9: error: control reaches end of non-void function [-Werror=return-type]", "cc: source.c:3: a path without an answer"),
+    ("source.c:8:3: sorry, unimplemented: no constructors", "cc: source.c:8: a function that runs before all others"),
+    ("source.c:8:3: error: invalid register/token name", "cc: source.c:8: assembly that no program has"),
+    ("/tmp/x.s: Assembler messages:\n/tmp/x.s:15: Error: unrecognized form of instruction `nop'", "cc: x.s:15: assembly that no program has"),
     ("source.c:8:3: error: thread-local storage is not supported for the current target", "cc: source.c:8: a variable of a thread"),
     ("source.c:8:3: error: A call to built-in function 'abort' is not supported.", "cc: source.c:8: an end by abort or a trap"),
     ("PLEASE submit a bug report\nerror: no more", "cc: clang broke off on source.c"),
@@ -545,6 +552,12 @@ HINTS = [
     ("source.c:1:10: fatal error: assert.h: No such file or directory", "of its functions there are memcmp, memcpy, memset, memmove, memchr, strlen, strnlen, strcmp, strncmp, strchr"),
     ("source.c:2:1: error: unknown type name 'u64'", "a checker begins with #include"),
     ("source.c:2:1: error: unknown type name \u2018s32\u2019; did you mean", "signed numbers are signed char, short, int and long long, or int8_t"),
+    ("/usr/include/assert.h:35:10: fatal error: 'bits/types.h' file not found", "in place of assert(x) an answer"),
+    ("source.c:5:6: error: non-void function does not return a value in all control paths", "a return on each path"),
+    ("source.c:5:6: error: function definition is not allowed here", "functions stand beside one another"),
+    ("source.c:5:6: error: thread-local storage is not supported for the current target", "a run has no threads"),
+    ("source.c:5:6: error: __builtin_setjmp is not supported for the current target", "in place of setjmp an answer"),
+    ("source.c:6:20: error: invalid output constraint '=a' in asm", "a program has no assembly of another machine"),
     ("source.c:2:1: error: unknown type name 'bool'", "bool is in stdbool.h: #include <stdbool.h>"),
     ("source.c:2:1: error: something else", "see its errors above"),
 ]
@@ -578,7 +591,7 @@ def sayings(place):
     (place.folder / "sizes").write_text("it: 'char (*)[1][40][5]'\n")
     status, _, said = place.run()
     named = "cc: source.c:3: b is an array whose length is a variable\n    source.c:4: an array whose length is a variable\n    an array of the greatest length"
-    yield "arrays whose length is a variable", [] if status == 2 and said.startswith(named) else [f"{status} {said}"]
+    yield "arrays whose length is a variable", [] if status == 2 and named in said else [f"{status} {said}"]
     (place.folder / "sizes").unlink()
     place.tool("clang", CLANG)
 
