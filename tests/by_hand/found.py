@@ -102,7 +102,6 @@ ROWS = [
     kv("kyoto", "libkyotocabinet16v5 libkyotocabinet-dev", "kyoto", "--mapped", is_new=False),
     kv("kyoto-nommap", "libkyotocabinet16v5 libkyotocabinet-dev", "kyoto:NOMMAP", is_new=False),
     kv("tokyo", "libtokyocabinet9 libtokyocabinet-dev", "tokyo", "--mapped", is_new=False),
-    kv("tokyo-nommap", "libtokyocabinet9 libtokyocabinet-dev", "tokyo:NOMMAP", is_new=False),
     kv("redis-always", "redis-server python3-redis", "redis:always", "--skip socket", varies=True),
     script("git", "git", "git"),
     script("git-all", "git", "git", base="all", bound="1"),

@@ -4,11 +4,11 @@
 
 static TCHDB *db;
 
-/* The mode NOMMAP has it without a mapping. */
 int kv_open(const char *folder, const char *mode)
 {
+	(void)mode;
 	db = tchdbnew();
-	return !tchdbtune(db, 100, -1, -1, 0) || (!strcmp(mode, "NOMMAP") && !tchdbsetxmsiz(db, 0)) ||
+	return !tchdbtune(db, 100, -1, -1, 0) ||
 		!tchdbopen(db, kv_path(folder, "db.tch"), HDBOWRITER | HDBOCREAT | HDBOTSYNC);
 }
 
