@@ -19,7 +19,7 @@ from commands.record import traced
 from commands.record.calls import Refused
 from commands.record.device import last_image
 from commands.record.disk import MARK, SECTOR
-from commands.record.layout import limits_of, trace_log
+from commands.record.layout import is_large, trace_log
 from commands.shared.recording import NAME, Recording
 
 GUEST = Path(__file__).resolve().parents[2] / "examples/recording/guest"
@@ -48,7 +48,9 @@ mkdir -p $root{top} $root/run/crashbpf $root/dev $root/proc $root/sys || exit 12
 mount -t devtmpfs dev $root/dev && mount -t proc proc $root/proc && mount -t sysfs sys $root/sys || exit 125
 cat >$root/run/crashbpf/mark <<'MARK'
 #!/bin/sh
-[ $# = 1 ] || {{ echo 'mark: in a guest a mark is one word' >&2; exit 2; }}
+case $#$1 in
+1 | *[[:space:]]* | [!1]*) echo 'mark: in a guest a mark is one word' >&2; exit 2 ;;
+esac
 exec dmsetup message watched 0 mark "$1"
 MARK
 cat >$root/run/crashbpf/run <<'RUN'
@@ -147,17 +149,15 @@ def run(folder, kernel, kind, sectors, words):
     return int(status[1]), printed
 
 
-def measured(log):
-    """How many entries a log has, how many marks of the program, and whether it takes --large."""
+def without_end(log):
+    """A log without its last entry, the mark of dm-log-writes, with how many marks it has then, and how many sectors written."""
     (entries,), at, units, marks = struct.unpack_from("<Q", log, 16), SECTOR, 0, 0
-    for _ in range(entries):
+    for _ in range(entries - 1):
         _, count, flags = struct.unpack_from("<3Q", log, at)
         marks += bool(flags & MARK)
         units += 0 if flags & MARK else count
         at += SECTOR * (1 if flags & (DISCARD | MARK) else 1 + count)
-    usual = trace_log.USUAL
-    # (the last mark is that of dm-log-writes)
-    return entries, marks - 1, entries > trace_log.ENTRIES or units > usual.units or len(log) > usual.length
+    return log[:16] + struct.pack("<Q", entries - 1) + log[24:at], marks, units
 
 
 def record(folder, kernel, kind, base, sectors, words):
@@ -166,11 +166,12 @@ def record(folder, kernel, kind, base, sectors, words):
     lay_disk(folder, base, sectors)
     begun = os.stat(os.path.join(folder, BASE)).st_ctime_ns
     status, printed = run(folder, kernel, kind, sectors, words)
-    log = Path(folder, LOG).read_bytes()
-    entries, marks, is_large = measured(log)
+    log, marks, units = without_end(Path(folder, LOG).read_bytes())
     if last_image(log, Path(folder, BASE).read_bytes()) != Path(folder, DISK).read_bytes():
         raise Refused("the last image of the log isn't the disk of the machine")
-    large = is_large or limits_of(sectors) is trace_log.LARGE
+    Path(folder, LOG).write_bytes(log)
+    (entries,) = struct.unpack_from("<Q", log, 16)
+    large = is_large(sectors, entries, units, len(log))
     Path(folder, MAP).write_text("\n".join([HEAD, f"system {kind}", f"sectors {sectors}", f"folder {FILES}", "end", ""]))
     Recording(folder, sectors, large, BASE, MAP, files=f"{TOP}/{FILES}", at=os.getcwd(), begun=begun, program=list(words)).write()
     said = printed.decode(errors="replace")

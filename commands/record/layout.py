@@ -61,6 +61,18 @@ def limits_of(sectors):
     return limits
 
 
+def is_large(sectors, entries, units, length):
+    """Whether a log of that many entries, sectors written and bytes takes --large. One that is too long is refused."""
+    most = limits_of(sectors)
+    if length > most.length or units > most.units:
+        most = trace_log.LARGE
+    counts = (("entries", entries, trace_log.ENTRIES), ("sectors written", units, most.units), ("bytes", length, most.length))
+    for what, value, limit in counts:
+        if value > limit:
+            raise Refused(f"the log has {value} {what}, and a log has at most {limit}, with --large too: record less")
+    return most is trace_log.LARGE
+
+
 def with_flags(entries):
     """Entries in which a flush right before a write is a flag of the write. Between the two is one cut less, at which a crash leaves what
     it leaves after the write where that is lost, or before the flush where nothing is."""
@@ -95,14 +107,8 @@ def log_of(entries, firsts, sectors):
             parts += [trace_log.header(firsts[it.file] + it.sector, it.count, flags), it.data]
         units += it.count
         length += SECTOR * (1 + it.count)
-    most = limits_of(sectors)
-    if length > most.length or units > most.units:
-        most = trace_log.LARGE
-    counts = (("entries", len(entries), trace_log.ENTRIES), ("sectors written", units, most.units), ("bytes", length, most.length))
-    for what, value, limit in counts:
-        if value > limit:
-            raise Refused(f"the log has {value} {what}, and a log has at most {limit}, with --large too: record less")
-    return [struct.pack("<QQQI", trace_log.MAGIC, 1, len(entries), SECTOR).ljust(SECTOR, b"\0"), *parts], most is trace_log.LARGE
+    large = is_large(sectors, len(entries), units, length)
+    return [struct.pack("<QQQI", trace_log.MAGIC, 1, len(entries), SECTOR).ljust(SECTOR, b"\0"), *parts], large
 
 
 def map_text(found, sectors):

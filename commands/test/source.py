@@ -124,7 +124,7 @@ class Source:
     def __init__(self, folder):
         self.made = recording.read(folder)
         if self.made.table is None or self.made.map is None:
-            raise Refused(f"{folder} was recorded without --files: names and sizes of files aren't known")
+            raise Refused(f"{folder} wasn't recorded with --files, so names and sizes of files aren't known; crashbpf-each takes it")
         with open(self.made.path(self.made.map)) as file:
             found = named_layout.read_map(file.read())
         with open(self.made.path(self.made.base), "rb") as file:

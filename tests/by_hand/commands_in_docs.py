@@ -16,7 +16,7 @@ README.md's take two hours on four slow cores. .ci/run runs the last of these, `
 A block of commands is indented by four spaces, or fenced as `sh` or `python`. Each document has a copy of the repository, in which
 its blocks are run one after the other by one shell, with the program and the scripts of a package on the path. One that is indented
 sets variables for those after it. What stands below a block in a fence without a language, before the next heading, is a part of what
-it prints; `...` there stands for any lines. So is the first column of a table whose head begins with `It prints` or `They print`: each
+it prints; `...` there stands for any lines, and `..` at the end of a line for the rest of it. So is the first column of a table whose head begins with `It prints` or `They print`: each
 line of it is printed, in any order, and `..` at its end stands for the rest. README.md's script and its checker in C are those that
 its blocks run.
 
@@ -63,7 +63,7 @@ NOT_RUN = {
     r"crashbpf-record --fuse|formatting/": ("it needs qemu-storage-daemon, and /dev/fuse", FUSE),
     r"mkfs\.xfs": ("it needs QEMU, --kernel, and mkfs.xfs", [*KERNEL, "mkfs.xfs"]),
     r"recovery/sqlite|COMMANDS=sqlite3": ("it needs QEMU, --kernel, sqlite3 and e2fsck", [*KERNEL, "sqlite3", "e2fsck"]),
-    r"examples/recording/guest\b|\bused/|\bkernel\b|mounted": ("it needs QEMU, and --kernel", KERNEL),
+    r"examples/recording/guest\b|\bused/|\bkernel\b|in-guest|mounted": ("it needs QEMU, and --kernel", KERNEL),
     r"sbatch|parallel|try_slurm|join_all run >": ("it needs Slurm or several machines; tests/gate/many_machines.py runs parts as processes", []),
     r"tests/real_programs\.py": ("it is a test itself, which records databases", []),
     r"lay_out_each": ("it needs /dev/fuse", FUSE[1:]),
@@ -203,7 +203,7 @@ def blocks(lines):
 
 
 def fits(line, shown):
-    return line.startswith(shown[:-2]) if shown.endswith("..") else line == shown
+    return line.startswith(shown.rstrip(".").rstrip()) if shown.endswith("..") else line == shown
 
 
 def first_missing(printed, shown, in_order=True):
@@ -214,9 +214,10 @@ def first_missing(printed, shown, in_order=True):
     for line in shown:
         if line != "...":
             end = len(printed) if anywhere else at + 1
-            if line not in printed[at:end]:
+            found = next((number for number in range(at, min(end, len(printed))) if fits(printed[number], line)), None)
+            if found is None:
                 return line
-            at = printed.index(line, at) + 1
+            at = found + 1
         anywhere = line == "..."
     return None
 

@@ -7,7 +7,7 @@ doesn't run it, since it needs these; it runs tests/gate/traced.py, which has st
 By strace programs are recorded that write in each way that is followed, in threads and processes too, that change names and sizes,
 and those that have to be refused, with the call that shows why; of each the files are compared with those that the log has, of names also those at some marks. By FUSE a few commands are
 recorded, and their logs are compared with what they did; of each the last image has to be the disk. KERNEL is a folder as `guest` takes it. With it scripts are recorded in virtual machines: what stands before a mark of each
-kind, whether a file is there at its mark though all that is in flight is lost, and how `guest` ends where something is wrong.
+kind, what a program finds by --guest and which files its images have, whether a file is there at its mark though all that is in flight is lost, and how `guest` ends where something is wrong.
 
 Prints a line for each that failed, and last `N passed, M failed`. It wants what these want, e2fsprogs, and a C compiler. It
 takes half a minute, and with KERNEL a minute and a half of processor time more; on a busy machine that was twelve minutes.
