@@ -59,8 +59,8 @@ returns-clause-knows c = rw c.answer_of.ensures.facts (record {
   knows = record {
     found = c.in_ok-report.report.unreached;
     is = c.in_ok-report.ensures.unreached;
-    unreached = c.of_program.ensures.unreached;
-    blind = c.of_program.ensures.blind;
-    left = c.of_program.ensures.left_out;
+    unreached = c.of_program-facts.ensures.unreached;
+    blind = c.of_program-facts.ensures.blind;
+    left = c.of_program-facts.ensures.left_out;
   };
 })
