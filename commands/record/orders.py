@@ -46,7 +46,6 @@ can bring their size back.
 docs/RECORDING.md has the tables with their sources. `tests/models/named_model.py` has the same as plain sets.
 """
 import functools
-import itertools
 import struct
 from collections import deque
 from dataclasses import dataclass, field
@@ -151,11 +150,12 @@ class Names:
     durable: dict = None
     count: int = 0
     left: dict = field(default_factory=lambda: {0: 0})
-    # the files and folders that syncs have put into a log with their names, in the order of the last of these; what such a log has left
-    # besides; and what that was found for
+    # where names are by themselves: when each of the changes that aren't durable was made; the files and folders that syncs have put into a
+    # log with their names, and when the last of these was; and all states that a crash may leave, as sets of pairs
+    when: dict = field(default_factory=dict)
     logged: dict = field(default_factory=dict)
-    others: list = field(default_factory=list)
-    looked: tuple = ()
+    known: set = field(default_factory=set)
+    time: int = 0
 
     def __post_init__(self):
         self.durable = self.versions[0] = self.initial
@@ -205,47 +205,47 @@ class Names:
         more = [it for it in self.left if it & before == before]
         if len(more) > 1 and len(self.left) + len(more) > MOST_LEFT:
             raise Refused(f"a crash may leave names that renames tie together in more than {MOST_LEFT} ways; that is for the guest")
-        self.changes[bit], self.count = slots, self.count + 1
+        self.changes[bit], self.count, self.time = slots, self.count + 1, self.time + 1
+        self.when[bit] = self.time
         for bits in more:
-            self.left[bits | bit] = len(self.versions)
-            self.versions.append(self.after(bits | bit))
+            self.left[bits | bit] = self.new(self.after(bits | bit))
             yield self.left[bits | bit]
 
-    def put_back(self, state, logged):
+    def put_back(self, state, logged, now):
         """What names become where a log puts back what is in it, by the names that it has now. Who had one of these goes with it."""
-        now, found, waiting, done = self.after(sum(self.changes)), dict(state), list(logged), set()
+        waiting, put = list(logged), set()
         while waiting:
-            held = waiting.pop()
-            if held in done:
-                continue
-            done.add(held)
-            found = {slot: it for slot, it in found.items() if it != held}
-            for slot in [slot for slot, it in now.items() if it == held]:
-                waiting += [found[slot]] if slot in found else []
-                found[slot] = held
-        return found
+            put.add(waiting.pop())
+            waiting += {state[slot] for slot, held in now.items() if held in put and slot in state} - put
+        return {slot: held for slot, held in state.items() if held not in put} | {slot: held for slot, held in now.items() if held in put}
 
     def log(self, held):
-        """These are put into a log with their names."""
-        for it in sorted(held):
-            self.logged.pop(it, None)
-            self.logged[it] = None
+        """A sync puts these into a log with their names."""
+        self.time += 1
+        self.logged |= dict.fromkeys(held, self.time)
 
     def beside(self):
-        """Looks for the states that a crash leaves besides, by what a log puts back: a commit empties it, so it has what was put there since
-        some time. Returns the number of each new one; last that of the state with all changes."""
-        looked, found = (self.count, tuple(self.left), tuple(self.logged)), []
-        if looked == self.looked or not self.changes:
-            return found
-        self.looked, logged = looked, list(self.logged)
-        known = [self.versions[number] for number in self.left.values()]
-        for before, first in itertools.product(known, range(len(logged))):
-            state = self.put_back(before, logged[first:])
-            if state not in known and state not in self.others:
-                self.others.append(state)
-                self.versions.append(state)
-                found.append(len(self.versions) - 1)
-        return [*found, self.left[sum(self.changes)]] if found else []
+        """Looks for the states that a crash leaves besides: a commit has some of the changes and empties the log, which then has what was put
+        there since. Returns the number of each new one; last that of the state with all changes."""
+        every = self.left[sum(self.changes)]
+        now, bits, last, found = self.versions[every], 0, 0, []
+        logged = {held: time for held, time in self.logged.items() if held in now.values()}
+        for bit in self.changes if logged else ():
+            # (the commit was before this change, and after those that the state has)
+            until = min((it for it in logged.values() if it > self.when[bit]), default=self.time)
+            for start in sorted({it for it in logged.values() if last < it <= until}):
+                put = [held for held, time in logged.items() if time >= start]
+                state = self.put_back(self.versions[self.left[bits]], put, now)
+                is_known = frozenset(state.items()) in self.known or state == self.versions[self.left[0]]
+                found += [] if is_known else [self.new(state)]
+            bits, last = bits | bit, self.when[bit]
+        return [*found, every] if found else []
+
+    def new(self, state):
+        """Returns the number of a state that wasn't left."""
+        self.known.add(frozenset(state.items()))
+        self.versions.append(state)
+        return len(self.versions) - 1
 
     def settle(self, bits):
         """These changes are durable. Returns the numbers of the states that are left: first the durable one, last the one with all
@@ -257,7 +257,7 @@ class Names:
         self.left = {it & ~bits: number for it, number in self.left.items() if it & bits == bits}
         self.changes = {bit: change for bit, change in self.changes.items() if not bit & bits}
         every = sum(self.changes)
-        self.others, self.looked = [], ()
+        self.known = {frozenset(self.versions[number].items()) for number in self.left.values()}
         return [*(self.left[it] for it in sorted(self.left, key=lambda it: (it != 0, it == every))), *self.beside()]
 
 

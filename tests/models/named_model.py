@@ -77,9 +77,9 @@ class Model:
         self.free = []
         # each change of names: the slots that it changes, and what they hold then; the numbers of those that are durable
         self.changes, self.sure, self.base, self.files, self.folders = [], set(), {}, [], 1
-        # where names are by themselves: of each set of slots that are tied together what syncs put into a log, in its order, and what of
-        # the names a crash leaves by that
-        self.logs, self.extras = {}, {}
+        # where names are by themselves: of each set of slots that are tied together what syncs put into a log, with the number of the last
+        # sync and of the changes of names then; what of the names a crash leaves by that; how many syncs there were
+        self.logs, self.extras, self.syncs = {}, {}, 0
 
     # What a crash may leave
 
@@ -339,20 +339,28 @@ class Model:
         put = [(("file", number), set(names))]
         for folder in sorted(folders):
             put += [(("folder", folder), set(it)) for it in self.changes if ("folder", folder) in it.values()][:1]
+        self.syncs += 1
         for slots in self.tied():
-            mine = [held for held, these in put if these & slots]
-            if mine:
-                self.logs[slots] = [*(it for it in self.logs.get(slots, ()) if it not in mine), *mine]
+            self.logs.setdefault(slots, {}).update({held: (self.syncs, len(self.changes)) for held, these in put if these & slots})
             self.look(slots)
         self.crash()
 
     def look(self, slots):
-        """Adds what a crash leaves of slots by what was put into a log: all of it, or what was since a commit."""
-        found, log, states = self.extras.setdefault(slots, []), self.logs.get(slots, ()), self.states_of(slots)
-        for first, state in itertools.product(range(len(log)), states):
-            more = self.put_back(state, log[first:], slots)
-            if more not in states and more not in found:
-                found.append(more)
+        """Adds what a crash leaves of slots by what was put into a log. A commit had been made after some of the changes, and the log has what was
+        put there since then: after one of the syncs up to the first that came after the next change. Of each file the last sync counts."""
+        found, states = self.extras.setdefault(slots, []), self.states_of(slots)
+        now = self.after(range(len(self.changes)), slots.__contains__)
+        log = {held: it for held, it in self.logs.get(slots, {}).items() if held in now.values()}
+        mine = [number for number, change in enumerate(self.changes) if set(change) <= slots]
+        flying, sure = [it for it in mine if it not in self.sure], {it for it in mine if it in self.sure}
+        for count, after in enumerate(flying):
+            before = flying[count - 1] if count else -1
+            starts = sorted({it for it in log.values() if it[1] > before})
+            for start in [it for it in starts if it[1] <= after] + [it for it in starts if it[1] > after][:1]:
+                put = {held for held, it in log.items() if it >= start}
+                more = self.put_back(self.after(sure | set(flying[:count]), slots.__contains__), put, slots)
+                if more not in states and more not in found:
+                    found.append(more)
 
     def put_back(self, state, log, slots):
         """What slots hold once a log was put back. Who holds a slot that another gets is put back as well, or is gone."""
