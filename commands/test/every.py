@@ -57,6 +57,7 @@ class Every(Bounded):
         self.judge.runs += runs
         failing = [self.case(log, it) for it in map(CASE.fullmatch, lines) if it]
         found.cases, found.failing, found.complete = found.cases + int(totals[1]), list(dict.fromkeys(failing)), bool(totals[3])
+        found.cut_short = totals[2] != "0"
         stopped = "" if found.complete else f"; at {totals[2]} cuts not to the end"
         found.scope = f"every loss of any number of writes, each of them whole{stopped}"
         return found
