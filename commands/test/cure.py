@@ -92,7 +92,7 @@ class Cure:
                 return
             rest = [one for one in it.sites if one is not site]
             _, found = self.explored(self.table, self.syncs(rest), lambda case: case.key not in known)
-            if all(case.key in known for case in found.failing):
+            if not found.cut_short and all(case.key in known for case in found.failing):
                 it.sites, it.cured = rest, found
 
     def move(self):

@@ -40,8 +40,9 @@ class Found:
     cases: int = 0
     scope: str = ""
     complete: bool = False
-    # whether it was ended before all was judged
+    # whether it was ended before all was judged, and whether some cuts were, so that more may fail there
     stopped: bool = False
+    cut_short: bool = False
 
 
 def choice_of(lost):

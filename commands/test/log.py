@@ -33,6 +33,7 @@ class Log:
         laid = named_layout.Laid(self.tree)
         self.entries = list(laid.entries())
         self.firsts, self.sectors, self.base = laid.firsts, laid.sectors, laid.image()
+        self.map_text = laid.map_text
         self.map = laid.sets, laid.rooms, laid.sectors, list(self.tree.others.values()), laid.modes()
         self.starts = [0 if it.file is None else SECTOR * (laid.firsts[it.file] + it.sector) for it in self.entries]
         self.files = owners(self.tree)

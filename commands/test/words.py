@@ -5,6 +5,8 @@ import os
 from commands.record.orders import TABLES
 
 MOST_RUNNERS = 64
+# Any number of writes is lost at once.
+ANY = "any"
 USAGE = """crashbpf-test [OPTIONS] --check COMMAND -- PROGRAM [WORD ..]
        crashbpf-test [OPTIONS] --check COMMAND --recording FOLDER"""
 ABOUT = "Runs a program and says which sync it lacks: the call, and that the program is right with it."
@@ -22,6 +24,13 @@ def positive(most):
     return read
 
 
+def bound(text):
+    """Returns how many writes are lost at once."""
+    if text not in ("0", "1", "2", "3", ANY):
+        raise argparse.ArgumentTypeError("it is 0 to 3, or any")
+    return text if text == ANY else int(text)
+
+
 def parser():
     """Returns what reads the words before --."""
     made = argparse.ArgumentParser(prog="crashbpf-test", usage=USAGE, description=ABOUT, allow_abbrev=False)
@@ -32,7 +41,7 @@ def parser():
     made.add_argument("--base", metavar="PATH", help="what $FILES has at first: a file or a folder")
     made.add_argument("--skip", metavar="NAME", action="append", default=[], help="leave this file out, as a lock")
     made.add_argument("--mapped", action="store_true", help="look at files that are mapped for writing at each call")
-    made.add_argument("--bound", type=int, choices=range(4), help="how many writes are lost at once; without it one, and up to three where nothing fails and these are few")
+    made.add_argument("--bound", metavar="N", type=bound, help="how many writes are lost at once, 0 to 3, or any; without it one, and up to three where nothing fails and these are few")
     made.add_argument("--tears", action="store_true", help="writes may be torn too")
     made.add_argument("--timeout", metavar="S", type=float, default=60.0, help="end a check that takes longer than S seconds (60)")
     made.add_argument("-j", dest="runners", metavar="N", type=positive(MOST_RUNNERS), help="let N checks run at a time (as many as there are processors)")
@@ -56,6 +65,8 @@ def parse(words):
         reader.error("after -- stands the program, or --recording names a folder")
     if given.recording and (given.base or given.skip or given.mapped):
         reader.error("--base, --skip and --mapped are for a program that is run")
+    if given.bound == ANY and given.tears:
+        reader.error("with --bound any writes are lost as a whole, and --tears doesn't stand beside it")
     if not 0 < given.timeout <= 86400:
         reader.error("--timeout is a number of seconds, at most 86400")
     if given.runners is None:

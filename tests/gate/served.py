@@ -325,7 +325,35 @@ def test_full(folder):
     return differs(f"what is said: {done.stderr}", (done.returncode, "No space left" in done.stderr), (2, True))
 
 
+# crashbpf-test, of which nothing is found before every loss is judged.
+TESTED = """\
+import runpy, sys
+from commands.test import every, explore
+every.Bounded.explore = lambda self, log, until=None: explore.Found(scope="nothing")
+sys.argv = sys.argv[1:]
+runpy.run_path(sys.argv[0], run_name="__main__")
+"""
+
+
+def test_program(folder):
+    """What crashbpf-test says of every loss: both syncs that are missing, and with them that nothing is lost."""
+    if not shutil.which("strace"):
+        print("not run: crashbpf-test with every loss, which needs strace")
+        return []
+    found, saving = [], TOP / "examples/saving"
+    for word, wanted in (("", (1, True, True)), ("sync", (0, False, False))):
+        words = [sys.executable, "-c", TESTED, TOP / "commands/test/crashbpf-test", "--bound", "any", "-j", "2", "--no-lines", "--check", f"sh {saving}/check.sh", "--"]
+        surroundings = {**os.environ, "PYTHONPATH": str(TOP)}
+        done = subprocess.run([*words, "sh", saving / "save.sh", *word.split()], cwd=folder, env=surroundings, capture_output=True, text=True, stdin=subprocess.DEVNULL)
+        says = ["  fsync of the folder before each mark, 3 times" in done.stdout, '  fsync of "new" before rename("new", "settings"), 3 times' in done.stdout]
+        found += differs(f"what is said of {word}: {done.stdout}{done.stderr}", (done.returncode, *says), wanted)
+        complete = "none fails, complete" if not word else "none fails: every loss of whole writes was explored"
+        found += differs(f"the end of {done.stdout}", complete in done.stdout, True)
+    return found
+
+
 ROWS = {
+    "crashbpf-test": test_program,
     "texts": test_texts,
     "a run that is resumed": test_resumed,
     "a cure": test_cured,
