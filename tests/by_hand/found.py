@@ -85,11 +85,11 @@ def sqlite_rows():
 
 ROWS = [
     *sqlite_rows(),
-    kv("lmdb", "python3-lmdb", "lmdb", "--skip lock.mdb"),
-    kv("lmdb-nometasync", "python3-lmdb", "lmdb:metasync", "--skip lock.mdb", is_prefix=True),
-    kv("lmdb-nosync", "python3-lmdb", "lmdb:sync", "--skip lock.mdb", is_prefix=True),
-    kv("lmdb-writemap", "python3-lmdb", "lmdb:writemap", "--skip lock.mdb --mapped"),
-    kv("lmdb-mapasync", "python3-lmdb", "lmdb:writemap,map_async", "--skip lock.mdb --mapped", is_prefix=True),
+    kv("lmdb", "liblmdb0 python3-lmdb", "lmdb", "--skip lock.mdb"),
+    kv("lmdb-nometasync", "liblmdb0 python3-lmdb", "lmdb:metasync", "--skip lock.mdb", is_prefix=True),
+    kv("lmdb-nosync", "liblmdb0 python3-lmdb", "lmdb:sync", "--skip lock.mdb", is_prefix=True),
+    kv("lmdb-writemap", "liblmdb0 python3-lmdb", "lmdb:writemap", "--skip lock.mdb --mapped"),
+    kv("lmdb-mapasync", "liblmdb0 python3-lmdb", "lmdb:writemap,map_async", "--skip lock.mdb --mapped", is_prefix=True),
     kv("leveldb-sync", "libleveldb1d python3-plyvel", "leveldb:sync", "--skip LOG* --skip LOCK", varies=True),
     kv("leveldb", "libleveldb1d python3-plyvel", "leveldb", "--skip LOG* --skip LOCK", is_prefix=True, varies=True),
     kv("rocksdb-sync", "librocksdb7.8 librocksdb-dev", "rocksdb:sync", "--skip LOG* --skip LOCK", varies=True),
@@ -105,7 +105,7 @@ ROWS = [
     kv("redis-always", "redis-server python3-redis", "redis:always", "--skip socket", varies=True),
     script("git", "git", "git"),
     script("git-all", "git", "git", base="all", bound="1"),
-    script("dpkg", "dpkg", "dpkg", bound="1"),
+    script("dpkg", "dpkg", "dpkg", "--no-force-unsafe-io", bound="1"),
     script("dpkg-unsafe", "dpkg", "dpkg", "--force-unsafe-io", bound="1"),
     script("sgdisk", "gdisk", "gpt", "sgdisk"),
     script("sfdisk", "fdisk gdisk", "gpt", "sfdisk"),
@@ -220,7 +220,7 @@ def document():
     for name in sorted(known.keys() & rows.keys()):
         it = known[name]
         cured = f"{it['cured'][0]:,} of {it['cured'][1]:,}" if it["cured"] else "not tried" if it["missing"] else "-"
-        figures = [f"{it['failing']:,} of {it['cases']:,}", cured]
+        figures = [it["version"], f"{it['failing']:,} of {it['cases']:,}", cured]
         yield from (f"{name}: {figure} isn't in its row" for figure in figures if figure not in rows[name])
 
 
