@@ -141,6 +141,8 @@ def without_end(log):
 def record(folder, kernel, kind, base, sectors, words):
     """Records a program. Returns its status, and what is said of the log."""
     sectors = SECTORS if sectors is None else sectors
+    if not list(Path(kernel).glob("boot/vmlinuz-*")) or not Path(kernel, "lib/modules").is_dir():
+        raise Refused(f"{kernel} has no boot/vmlinuz-* and lib/modules: `dpkg -x linux-image-*.deb KERNEL` makes such a folder of Debian's package")
     lay_disk(folder, base, sectors)
     begun = os.stat(os.path.join(folder, BASE)).st_ctime_ns
     status, printed = run(folder, kernel, kind, sectors, words)
