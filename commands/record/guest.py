@@ -3,8 +3,6 @@
 The machine is that of examples/recording/guest: a kernel of Linux, and dm-log-writes on its disk. On the disk stands a file system
 with the folder $FILES. The program is run below a copy of this machine's files: the machine has them for reading, and what is
 written to them stands in its memory alone. So the program finds its libraries and what else it wants where it always does.
-
-crashbpf-files lays the files of an image out: it has the journal of a copy replayed, as mount would do it, and takes the files out.
 """
 import os
 import re
@@ -20,6 +18,7 @@ from commands.record.calls import Refused
 from commands.record.device import last_image
 from commands.record.disk import MARK, SECTOR
 from commands.record.layout import is_large, trace_log
+from commands.record.systems import PATH, done, map_text, tool
 from commands.shared.recording import NAME, Recording
 
 GUEST = Path(__file__).resolve().parents[2] / "examples/recording/guest"
@@ -27,17 +26,13 @@ LOG, BASE, DISK, CONSOLE, MAP = "writes.log", "base.img", "disk.img", "console",
 MADE = (LOG, BASE, DISK, MAP, NAME)
 # What stands in the folder of a recording that was refused.
 LEFT = (*MADE, CONSOLE)
-HEAD = "crashbpf files of a file system 1"
 # Where the disk is mounted, and the folder on it, $FILES.
 TOP, FILES = "/crashbpf", "files"
-SYSTEMS = ("ext4",)
 # How many sectors a disk has where nothing is said.
 SECTORS = 32_768
 MKFS = "mke2fs -q -F -t ext4 -b 4096 -E nodiscard,lazy_itable_init=0,lazy_journal_init=0,root_owner=0:0"
 DISCARD = 4
 BEGUN, ENDED = "the program begins", "the program has ended"
-# Tools of file systems stand where no user's path leads.
-PATH = os.pathsep.join([os.environ.get("PATH", os.defpath), "/usr/sbin", "/sbin"])
 
 SCRIPT = """\
 root=/over/root
@@ -69,23 +64,6 @@ echo '{ended}'
 umount $root{top} || exit 125
 exit $status
 """
-
-
-def tool(name, package):
-    """The path of a tool, or why there is no recording."""
-    found = shutil.which(name, path=PATH)
-    if found is None:
-        raise Refused(f"there is no {name} (Debian: {package})")
-    return found
-
-
-def done(words, what, good=(0,)):
-    """Runs a tool. Returns what it says on standard error."""
-    ran = subprocess.run(words, stdin=subprocess.DEVNULL, capture_output=True, env={**os.environ, "PATH": PATH, "LC_ALL": "C"})
-    if ran.returncode not in good:
-        said = [it for it in (ran.stderr + ran.stdout).decode(errors="replace").splitlines() if it.strip()]
-        raise Refused(f"{what}: {os.path.basename(words[0])} ends with status {ran.returncode}{': ' + said[-1].strip() if said else ''}")
-    return ran.stderr.decode(errors="replace")
 
 
 def lay_disk(folder, base, sectors):
@@ -163,6 +141,8 @@ def without_end(log):
 def record(folder, kernel, kind, base, sectors, words):
     """Records a program. Returns its status, and what is said of the log."""
     sectors = SECTORS if sectors is None else sectors
+    if not list(Path(kernel).glob("boot/vmlinuz-*")) or not Path(kernel, "lib/modules").is_dir():
+        raise Refused(f"{kernel} has no boot/vmlinuz-* and lib/modules: `dpkg -x linux-image-*.deb KERNEL` makes such a folder of Debian's package")
     lay_disk(folder, base, sectors)
     begun = os.stat(os.path.join(folder, BASE)).st_ctime_ns
     status, printed = run(folder, kernel, kind, sectors, words)
@@ -172,41 +152,8 @@ def record(folder, kernel, kind, base, sectors, words):
     Path(folder, LOG).write_bytes(log)
     (entries,) = struct.unpack_from("<Q", log, 16)
     large = is_large(sectors, entries, units, len(log))
-    Path(folder, MAP).write_text("\n".join([HEAD, f"system {kind}", f"sectors {sectors}", f"folder {FILES}", "end", ""]))
+    Path(folder, MAP).write_text(map_text(kind, sectors, FILES))
     Recording(folder, sectors, large, BASE, MAP, files=f"{TOP}/{FILES}", at=os.getcwd(), begun=begun, program=list(words)).write()
     said = printed.decode(errors="replace")
     told = f"entries {entries} marks {marks} sectors {sectors}{', by the limits of --large' if large else ''}: crashbpf-each {shlex.quote(os.path.relpath(folder))} -- COMMAND"
     return status, f"{said}{told}" if not said or said.endswith("\n") else f"{said}\n{told}"
-
-
-# Of an image
-
-
-def is_map(text):
-    """Whether a text is the map of a file system."""
-    return text.startswith(f"{HEAD}\n")
-
-
-def read_map(text):
-    """The kind of file system, how many sectors the disk has, and the folder of the files. What is no map is refused with its line."""
-    found = re.fullmatch(rf"{HEAD}\nsystem ({'|'.join(SYSTEMS)})\nsectors (\d{{1,8}})\nfolder (\w+)\nend\n", text)
-    if not found:
-        raise Refused("1: it is no map of a file system")
-    return found[1], int(found[2]), found[3]
-
-
-def lay_out(image, inside, folder):
-    """Lays out in a folder what an image of ext4 has in one of its folders, once its journal is replayed."""
-    check, debug = tool("e2fsck", "e2fsprogs"), tool("debugfs", "e2fsprogs")
-    with tempfile.TemporaryDirectory(prefix="crashbpf-files.") as room:
-        copy, out = os.path.join(room, "image"), os.path.join(room, "out")
-        shutil.copyfile(image, copy)
-        os.mkdir(out)
-        # (as when a machine comes up: it replays the journal, and mends what is safe to be mended)
-        done([check, "-p", copy], image, (0, 1))
-        said = [it for it in done([debug, "-R", f'rdump "/{inside}" "{out}"', copy], image).splitlines()[1:] if "changing ownership" not in it]
-        if said:
-            raise Refused(f"{image}: debugfs: {said[0]}")
-        for name in os.listdir(os.path.join(out, inside)):
-            shutil.move(os.path.join(out, inside, name), os.path.join(folder, name))
-        shutil.copystat(os.path.join(out, inside), folder)

@@ -32,6 +32,7 @@ RECORD = TOP / "commands/record"
 from commands.record import disk
 from commands.record import guest
 from commands.record import layout
+from commands.record import systems
 from commands.record import traced
 from commands.record.calls import Refused
 
@@ -491,7 +492,7 @@ def files_faults():
 
 
 # The tools of file systems stand where no user's path leads.
-SBIN = {**os.environ, "PATH": guest.PATH}
+SBIN = {**os.environ, "PATH": systems.PATH}
 # What a map of a file system has, and texts that are none.
 SYSTEM = "crashbpf files of a file system 1\nsystem ext4\nsectors 16384\nfolder files\nend\n"
 NO_SYSTEM = (SYSTEM.replace("ext4", "ext9"), SYSTEM.replace("16384", "x"), SYSTEM.replace("folder files", "folder ../files"), SYSTEM[:-4], SYSTEM + "end\n")
@@ -505,7 +506,7 @@ def debugged(image, *lines):
 
 def system_faults():
     """What is wrong with crashbpf-files on an image of ext4: what the journal alone has counts, and so does a file that no other tool made."""
-    found = [f"a map is read: {it!r}" for it in NO_SYSTEM if refusal_of(guest.read_map, it) is None]
+    found = [f"a map is read: {it!r}" for it in NO_SYSTEM if refusal_of(systems.read_map, it) is None]
     lacks = [it for it in ("mke2fs", "debugfs", "e2fsck") if shutil.which(it, path=SBIN["PATH"]) is None]
     if lacks:
         print(f"not run: the files of an image of ext4, since there is no {', '.join(lacks)} (Debian: e2fsprogs)")
