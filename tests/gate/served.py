@@ -7,7 +7,7 @@ PROGRAM is as in run.py. What is printed is compared with the model known_model.
 program ends in its verdict or in a line that says why, and no mount, process or folder is left. Where images can't be served, as where there
 is no FUSE, that is all that is tested: that it is refused with what is missing. A line says that the rest wasn't run.
 
-Prints a line for each row that failed, and last `N passed, M failed`. It takes half a minute.
+Prints a line for each row that failed, and last `N passed, M failed`. It takes some 75 seconds of the processor, three rows at a time.
 """
 import os
 import shutil
