@@ -142,8 +142,9 @@ class Names:
     versions: list = field(default_factory=lambda: [{}])
     slots: set = field(default_factory=set)
     touched: dict = field(default_factory=dict)
-    # which change of names was the last of these
+    # which change of names was the last of these, and the call that made it with the slots that it changed
     turn: int = 0
+    told: tuple = (None, ())
     # where names are by themselves: its changes that aren't durable, by a bit for each; the names before these; how many there were; and what a crash
     # may leave, as the changes that are there, with the number of its state
     changes: dict = field(default_factory=dict)
@@ -414,6 +415,7 @@ class Tree:
             self.above |= {it[1]: slot[0]} if it is not None and it[0] == FOLDER else {}
         names, self.turn = sets.pop(), self.turn + 1
         names.turn = self.turn
+        names.told = self.disk.entries.call, tuple(slots)
         for kind, number in changed:
             if kind == FILE:
                 self.files[number].sets.add(names)
@@ -769,9 +771,13 @@ class Tree:
         follow. So a crash leaves them alone, too: what isn't durable of the others may be gone."""
         for names, (held, _) in self.names_with(file).items():
             names.log(held)
+        entries, call = self.disk.entries, self.disk.entries.call
         for names in [it for it in self.moving if it.logged]:
+            # (what a crash leaves so lacks changes that were made before the sync, and is told as their last one)
+            entries.call, entries.slots = names.told
             for number in names.beside():
                 self.disk.write(names, 0, copy_text(number))
+        entries.call, entries.slots = call, ()
 
     def grows_apart(self, file, sectors):
         """Whether bytes past the durable size of a file are in flight that aren't in these sectors."""
