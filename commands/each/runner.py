@@ -10,6 +10,7 @@ import signal
 import struct
 import sys
 from contextlib import suppress
+from functools import partial
 from pathlib import Path
 from typing import NamedTuple
 
@@ -53,6 +54,8 @@ class Runner:
         self.given, self.channel, self.path = given, channel, path
         self.asked = channel.makefile("rb", 1 << 18)
         self.words = [self.path if it == "{}" else os.fsencode(it) for it in given.program]
+        # (crashbpf-files needs no Python of its own, which takes longer to start than most programs that judge)
+        self.act = partial(given.inside, [os.fsdecode(it) for it in self.words[1:]]) if given.inside else None
         self.nothing = os.open(os.devnull, os.O_RDONLY | os.O_CLOEXEC)
 
     def go(self):
@@ -75,7 +78,7 @@ class Runner:
         """Ends what outlives an image."""
 
     def run(self, it):
-        return run(self.words, self.surroundings(it), self.given.seconds, self.channel.fileno(), self.nothing)
+        return run(self.words, self.surroundings(it), self.given.seconds, self.channel.fileno(), self.nothing, self.act)
 
     def keep(self, number, ended):
         """Keeps a failing image, and what the program printed of it; each has its name when it is whole."""

@@ -35,6 +35,8 @@ class Words:
 
     first = resume = read_only = cure = stay = False
     keep, seconds, spot, part = None, 60.0, None, None
+    # What is done in place of the program, by its words: what crashbpf-files does.
+    inside = None
 
     def __init__(self, log, options, program):
         self.log, self.options, self.program = log, options, program
@@ -194,7 +196,9 @@ def parse(words):
     before, program = halves(words)
     pairs = split(before)
     logs = [value for name, value in pairs if name == ""]
-    if len(logs) == 1 and os.path.isdir(logs[0]):
+    is_folder = len(logs) == 1 and os.path.isdir(logs[0])
+    judge = program
+    if is_folder:
         pairs, program = of_recording(pairs, logs[0], program)
         logs = [value for name, value in pairs if name == ""]
     names = [name for name, _value in pairs if name]
@@ -204,6 +208,10 @@ def parse(words):
     if twice:
         raise Refusal(f"{twice} stands there twice")
     given = Words(logs[0], sized([it for it in pairs if it[0] in VALUED + FLAGS + OF_ANY + FLAGS_OF_ANY]), program)
+    if is_folder and len(program) > len(judge):
+        from commands.record import laying
+
+        given.inside = laying.main
     number("--sectors", given.value("--sectors"), MOST_SECTORS)
     beside_any(given, names)
     if "--stay" in names and "{}" in program:

@@ -5,6 +5,7 @@ import select
 import shutil
 import signal
 import time
+import traceback
 from typing import NamedTuple
 
 from commands.shared.faults import Refusal
@@ -13,6 +14,8 @@ from commands.shared.verdicts import TIMED_OUT, Verdict
 # How much of what a program prints is kept, and how long the end of what it left running may take.
 MOST_SAID = 1 << 16
 PATIENCE = 10.0
+# No file that is open here has such a number.
+MOST_FILES = 4096
 # These are at their default in a program, though this one, or what started it, has them otherwise.
 RESET = (signal.SIGINT, signal.SIGTERM, signal.SIGHUP, signal.SIGQUIT, signal.SIGPIPE, signal.SIGXFSZ)
 # By which a process becomes the parent of those that its children leave.
@@ -49,6 +52,33 @@ def start(words, surroundings, output, nothing):
         return os.posix_spawnp(words[0], words, surroundings, file_actions=actions, setsid=True, setsigmask=[], setsigdef=RESET)
     except (OSError, ValueError) as error:
         raise Refusal(f"the program can't be run: {error}") from None
+
+
+def start_inside(act, surroundings, output, nothing):
+    """Starts a process in a session of its own that does something in place of a program, with its environment, and returns its number.
+    `act` returns the status, and has nothing of this process open."""
+    process = os.fork()
+    if process:
+        return process
+    status = 1
+    try:
+        os.setsid()
+        for place, file in enumerate((nothing, output, output)):
+            os.dup2(file, place)
+            os.set_inheritable(place, True)
+        os.closerange(3, MOST_FILES)
+        for it in RESET:
+            signal.signal(it, signal.SIG_DFL)
+        signal.pthread_sigmask(signal.SIG_SETMASK, [])
+        os.environb.clear()
+        os.environb.update(surroundings)
+        status = act()
+    except SystemExit as ended:
+        status = ended.code if isinstance(ended.code, int) else 1
+    except BaseException:
+        traceback.print_exc()
+    finally:
+        os._exit(status)
 
 
 class Said:
@@ -118,6 +148,9 @@ def end_all(process):
     """Ends the process, its session and what else it left, and returns its status and whether something was left."""
     with contextlib.suppress(ProcessLookupError, PermissionError):
         os.killpg(process, signal.SIGKILL)
+    # (one that was forked may not have its session yet)
+    with contextlib.suppress(ProcessLookupError, PermissionError):
+        os.kill(process, signal.SIGKILL)
     status = os.waitpid(process, 0)[1]
     left, deadline = False, time.monotonic() + PATIENCE
     while True:
@@ -136,12 +169,13 @@ def end_all(process):
         time.sleep(0.001)
 
 
-def run(words, surroundings, seconds, hang_up, nothing):
-    """Runs the program, for at most that many seconds. Where `hang_up` can be read it is ended at once."""
+def run(words, surroundings, seconds, hang_up, nothing, act=None):
+    """Runs the program, for at most that many seconds; or does `act` in its place, in a process of its own. Where `hang_up` can be read it is
+    ended at once."""
     reading, writing = os.pipe2(os.O_CLOEXEC)
     try:
         try:
-            process = start(words, surroundings, writing, nothing)
+            process = start(words, surroundings, writing, nothing) if act is None else start_inside(act, surroundings, writing, nothing)
         finally:
             os.close(writing)
         said, in_time = Said(reading), None
