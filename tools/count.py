@@ -149,8 +149,8 @@ class Gate:
             self.run(part)
 
     def end(self, number, _frame):
-        """Ends what runs, and this process."""
-        self.is_stopped = True
+        """Ends what runs, and this process. What its threads meet by that is no news."""
+        self.is_stopped, threading.excepthook = True, lambda _: None
         for _, part in self.parts:
             if part.group:
                 try:
