@@ -198,8 +198,8 @@ class Clang:
 class Gcc:
     """gcc 12 or newer as it is built for BPF, with binutils of the same target."""
 
-    # As of clang; calls of `copy` stay apart by -O1 too.
-    WAYS = [(False, []), (True, ["-fno-crossjumping"]), (True, ["-O1"])]
+    # As of clang; calls of `copy` stay apart by -O1 too. The last makes less code, where the others make too many slots.
+    WAYS = [(False, []), (True, ["-fno-crossjumping"]), (True, ["-O1"]), (False, ["-Os"])]
     # A place that names a symbol holds the distance from the section's begin with binutils 2.40, and others may differ.
     FROM_SYMBOLS = False
 

@@ -40,15 +40,15 @@
  *
  * Its code is the address of the block that was looked at, or of 12 and 13 that of the chunk.
  *
- * Compared with btrfs check of btrfs-progs 6.2, by the native build, on 438 mutants of two file systems of 16 MiB. One was empty, one
- * had some sixty files; three of four mutants had their sums made right, as mend_sums does:
+ * Compared with btrfs check of btrfs-progs 6.2, on mutants of file systems of 16 MiB, empty ones and ones with some sixty files:
  *
- *     as they were changed      both pass 6, both fail 107
- *     with sums made right      both pass 210, both fail 91, it alone fails 7, btrfs check alone fails 17
+ *     113 as they were changed, natively               both pass 6, both fail 107
+ *     325 with sums made right, natively               both pass 210, both fail 91, it alone fails 7, btrfs check alone fails 17
+ *     300 by crashbpf-cc --against, and two unchanged  both pass 166, both fail 127, it alone fails 1, btrfs check alone fails 8
  *
- * It alone fails where a chunk's place, length or device is another one in the chunk tree or in the device tree (5): of four of these
- * btrfs check says so too, and ends with status 0. It alone fails on the item of an extent (2). btrfs check alone fails on inodes,
- * names and extents of files (14), on the flags of a block (2), and on the free space tree (1).
+ * It alone fails where the place, length, device or type of a chunk is another one in another tree (6): of five of these btrfs check says
+ * so too, and ends with status 0. It alone fails on the item of an extent (2). btrfs check alone fails on inodes, names and extents of
+ * files (22), on the flags of a block (2), and on the free space tree (1).
  *
  * The blocks of a chunk with two copies were damaged in the first, the second and both: both pass, pass and fail. Of snapshots, of
  * compression and of a kernel's writes nothing was tried.

@@ -31,9 +31,9 @@
  *
  * Compared with cryptsetup luksDump of 2.6.1, on a header with pbkdf2, and on one with argon2id and a token:
  *
- *     300 mutants and both, by crashbpf-cc --against with --seed luks   both pass 281, both fail 21
- *     149 changes of the text of both copies by hand, with right sums,  no difference
- *     natively
+ *     300 mutants and both, by crashbpf-cc --against                     both pass 277, both fail 25
+ *     300 mutants and both, of each one copy alone, the same way         both pass 115, both fail 187
+ *     149 changes of the text of both copies by hand, with right sums    no difference (natively)
  */
 #include "checker.h"
 

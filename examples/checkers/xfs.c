@@ -36,12 +36,12 @@
  *
  * The code of 4 to 7 is the byte of the device at which the header, the tree or the extent begins.
  *
- * Compared with xfs_repair -n of xfsprogs 6.1.0, with -D AS_REPAIR after a mark, natively and on few images, of a file system that
- * mkfs.xfs made as in write.sh:
+ * Compared with xfs_repair -n of xfsprogs 6.1.0, with -D AS_REPAIR after a mark, on three file systems of 16 and 32 MiB, two with files:
  *
- *     53 mutants, most with sums made right                             both pass 8, both fail 43, xfs_repair alone fails 2
+ *     300 mutants and these, most with sums made right          both pass 99, both fail 176, it alone fails 3, xfs_repair alone fails 25
  *
- * Of the two one changes a block of inodes, and one what the super block says of a realtime volume.
+ * It alone fails on features of the log (3). xfs_repair alone fails on inodes (17), their lists of deleted ones (2) and the tree of the
+ * free ones (1), on a log that a change makes dirty (3), on quotas (1), and on bytes of the super block that aren't in use (1).
  */
 #include "checker.h"
 

@@ -251,7 +251,7 @@ HEADER_CODE = 1000000 + next(
 ) + 1
 
 # A source, words of the tool, and for values of word 0 what is answered, with the codes, or the line of a stray; or how it is
-# refused.
+# refused, as clang makes it and as gcc does. That adds the 8 of INDEX to the pointer too, since its pass `combine` is left out.
 RUNS = [
     (LOOPS, [], {0: "0", 5: "0", 65536: "0", 65537: "1000000 codes 6"}),
     (LOOPS, ["--turns", "5"], {5: "0", 6: "1000000 codes 6"}),
@@ -266,7 +266,7 @@ RUNS = [
     (NULLS, [], {0: "1 codes -", 63: "1 codes -", 64: "stray at 6"}),
     (INDEX, [], {0: "0", 503: "0", 504: "stray at 6", 65535: "stray at 6"}),
     (INDEX, ["--guards"], {504: "stray at 6"}),
-    (INDEX, ["--no-guards"], "refused 52 at "),
+    (INDEX, ["--no-guards"], ("refused 52 at ", "refused 54 at ")),
     (EMPTY, ["--turns", "100", "--turns", "6:5"], {5: "0", 6: "1000000 codes 6"}),
     (ZEROED, [], {4: "1 codes -", 5: "0", 69: "0"}),
     (SUMMED, [], {0: "1 codes -", int.from_bytes(b"12345678", "little"): "0"}),
@@ -320,8 +320,8 @@ def runs(compiler, folder, program):
     for number, (text, words, wanted) in enumerate(RUNS):
         source.write_text(text)
         done = cc(compiler, source, "check", folder / "out.bpf", "--sectors", "64", *words, program=program)
-        if done.returncode != 0 or isinstance(wanted, str):
-            refused = isinstance(wanted, str) and done.stderr.startswith(wanted)
+        if done.returncode != 0 or isinstance(wanted, tuple):
+            refused = isinstance(wanted, tuple) and done.stderr.startswith(wanted["gcc" in Path(compiler).name])
             yield None if refused else f"{compiler} run {number}: wanted {wanted}, status {done.returncode} {done.stderr}"
             continue
         options = ["--guards"] * ("explore needs --guards" in done.stderr)
