@@ -27,7 +27,6 @@ import math
 import os
 import re
 import shutil
-import struct
 import subprocess
 import sys
 import tempfile
@@ -115,7 +114,7 @@ PROGRAMS = {
 }
 # Those of which a slow or a full disk is to show something; and those whose states are too many to be counted.
 LATE = ("late", "reused", "cut", "renamed", "renamed-data", "followed")
-UNCOUNTED = ("late", "reused", "cut")
+UNCOUNTED = ("late", "reused", "cut", "slow")
 # How long a machine may take to come up, and to test an image.
 START_SECONDS, TEST_SECONDS = 900, 300
 ENVIRONMENT = {**os.environ, "PATH": f"{os.environ['PATH']}:/usr/sbin:/sbin"}
@@ -196,8 +195,7 @@ def size_of_union(boxes):
 
 def contents_of(reader, number):
     """The contents that a file may have: of each size the sets of what each sector may hold."""
-    for text in reader.sector(number):
-        size, first = struct.unpack_from("<QQ", text)
+    for size, first in reader.chain(number):
         yield size, tuple(frozenset(it[: size - SECTOR * at] for it in reader.sector(first + at)) for at in range(-(-size // SECTOR)))
 
 
