@@ -35,7 +35,8 @@ Which entries a call makes, a write below being a write entry that is in flight 
 - fallocate that makes a hole, or zeros: a write of the bytes.
 - fsync, fdatasync, sync, and a write with O_DSYNC after its own entries: where nothing else is in flight that an image could show,
   a flush. Else FUA writes of what it makes durable, and after these a write of what came later. By `ext4` and `xfs` fsync has the names
-  durable up to the last change of the file's own, by `btrfs` the file's own, and fdatasync hasn't.
+  durable up to the last change of the file's own, by `btrfs` the file's own, and fdatasync hasn't. By `strict` and `btrfs` a sync
+  of a file that has no name is nothing.
 
 - by `strict` and `btrfs` where a sync of a file begins: a write of each state of the names that the log of such a sync leaves besides, in which
   the file has its names, and what it isn't synced with may be gone. Then a write of the state with all changes.
@@ -738,6 +739,9 @@ class Tree:
         room = file.rooms[-1]
         if self.one is None:
             self.log_names(file)
+            if not file.names:
+                # (btrfs logs no file without a name, and a crash may bring its names back with what was durable before)
+                return {}, [], {}
         found = self.disk.begin_sync([room, file.place])
         laid = [(room, it) for it in room.laid if sectors is None or it in sectors]
         if sectors is not None:

@@ -287,15 +287,18 @@ class Model:
                 found.add(number)
         return found
 
-    def seen(self, number, sectors=None, data=False):
+    def seen(self, number, sectors=None, data=False, alone=True):
         """What a sync of a file, that begins now, has to make durable: its sectors, its size, names. By `ext4` and `xfs` fsync has the names
-        up to the last change of the file's own, by `btrfs` its own; fdatasync, which is `data`, hasn't."""
+        up to the last change of the file's own, by `btrfs` its own; fdatasync, which is `data`, hasn't. Where names are by themselves one that is
+        `alone`, and no sync of everything, has nothing of a file without a name."""
         file = self.files[number]
         time = len(file.sectors) - 1
         these = {(number, time, at): len(it.versions) - 1 for at, it in file.sectors[time].items() if sectors is None or at in sectors}
         own = self.table in OWN and not data
         if self.table in APART:
             self.log(number)
+            if alone and not self.where(number)[0]:
+                return {}, {}, set()
             names = self.own_names(number) if own else set()
         else:
             names = self.names_up_to(max(file.stamp, file.named) if own else file.stamp, lambda _: True)
@@ -393,7 +396,7 @@ class Model:
         """Returns what a sync of everything makes sure."""
         found = {}, {}, self.names_up_to(len(self.changes), lambda _: True)
         for number in range(len(self.files)):
-            these, sizes, _ = self.seen(number)
+            these, sizes, _ = self.seen(number, alone=False)
             found[0].update(these)
             found[1].update(sizes)
         return found
