@@ -57,7 +57,8 @@ EXT4 = "mkfs.ext4 -q -F -E nodiscard"
 @dataclass(frozen=True)
 class Kind:
     """A kind of file system: its table, which is to allow what it leaves, its sectors, how it is made and mounted, its modules. A write
-    outside its journal takes `slow` milliseconds. On a disk that is nearly full `left` blocks of 4,096 bytes are free; 0 is any other disk."""
+    outside its journal takes `slow` milliseconds. On a disk that is nearly full `left` blocks of 4,096 bytes are free; 0 is any other disk.
+    With `more` the programs of MORE run on it."""
 
     table: str
     sectors: int
@@ -66,6 +67,7 @@ class Kind:
     modules: str = ""
     slow: int = 0
     left: int = 0
+    more: bool = False
 
     @property
     def by_e2fsck(self):
@@ -88,6 +90,9 @@ KINDS = {
     "ext4-writeback-slow": Kind("writeback", 16384, EXT4, "data=writeback,commit=30", slow=1500),
     "ext4-full": Kind("ext4", 32768, f"{EXT4} -b 4096", "data=ordered,commit=30,dioread_nolock", left=20),
     "ext4-writeback-full": Kind("writeback", 32768, f"{EXT4} -b 4096", "data=writeback,commit=30,dioread_lock", left=20),
+    # (these have programs of their own)
+    "xfs-more": Kind("xfs", 614400, "mkfs.xfs -q -f", "noatime", "xfs", more=True),
+    "btrfs-more": Kind("btrfs", 233472, "mkfs.btrfs -q", "commit=1", BTRFS, more=True),
 }
 PROGRAMS = {
     "replaced": "open new,append new 700 A,fsync new,rename new kept,mark 1,open new,append new 1500 B,fsync new,rename new kept,mark 2,append other 100 x,fsync other,mark 3",
@@ -112,6 +117,36 @@ PROGRAMS = {
     # (here what the file systems write by themselves, after a second, stands in the log)
     "slow": "open a,append a 5000 A,sleep 1600,append a 300 B,rename a b,open c,append c 600 C,sleep 1600,append b 9000 D,rename c kept,sleep 1600,mark 1,unlink b,append other 4000 E,truncate kept 200,sleep 1600",
 }
+# Those that use names again, for files and for folders, move and link what was synced, and sync by another name.
+MORE = {
+    "crossed": "mkdir d,mkdir e,open d/a,append d/a 300 A,fsync d/a,folder .,folder d,mark 1,rename d/a e/a,folder d,mark 2,rename e/a d/b,folder d,mark 3,rename d/b e/c,folder e,mark 4",
+    "linked": "open a,append a 300 A,fsync a,mark 1,link a b,unlink a,fsync a,mark 2,link b c,unlink b,open b,append b 100 B,fsync b,mark 3,sleep 300",
+    "dirs": "mkdir d,open d/a,append d/a 200 A,fsync d/a,mark 1,rename d e,mkdir d,open d/c,append d/c 100 C,fsync d/c,mark 2,sleep 300",
+    "removed": "mkdir d,open d/a,append d/a 100 A,fsync d/a,mark 1,unlink d/a,rmdir d,open d,append d 100 B,fsync d,mark 2,sleep 300",
+    "chain": "open a,append a 100 A,fsync a,folder .,mark 1,rename a b,open a,append a 100 C,rename a c,open a,append a 100 D,fsync a,mark 2,sleep 300",
+    "three": "open a,append a 100 A,open b,append b 100 B,fsync a,fsync b,folder .,mark 1,rename a t,rename b a,rename t b,fsync a,mark 2,fsync b,mark 3,sleep 300",
+    "deeper": "mkdir d,mkdir d/e,open d/e/x,append d/e/x 100 A,fsync d/e/x,mark 1,rename d/e f,open f/y,append f/y 50 B,fsync f/y,mark 2,sleep 300",
+    "two": "mkdir d,open a,append a 100 A,link a d/a,fsync a,mark 1,unlink a,folder d,mark 2,folder .,mark 3",
+    "again": "open a,append a 100 A,fsync a,folder .,mark 1,rename a b,rename b a,append other 50 x,fsync other,mark 2,rename a b,fsync a,mark 3,open a,append a 30 C,fsync a,mark 4",
+    "over": "open a,append a 100 A,open b,append b 100 B,fsync a,fsync b,folder .,mark 1,rename a c,rename b a,fsync b,mark 2,open b,append b 30 C,fsync b,mark 3,rename c b,fsync kept,mark 4",
+    "unsaved": "open a,append a 100 A,unlink kept,rename a kept,fsync other,append other 10 x,fsync other,mark 1,open b,append b 200 B,rename b kept,append other 10 y,fsync other,mark 2,fsync b,mark 3",
+    "gone": "open a,append a 100 A,fsync a,mark 1,unlink a,append other 10 x,fsync other,mark 2,open a,append a 50 B,append other 10 y,fdatasync other,mark 3,fsync a,mark 4",
+    "grown": "append kept 9000 A,fsync kept,mark 1,truncate kept 5000,truncate kept 9700,append kept 100 B,range kept,append other 10 x,fsync other,mark 2,sleep 300,write kept 4000 200 C,fdatasync kept,mark 3,truncate kept 100,sleep 300",
+    "holes": "open h,write h 20000 100 A,append other 10 x,fsync other,mark 1,write h 4090 20 B,sleep 300,fdatasync h,mark 2,truncate h 30000,write h 25000 100 C,range h,sleep 300,mark 3",
+    "swapped": "mkdir d,open d/a,append d/a 100 A,fsync d/a,mkdir e,open e/b,append e/b 100 B,fsync e/b,folder .,mark 1,exchange d e,fsync d/a,mark 2,open d/c,append d/c 30 C,fsync d/c,mark 3,sleep 300",
+    "covered": "mkdir d,mkdir e,open d/a,append d/a 100 A,fsync d/a,folder .,mark 1,rename d e,open e/b,append e/b 50 B,fsync e/b,mark 2,sleep 300",
+    "unlinked": "open a,append a 100 A,fsync a,folder .,mark 1,append a 50 B,unlink a,fsync a,mark 2,sleep 300",
+    "entered": "open a,append a 100 A,fsync a,folder .,mark 1,mkdir d,rename a d/a,fsync a,mark 2,mkdir f,mkdir f/e,rename f g,rename d/a g/e/a,fsync a,mark 3",
+    "joined": "open a,append a 100 A,fsync a,folder .,mark 1,mkdir d,link a d/b,fsync a,mark 2,unlink a,fsync a,mark 3,sleep 300",
+    "sized": "open a,append a 5000 A,fsync a,folder .,mark 1,rename a b,append a 5000 B,fdatasync a,mark 2,sleep 300",
+    "turned": "open new,append new 700 A,fsync new,folder .,mark 1,exchange new kept,append new 100 B,fsync new,mark 2,exchange new kept,fdatasync new,mark 3,sleep 300",
+    "within": "mkdir d,open d/a,append d/a 500 A,folder d,mark 1,open d/b,append d/b 300 B,rename d/b d/a,folder d,mark 2,folder .,mark 3",
+    "taken": "mkdir d,open d/a,append d/a 100 A,fsync d/a,folder .,mark 1,rename d/a a,rmdir d,open d,append d 20 B,fsync d,mark 2,fsync a,mark 3",
+    "parent": "mkdir d,mkdir d/e,open d/e/a,append d/e/a 100 A,fsync d/e/a,folder .,mark 1,rename d/e/a d/a,rmdir d/e,rename d/a d/e,fsync d/e,mark 2,append d/e 100 B,fdatasync d/e,mark 3",
+    "back": "open a,append a 100 A,open b,append b 100 B,fsync a,fsync b,folder .,mark 1,rename a c,rename b a,rename c b,append a 10 C,fdatasync a,mark 2,append b 10 D,fsync b,mark 3",
+    "stays": "open a,append a 100 A,link a b,fsync a,folder .,mark 1,rename kept a,fsync kept,mark 2,rename b kept,append kept 10 C,fsync a,mark 3",
+}
+EVERY = PROGRAMS | MORE
 # Those of which a slow or a full disk is to show something; and those whose states are too many to be counted.
 LATE = ("late", "reused", "cut", "renamed", "renamed-data", "followed")
 UNCOUNTED = ("late", "reused", "cut", "slow")
@@ -122,12 +157,13 @@ ENVIRONMENT = {**os.environ, "PATH": f"{os.environ['PATH']}:/usr/sbin:/sbin"}
 
 def programs_of(kind):
     """The programs that run on a kind of file system."""
-    return LATE if KINDS[kind].slow or KINDS[kind].left else tuple(PROGRAMS)
+    it = KINDS[kind]
+    return LATE if it.slow or it.left else tuple(MORE if it.more else PROGRAMS)
 
 
 def lines_of(name):
     """The lines of a program, with its name in its marks."""
-    return "".join(re.sub(r"^mark ", f"mark {name}:", it) + "\n" for it in PROGRAMS[name].split(","))
+    return "".join(re.sub(r"^mark ", f"mark {name}:", it) + "\n" for it in EVERY[name].split(","))
 
 
 def run(words, **options):
@@ -406,7 +442,7 @@ def compared(folder, kind, log, base, programs, machine):
                 if first < image.cut <= last:
                     if image.same is None:
                         # (after the last mark comes what the program leaves, until all of it is written)
-                        verdicts[image.number] = judge.judged(image, file, name, min(image.marks - before, PROGRAMS[name].count("mark ")))
+                        verdicts[image.number] = judge.judged(image, file, name, min(image.marks - before, EVERY[name].count("mark ")))
                     lines[name].append(verdicts.get(image.same if image.same is not None else image.number))
     return [numbers_of(folder, it.table, name, [line for line in found if line]) for name, found in lines.items()]
 
@@ -459,10 +495,11 @@ def refused_where_missing(kernel, kinds):
 
 
 def main(words):
-    if len(words) < 2 or not all(it in KINDS or it in PROGRAMS for it in words[2:]):
-        sys.exit(f"usage: names_in_guest.py FOLDER KERNEL [KIND..] [PROGRAM..]; KIND is {', '.join(KINDS)}; PROGRAM is {', '.join(PROGRAMS)}")
+    if len(words) < 2 or not all(it in KINDS or it in EVERY for it in words[2:]):
+        sys.exit(f"usage: names_in_guest.py FOLDER KERNEL [KIND..] [PROGRAM..]; KIND is {', '.join(KINDS)}; PROGRAM is {', '.join(EVERY)}")
     folder, kernel = Path(words[0]).resolve(), Path(words[1]).resolve()
-    kinds, programs = [it for it in words[2:] if it in KINDS] or list(KINDS), [it for it in words[2:] if it in PROGRAMS] or list(PROGRAMS)
+    kinds = [it for it in words[2:] if it in KINDS] or list(KINDS)
+    programs = [it for it in words[2:] if it in EVERY] or list(dict.fromkeys(name for it in kinds for name in programs_of(it)))
     refused_where_missing(kernel, kinds)
     folder.mkdir(exist_ok=True)
     wanted(run(["cc", "-O1", "-static", "-o", folder / "names", TOP / "tests/programs/names.c"]), "cc")
