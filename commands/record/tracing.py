@@ -647,7 +647,7 @@ class Tracing(Copying):
 
     def mark(self, call, data, entries):
         """A text for the marks: lines of a number, which isn't looked at, and a name. It is a promise from where the call began on: what was
-        made durable since then stands after it. The log had so many entries then."""
+        made durable since then stands after it. `entries` is how many entries the log had then."""
         if not data.endswith(b"\n"):
             raise Refused(f"{call}: a mark is one whole line")
         for line in data[:-1].split(b"\n"):

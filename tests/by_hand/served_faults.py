@@ -3,8 +3,8 @@
 
     python3 tests/by_hand/served_faults.py [--runs N] [--only NAME ..]
 
-A fault is a look that isn't noted, or bytes that a program didn't write and that count as its own. N is 40 where it isn't given: so many
-runs of served_soak.py or served_folders.py have to find it, and the same runs find nothing without it. It needs what these need.
+A fault is a look that isn't noted, or bytes that a program didn't write and that count as its own. N runs (40 where it isn't given) of
+served_soak.py or served_folders.py have to find it, and the same runs find nothing without it. It needs what these need.
 """
 import argparse
 import shutil

@@ -534,7 +534,7 @@ SAYINGS = [
     ("source.c:3:9: error: control reaches end of non-void function [-Werror=return-type]", "cc: source.c:3: a path without an answer"),
     ("source.c:8:3: sorry, unimplemented: no constructors", "cc: source.c:8: a function that runs before all others"),
     ("source.c:8:3: error: invalid register/token name", "cc: source.c:8: assembly that no program has"),
-    ("/tmp/x.s: Assembler messages:\n/tmp/x.s:15: Error: unrecognized form of instruction `nop'", "cc: x.s:15: assembly that no program has"),
+    ("folder/x.s: Assembler messages:\nfolder/x.s:15: Error: unrecognized form of instruction `nop'", "cc: x.s:15: assembly that no program has"),
     ("source.c:8:3: error: thread-local storage is not supported for the current target", "cc: source.c:8: a variable of a thread"),
     ("source.c:8:3: error: A call to built-in function 'abort' is not supported.", "cc: source.c:8: an end by abort or a trap"),
     ("PLEASE submit a bug report\nerror: no more", "cc: clang broke off on source.c"),
