@@ -20,7 +20,7 @@ use Rattle.case_runs.specs.Found.{IsFoundAt, TheirImagesFail}
 use Rattle.case_runs.proofs.Judged.{length_image}
 
 -- a leaf that fails is one of the leaves
-record IsLeafAt (leaves : List LeafValue) (v : FailingValue) : Type 0 where
+pub record IsLeafAt (leaves : List LeafValue) (v : FailingValue) : Type 0 where
   pub place : ℕ
   pub leaf : LeafValue
   pub there : slice_get leaves place ≡ Some leaf
@@ -28,7 +28,7 @@ record IsLeafAt (leaves : List LeafValue) (v : FailingValue) : Type 0 where
   pub ending : v.ending ≡ leaf.ending
   pub failed : fails leaf.ending ≡ true
 
-failing_leaf : (n : ℕ) (leaves : List LeafValue) (m : ℕ) (v : FailingValue) → slice_get (failing_from n leaves) m ≡ Some v → IsLeafAt leaves v
+pub failing_leaf : (n : ℕ) (leaves : List LeafValue) (m : ℕ) (v : FailingValue) → slice_get (failing_from n leaves) m ≡ Some v → IsLeafAt leaves v
 failing_leaf n [] m v there = absurd (let bad : ◌≡◌ {A = Option FailingValue} None (Some v) = sym (slice_get_past {X = FailingValue} [] m (omega arith)) ∙ there in cc)
 failing_leaf n (leaf ∷ leaves) m v there = by_fails (λ i own. failing_leaf (n + 1) leaves i v own) (fails leaf.ending) refl m there
   where

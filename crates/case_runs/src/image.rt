@@ -14,7 +14,7 @@ use std::marker::Model;
 
 /// A sector of an image that stands nowhere in the log, with its bytes.
 #[derive(Drop)]
-pub(crate) struct Formed {
+pub struct Formed {
     pub(crate) number: u32,
     pub(crate) bytes: [u8; 512],
 }
@@ -106,7 +106,7 @@ impl<'b, 'a> Model for CaseImage<'b, 'a> {
 
 impl<'b, 'a> CaseImage<'b, 'a> {
     /// The image of a case. The list is for its formed sectors: it is let go at the next, so after the first images it takes no memory.
-    pub(crate) fn new(
+    pub fn new(
         formed: &'b mut Vec<Formed>,
         rows: &'b KnownRows<'a>,
         tears: bool,

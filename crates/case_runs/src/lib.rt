@@ -108,6 +108,6 @@ pub use cuts::{case_cuts, first_wanted, last_wanted};
 pub use first::{Sought, find_first};
 pub use found::{SearchFault, find_failing};
 pub use gate::CaseGate;
-pub use image::CaseImage;
+pub use image::{CaseImage, Formed};
 pub use judge::CaseJudge;
 pub use laws::{checkers_tell, finding_is_one, first_is_one, losses_are_judged, their_images_fail};

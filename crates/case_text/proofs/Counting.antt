@@ -8,7 +8,7 @@ use Rattle.std.proofs.lemmas.List.Sums.{sum_by_push}
 use Rattle.losses.specs.declared.found.CaseFindings.{CaseFindings}
 use Rattle.losses.specs.declared.found.CutFound.{CutFound}
 use Rattle.case_text.specs.declared.totals.Totals.{Totals}
-use Rattle.case_text.specs.Text.{in_word, all_found, count_cases, count_failing, count_torn_beyond, count_lost_beyond, complete_word, counts_text, beyond_text, totals_text}
+use Rattle.case_text.specs.Text.{in_word, all_found, count_cases, count_failing, count_torn_beyond, count_lost_beyond, complete_word, counts_text, beyond_text, found_text, totals_text}
 use Rattle.case_text.proofs.Lining.{joined}
 use Rattle.case_text.specs.Counts.{with_all, with_found}
 
@@ -81,13 +81,16 @@ are_totals cs t is = record {
   lost = ap (λ (x : Totals). x.lost_beyond) is;
 }
 
-pub totals_told : (all : Bool) (cs : List CutFound) (count cases failing torn lost : ℕ) (old a b c new : List ℕ)
+pub found_told : (cs : List CutFound) (count cases failing torn lost : ℕ) (old a new : List ℕ)
     → count ≡ length cs → cases ≡ count_cases cs → failing ≡ count_failing cs → torn ≡ count_torn_beyond cs → lost ≡ count_lost_beyond cs
-    → a ≡ old ++ counts_text count cases failing → b ≡ a ++ beyond_text torn lost → c ≡ b ++ complete_word all torn lost → new ≡ c ++ codes "\n" → new ≡ old ++ totals_text all cs
-unfolding totals_text
-totals_told all cs count cases failing torn lost old a b c new count_is cases_is failing_is torn_is lost_is one two three four =
+    → a ≡ old ++ counts_text count cases failing → new ≡ a ++ beyond_text torn lost → new ≡ old ++ found_text cs
+found_told cs count cases failing torn lost old a new count_is cases_is failing_is torn_is lost_is one two =
     let first : a ≡ old ++ counts_text (length cs) (count_cases cs) (count_failing cs) = one ∙ (λ i. old ++ counts_text (count_is i) (cases_is i) (failing_is i)) in
-    let second = two ∙ joined old _ _ a first ∙ (λ i. old ++ (counts_text (length cs) (count_cases cs) (count_failing cs) ++ beyond_text (torn_is i) (lost_is i))) in
-    let third = three ∙ joined old _ _ b second
-    ∙ (λ i. old ++ (counts_text (length cs) (count_cases cs) (count_failing cs) ++ beyond_text (count_torn_beyond cs) (count_lost_beyond cs) ++ complete_word all (torn_is i) (lost_is i))) in
-    four ∙ joined old _ _ c third
+    two ∙ joined old _ _ a first ∙ (λ i. old ++ (counts_text (length cs) (count_cases cs) (count_failing cs) ++ beyond_text (torn_is i) (lost_is i)))
+
+pub totals_told : (all : Bool) (cs : List CutFound) (torn lost : ℕ) (old a b new : List ℕ) → torn ≡ count_torn_beyond cs → lost ≡ count_lost_beyond cs
+    → a ≡ old ++ found_text cs → b ≡ a ++ complete_word all torn lost → new ≡ b ++ codes "\n" → new ≡ old ++ totals_text all cs
+unfolding totals_text
+totals_told all cs torn lost old a b new torn_is lost_is one two three =
+    let second = two ∙ joined old _ _ a one ∙ (λ i. old ++ (found_text cs ++ complete_word all (torn_is i) (lost_is i))) in
+    three ∙ joined old _ _ b second

@@ -183,10 +183,12 @@ counts_text cuts cases failing = codes "cuts " ++ decimal cuts ++ codes " cases 
 unfoldable pub beyond_text : ℕ → ℕ → List ℕ
 beyond_text torn lost = codes " torn beyond " ++ decimal torn ++ codes " lost beyond " ++ decimal lost
 
+-- how many cuts and cases there are, how many cases fail, and how many were left out
+abbrev pub found_text : List CutFound → List ℕ
+found_text found = counts_text (length found) (count_cases found) (count_failing found) ++ beyond_text (count_torn_beyond found) (count_lost_beyond found)
+
 unfoldable pub totals_text : Bool → List CutFound → List ℕ
-totals_text all found =
-    counts_text (length found) (count_cases found) (count_failing found) ++ beyond_text (count_torn_beyond found) (count_lost_beyond found)
-    ++ complete_word all (count_torn_beyond found) (count_lost_beyond found) ++ codes "\n"
+totals_text all found = found_text found ++ complete_word all (count_torn_beyond found) (count_lost_beyond found) ++ codes "\n"
 
 -- the text of the cases of a log, by a number of the run's inputs
 unfoldable pub cases_bytes : ℕ → HeadValue → Losses → LogValue → List CutFound → List ℕ

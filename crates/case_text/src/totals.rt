@@ -1,7 +1,7 @@
 //! What the cases of a run come to.
 
 ghost use Rattle.std.specs.Prelude.{◌≡◌, ◌++◌, OnOk, string_bytes};
-ghost use Rattle.case_text.specs.Text.{count_cases, count_failing, count_torn_beyond, count_lost_beyond, fails_at, is_any_failing, is_each_cut, are_all_cuts, extent_words, complete_word, counts_text, beyond_text, totals_text};
+ghost use Rattle.case_text.specs.Text.{count_cases, count_failing, count_torn_beyond, count_lost_beyond, fails_at, is_any_failing, is_each_cut, are_all_cuts, extent_words, complete_word, counts_text, beyond_text, found_text, totals_text};
 ghost use Rattle.case_text.specs.Counts.{with_found, with_all};
 
 use crate::head::has_range;
@@ -119,6 +119,15 @@ pub fn put_beyond(out: &mut String, torn: u64, lost: u64) -> Result<(), AllocErr
     write!(out, " torn beyond {torn} lost beyond {lost}")
 }
 
+/// Appends how many cuts and cases there are, how many cases fail, and how many were left out.
+pub(crate) fn put_found(out: &mut String, found: &[CutFound]) -> Result<(), AllocError>
+    ensures { OnOk result (string_bytes out.new ≡ string_bytes out.old ++ found_text found.now) }
+{
+    let all = totals_of(found);
+    put_counts(out, found.len() as u64, all.cases, all.failing)?;
+    put_beyond(out, all.torn_beyond, all.lost_beyond)
+}
+
 /// Appends the last line of a run that was asked for each cut of its log, or for some.
 pub(crate) fn put_totals(
     out: &mut String,
@@ -127,10 +136,9 @@ pub(crate) fn put_totals(
 ) -> Result<(), AllocError>
     ensures { OnOk result (string_bytes out.new ≡ string_bytes out.old ++ totals_text all_cuts found.now) }
 {
-    let all = totals_of(found);
-    put_counts(out, found.len() as u64, all.cases, all.failing)?;
-    put_beyond(out, all.torn_beyond, all.lost_beyond)?;
-    put_complete(out, all_cuts, all.torn_beyond, all.lost_beyond)?;
+    put_found(out, found)?;
+    let (torn, lost) = left_out(found);
+    put_complete(out, all_cuts, torn, lost)?;
     write!(out, "\n")?;
     Ok(())
 }

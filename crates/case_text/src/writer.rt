@@ -15,7 +15,7 @@ use report::Head;
 use std::alloc::{AllocError, Global};
 
 /// Appends the failing cases of all cuts.
-fn put_cuts(
+pub(crate) fn put_cuts(
     out: &mut String,
     known: &mut KnownParts,
     log: &Log,

@@ -21,29 +21,29 @@ use Rattle.cases.specs.Laws.{IsAmong, Includes, OfNone, OfOne, IsAsked, EachIsIn
 
 -- of lists
 
-none_of_both : {A : Type 0} (P : A → Type 0) (xs ys : List A) → OfNone P xs → OfNone P ys → OfNone P (xs ++ ys)
+pub none_of_both : {A : Type 0} (P : A → Type 0) (xs ys : List A) → OfNone P xs → OfNone P ys → OfNone P (xs ++ ys)
 none_of_both P [] ys none rest = rest
 none_of_both P (x ∷ xs) ys none rest = (none.0, none_of_both P xs ys none.1 rest)
 
-one_of_first : {A : Type 0} (P : A → Type 0) (xs ys : List A) → OfOne P xs → OfNone P ys → OfOne P (xs ++ ys)
+pub one_of_first : {A : Type 0} (P : A → Type 0) (xs ys : List A) → OfOne P xs → OfNone P ys → OfOne P (xs ++ ys)
 one_of_first P [] ys one rest = absurd one
 one_of_first P (x ∷ xs) ys (inl own) rest = inl (own.0, none_of_both P xs ys own.1 rest)
 one_of_first P (x ∷ xs) ys (inr other) rest = inr (other.0, one_of_first P xs ys other.1 rest)
 
-one_of_second : {A : Type 0} (P : A → Type 0) (xs ys : List A) → OfNone P xs → OfOne P ys → OfOne P (xs ++ ys)
+pub one_of_second : {A : Type 0} (P : A → Type 0) (xs ys : List A) → OfNone P xs → OfOne P ys → OfOne P (xs ++ ys)
 one_of_second P [] ys none one = one
 one_of_second P (x ∷ xs) ys none one = inr (none.0, one_of_second P xs ys none.1 one)
 
 -- an element that goes from the front into the midst
-none_with : {A : Type 0} (P : A → Type 0) (xs ys : List A) (x : A) → (P x → ⊥) → OfNone P (xs ++ ys) → OfNone P (xs ++ x ∷ ys)
+pub none_with : {A : Type 0} (P : A → Type 0) (xs ys : List A) (x : A) → (P x → ⊥) → OfNone P (xs ++ ys) → OfNone P (xs ++ x ∷ ys)
 none_with P [] ys x never none = (never, none)
 none_with P (w ∷ xs) ys x never none = (none.0, none_with P xs ys x never none.1)
 
-here_alone : {A : Type 0} (P : A → Type 0) (xs ys : List A) (x : A) → P x → OfNone P (xs ++ ys) → OfOne P (xs ++ x ∷ ys)
+pub here_alone : {A : Type 0} (P : A → Type 0) (xs ys : List A) (x : A) → P x → OfNone P (xs ++ ys) → OfOne P (xs ++ x ∷ ys)
 here_alone P [] ys x own none = inl (own, none)
 here_alone P (w ∷ xs) ys x own none = inr (none.0, here_alone P xs ys x own none.1)
 
-one_with : {A : Type 0} (P : A → Type 0) (xs ys : List A) (x : A) → (P x → ⊥) → OfOne P (xs ++ ys) → OfOne P (xs ++ x ∷ ys)
+pub one_with : {A : Type 0} (P : A → Type 0) (xs ys : List A) (x : A) → (P x → ⊥) → OfOne P (xs ++ ys) → OfOne P (xs ++ x ∷ ys)
 one_with P [] ys x never one = inr (never, one)
 one_with P (w ∷ xs) ys x never (inl own) = inl (own.0, none_with P xs ys x never own.1)
 one_with P (w ∷ xs) ys x never (inr other) = inr (other.0, one_with P xs ys x never other.1)
@@ -297,7 +297,7 @@ first_is log way k c (s ∷ sectors) it is =
 children : Case → Split → List Case
 children c it = map (with_part c it.part) it.groups
 
-child_is : (choice : Choice) (c : Case) (it : Split) → IsSplit c it → Includes choice c → OfOne (Includes choice) (map (with_part c it.part) it.groups)
+pub child_is : (choice : Choice) (c : Case) (it : Split) → IsSplit c it → Includes choice c → OfOne (Includes choice) (map (with_part c it.part) it.groups)
 child_is choice c it is all =
     let alike : Option Fate → Option Fate → Bool = show_alike it.part is.unit is.pieces in
     let fates : List (Option Fate) = c it.part in
@@ -311,7 +311,7 @@ child_is choice c it is all =
     (one_mapped (λ (g : List (Option Fate)). IsAmong g (choice it.part)) (Includes choice) (with_part c it.part) (map group (firsts alike fates))
     (λ g own. narrowed choice c it.part g all own) (λ g own. own_fate choice c it.part g own) groups_one)
 
-no_child : (choice : Choice) (c : Case) (it : Split) → IsSplit c it → (Includes choice c → ⊥) → OfNone (Includes choice) (map (with_part c it.part) it.groups)
+pub no_child : (choice : Choice) (c : Case) (it : Split) → IsSplit c it → (Includes choice c → ⊥) → OfNone (Includes choice) (map (with_part c it.part) it.groups)
 no_child choice c it is never =
     let alike : Option Fate → Option Fate → Bool = show_alike it.part is.unit is.pieces in
     let fates : List (Option Fate) = c it.part in

@@ -35,7 +35,7 @@ use Rattle.cases.specs.Choices.{Choice, departs, departures, image_at}
 use Rattle.cases.specs.Rows.{row, part_with, piece, shows, candidates}
 use Rattle.cases.specs.Cases.{Case, representative, whole_case, with_part, show_alike, firsts, kinds, matters, Split, split_or, split_in_row, or_else, first_split}
 use Rattle.cases.specs.Trees.{Subject, split_of, AreLeaves, no_case, is_beyond, is_leaf, is_split}
-use Rattle.cases.specs.Laws.{IsAmong, Includes, OfOne, LeavesEndAlike}
+use Rattle.cases.specs.Laws.{IsAmong, Includes, OfOne, LeavesEndAlike, LeavesLookAlike}
 use Rattle.cases.proofs.Cases.{AreKinds, one_first, kept_among, among_kept, shown_kinds}
 
 -- which bytes of a unit a part with a fate shows
@@ -680,6 +680,10 @@ own_choice choice c all p = of_some (c p) (all p)
     of_some [] is = absurd is
     of_some (f ∷ fs) is = inl refl
 
+pub leaves_look_alike : LeavesLookAlike
+leaves_look_alike s c choice within whole includes =
+    sectors_alike s.log s.way s.cut c (representative c) choice (s.program.footprint (image_at s.log s.way s.cut (representative c))) within (own_choice choice c includes) includes whole
+
 leaf_whole : (s : Subject) (cs ls left : List Case) (i : ℕ) (c : Case) → AreLeaves s cs ls left → slice_get ls i ≡ Some c → split_of s c ≡ None
 leaf_whole s cs ls left i c no_case there = absurd (let bad : None ≡ Some c = there in cc)
 leaf_whole s cs ls left i c (is_beyond b rest ls2 left2 out more) there = leaf_whole s rest ls left2 i c more there
@@ -715,4 +719,4 @@ leaves_end_alike s tears leaves left i c choice is within tells are there includ
       sectors = λ n sector at. long_sectors s.log us (ds (representative c)) n sector at;
       others = λ n sector at. long_sectors s.log us (ds choice) n sector at;
     })
-    (sectors_alike s.log s.way s.cut c (representative c) choice (s.program.footprint device) within (own_choice choice c includes) includes whole)
+    (leaves_look_alike s c choice within whole includes)

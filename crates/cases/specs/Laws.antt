@@ -1,5 +1,5 @@
 -- What holds of the cases of a cut (docs/CRASH-MODEL.md, Any number of losses).
-use Rattle.std.specs.Prelude.{ℕ, ◌≡◌, ◌≤◌, ◌⊎◌, Bool, true, List, [], ◌∷◌, ◌++◌, length, count_by, slice_get, Some, IfSome}
+use Rattle.std.specs.Prelude.{ℕ, ◌≡◌, ◌≤◌, ◌⊎◌, Bool, true, List, [], ◌∷◌, ◌++◌, length, count_by, slice_get, None, Some, IfSome}
 use Rattle.logfmt.specs.Bounds.{LogValue, IsLog}
 use Rattle.epochs.specs.declared.part.Part.{Part}
 use Rattle.epochs.specs.declared.part.By.{By}
@@ -8,7 +8,7 @@ use Rattle.machine.specs.Footprint.{AreAlike, HaveSame}
 use Rattle.cases.specs.Risk.{is_last_cut, parts_at_risk}
 use Rattle.cases.specs.Choices.{Choice, image_at}
 use Rattle.cases.specs.Cases.{Case, whole_case, representative}
-use Rattle.cases.specs.Trees.{Program, Subject, ending_of, is_lost, is_torn, AreLeaves}
+use Rattle.cases.specs.Trees.{Program, Subject, ending_of, split_of, is_lost, is_torn, AreLeaves}
 
 -- it is one of some fates
 abbrev pub IsAmong : {A : Type 0} → List A → A → Type 0
@@ -53,6 +53,13 @@ pub record EachIsInOne : Type 0 where
 abbrev pub FootprintTellsEnding : Program → Type 0
 FootprintTellsEnding program =
     (device other : List (List ℕ)) → AreAlike device other → HaveSame device other (program.footprint device) → program.ending other ≡ program.ending device
+
+-- The image of each choice of a case that no part splits has the sectors of the footprint in common with that of the representative. A
+-- leaf is such a case.
+abbrev pub LeavesLookAlike : Type 0
+LeavesLookAlike =
+    (s : Subject) (c : Case) (choice : Choice) → s.cut ≤ length s.log.entries → split_of s c ≡ None → Includes choice c
+    → HaveSame (image_at s.log s.way s.cut (representative c)) (image_at s.log s.way s.cut choice) (s.program.footprint (image_at s.log s.way s.cut (representative c)))
 
 -- on the image of each choice that a leaf includes the program ends as on that of its representative
 abbrev pub LeavesEndAlike : Type 0

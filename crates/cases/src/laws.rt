@@ -1,11 +1,16 @@
 //! Laws of cases. The functions do nothing; each contract is a theorem.
 
-ghost use Rattle.cases.specs.Laws.{EachIsInOne, LeavesEndAlike, LastCutsHaveAll};
+ghost use Rattle.cases.specs.Laws.{EachIsInOne, LeavesLookAlike, LeavesEndAlike, LastCutsHaveAll};
 ghost use Rattle.cases.specs.Once.{TreeIsOne};
 
 /// Each choice is in exactly one case.
 pub fn each_is_in_one()
     ensures { EachIsInOne }
+{}
+
+/// The images of the choices of a leaf are the same where the program looks.
+pub fn leaves_look_alike()
+    ensures { LeavesLookAlike }
 {}
 
 /// The program ends on the image of each choice of a leaf as on that of its representative.

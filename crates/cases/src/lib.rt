@@ -82,6 +82,7 @@
 //!   none, a part at risk that covers the sector is torn.
 //! - `each_is_in_one`: each choice is in exactly one of the leaves and of the cases that were left out. One with as few torn parts, and
 //!   as few lost ones, as is asked is in none that was left out.
+//! - `leaves_look_alike`: the image of each choice in a leaf has the bytes of its representative's where the program looked.
 //! - `leaves_end_alike`: on the image of each choice in a leaf the program ends as on that of its representative, if its footprint
 //!   tells what it ends in. `footprint_tells` of `machine` says that of each program.
 //! - `tree_is_one`: some cases have their leaves in one way, and leave out the same cases. Where a search stops on its way, the leaves that
@@ -118,7 +119,9 @@ mod split;
 pub use cut::{Cut, is_risky};
 pub use fates::{fate_at, first_of};
 pub use known::KnownRows;
-pub use laws::{each_is_in_one, last_cuts_have_all, leaves_end_alike, tree_is_one};
+pub use laws::{
+    each_is_in_one, last_cuts_have_all, leaves_end_alike, leaves_look_alike, tree_is_one,
+};
 pub use lend::is_torn_first;
 pub use search::{Beyond, Judge, Search, find_cases};
 pub use split::Parted;

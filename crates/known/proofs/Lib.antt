@@ -1,0 +1,7 @@
+-- Lemmas of records.
+pub mod Telling
+pub mod Meeting
+pub mod Going
+pub mod Reaching
+pub mod Contrary
+pub mod Truth

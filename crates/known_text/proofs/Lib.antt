@@ -1,0 +1,14 @@
+pub mod Texts
+pub mod RangesRead
+pub mod Sectors
+pub mod Endings
+pub mod Lines
+pub mod MarksCounted
+pub mod Plain
+pub mod Recorded
+pub mod Heads
+pub mod Headed
+pub mod Pieced
+pub mod Gotten
+pub mod Uniquely
+pub mod Refused

@@ -1,0 +1,5 @@
+pub mod AnyNames
+pub mod LostParts
+pub mod Matching
+pub mod Printing
+pub mod LostSaid
