@@ -23,7 +23,8 @@
 //! | `options_of(words)` | the same, of options as the words of a command line have them |
 //! | `losses_of(words, options)` | tests what is asked of any number of losses, beside good options |
 //! | `trial_of(words)` | tests what a run of a program on one image is asked |
-//! | `read_log(alloc, bytes, initial, options)` | the log that bytes are, for a device of that size, over what it held before, with the flushes that are added |
+//! | `read_recorded(alloc, bytes, initial, options)` | the log that bytes are, for a device of that size, over what it held before |
+//! | `read_log(alloc, bytes, initial, options)` | the same with the flushes that are added |
 //! | `plan_of(alloc, log, options)` | the plan of a log by the options, with how many crash images it has |
 //! | `option_refusal_of(place)`, `unreadable(place)`, `bytes_refusal_of(fault)` | the refusal of an option, of a file, and of a program's bytes |
 //! | `number_of_inputs(log, programs)`, `number_of_report(log, options)` | the number of the bytes of a log and of programs, or of a log and of a report's options |
@@ -40,7 +41,7 @@
 //! |---|---|
 //! | `Recording::of(log, initial)` | the bytes of a log, with those that the device held before entry 0 |
 //! | `recording.log()` | the bytes of the log |
-//! | `recording.read(alloc, options)` | the log, as `read_log` reads it |
+//! | `recording.read(alloc, options)`, `recording.recorded(alloc, options)` | the log, as `read_log` and as `read_recorded` read it |
 //! | `log_facts(alloc, recording, options)` | what notes say of the log: how many entries are too large to be lost as a whole, how many have FUA, how many are flush entries, how many cuts are wanted, and which marks promise what nothing made durable |
 //! | `fewer_images(alloc, recording, options)` | where the log has too many images, with what there are fewer |
 //! | `breach_of(alloc, bytes, sectors, guards)` | the instruction at which the verifier refuses a program, and what is known there |
@@ -145,5 +146,5 @@ pub use inputs::{inputs_line, number_line, number_of_inputs, number_of_report, r
 pub use options::{MOST_PROGRAMS, Options};
 pub use refusals::{bytes_refusal_of, fault_line, option_refusal_of, unreadable};
 pub use settings::{CaseTelling, OptionPlace, Retelling, Settings, Telling};
-pub use source::{log_refusal_of, plan_of, read_log};
+pub use source::{log_refusal_of, plan_of, read_log, read_recorded};
 pub use trials::{Trial, TrialWords, trial_of};
