@@ -1,0 +1,8 @@
+-- What records of a program of the user's tell of a log.
+pub mod Asked
+pub mod Number
+pub mod Totals
+pub mod Text
+pub mod Lines
+pub mod Searched
+pub mod Told
