@@ -4,5 +4,8 @@ pub mod Number
 pub mod Totals
 pub mod Text
 pub mod Lines
-pub mod Searched
+pub mod Blind
+pub mod Imaged
 pub mod Told
+pub mod Searched
+pub mod Wanted

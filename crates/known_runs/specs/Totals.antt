@@ -1,8 +1,9 @@
 -- What the cases that records tell come to, and the status (docs/OUTPUT.md, Records of a program of yours).
-use Rattle.std.specs.Prelude.{ℕ, ◌+◌, ◌==◌, Bool, true, not, ◌&&◌, if◌then◌else◌, List, [], ◌++◌, length, sum_by, codes}
+use Rattle.std.specs.Prelude.{ℕ, ◌+◌, ◌==◌, Bool, true, not, ◌&&◌, if◌then◌else◌, List, [], ◌++◌, length, sum_by, codes, Option, Some, None}
 use Rattle.std.specs.Fmt.{decimal}
 use Rattle.case_text.specs.Text.{in_word, counts_text, beyond_text, complete_word}
 use Rattle.known.specs.declared.found.KnownAt.{KnownAt}
+use Rattle.request.specs.declared.facts.left_out.LeftOut.{LeftOut}
 use Rattle.known_runs.specs.declared.totals.KnownTotals.{KnownTotals}
 
 abbrev pub count_stopped : KnownAt → ℕ
@@ -52,3 +53,7 @@ totals_text all cuts t = counts_text cuts t.told t.failing ++ beyond_text t.torn
 -- 1 where something fails, else 0 where nothing is open, left out or pending, else 3
 abbrev pub status_of : KnownTotals → ℕ
 status_of t = if not (t.failing == 0) then 1 else if is_whole t then 0 else 3
+
+-- how many cases were left out, where none that is told fails
+abbrev pub left_out_of : KnownTotals → Option LeftOut
+left_out_of t = if not (t.failing == 0) then None else Some (record { torn = t.torn; lost = t.lost })

@@ -2,7 +2,7 @@
 
 use base::refusal::Refusal;
 use known::Stops;
-use request::facts::Recording;
+use request::facts::{LeftOut, Recording};
 use request::{AnyLosses, Options};
 
 /// What is asked of records of a program of the user's.
@@ -27,6 +27,14 @@ pub struct KnownTold {
     pub bytes: Vec<u8>,
     /// 1 where something fails, else 0 where nothing is open, left out or pending, and else 3.
     pub status: u8,
+    /// How many cases are open.
+    pub untold: u64,
+    /// At how many cuts the search was stopped.
+    pub stopped: u64,
+    /// How many cases were left out, where none that is told fails.
+    pub left_out: Option<LeftOut>,
+    /// Whether there are records, and in none of them the program looked at a sector that the log writes.
+    pub blind: bool,
 }
 
 /// Why nothing is told.

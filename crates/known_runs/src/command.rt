@@ -10,11 +10,12 @@ ghost use Rattle.known_runs.specs.Text.{known_bytes};
 ghost use Rattle.known_runs.specs.Told.{FindsKnown, TellsOf, TellsKnown, RefusesOf, RefusesKnown};
 
 use crate::asked::{KnownQuestion, KnownRunFault, KnownTold};
+use crate::blind::are_blind;
 use crate::number::number_of_records;
 use crate::read::read_records;
 use crate::search::{find_by, losses_of, memory};
 use crate::text::write_known;
-use crate::totals::{status_of, totals_of};
+use crate::totals::{left_out_of, status_of, totals_of};
 use epochs::Plan;
 use images::initial_number;
 use known::KnownAt;
@@ -33,6 +34,8 @@ struct FoundKnown<'t> {
     inputs: u64,
     head: Option<KnownHead<'t>>,
     found: Vec<KnownAt>,
+    /// Whether there are records, and in none of them the program looked at a sector that the log writes.
+    blind: bool,
 }
 
 /// What the records of a text tell of a log, of which `plain` is the one without flushes that are added.
@@ -62,6 +65,7 @@ fn found_of<'t>(
             inputs,
             head: known.head,
             found,
+            blind: are_blind(plain.entries(), known.runs.as_slice()),
         }),
         Err(fault) => Err(fault),
     }
@@ -127,10 +131,15 @@ fn told_of(
         Ok(found) => found,
         Err(fault) => return Err(fault),
     };
+    let totals = totals_of(found.found.as_slice());
     match text_of(alloc, question, log, plan, images, &found) {
         Ok(bytes) => Ok(KnownTold {
             bytes,
-            status: status_of(totals_of(found.found.as_slice())),
+            status: status_of(totals),
+            untold: totals.untold,
+            stopped: totals.stopped,
+            left_out: left_out_of(totals),
+            blind: found.blind,
         }),
         Err(_error) => Err(memory()),
     }

@@ -23,6 +23,7 @@
 //! | `places` | at which line of the text a record stands |
 //! | `search` | what the records tell |
 //! | `lines`, `totals`, `text` | the text of that: its lines, its last line, and all of it |
+//! | `blind` | whether a program looked at nothing that the log writes |
 //! | `command` | all of it in order |
 //!
 //! | Type or call | What it is |
@@ -59,6 +60,7 @@
 #![tactic(auto)]
 
 mod asked;
+mod blind;
 mod command;
 mod lines;
 mod number;

@@ -27,18 +27,17 @@ fn with(count: u64, is: bool) -> u64
 }
 
 /// The number of the line at which the record at a place stands.
-fn record_line(bytes: &[u8], place: usize) -> u64
+fn record_line(bytes: &[u8], place: u64) -> u64
     ensures { result ≡ record_line bytes.now place }
 {
     let mut line = 1;
     let mut before = 0;
     for at in 0..bytes.len() {
-        if begins_record(bytes, at) {
-            if before == place {
-                return line;
-            }
-            before += 1;
+        let begins = begins_record(bytes, at);
+        if begins && before == place {
+            return line;
         }
+        before = with(before, begins);
         line = with(line, bytes[at] == b'\n');
     }
     line
@@ -49,7 +48,7 @@ pub(crate) fn contradiction_of(bytes: &[u8], found: Contradiction) -> KnownRunFa
     ensures { result ≡ contradiction_fault bytes.now found }
 {
     KnownRunFault::Contradiction {
-        earlier: record_line(bytes, found.earlier),
-        later: record_line(bytes, found.later),
+        earlier: record_line(bytes, found.earlier as u64),
+        later: record_line(bytes, found.later as u64),
     }
 }

@@ -6,8 +6,8 @@ ghost use Rattle.known_text.specs.Pieces.{head_said};
 ghost use Rattle.known_text.specs.Texts.{IsKnownOnly};
 ghost use Rattle.known_runs.specs.Asked.{asked_of};
 ghost use Rattle.known_runs.specs.Number.{source_of};
-ghost use Rattle.known_runs.specs.Told.{text_fault, RefusesOf};
-ghost use Rattle.logfmt.specs.Bounds.{LogValue};
+ghost use Rattle.known_runs.specs.Told.{text_fault};
+ghost use Rattle.known_runs.specs.Searched.{RefusesText};
 
 use crate::asked::{KnownQuestion, KnownRunFault};
 use base::refusal::Refusal;
@@ -36,7 +36,7 @@ pub(crate) fn read_records<'t>(
     requires short { length question.now.records.now ≤ 2 ^ 30 }
     requires inputs { inputs ≡ (source_of (asked_of question.now) plain.now).inputs }
     ensures known { IfOk result (λ known. IsKnownOnly (source_of (asked_of question.now) plain.now) question.now.records.now (option_map head_said known.head) (map ran_of known.runs.items)) }
-    ensures refused { IfErr result (λ f. (value : LogValue) → RefusesOf (asked_of question.now) value plain.now f) }
+    ensures refused { IfErr result (RefusesText (asked_of question.now) plain.now) }
 {
     match read_known(alloc, question.records, plain, question.options.by(), inputs) {
         Ok(known) => Ok(known),

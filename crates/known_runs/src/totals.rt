@@ -1,10 +1,11 @@
 //! What the cases that records tell come to.
 
 ghost use Rattle.std.specs.Prelude.{◌≡◌, ◌++◌, OnOk, string_bytes};
-ghost use Rattle.known_runs.specs.Totals.{totals_of, with_one, count_stopped, is_told, is_whole, untold_text, whole_word, totals_text, status_of};
+ghost use Rattle.known_runs.specs.Totals.{totals_of, with_one, count_stopped, is_told, is_whole, left_out_of, untold_text, whole_word, totals_text, status_of};
 
 use case_text::{put_beyond, put_complete, put_counts};
 use known::KnownAt;
+use request::facts::LeftOut;
 use std::alloc::AllocError;
 
 /// How many told leaves there are and fail, how many cases were left out, how many are open, and at how many cuts the search was stopped;
@@ -15,8 +16,8 @@ pub(crate) struct KnownTotals {
     failing: u64,
     torn: u64,
     lost: u64,
-    untold: u64,
-    stopped: u64,
+    pub(crate) untold: u64,
+    pub(crate) stopped: u64,
 }
 
 /// 1 for a cut at which the search was stopped, and else 0.
@@ -81,6 +82,19 @@ pub(crate) fn status_of(totals: KnownTotals) -> u8
         return 1;
     }
     if is_whole(totals) { 0 } else { 3 }
+}
+
+/// How many cases were left out, where none that is told fails.
+pub(crate) fn left_out_of(totals: KnownTotals) -> Option<LeftOut>
+    ensures { result ≡ left_out_of totals }
+{
+    if totals.failing != 0 {
+        return None;
+    }
+    Some(LeftOut {
+        torn: totals.torn,
+        lost: totals.lost,
+    })
 }
 
 /// Appends how many cases are open, and at how many cuts the search was stopped.
