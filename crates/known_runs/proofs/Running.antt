@@ -11,7 +11,7 @@ use Rattle.cases.specs.AtCut.{parts_of}
 use Rattle.lost_text.specs.Lost.{set_of}
 use Rattle.known.specs.declared.run.KnownRun.{KnownRun}
 use Rattle.known.specs.Records.{IsRun}
-use Rattle.known_text.specs.declared.ranges.SectorRange.{SectorRange}
+use Rattle.known_text.specs.declared.looked.SectorRange.{SectorRange}
 use Rattle.known_text.specs.Ranges.{is_range, count_in, sectors_in}
 use Rattle.known_text.specs.Records.{RanValue, IsRan, cut_at, ran_of}
 use Rattle.known_text.specs.Texts.{Source, HeadValue, Piece, Head, Ran, AreGood, runs_of, IsKnown, IsKnownOnly}
