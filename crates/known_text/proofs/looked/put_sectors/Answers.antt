@@ -1,6 +1,6 @@
 use Rattle.std.proofs.Common.{rules}
 use Rattle.known_text.proofs.Sectors.{row_more}
-use Rattle.known_text.proofs.ranges.put_sectors.Goals as goal
+use Rattle.known_text.proofs.looked.put_sectors.Goals as goal
 
 pub loop-place-preserved : goal.loop-place-preserved
 loop-place-preserved c =
