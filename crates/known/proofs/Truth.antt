@@ -22,6 +22,7 @@ use Rattle.cases.specs.Trees.{Subject, split_of}
 use Rattle.cases.specs.Laws.{Includes, OfNone, OfOne, LeavesLookAlike, IsOfCut, LastCutsHaveAll as EachHasLast}
 use Rattle.cases.specs.AtCut.{CutValue, parts_of, case_of}
 use Rattle.cases.specs.Search.{LeadTo, are_there, past_beyond, past_leaf, past_split, LeafValue, leaf_case, EndsSo, is_torn_beyond, plus}
+use Rattle.cases.proofs.Cuts.{last_of_log}
 use Rattle.cases.proofs.Cases.{none_of_both, one_of_first, one_of_second, none_with, here_alone, one_with, first_is, child_is, no_child}
 use Rattle.losses.specs.FoundCases.{FailingValue}
 use Rattle.case_runs.specs.Leaves.{failing_from}
@@ -417,14 +418,14 @@ last_cuts_have_all alike each asked log way cuts records stops found truth cut c
   in_leaf = record { number = own.number; own = own.own; there = own.there; includes = own.includes; ends = sym same ∙ own.ends };
 }
   where
-    last : (k : ℕ) × IsOfCut log way asked.tears cut k choice
-    last = each log way asked.tears cut choice is_log within possible
+    last : (k : ℕ) × IsOfCut log way asked.tears cut (length log.entries) k choice
+    last = each log way asked.tears cut (length log.entries) choice is_log within (omega arith) possible
 
     at : CutValue
     at = record { log = log; way = way; cut = last.0 }
 
     here : (place : ℕ) × (slice_get cuts place ≡ Some last.0)
-    here = cuts_has last.0 last.1.within last.1.is_last
+    here = cuts_has last.0 last.1.within (last_of_log log.entries last.0 last.1.is_last)
 
     f : (x : KnownAt) × (slice_get found here.0 ≡ Some x)
     f = has_one found here.0 (let lt = slice_get_within cuts here.0 last.0 here.1 in let many = are.count in omega (arith, lt, many))

@@ -7,7 +7,6 @@ pub mod Fitting
 pub mod Runs
 pub mod Reports
 pub mod Casing
-pub mod Losing
 pub mod ToldFail
 pub mod Explained
 pub mod Missed

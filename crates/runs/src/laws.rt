@@ -3,7 +3,7 @@
 ghost use Rattle.runs.specs.AnyLoss.{AnyLossIsTold, ToldCasesFail};
 ghost use Rattle.runs.specs.Blind.{BlindProgramsPass};
 
-use case_runs::{losses_are_judged, their_images_fail};
+use case_runs::{found_cuts_are_wanted, losses_are_found, their_images_fail};
 use checker::agreeing_devices_are_judged_alike;
 use images::{covering_tells, images_are_devices};
 use workers::lines_are_set;
@@ -19,18 +19,18 @@ pub fn blind_programs_pass()
     lines_are_set();
 }
 
-/// Each image of each cut on which a program fails, however many parts were lost there and with as few torn ones as is asked, is one of a
-/// failing case that the text of cases tells of, where all cuts are wanted and `--at-most` bounds nothing. So where the text has no line
-/// of a program, that program fails on no such image.
+/// Each image of each wanted cut on which a program fails, with as few torn parts and as few lost ones as is asked, is one of a failing case
+/// that the text of cases tells of. So where the text has no line of a program, that program fails on no such image.
 pub fn any_loss_is_told()
     ensures { AnyLossIsTold }
 {
-    losses_are_judged();
+    losses_are_found();
 }
 
-/// On each image of a failing case that the text tells of its program fails, and ends as the case says.
+/// A failing case that the text tells is one of a wanted cut, and on each of its images its program fails, and ends as the case says.
 pub fn told_cases_fail()
     ensures { ToldCasesFail }
 {
     their_images_fail();
+    found_cuts_are_wanted();
 }

@@ -1,0 +1,5 @@
+pub mod Lining
+pub mod Counting
+pub mod Placing
+pub mod Running
+pub mod Telling
