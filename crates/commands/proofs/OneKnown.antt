@@ -39,7 +39,7 @@ use Rattle.known_runs.specs.Totals.{count_stopped, totals_of, totals_text, statu
 use Rattle.known_runs.specs.Text.{end_words, case_line, cut_lines, known_bytes, opening_lines, program_text}
 use Rattle.known_runs.specs.Told as told
 use Rattle.known_runs.specs.Told.{records_of, FindsBy, FindsKnown, TellsOf, TellsKnown, RefusesBy, RefusesOf, RefusesKnown}
-use Rattle.known_runs.specs.Wanted.{WantedValue, wanted_at, wanted_in, wanted_bytes, exported_of, WantsOf, TellsWanted}
+use Rattle.known_runs.specs.Wanted.{WantedValue, wanted_at, wanted_in, wanted_view, wanted_bytes, WantsOf, TellsWanted}
 use Rattle.commands.specs.Laws.{IsOfMemory}
 use Rattle.commands.specs.Acting.{records_refusal}
 use Rattle.commands.proofs.OneReport.{Below, same_recorded, same_log, of_source}
@@ -202,7 +202,7 @@ wants_once : FoundIsOne → (a : KnownAsked) (value plain : LogValue) (bytes oth
 wants_once law a value plain bytes others x y =
     let same = finds_once law a value plain x.head y.head x.found y.found x.finds y.finds in
     x.text
-    ∙ ap (λ (ws : List WantedValue). wanted_bytes (source_of a plain).inputs (record { log = value; way = a.settings.by; tears = a.settings.tears; wanted = ws }))
+    ∙ ap (λ (ws : List WantedValue). wanted_bytes (source_of a plain).inputs (record { log = value; way = a.settings.by; views = map (wanted_view value a.settings.by) ws }))
     (all_wanted value a.settings.by a.settings.tears x.found y.found same.found)
     ∙ sym y.text
 
