@@ -173,7 +173,7 @@ tells_once law a value plain bytes others status ended x y =
     let h = head_given a.settings value in
     let text : known_bytes (source_of a plain).inputs h (asked_losses a) x.head value x.found ≡ known_bytes (source_of a plain).inputs h (asked_losses a) y.head value y.found =
     λ i. opening_lines (source_of a plain).inputs h (asked_losses a) ++ program_text (same.head_is i)
-        ++ (all_lines value way tears x.found y.found same.found i ++ totals_text (are_all_cuts h.cuts) (same_count value way tears x.found y.found same.found i) (totals i)) in
+    ++ (all_lines value way tears x.found y.found same.found i ++ totals_text (are_all_cuts h.cuts) (same_count value way tears x.found y.found same.found i) (totals i)) in
     (x.text ∙ text ∙ sym y.text, x.is ∙ ap status_of totals ∙ sym y.is)
 
 -- the images that are wanted
@@ -261,7 +261,7 @@ not_contrary : FoundIsOne → (a : KnownAsked) (plain : LogValue) (rs qs : List 
     → told.NoneContradicts (records_of a plain rs) → IsFirst (records_of a plain qs) found → ⊥
 not_contrary law a plain rs qs found say none is =
     false≢true (
-      sym (none found.later found.earlier is.is.before) ∙ law.against (records_of a plain rs) (records_of a plain qs) found.earlier found.later say ∙ is.is.own
+    sym (none found.later found.earlier is.is.before) ∙ law.against (records_of a plain rs) (records_of a plain qs) found.earlier found.later say ∙ is.is.own
     )
 
 -- records of which something is told
@@ -270,11 +270,11 @@ of_records : FoundIsOne → (a : KnownAsked) (value plain : LogValue) (rs qs : L
 of_records law a value plain rs qs fs _ say h (told.for_contradiction found is) = absurd (not_contrary law a plain rs qs found say h.agree is)
 of_records law a value plain rs qs fs _ say h (told.for_cases cut none many) =
     absurd (
-      let few = h.few in
-      let counted = many.counted in
-      let more = past_all law (asked_losses a) value a.settings.by (records_of a plain rs) (records_of a plain qs) a.stops say (asked_cuts a value) many.place cut many.rest fs many.before h.are many.own many.are
-      many.past in
-      omega (arith, few, counted, more)
+    let few = h.few in
+    let counted = many.counted in
+    let more = past_all law (asked_losses a) value a.settings.by (records_of a plain rs) (records_of a plain qs) a.stops say (asked_cuts a value) many.place cut many.rest fs many.before h.are many.own many.are
+    many.past in
+    omega (arith, few, counted, more)
     )
 of_records law a value plain rs qs fs _ say h told.no_search_memory = refl
 

@@ -7,6 +7,8 @@ use Rattle.machine.specs.Outcome.{Ending, fails}
 use Rattle.cases.specs.Choices.{Choice}
 use Rattle.cases.specs.Laws.{IsChoice}
 use Rattle.case_text.specs.Text.{in_word}
+use Rattle.losses.specs.declared.found.Losses.{Losses}
+use Rattle.known.specs.Records.{RecordsValue}
 use Rattle.known.specs.declared.found.KnownAt.{KnownAt}
 use Rattle.known.specs.declared.found.KnownFailing.{KnownFailing}
 use Rattle.known.specs.Found.{IsKnownAt}
@@ -102,7 +104,7 @@ found_there (c ∷ cuts) (f ∷ fs) zero k long own = (f, refl)
 found_there (c ∷ cuts) (f ∷ fs) (suc i) k long own = found_there cuts fs i k (omega (arith, long)) own
 
 -- what the answer found
-found_in : (a : KnownAsked) (bytes : List ℕ) (status : ℕ) → TellsKnown a bytes status → Found
+abbrev found_in : (a : KnownAsked) (bytes : List ℕ) (status : ℕ) → TellsKnown a bytes status → Found
 found_in a bytes status h = record { asked = a; value = h.value; plain = h.source.reads.read; runs = h.tells.finds.runs; found = h.tells.found }
 
 tell_truth : FoundFail → CompleteHasAll → (a : KnownAsked) (bytes : List ℕ) (status : ℕ) (h : TellsKnown a bytes status) (truth : ℕ → List (List ℕ) → Ending)
@@ -116,8 +118,10 @@ tell_truth fail all a bytes status h truth true_of = record {
     f : Found
     f = found_in a bytes status h
 
+    asked : Losses
     asked = asked_losses a
 
+    records : RecordsValue
     records = records_of a f.plain f.runs
 
     known : (i k : ℕ) (at : KnownAt) → slice_get (asked_cuts a f.value) i ≡ Some k → slice_get f.found i ≡ Some at → IsKnownAt asked (cut_in f k) records a.stops at

@@ -135,9 +135,9 @@ pub use laws::{
     answer_or_refusal, cases_are_text, each_image_stands_once, join_is_explore,
     join_is_explore_by_own, join_is_explore_of_cases, join_is_explore_of_cases_by_own,
     joined_parts_are_run, laid_out_ranges_are_parts, one_answer, one_report,
-    page_of_report_is_page, parts_of_run_are_joined, ranges_of_run_are_joined,
-    records_tell_truth, report_or_refusal,
-    reports_are_bounded, show_names_differences, why_of_report_is_why, work_changes_nothing,
+    page_of_report_is_page, parts_of_run_are_joined, ranges_of_run_are_joined, records_tell_truth,
+    report_or_refusal, reports_are_bounded, show_names_differences, why_of_report_is_why,
+    work_changes_nothing,
 };
 pub use notes::command_notes::notes_beside;
 pub use progress::Progress;

@@ -13,7 +13,9 @@ use known::Stops;
 use known_runs::{KnownQuestion, KnownRunFault, KnownTold, tell_known, wanted_known};
 use notes::{command_notes, put_note};
 use request::facts::{Recording, RunFacts, Untold};
-use request::{KnownSearch, KnownTelling, KnownWords, OptionWords, Options, Request, known_of, options_of};
+use request::{
+    KnownSearch, KnownTelling, KnownWords, OptionWords, Options, Request, known_of, options_of,
+};
 use std::alloc::{AllocError, Global};
 
 /// The refusal of records, or of what they are to be of.

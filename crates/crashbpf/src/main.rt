@@ -214,7 +214,10 @@ fn run_whole<R: AllocGlobal + Eprint + Clock + Threads + Wait + Sync, W: Write>(
         Some(refusal) => {
             let refusal = inputs.refusal(refusal);
             let status = print_refusal(rt, &refusal);
-            print_notes(rt, notes_after(rt.alloc(), words, files, inputs.base(), &refusal));
+            print_notes(
+                rt,
+                notes_after(rt.alloc(), words, files, inputs.base(), &refusal),
+            );
             rt.eprint(inputs.note(&refusal)).ok();
             CommandEnd { status, writer }
         }
@@ -263,7 +266,10 @@ fn print_stopped<R: AllocGlobal + Eprint>(
             let refusal = inputs.refusal(refusal);
             let status = print_refusal(rt, &refusal);
             let files = inputs.contents();
-            print_notes(rt, notes_after(rt.alloc(), words, files, inputs.base(), &refusal));
+            print_notes(
+                rt,
+                notes_after(rt.alloc(), words, files, inputs.base(), &refusal),
+            );
             rt.eprint(inputs.note(&refusal)).ok();
             status
         }

@@ -5,7 +5,7 @@ use Rattle.std.specs.Option.{option_map_or}
 use Rattle.std.proofs.lemmas.Bool.{false≢true, cases_lt}
 use Rattle.std.proofs.lemmas.List.{length-map, length-append}
 use Rattle.std.proofs.lemmas.List.Elements.{All-head, All-tail}
-use Rattle.machine.specs.Outcome.{Ending, Verdict, OutOfSteps, Stray, fails}
+use Rattle.machine.specs.Outcome.{Ending, Verdict, Stopped, OutOfSteps, Stray, fails}
 use Rattle.cases.specs.Cases.{Case, Split, whole_case, with_part, representative}
 use Rattle.logfmt.specs.Bounds.{LogValue}
 use Rattle.epochs.specs.declared.part.By.{By}
@@ -213,9 +213,9 @@ begins_so asked at records stops leaves others left rest waiting more a b few =
     let there : map (pair_of at asked.tears) others ≡ map (pair_of at asked.tears) leaves ++ map (pair_at s) on.0 =
     pairs_said s asked.tears at others b.endings ∙ ap (map (pair_at s)) on.1 ∙ pairs_more s (map F leaves) on.0 ∙ ap (λ (xs : List Pair). xs ++ map (pair_at s) on.0) (sym here) in
     sym (
-      taken_pairs at asked.tears (length leaves) others ∙ ap (take (length leaves)) there
-      ∙ ap (λ n. take n (map (pair_of at asked.tears) leaves ++ map (pair_at s) on.0)) (sym (length-map leaves (pair_of at asked.tears)))
-      ∙ take_front (map (pair_of at asked.tears) leaves) (map (pair_at s) on.0)
+    taken_pairs at asked.tears (length leaves) others ∙ ap (take (length leaves)) there
+    ∙ ap (λ n. take n (map (pair_of at asked.tears) leaves ++ map (pair_at s) on.0)) (sym (length-map leaves (pair_of at asked.tears)))
+    ∙ take_front (map (pair_of at asked.tears) leaves) (map (pair_at s) on.0)
     )
 
 -- where a search ended no other comes to more leaves
@@ -312,12 +312,10 @@ same_rest asked at records stops found other a b = by (has_stopped stops a.leave
 
 -- how a program ended is said by how the machine says it
 abbrev end_by : Ending → RunEnd
-end_by e = end_in e
-  where
-    end_in : Ending → RunEnd
-    end_in (Verdict answer codes) = end.Answer answer
-    end_in (Stray signal) = end.Signal signal
-    end_in e = end.OutOfTime
+end_by (Verdict answer codes) = end.Answer answer
+end_by (Stopped cause slot) = end.OutOfTime
+end_by OutOfSteps = end.OutOfTime
+end_by (Stray signal) = end.Signal signal
 
 end_back : (e : RunEnd) → end_by (ending_of e) ≡ e
 end_back (end.Answer answer) = refl
@@ -437,7 +435,7 @@ looks_said None = refl
 looks_said (Some r) = refl
 
 -- so they are one program
-said_program : LogValue → By → List RunValue → ℕ → Program
+abbrev said_program : LogValue → By → List RunValue → ℕ → Program
 said_program log way said marks = record {
   ending = λ device. said_ending (find (said_tells log way marks device) said);
   footprint = λ device. said_looks (find (said_tells log way marks device) said);
