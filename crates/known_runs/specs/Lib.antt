@@ -9,3 +9,4 @@ pub mod Imaged
 pub mod Told
 pub mod Searched
 pub mod Wanted
+pub mod Showing

@@ -7,6 +7,9 @@ use Rattle.std.specs.Cmp.Lexicographic.{pointwise}
 use Rattle.logfmt.specs.Bounds.{LogValue}
 use Rattle.epochs.specs.declared.part.By.{By}
 use Rattle.epochs.specs.Units.{epoch_at, marks_at}
+use Rattle.cases.specs.AtCut.{parts_of, case_of}
+use Rattle.cases.specs.Cases.{Case, representative}
+use Rattle.cases.specs.Choices.{departures}
 use Rattle.images.specs.Views.{ViewValue, sectors_of}
 use Rattle.images.specs.Keys.{changed_sectors}
 use Rattle.report.specs.ChoiceText.{departures_text}
@@ -19,24 +22,27 @@ use Rattle.known.specs.declared.found.KnownAt.{KnownAt}
 use Rattle.known_text.specs.Texts.{HeadValue}
 use Rattle.known_runs.specs.Asked.{KnownAsked}
 use Rattle.known_runs.specs.Number.{source_of}
-use Rattle.known_runs.specs.Imaged.{view_of_case}
 use Rattle.known_runs.specs.Told.{FindsKnown}
 
--- an open case, by its cut and what it leaves each part at risk
+-- an open case, by its cut and what it leaves each part
 pub record WantedValue : Type 0 where
   pub cut : ℕ
-  pub sets : List ℕ
+  pub is : Case
 
--- those of some cuts
-abbrev pub wanted_at : KnownAt → List WantedValue
-wanted_at f = map (λ (o : OpenCase). record { cut = f.cut; sets = o.sets.items }) f.open_cases.items
+-- those of some cuts, of a log, with parts that may be torn or not
+abbrev pub wanted_case : LogValue → By → Bool → ℕ → List ℕ → WantedValue
+wanted_case log way tears cut sets = record { cut = cut; is = case_of tears (parts_of (record { log = log; way = way; cut = cut })) sets }
 
-abbrev pub wanted_in : List KnownAt → List WantedValue
-wanted_in found = flat_map wanted_at found
+abbrev pub wanted_at : LogValue → By → Bool → KnownAt → List WantedValue
+wanted_at log way tears f = map (λ (o : OpenCase). wanted_case log way tears f.cut o.sets.items) f.open_cases.items
 
--- the image of its representative, of a log, with parts that may be torn or not
-abbrev pub wanted_view : LogValue → By → Bool → WantedValue → ViewValue
-wanted_view log way tears w = view_of_case (record { log = log; way = way; cut = w.cut }) tears w.sets
+abbrev pub wanted_in : LogValue → By → Bool → List KnownAt → List WantedValue
+wanted_in log way tears found = flat_map (wanted_at log way tears) found
+
+-- the image of its representative
+abbrev pub wanted_view : LogValue → By → WantedValue → ViewValue
+wanted_view log way w =
+    record { log = log; cut = w.cut; departures = departures (representative w.is) (parts_of (record { log = log; way = way; cut = w.cut })) }
 
 -- of which log they are, what departs as one, and the images
 pub record ExportedValue : Type 0 where
@@ -99,7 +105,7 @@ wanted_bytes inputs e = number_line inputs ++ images_text e
 -- the open cases of what is found of a log
 abbrev pub exported_of : KnownAsked → LogValue → List KnownAt → ExportedValue
 exported_of a value found =
-    record { log = value; way = a.settings.by; views = map (wanted_view value a.settings.by a.settings.tears) (wanted_in found) }
+    record { log = value; way = a.settings.by; views = map (wanted_view value a.settings.by) (wanted_in value a.settings.by a.settings.tears found) }
 
 -- the text of the images that are wanted, by what records tell of a log
 pub record WantsOf (a : KnownAsked) (value plain : LogValue) (bytes : List ℕ) : Type 0 where

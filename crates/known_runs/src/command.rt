@@ -1,12 +1,13 @@
 //! From the bytes of a log and of records to the bytes of the answer.
 
-ghost use Rattle.std.specs.Prelude.{◌≡◌, ◌≤◌, ◌^◌, length, option_map, All, IfOk, IfErr};
+ghost use Rattle.std.specs.Prelude.{◌≡◌, ◌≤◌, ◌^◌, length, option_map, All, IfOk, IfErr, OnOk};
 ghost use Rattle.known_text.specs.Pieces.{head_said};
 ghost use Rattle.request.specs.Inputs.{head_given};
-ghost use Rattle.request.specs.Source.{plan_of, images_of};
+ghost use Rattle.request.specs.Source.{plan_of, images_of, IsLogOf, IsRecorded};
 ghost use Rattle.known_runs.specs.Asked.{asked_of, asked_losses};
 ghost use Rattle.known_runs.specs.Number.{source_of};
 ghost use Rattle.known_runs.specs.Text.{known_bytes};
+ghost use Rattle.known_runs.specs.Wanted.{WantsOf, TellsWanted};
 ghost use Rattle.known_runs.specs.Told.{FindsKnown, TellsOf, TellsKnown, RefusesOf, RefusesKnown};
 
 use crate::asked::{KnownQuestion, KnownRunFault, KnownTold};
@@ -16,6 +17,7 @@ use crate::read::read_records;
 use crate::search::{find_by, losses_of, memory};
 use crate::text::write_known;
 use crate::totals::{left_out_of, status_of, totals_of};
+use crate::wanted::write_wanted;
 use epochs::Plan;
 use images::initial_number;
 use known::KnownAt;
@@ -145,6 +147,62 @@ fn told_of(
     }
 }
 
+/// The images that are wanted of a log, of which `plain` is the one without flushes that are added, as a text.
+fn wanted_of(
+    alloc: Global,
+    question: &KnownQuestion<'_>,
+    log: &Log<'_>,
+    plan: &Plan<'_>,
+    plain: &Log<'_>,
+) -> Result<Vec<u8>, KnownRunFault>
+    requires short { length question.now.records.now ≤ 2 ^ 30 }
+    requires plan { plan.now ≡ plan_of question.now.options.now log.now }
+    ensures wants { IfOk result (λ bytes. WantsOf (asked_of question.now) log.now plain.now bytes.items) }
+    ensures refused { IfErr result (RefusesOf (asked_of question.now) log.now plain.now) }
+{
+    let found = match found_of(alloc, question, log, plan, plain) {
+        Ok(found) => found,
+        Err(fault) => return Err(fault),
+    };
+    let (by, tears) = (question.options.by(), question.options.tears());
+    let those = found.found.as_slice();
+    match write_wanted(alloc, found.inputs, log, plan, by, tears, those) {
+        Ok(bytes) => Ok(bytes),
+        Err(_error) => Err(memory()),
+    }
+}
+
+/// The log of a question: with the flushes that are added, and without them.
+#[derive(Drop)]
+struct ReadLogs<'x> {
+    log: Log<'x>,
+    plain: Log<'x>,
+}
+
+/// The log of a question, whose text of records isn't too long.
+fn read_logs<'x>(
+    alloc: Global,
+    question: &KnownQuestion<'x>,
+) -> Result<ReadLogs<'x>, KnownRunFault>
+    ensures short { OnOk result (length question.now.records.now ≤ 2 ^ 30) }
+    ensures log { IfOk result (λ logs. IsLogOf question.now.recording.now question.now.options.now logs.log) }
+    ensures plain { IfOk result (λ logs. IsRecorded question.now.recording.now question.now.options.now logs.plain) }
+    ensures refused { IfErr result (RefusesKnown (asked_of question.now)) }
+{
+    if question.records.len() > MOST_OF_RECORDS {
+        return Err(KnownRunFault::Line(0));
+    }
+    let (recording, options) = (question.recording, question.options);
+    let log = match recording.read(alloc, options) {
+        Ok(log) => log,
+        Err(refusal) => return Err(KnownRunFault::Refused(refusal)),
+    };
+    match recording.recorded(alloc, options) {
+        Ok(plain) => Ok(ReadLogs { log, plain }),
+        Err(refusal) => Err(KnownRunFault::Refused(refusal)),
+    }
+}
+
 /// What records of a program of the user's tell of the cases of a log (docs/OUTPUT.md, Records of a program of yours): the text, and its
 /// status.
 ///
@@ -160,23 +218,42 @@ pub fn tell_known(
     ensures told { IfOk result (λ t. TellsKnown (asked_of question.now) t.bytes.items t.status) }
     ensures refused { IfErr result (RefusesKnown (asked_of question.now)) }
 {
-    if question.records.len() > MOST_OF_RECORDS {
-        return Err(KnownRunFault::Line(0));
-    }
-    let (recording, options) = (question.recording, question.options);
-    let log = match recording.read(alloc, options) {
-        Ok(log) => log,
-        Err(refusal) => return Err(KnownRunFault::Refused(refusal)),
+    let logs = match read_logs(alloc, question) {
+        Ok(logs) => logs,
+        Err(fault) => return Err(fault),
     };
-    let (plan, images) = match plan_of(alloc, &log, options) {
+    let ReadLogs { log, plain } = logs;
+    let (plan, images) = match plan_of(alloc, &log, question.options) {
         Ok(found) => found,
-        Err(refusal) => return Err(KnownRunFault::Refused(refusal)),
-    };
-    let plain = match recording.recorded(alloc, options) {
-        Ok(plain) => plain,
         Err(refusal) => return Err(KnownRunFault::Refused(refusal)),
     };
     // A law of logs, which does nothing: the bytes are a text of one log.
     text_of_one_log();
     told_of(alloc, question, &log, &plan, images, &plain)
+}
+
+/// The images of the representatives of the cases of a log that records of a program of the user's leave open, in the order of the search
+/// and in the form of `export` (docs/OUTPUT.md, The text of `export`).
+///
+/// # Errors
+///
+/// Those of `tell_known`.
+pub fn wanted_known(
+    alloc: Global,
+    question: &KnownQuestion<'_>,
+) -> Result<Vec<u8>, KnownRunFault>
+    ensures wanted { IfOk result (λ bytes. TellsWanted (asked_of question.now) bytes.items) }
+    ensures refused { IfErr result (RefusesKnown (asked_of question.now)) }
+{
+    let logs = match read_logs(alloc, question) {
+        Ok(logs) => logs,
+        Err(fault) => return Err(fault),
+    };
+    let ReadLogs { log, plain } = logs;
+    let (plan, _images) = match plan_of(alloc, &log, question.options) {
+        Ok(found) => found,
+        Err(refusal) => return Err(KnownRunFault::Refused(refusal)),
+    };
+    text_of_one_log();
+    wanted_of(alloc, question, &log, &plan, &plain)
 }

@@ -1,4 +1,4 @@
-//! What records of a program of the user's tell of a log: from the bytes of a log and of a text of records to the bytes of the answer.
+//! What records of a program of the user's tell of a log, and which images they leave open: from the bytes of a log and of a text of records to the bytes of the answer.
 //!
 //! Who runs a program of their own on crash images, and sees at which sectors it looks, writes records (`known_text`). By these `known`
 //! finds the cases of each cut, as far as they tell. What was found is printed here:
@@ -23,6 +23,7 @@
 //! | `places` | at which line of the text a record stands |
 //! | `search` | what the records tell |
 //! | `lines`, `totals`, `text` | the text of that: its lines, its last line, and all of it |
+//! | `image`, `differing`, `wanted` | an image that is wanted, in which sectors two differ, and the text of all |
 //! | `blind` | whether a program looked at nothing that the log writes |
 //! | `command` | all of it in order |
 //!
@@ -30,6 +31,7 @@
 //! |---|---|
 //! | `KnownQuestion` | a recording, the bytes of the records, what is asked of losses, where the search of a cut ends, and the options |
 //! | `tell_known(alloc, question)` | the text of what the records tell, with its status; or why nothing is told, as a `KnownRunFault` |
+//! | `wanted_known(alloc, question)` | the images of the representatives of open cases, in the form of `export`, numbered from 0 in the order of the search |
 //!
 //! # Place
 //!
@@ -44,6 +46,8 @@
 //!   them.
 //! - The number after `inputs` is that of the log and of the options on which an image hangs (`records_number`). Records of another number
 //!   are refused.
+//! - Where `wanted_known` answers, it is the same of the images that are wanted: each is the representative of an open case, and all are
+//!   there, in the order of the search (`TellsWanted`, `specs/Wanted.antt`).
 //! - The status is 1 where a told leaf fails; else 0 where nothing is open, left out or pending, and else 3.
 //! - Where it refuses, the refusal is one of `RefusesKnown`. Two records that contradict each other are named by the lines at which they stand
 //!   (`record_line`).
@@ -62,6 +66,8 @@
 mod asked;
 mod blind;
 mod command;
+mod differing;
+mod image;
 mod lines;
 mod number;
 mod places;
@@ -69,6 +75,7 @@ mod read;
 mod search;
 mod text;
 mod totals;
+mod wanted;
 
 pub use asked::{KnownQuestion, KnownRunFault, KnownTold};
-pub use command::tell_known;
+pub use command::{tell_known, wanted_known};

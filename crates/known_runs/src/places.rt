@@ -19,7 +19,7 @@ fn begins_record(bytes: &[u8], place: usize) -> bool
 }
 
 /// A number with one more, if that is to be counted.
-fn with(count: u64, is: bool) -> u64
+pub(crate) fn with(count: u64, is: bool) -> u64
     requires { count + 1 < 2 ^ 64 }
     ensures { result ≡ count + (if is then 1 else 0) }
 {
