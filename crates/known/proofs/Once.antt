@@ -20,7 +20,7 @@ use Rattle.case_runs.specs.Found.{KnownCase}
 use Rattle.case_runs.proofs.FirstOnce.{GoesOn as GoOn, goes_on, longer}
 use Rattle.case_runs.proofs.Once.{known_value, known_from, known_all, ending_in, endings_told}
 use Rattle.known.specs.declared.run.RunEnd.{RunEnd}
-use Rattle.known.specs.declared.run.RunEnd.TheVariants as end
+use Rattle.known.specs.declared.run.RunEnd.TheVariants as ended
 use Rattle.known.specs.declared.found.Stops.{Stops}
 use Rattle.known.specs.declared.found.KnownAt.{KnownAt}
 use Rattle.known.specs.declared.found.KnownFailing.{KnownFailing}
@@ -312,20 +312,17 @@ same_rest asked at records stops found other a b = by (has_stopped stops a.leave
 
 -- how a program ended is said by how the machine says it
 abbrev end_by : Ending → RunEnd
-end_by (Verdict answer codes) = end.Answer answer
-end_by (Stopped cause slot) = end.OutOfTime
-end_by OutOfSteps = end.OutOfTime
-end_by (Stray signal) = end.Signal signal
+end_by (Verdict answer codes) = ended.Answer answer
+end_by (Stopped cause slot) = ended.OutOfTime
+end_by OutOfSteps = ended.OutOfTime
+end_by (Stray signal) = ended.Signal signal
 
 end_back : (e : RunEnd) → end_by (ending_of e) ≡ e
-end_back (end.Answer answer) = refl
-end_back (end.Signal signal) = refl
-end_back end.OutOfTime = refl
+end_back (ended.Answer answer) = refl
+end_back (ended.Signal signal) = refl
+end_back ended.OutOfTime = refl
 
--- a failing leaf that was found, as one of a run
-abbrev run_value : CutValue → Bool → FailingValue → FailingCaseValue
-run_value at tears f = record { number = f.number; end = end_by f.ending; is = case_of tears (parts_of at) f.sets }
-
+-- a failing leaf, as one of a run
 abbrev of_known : KnownCase → FailingCaseValue
 of_known k = record { number = k.number; end = end_by k.ending; is = k.is }
 
