@@ -5,3 +5,4 @@ pub mod Going
 pub mod Reaching
 pub mod Contrary
 pub mod Truth
+pub mod Rounds

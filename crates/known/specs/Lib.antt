@@ -5,3 +5,4 @@ pub mod Contradictions
 pub mod Leaves
 pub mod Found
 pub mod Laws
+pub mod Rounds
