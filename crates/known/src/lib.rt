@@ -68,9 +68,7 @@ pub use contradict::{Contradiction, first_contradiction};
 pub use found::{KnownAt, KnownFailing, OpenCase, Stops, is_complete};
 pub use laws::{
     complete_has_all, each_is_in_one, found_fail, found_is_one, last_cuts_have_all,
-    none_tells_open, told_end_so,
-    complete_has_all, each_is_in_one, found_fail, last_cuts_have_all, none_tells_open, rounds_end,
-    told_end_so,
+    none_tells_open, rounds_end, told_end_so,
 };
 pub use records::KnownRecords;
 pub use run::{KnownRun, RunEnd, is_failing, is_same_end};
