@@ -33,9 +33,9 @@ use Rattle.losses.specs.declared.found.FailingCase.{FailingCase}
 use Rattle.losses.specs.FoundCases.{FailingValue, failing_value}
 use Rattle.case_runs.specs.Leaves.{failing_from}
 use Rattle.case_runs.specs.Laws.{CheckersTell, subject_at, judged_at}
-use Rattle.case_runs.specs.Found.{IsFoundAt, AreFoundIn}
+use Rattle.case_runs.specs.Found.{IsFoundAt}
 use Rattle.case_runs.specs.Cuts.{is_all, is_explored, explored_cuts, are_last_enough, first_wanted, last_wanted, case_cuts}
-use Rattle.case_runs.specs.AnyLoss.{IsAskedFor, IsInFailing, LossesAreFound, FoundCutsAreWanted}
+use Rattle.case_runs.specs.AnyLoss.{IsAskedFor, LossesAreFound, FoundCutsAreWanted}
 use Rattle.case_runs.proofs.Judged.{in_leaves, length_image}
 
 -- what passes a test in a range stands among what passes
