@@ -372,8 +372,8 @@ cut_is_wanted lost wanted es i k has at = by_way (are_last_enough lost wanted) r
         let kept : is_of_kind wanted.kind es k ≡ true = of_all wanted.kind es k (both_true (is_all wanted.kind) (is_none lost) enough).0 in (
           omega (arith, high),
           ap (λ b. b && is_after_first wanted.from k && is_before_last wanted.to k) kept
-          ∙ ap (λ b. b && is_before_last wanted.to k) (not_before wanted.from n k has low)
-          ∙ not_after wanted.to n k high,
+              ∙ ap (λ b. b && is_before_last wanted.to k) (not_before wanted.from n k has low)
+              ∙ not_after wanted.to n k high,
         )
     by_way false each own =
         let it = kept_from (is_wanted wanted es) 0 (n + 1) i k own in

@@ -109,6 +109,4 @@ mod task;
 pub use explore_command::{
     Explored, Question, RunAnswer, WantedAnswer, explore, explore_with, run_with,
 };
-pub use laws::{
-    any_loss_is_told, blind_programs_pass, flushes_bring_nothing, told_cases_fail,
-};
+pub use laws::{any_loss_is_told, blind_programs_pass, flushes_bring_nothing, told_cases_fail};
