@@ -1,6 +1,6 @@
 //! What is noticed of programs, and what cases tell: laws, by functions that do nothing.
 
-ghost use Rattle.runs.specs.AnyLoss.{AnyLossIsTold, ToldCasesFail};
+ghost use Rattle.runs.specs.AnyLoss.{AnyLossIsTold, CasesAreFaultless, ToldCasesFail};
 ghost use Rattle.runs.specs.Blind.{BlindProgramsPass};
 ghost use Rattle.runs.specs.Flushing.{FlushesBringNothing};
 
@@ -8,6 +8,7 @@ use case_runs::{found_cuts_are_wanted, losses_are_found, their_images_fail};
 use checker::agreeing_devices_are_judged_alike;
 use images::{covering_tells, images_are_devices};
 use losses::flushes::{flush_takes_away, flushes_write_nothing};
+use soundness::accepted_runs_safely;
 use workers::lines_are_set;
 
 /// A program that passes at each wanted cut, on the image in which nothing is lost or torn, and looks there at no sector that an
@@ -45,4 +46,12 @@ pub fn flushes_bring_nothing()
 {
     flush_takes_away();
     flushes_write_nothing();
+}
+
+/// Without `--checked` and `--guards` a program has no fault on any image of any cut, whatever is lost there, and ends in a verdict within its
+/// budget. So does each failing case that is told.
+pub fn cases_are_faultless()
+    ensures { CasesAreFaultless }
+{
+    accepted_runs_safely();
 }
