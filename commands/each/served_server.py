@@ -11,15 +11,17 @@ import stat
 import struct
 
 from commands.each import served_wire as wire
+from commands.each.second_images import image_said
+from commands.each.second_log import NotedFile, SecondLogs
 from commands.each.served_folder import FILES, MAP, Folders
-from commands.each.served_tree import TIME, Fault, File, Folder, Link, Looks, Node, image_folder, rename
+from commands.each.served_tree import IMAGE, TIME, Fault, File, Folder, Link, Looks, Node, image_folder, rename
 
 ROOT = 1
 # Before each message stands its length. One of a runner has its number, the cut, and the choice. With the cut ENDS the run is over.
 LENGTH, TOLD = struct.Struct("<I"), struct.Struct("<QQ")
 ENDS = (1 << 64) - 1
-# The answer: the lengths of a fault, and the sectors, each a number of 8 bytes.
-SAID = struct.Struct("<I")
+# The answer: the length of a fault, the number of sectors, and the length of the second log; then these, a sector as a number of 8 bytes.
+SAID = struct.Struct("<IQQ")
 WRITABLE_BITS = 0o7777
 
 
@@ -42,11 +44,11 @@ class Root:
 
 
 class Server:
-    """The mount: its nodes by their numbers, and what is open."""
+    """The mount: its nodes by their numbers, and what is open. With `notes` what a program does to its image is noted."""
 
-    def __init__(self, device, images, is_direct, path):
+    def __init__(self, device, images, is_direct, path, notes=False):
         self.device, self.images, self.is_direct, self.path = device, images, is_direct, os.fsencode(path)
-        self.root, self.folders = Root(), Folders()
+        self.root, self.folders, self.logs = Root(), Folders(), SecondLogs() if notes else None
         self.nodes, self.numbers, self.open, self.next, self.next_open = {ROOT: self.root}, {}, {}, ROOT, 0
         self.asked = {
             wire.LOOKUP: self.lookup,
@@ -67,7 +69,7 @@ class Server:
             wire.STATFS: self.statfs,
             wire.RELEASE: self.release,
             wire.RELEASEDIR: self.release,
-            wire.FSYNC: self.nothing,
+            wire.FSYNC: self.fsync,
             wire.FSYNCDIR: self.nothing,
             wire.FLUSH: self.nothing,
             wire.OPENDIR: self.opendir,
@@ -212,6 +214,8 @@ class Server:
             raise Fault(errno.EACCES)
         seat = next((number for number, it in self.root.seats.items() if it is folder), None)
         if name == FILES and MAP in folder.names and seat is not None:
+            if folder.looks.noted_file:
+                folder.looks.noted_file.noted.give_up("the program has the files of its image laid out")
             return self.made(folder, name, self.folders.of_run(folder, os.path.join(self.path, seat, FILES)))
         return self.made(folder, name, Folder(folder.looks, stat.S_IFDIR | mode & WRITABLE_BITS, folder.looks.number()))
 
@@ -302,9 +306,15 @@ class Server:
         return node.read(at, size)
 
     def write(self, node, data):
-        _handle, at, size, *_more = wire.WRITE_IN.unpack_from(data)
+        """Writes bytes to a file."""
+        _handle, at, size, how, _owner, flags, _zero = wire.WRITE_IN.unpack_from(data)
+        node.asked_by(how, flags)
         node.write(at, data[wire.WRITE_IN.size : wire.WRITE_IN.size + size])
         return wire.WRITE_OUT.pack(size, 0)
+
+    def fsync(self, node, _data):
+        node.sync()
+        return b""
 
     def fallocate(self, node, data):
         """Reserves room, which may make a file larger, or makes a stretch zeros."""
@@ -339,19 +349,38 @@ class Server:
         seat, cut = TOLD.unpack_from(data)
         if cut == ENDS:
             return self.ended(b"%02d" % seat)
-        looks = Looks(self.images.image(cut, data[TOLD.size :].decode()))
-        self.root.seats[b"%02d" % seat] = image_folder(looks)
-        return SAID.pack(0)
+        text = data[TOLD.size :].decode()
+        looks = Looks(self.images.image(cut, text) if self.logs is None else image_said(self.images, cut, text, self.logs.found))
+        self.root.seats[b"%02d" % seat] = image_folder(looks, File if self.logs is None else NotedFile)
+        return SAID.pack(0, 0, 0)
 
     def ended(self, name):
-        """Drops the files of a run, and says at which sectors it looked."""
-        looks = self.root.seats.pop(name).looks
+        """Drops the files of a run, and says at which sectors it looked, and what it did to its image where that was noted."""
+        folder = self.root.seats.pop(name)
+        looks, log = folder.looks, self.noted(folder)
         for number in [number for number, it in self.nodes.items() if it.looks is looks]:
             del self.numbers[id(self.nodes.pop(number))]
         for handle in [handle for handle, it in self.open.items() if (it[0][1] if isinstance(it, list) else it).looks is looks]:
             del self.open[handle]
         fault = (looks.fault or "").encode()
-        return SAID.pack(len(fault)) + fault + struct.pack(f"<{len(looks.looked)}Q", *looks.looked)
+        return SAID.pack(len(fault), len(looks.looked), len(log)) + fault + struct.pack(f"<{len(looks.looked)}Q", *looks.looked) + log
+
+    def noted(self, folder):
+        """Returns what a run did to its image, and keeps it, where that is noted and the image is one of the log's."""
+        file = folder.looks.noted_file
+        if file is None or folder.looks.image.images is not self.images:
+            return b""
+        if folder.names.get(IMAGE) is not file:
+            file.noted.give_up("the program renamed or removed its image")
+        self.logs.name(file.noted.told())
+        return file.noted.told()
+
+
+def answered(said):
+    """Returns what an answer has: the text of a fault, the sectors, and the second log."""
+    length, count, log = SAID.unpack_from(said)
+    at = SAID.size + length
+    return said[SAID.size : at].decode(), struct.unpack_from(f"<{count}Q", said, at), said[len(said) - log :]
 
 
 def sent(channel, data):
@@ -374,9 +403,9 @@ def received(channel):
     return data[LENGTH.size :]
 
 
-def serve(device, images, channels, is_direct, path):
+def serve(device, images, channels, is_direct, path, notes=False):
     """Answers requests and messages until the mount at a path is gone, or nobody is left who tells of runs."""
-    server, poller = Server(device, images, is_direct, path), select.poll()
+    server, poller = Server(device, images, is_direct, path, notes), select.poll()
     poller.register(device, select.POLLIN)
     left = {it.fileno(): it for it in channels}
     for number in left:

@@ -9,6 +9,7 @@ import stat
 import time
 
 SECTOR = 512
+IMAGE = b"image"
 WHOLE = (1 << SECTOR) - 1
 # What a run may make and write.
 MOST_NODES, MOST_BYTES, LARGEST = 10_000, 128 << 20, 1 << 46
@@ -32,10 +33,12 @@ class Looks:
     def __init__(self, image):
         self.image, self.looked, self.nodes, self.bytes, self.fault = image, {}, 0, 0, None
         self.next = OWN
+        # The image, where what the run does to it is noted.
+        self.noted_file = None
 
     def sector(self, number):
-        """Returns the bytes of a sector, and notes it where an entry of the log covers it."""
-        if number not in self.looked and self.image.images.covers(number):
+        """Returns the bytes of a sector, and notes it where it counts as looked at: where an entry of the log covers it, or all count."""
+        if number not in self.looked and self.image.images.counts(number):
             self.looked[number] = None
         return self.image.sector(number)
 
@@ -66,6 +69,12 @@ class Node:
 
     def set_time(self, place, nanoseconds):
         self.times[place] = time.time_ns() if nanoseconds is None else nanoseconds
+
+    def asked_by(self, _how, _flags):
+        """Is told how a write comes, and the flags of the open file."""
+
+    def sync(self):
+        """Is told of a sync, which changes nothing that is seen."""
 
 
 class File(Node):
@@ -258,8 +267,8 @@ def rename(folder, name, target, new, flags):
     target.links += isinstance(node, Folder)
 
 
-def image_folder(looks):
-    """The folder of a run: the image, as a file."""
+def image_folder(looks, make=File):
+    """The folder of a run: the image, as a file, which `make` makes."""
     folder = Folder(looks, stat.S_IFDIR | 0o700, 1)
-    folder.names[b"image"] = File(looks, stat.S_IFREG | 0o600, 2, 0, SECTOR * looks.image.sectors)
+    folder.names[IMAGE] = make(looks, stat.S_IFREG | 0o600, 2, 0, SECTOR * looks.image.sectors)
     return folder

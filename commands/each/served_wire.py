@@ -36,6 +36,8 @@ ATOMIC_TRUNCATE, BIG_WRITES, PARALLEL_FOLDERS, MORE_FLAGS = 1 << 3, 1 << 5, 1 <<
 DIRECT_AND_MAPPED = 1 << 36
 # Of what is opened: reads and writes go past the page cache.
 DIRECT = 1
+# Of a write: it comes from the page cache, to which a mapping stored.
+OF_MAPPING = 1
 # What SETATTR sets.
 MODE, OWNER, GROUP, SIZE, ATIME, MTIME, CTIME, ATIME_NOW, MTIME_NOW = 1, 2, 4, 8, 16, 32, 1024, 128, 256
 VERSION, MINOR = 7, 39

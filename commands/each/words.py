@@ -20,9 +20,9 @@ OF_ANY, FLAGS_OF_ANY = ("--torn", "--at-most", "--cases"), ("--stop-at-failing",
 OF_LOG = ("--sectors", "--flush", "--large")
 # The options of this program.
 OWN_VALUED = {"-j": "runners", "--keep": "keep", "--timeout": "seconds", "--spot": "spot", "--part": "part"}
-OWN_FLAGS = {"--first": "first", "--resume": "resume", "--read-only": "read_only", "--cure": "cure", "--stay": "stay"}
+OWN_FLAGS = {"--first": "first", "--resume": "resume", "--read-only": "read_only", "--cure": "cure", "--stay": "stay", "--again": "again"}
 # Those of both kinds that stand beside `--bound any` alone, and those that never do.
-ONLY_ANY, NEVER_ANY = (*OF_ANY, *FLAGS_OF_ANY, "--spot", "--part", "--cure", "--stay"), ("--first", "--read-only")
+ONLY_ANY, NEVER_ANY = (*OF_ANY, *FLAGS_OF_ANY, "--spot", "--part", "--cure", "--stay", "--again"), ("--first", "--read-only")
 MOST_RUNNERS, MOST_SECONDS, MOST_SECTORS, MOST_SPOTS, MOST_PARTS, MOST_CASES = 64, 86400, 33554432, 1000000, 10000, 16777216
 SECTOR = 512
 # What runs a program on the files of an image.
@@ -33,7 +33,7 @@ NUMBER, DECIMAL = re.compile(r"0|[1-9]\d{0,18}", re.A), re.compile(r"\d{1,9}(\.\
 class Words:
     """What is asked for. `options` are those of the images, a pair of each name and its value, as they were given."""
 
-    first = resume = read_only = cure = stay = False
+    first = resume = read_only = cure = stay = again = False
     keep, seconds, spot, part = None, 60.0, None, None
     # What is done in place of the program, by its words: what crashbpf-files does.
     inside = None
@@ -189,6 +189,9 @@ def beside_cure(names):
         raise Refusal(f"{other} doesn't stand beside --cure, which makes rounds of its own, over all cuts")
     if "--part" in names and "--spot" in names:
         raise Refusal("--spot compares choices of the whole run, and --part judges a part of it")
+    other = next((it for it in names if it in ("--cure", "--part", "--spot")), None)
+    if "--again" in names and other:
+        raise Refusal(f"{other} is of the log alone, and --again goes on with what the program does to its images")
 
 
 def parse(words):
@@ -212,6 +215,8 @@ def parse(words):
         from commands.record import laying
 
         given.inside = laying.main
+        if "--again" in names:
+            raise Refusal("--again is for a device that is one file: what a program does to the files of a recording isn't a log yet")
     number("--sectors", given.value("--sectors"), MOST_SECTORS)
     beside_any(given, names)
     if "--stay" in names and "{}" in program:
