@@ -38,11 +38,11 @@ class Again:
 
     def is_told(self, image):
         """Whether a record tells an image that was wanted, by now."""
-        return image.choice not in self.unlogged and self.known.telling(self.image(image), image.marks) is not None
+        return (image.cut, image.choice) not in self.unlogged and self.known.telling(self.image(image), image.marks) is not None
 
     def add(self, image, verdict, looked, log):
         """Takes what was found of an image."""
-        record = self.unlogged.get(image.choice)
+        record = self.unlogged.get((image.cut, image.choice))
         if record is not None:
             if record.verdict != verdict:
                 raise Refusal(f"run again on one image the program ends otherwise, at cut {image.cut} choice {image.choice.decode()}")
@@ -76,7 +76,7 @@ class Again:
             if case.record.log is None and case.record not in found.values():
                 cut, choice = it.cut.images.said(it.cut.number, it.cut.choice(case))
                 found[Image(len(found), cut, it.cut.images.marks[cut], choice.encode(), None, None)] = case.record
-        self.unlogged = {image.choice: record for image, record in found.items()}
+        self.unlogged = {(image.cut, image.choice): record for image, record in found.items()}
         return list(found)
 
     def begin(self):

@@ -28,7 +28,8 @@ def ranges(sectors):
 def sum_of_program(given):
     """Returns the sum of all on which a verdict hangs beside the image: of the time that a program has and how it is run, and of the bytes
     of the program and of each file that a word names."""
-    total = hashlib.sha256(f"seconds {given.seconds}{' stay' if given.stay else ''}{' again' if given.again else ''}\n".encode())
+    recover = "" if given.recover is None else f" recover {given.recover}"
+    total = hashlib.sha256(f"seconds {given.seconds}{' stay' if given.stay else ''}{' again' if given.again else ''}{recover}\n".encode(errors="surrogateescape"))
     for place, word in enumerate(given.program):
         path = shutil.which(word) if place == 0 else word
         if path is not None and os.path.isfile(path):

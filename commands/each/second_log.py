@@ -32,17 +32,22 @@ class Noted:
     """What a program does to its image, as it is noted."""
 
     def __init__(self, sectors):
-        self.sectors, self.content, self.entries, self.why = sectors, bytearray(), 0, None
+        self.sectors, self.content, self.entries, self.why, self.is_ended = sectors, bytearray(), 0, None, False
         # Which sectors of which pages were written since the last sync.
         self.versions, self.is_synced = {}, True
 
     def give_up(self, why):
         """Notes why this isn't explored: the first cause stands, and nothing more is noted."""
-        self.why, self.content = self.why or why, bytearray()
+        if not self.is_ended:
+            self.why, self.content, self.is_ended = why, bytearray(), True
+
+    def end(self):
+        """Notes nothing more."""
+        self.is_ended = True
 
     def write(self, first, last, sector, flags):
         """Notes a write of the sectors from one to another, by a function that says what each holds now and by the flags of the open file."""
-        while first <= last and self.why is None:
+        while first <= last and not self.is_ended:
             page = first // PAGE
             self.add_version(page, range(first, min(last, PAGE * page + PAGE - 1) + 1), sector, flags)
             first = PAGE * page + PAGE
@@ -62,7 +67,7 @@ class Noted:
 
     def sync(self):
         """Notes a sync of the image, if something was written since the last one."""
-        if not self.is_synced and self.why is None:
+        if not self.is_synced and not self.is_ended:
             self.content += ENTRY.pack(0, 0, 0, FLUSH)
             self.versions, self.is_synced = {}, True
             self.count()

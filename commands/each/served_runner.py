@@ -4,9 +4,11 @@ import shutil
 
 from commands.each.records import ranges
 from commands.each.runner import Runner
-from commands.each.served_server import ENDS, TOLD, answered, received, sent
+from commands.each.served_server import ENDS, RECOVERED, TOLD, answered, received, sent
 from commands.each.stayed import Stayed
 from commands.shared.faults import Refusal
+from commands.shared.program import run
+from commands.shared.verdicts import EXIT
 
 GONE = "the server of the images has ended, or its mount is gone"
 
@@ -52,6 +54,20 @@ class ServedRunner(Runner):
             is_there = False
         if not is_there:
             raise Refusal(GONE)
+
+    def run(self, it):
+        """Runs the program, and before it what recovers, where that is a command of its own. Its status doesn't count; where it is killed, or
+        takes too long, that is what the image comes to."""
+        if self.given.recover is None:
+            return super().run(it)
+        words = [b"sh", b"-c", os.fsencode(self.given.recover)]
+        first = run(words, self.surroundings(it), self.given.seconds, self.channel.fileno(), self.nothing)
+        self.test_mounted()
+        self.asked_of_server(RECOVERED)
+        if first.verdict.kind != EXIT:
+            return first
+        ended = super().run(it)
+        return ended._replace(said=first.said + ended.said, more=first.more + ended.more, left=first.left or ended.left)
 
     def end(self):
         if self.stayed is not None:

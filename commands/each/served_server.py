@@ -17,11 +17,13 @@ from commands.each.served_folder import FILES, MAP, Folders
 from commands.each.served_tree import IMAGE, TIME, Fault, File, Folder, Link, Looks, Node, image_folder, rename
 
 ROOT = 1
-# Before each message stands its length. One of a runner has its number, the cut, and the choice. With the cut ENDS the run is over.
+# Before each message stands its length. One of a runner has its number, the cut, and the choice. With the cut ENDS the run is over, and with
+# RECOVERED nothing more is noted of it.
 LENGTH, TOLD = struct.Struct("<I"), struct.Struct("<QQ")
-ENDS = (1 << 64) - 1
+ENDS, RECOVERED = (1 << 64) - 1, (1 << 64) - 2
 # The answer: the length of a fault, the number of sectors, and the length of the second log; then these, a sector as a number of 8 bytes.
 SAID = struct.Struct("<IQQ")
+NOTHING = SAID.pack(0, 0, 0)
 WRITABLE_BITS = 0o7777
 
 
@@ -349,10 +351,13 @@ class Server:
         seat, cut = TOLD.unpack_from(data)
         if cut == ENDS:
             return self.ended(b"%02d" % seat)
+        if cut == RECOVERED:
+            self.end_notes(self.root.seats[b"%02d" % seat])
+            return NOTHING
         text = data[TOLD.size :].decode()
         looks = Looks(self.images.image(cut, text) if self.logs is None else image_said(self.images, cut, text, self.logs.found))
         self.root.seats[b"%02d" % seat] = image_folder(looks, File if self.logs is None else NotedFile)
-        return SAID.pack(0, 0, 0)
+        return NOTHING
 
     def ended(self, name):
         """Drops the files of a run, and says at which sectors it looked, and what it did to its image where that was noted."""
@@ -370,10 +375,16 @@ class Server:
         file = folder.looks.noted_file
         if file is None or folder.looks.image.images is not self.images:
             return b""
-        if folder.names.get(IMAGE) is not file:
-            file.noted.give_up("the program renamed or removed its image")
+        self.end_notes(folder)
         self.logs.name(file.noted.told())
         return file.noted.told()
+
+    def end_notes(self, folder):
+        """Notes nothing more of a run."""
+        file = folder.looks.noted_file
+        if folder.names.get(IMAGE) is not file:
+            file.noted.give_up("the program renamed or removed its image")
+        file.noted.end()
 
 
 def answered(said):

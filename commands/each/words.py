@@ -19,10 +19,10 @@ OF_ANY, FLAGS_OF_ANY = ("--torn", "--at-most", "--cases"), ("--stop-at-failing",
 # Those of `log`, which takes the same log.
 OF_LOG = ("--sectors", "--flush", "--large")
 # The options of this program.
-OWN_VALUED = {"-j": "runners", "--keep": "keep", "--timeout": "seconds", "--spot": "spot", "--part": "part"}
+OWN_VALUED = {"-j": "runners", "--keep": "keep", "--timeout": "seconds", "--spot": "spot", "--part": "part", "--recover": "recover"}
 OWN_FLAGS = {"--first": "first", "--resume": "resume", "--read-only": "read_only", "--cure": "cure", "--stay": "stay", "--again": "again"}
 # Those of both kinds that stand beside `--bound any` alone, and those that never do.
-ONLY_ANY, NEVER_ANY = (*OF_ANY, *FLAGS_OF_ANY, "--spot", "--part", "--cure", "--stay", "--again"), ("--first", "--read-only")
+ONLY_ANY, NEVER_ANY = (*OF_ANY, *FLAGS_OF_ANY, "--spot", "--part", "--cure", "--stay", "--again", "--recover"), ("--first", "--read-only")
 MOST_RUNNERS, MOST_SECONDS, MOST_SECTORS, MOST_SPOTS, MOST_PARTS, MOST_CASES = 64, 86400, 33554432, 1000000, 10000, 16777216
 SECTOR = 512
 # What runs a program on the files of an image.
@@ -34,7 +34,7 @@ class Words:
     """What is asked for. `options` are those of the images, a pair of each name and its value, as they were given."""
 
     first = resume = read_only = cure = stay = again = False
-    keep, seconds, spot, part = None, 60.0, None, None
+    keep, seconds, spot, part, recover = None, 60.0, None, None, None
     # What is done in place of the program, by its words: what crashbpf-files does.
     inside = None
 
@@ -180,6 +180,18 @@ def beside_any(given, names):
     if "--cases" in names:
         number("--cases", given.value("--cases"), MOST_CASES)
     beside_cure(names)
+    beside_again(names)
+
+
+def beside_again(names):
+    """Tests what stands beside `--again` and `--recover`."""
+    other = next((it for it in names if it in ("--cure", "--part", "--spot")), None)
+    if "--again" in names and other:
+        raise Refusal(f"{other} is of the log alone, and --again goes on with what the program does to its images")
+    if "--recover" in names and "--again" not in names:
+        raise Refusal("--recover says what is cut by --again")
+    if "--recover" in names and "--stay" in names:
+        raise Refusal("a program that stays recovers by itself, so --recover isn't for it")
 
 
 def beside_cure(names):
@@ -189,9 +201,6 @@ def beside_cure(names):
         raise Refusal(f"{other} doesn't stand beside --cure, which makes rounds of its own, over all cuts")
     if "--part" in names and "--spot" in names:
         raise Refusal("--spot compares choices of the whole run, and --part judges a part of it")
-    other = next((it for it in names if it in ("--cure", "--part", "--spot")), None)
-    if "--again" in names and other:
-        raise Refusal(f"{other} is of the log alone, and --again goes on with what the program does to its images")
 
 
 def parse(words):
@@ -232,6 +241,8 @@ def parse(words):
             given.spot = spotted(value)
         elif name == "--part":
             given.part = parted(value)
+        elif name == "--recover":
+            given.recover = value
         elif name in OWN_FLAGS:
             setattr(given, OWN_FLAGS[name], True)
     return given

@@ -32,7 +32,7 @@ from commands.each.served_tree import Looks, image_folder
 from commands.each.step import Searched, asked_of, cuts_of, flushes_of, images_of, searches_of
 from commands.shared.verdicts import EXIT, Verdict
 from known_model import head_text
-from notation import SECTOR, log
+from notation import log
 from step_soak import words_of
 
 

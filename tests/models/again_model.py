@@ -293,27 +293,36 @@ def status(text):
 # Trials: all choices of small cuts, one by one
 
 
-def some_program(chance, sectors):
-    """A program that reads, writes and syncs, and goes on or ends by what it finds."""
-    steps = []
-    for _ in range(chance.randint(3, 7)):
-        size = chance.choice([1, 64, 512, 512, 700, 1024])
-        steps.append((chance.choice(["read", "read", "write", "write", "sync"]), chance.randrange(SECTOR * sectors), size, chance.randint(2, 4)))
-    forced, direct, modulus = chance.random() < 0.2, chance.random() < 0.2, chance.randint(3, 9)
+def program_of(steps, sectors, forced, direct, modulus):
+    """Returns a program that makes steps: it reads, writes and syncs, and goes on or ends by what it finds."""
 
     def program(device, marks):
         found = marks
         for kind, at, size, often in steps:
             if kind == "read":
-                found = (found * 3 + sum(device.read(at, min(size, SECTOR * sectors - at))[:70])) % 1_000_003
+                found = (found * 3 + sum(device.read(at, min(size, 512 * sectors - at))[:70])) % 1_000_003
             elif kind == "sync":
                 device.sync()
             elif found % often:
-                at = at // SECTOR * SECTOR if size % SECTOR == 0 else at
-                device.write(at, bytes([found % 3]) * min(size, SECTOR * sectors - at), forced, direct and size % SECTOR == 0)
+                at = at // 512 * 512 if size % 512 == 0 else at
+                size = min(size, 512 * sectors - at)
+                device.write(at, bytes([found % 3]) * size, forced, direct and size % 512 == 0)
         return int(found % modulus == 0)
 
     return program
+
+
+def some_steps(chance, sectors):
+    """Returns what a program is made of."""
+    steps = []
+    for _ in range(chance.randint(3, 7)):
+        size = chance.choice([1, 64, 512, 512, 700, 1024])
+        steps.append((chance.choice(["read", "read", "write", "write", "sync"]), chance.randrange(SECTOR * sectors), size, chance.randint(2, 4)))
+    return steps, sectors, chance.random() < 0.2, chance.random() < 0.2, chance.randint(3, 9)
+
+
+def some_program(chance, sectors):
+    return program_of(*some_steps(chance, sectors))
 
 
 def some_run(chance):
