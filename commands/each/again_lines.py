@@ -32,15 +32,15 @@ class First:
         place = f"cut {cut.number} case {self.number} choice {text_of(cut.choice(self.case))}"
         yield f"first {place} marks {cut.images.marks[cut.number]} {counts}"
         for number, entry in enumerate(self.log.entries):
-            yield f"entry {number} epoch {self.log.flushes[number]} {entry_said(entry)}"
+            yield f"entry {number} epoch {self.log.flushes[number]} {entry_said(entry, self.log.has_files())}"
         for search, number, case in self.failing():
             yield second_line(search.cut, number, case)
 
 
-def entry_said(entry):
+def entry_said(entry, has_files):
     """Returns what a line says of an entry of a second log."""
     if entry.flags & FLUSH:
-        return "flush"
+        return f"flush file {entry.file}" if has_files else "flush"
     return f"write{' fua' if entry.flags & FUA else ''} sectors {ranges([entry.sector + it for it in entry.held])}"
 
 

@@ -7,6 +7,7 @@ import errno
 import os
 import stat
 
+from commands.each.second_log import NotedFile, NotedFolder, Noting
 from commands.each.served_tree import SECTOR, Fault, File, Folder, Link, Node
 from commands.record import layout, named_layout
 from commands.record.calls import Refused
@@ -59,6 +60,10 @@ class NamedFile(File):
         return getattr(self, name)
 
 
+class NotedNamedFile(Noting, NamedFile):
+    """A file of an image of which it is noted what the program does to it."""
+
+
 def masked():
     """Returns the permissions of a file, of a folder and of a socket that are made."""
     mask = os.umask(0)
@@ -72,6 +77,7 @@ class Named:
     def __init__(self, looks, found, path):
         self.looks, self.image, self.path = looks, Traced(Device(looks), found), path
         self.names, self.files, self.links, self.seen, self.masked = self.image.names(self.image.chains()), {}, {}, set(), masked()
+        self.make_folder, self.make_file = (Folder, NamedFile) if looks.noted is None else (NotedFolder, NotedNamedFile)
         for inside in self.names.values():
             for it in inside.values():
                 self.links[it] = self.links.get(it, 0) + 1
@@ -83,7 +89,7 @@ class Named:
     def folder(self, number=0):
         """Returns a folder with all that is in it."""
         mode = self.mode(FOLDER, number, self.masked[1] if number else TOP)
-        made = Folder(self.looks, stat.S_IFDIR | mode, FOLDERS_FROM + number)
+        made = self.make_folder(self.looks, stat.S_IFDIR | mode, FOLDERS_FROM + number)
         for name, (kind, inside) in self.names.pop(number, {}).items():
             made.names[name] = self.folder(inside) if kind == FOLDER else self.other(inside) if kind == OTHER else self.file(inside)
             made.links += kind == FOLDER
@@ -93,7 +99,7 @@ class Named:
         """Returns a file, which is one under all of its names."""
         if number not in self.files:
             mode, links = stat.S_IFREG | self.mode(FILE, number, self.masked[0]), self.links[FILE, number]
-            self.files[number] = NamedFile(self.looks, mode, FILES_FROM + number, links, lambda: self.image.room(number))
+            self.files[number] = self.make_file(self.looks, mode, FILES_FROM + number, links, lambda: self.image.room(number))
         return self.files[number]
 
     def other(self, number):
@@ -111,15 +117,16 @@ def placed(looks, places):
     """Returns the folder of an image of a map of places."""
     file, folder, _socket = masked()
     file, folder = stat.S_IFREG | file, stat.S_IFDIR | folder
-    top = Folder(looks, stat.S_IFDIR | TOP, FOLDERS_FROM)
+    make_folder, make_file = (Folder, File) if looks.noted is None else (NotedFolder, NotedFile)
+    top = make_folder(looks, stat.S_IFDIR | TOP, FOLDERS_FROM)
     for turn, it in enumerate(places):
         *above, name = it.name.split(b"/")
         at = top
         for part in above:
             if part not in at.names:
-                at.names[part], at.links = Folder(looks, folder, looks.number()), at.links + 1
+                at.names[part], at.links = make_folder(looks, folder, looks.number()), at.links + 1
             at = at.names[part]
-        at.names[name] = File(looks, file, PLACES_FROM + turn, it.first, it.length)
+        at.names[name] = make_file(looks, file, PLACES_FROM + turn, it.first, it.length)
     return top
 
 

@@ -12,7 +12,7 @@ import struct
 
 from commands.each import served_wire as wire
 from commands.each.second_images import image_said
-from commands.each.second_log import NotedFile, SecondLogs
+from commands.each.second_log import Noted, NotedImage, SecondLogs
 from commands.each.served_folder import FILES, MAP, Folders
 from commands.each.served_tree import IMAGE, TIME, Fault, File, Folder, Link, Looks, Node, image_folder, rename
 
@@ -216,8 +216,8 @@ class Server:
             raise Fault(errno.EACCES)
         seat = next((number for number, it in self.root.seats.items() if it is folder), None)
         if name == FILES and MAP in folder.names and seat is not None:
-            if folder.looks.noted_file:
-                folder.looks.noted_file.noted.give_up("the program has the files of its image laid out")
+            if folder.looks.noted:
+                folder.looks.noted.has_files = True
             return self.made(folder, name, self.folders.of_run(folder, os.path.join(self.path, seat, FILES)))
         return self.made(folder, name, Folder(folder.looks, stat.S_IFDIR | mode & WRITABLE_BITS, folder.looks.number()))
 
@@ -356,7 +356,8 @@ class Server:
             return NOTHING
         text = data[TOLD.size :].decode()
         looks = Looks(self.images.image(cut, text) if self.logs is None else image_said(self.images, cut, text, self.logs.found))
-        self.root.seats[b"%02d" % seat] = image_folder(looks, File if self.logs is None else NotedFile)
+        looks.noted = None if self.logs is None else Noted()
+        self.root.seats[b"%02d" % seat] = image_folder(looks, File if self.logs is None else NotedImage)
         return NOTHING
 
     def ended(self, name):
@@ -372,19 +373,18 @@ class Server:
 
     def noted(self, folder):
         """Returns what a run did to its image, and keeps it, where that is noted and the image is one of the log's."""
-        file = folder.looks.noted_file
-        if file is None or folder.looks.image.images is not self.images:
+        noted = folder.looks.noted
+        if noted is None or folder.looks.image.images is not self.images:
             return b""
         self.end_notes(folder)
-        self.logs.name(file.noted.told())
-        return file.noted.told()
+        self.logs.name(noted.told())
+        return noted.told()
 
     def end_notes(self, folder):
         """Notes nothing more of a run."""
-        file = folder.looks.noted_file
-        if folder.names.get(IMAGE) is not file:
-            file.noted.give_up("the program renamed or removed its image")
-        file.noted.end()
+        if not isinstance(folder.names.get(IMAGE), NotedImage):
+            folder.looks.noted.give_up("the program renamed or removed its image")
+        folder.looks.noted.end()
 
 
 def answered(said):

@@ -33,8 +33,8 @@ class Looks:
     def __init__(self, image):
         self.image, self.looked, self.nodes, self.bytes, self.fault = image, {}, 0, 0, None
         self.next = OWN
-        # The image, where what the run does to it is noted.
-        self.noted_file = None
+        # What the run does to its image, where that is noted.
+        self.noted = None
 
     def sector(self, number):
         """Returns the bytes of a sector, and notes it where it counts as looked at: where an entry of the log covers it, or all count."""
@@ -184,6 +184,9 @@ class Folder(Node):
     def size(self):
         return 4096
 
+    def changed(self):
+        """Is told that a name is to change."""
+
     def find(self, name):
         """Returns what has a name; without one it is no entry."""
         found = self.names.get(name)
@@ -197,6 +200,7 @@ class Folder(Node):
             raise Fault(errno.EEXIST)
         if len(name) > 255:
             raise Fault(errno.ENAMETOOLONG)
+        self.changed()
         self.looks.spend(1, 0)
         self.names[name] = node
         self.links += isinstance(node, Folder)
@@ -204,6 +208,7 @@ class Folder(Node):
 
     def take(self, name):
         """Takes a name away."""
+        self.changed()
         node = self.names.pop(name)
         self.links -= isinstance(node, Folder)
         node.links -= 2 if isinstance(node, Folder) else 1
@@ -248,6 +253,8 @@ def rename(folder, name, target, new, flags):
         other = target.find(new)
     if isinstance(node, Folder) and is_below(target, node) or flags & EXCHANGE and isinstance(other, Folder) and is_below(folder, other):
         raise Fault(errno.EINVAL)
+    folder.changed()
+    target.changed()
     if flags & EXCHANGE:
         folder.names[name], target.names[new] = other, node
         for it, moved in ((folder, isinstance(other, Folder) - isinstance(node, Folder)), (target, isinstance(node, Folder) - isinstance(other, Folder))):

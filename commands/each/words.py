@@ -224,8 +224,6 @@ def parse(words):
         from commands.record import laying
 
         given.inside = laying.main
-        if "--again" in names:
-            raise Refusal("--again is for a device that is one file: what a program does to the files of a recording isn't a log yet")
     number("--sectors", given.value("--sectors"), MOST_SECTORS)
     beside_any(given, names)
     if "--stay" in names and "{}" in program:

@@ -27,7 +27,7 @@ from cases_model import Losses, head
 from commands.each.again import Again
 from commands.each.known import Known, Record
 from commands.each.second_images import image_said
-from commands.each.second_log import NotedFile, SecondLogs
+from commands.each.second_log import Noted, NotedImage, SecondLogs
 from commands.each.served_tree import Looks, image_folder
 from commands.each.step import Searched, asked_of, cuts_of, flushes_of, images_of, searches_of
 from commands.shared.verdicts import EXIT, Verdict
@@ -64,9 +64,10 @@ class Judged:
         self.runs += 1
         looks = Looks(image_said(self.known.images, image.cut, image.choice.decode(), self.logs.found))
         is_first = looks.image.images is self.known.images
-        file = image_folder(looks, NotedFile).names[b"image"]
+        looks.noted = Noted()
+        file = image_folder(looks, NotedImage).names[b"image"]
         verdict = Verdict(EXIT, self.program(Served(file), image.marks))
-        log = file.noted.told() if is_first else b""
+        log = looks.noted.told() if is_first else b""
         self.logs.name(log)
         return verdict, list(looks.looked), log
 
