@@ -7,11 +7,13 @@ from commands.each.again_lines import First, text
 from commands.each.cases import Cut, Search
 from commands.each.known import Record, sectors_of
 from commands.each.second_images import SecondImages, image_said
-from commands.each.second_log import SecondLogs
+from commands.each.second_log import NAME, SecondLogs
 from commands.each.step import Searched, asked_of
 from commands.each.stream import Image
 from commands.shared.faults import Refusal
 
+# Sectors have smaller numbers, those of devices of second logs too.
+MOST_SECTORS = 1 << 62
 LOOKS = "note: the program wrote to no image that it accepts, so there is nothing to cut: it has no second level"
 
 
@@ -49,7 +51,7 @@ class Again:
             record.log = log
             return
         try:
-            self.known.add(Record(self.known.count, verdict, sectors_of(looked, self.known.images.sectors)), self.image(image), image.marks)
+            self.known.add(Record(self.known.count, verdict, sectors_of(looked, MOST_SECTORS)), self.image(image), image.marks)
         except Refusal:
             where = f"cut {image.cut} choice {image.choice.decode().partition(' of ')[0]}"
             raise Refusal(f"what was seen contradicts an earlier run, so the program looks at more than the image, at {where}") from None
@@ -67,7 +69,7 @@ class Again:
     # Second logs
 
     def image(self, image):
-        return image_said(self.known.images, image.cut, image.choice.decode(), self.logs.found)
+        return image_said(self.known.images, image.cut, image.choice.decode(), self.logs)
 
     def images_without_log(self):
         """Returns an image for each record of a first case of which it isn't known what the program did."""
@@ -81,8 +83,14 @@ class Again:
 
     def begin(self):
         """Begins the searches of all second logs."""
-        self.unlogged, self.firsts = {}, [First(it, number, case, self.logs.name(case.record.log), self.logs) for it, number, case in self.cases]
+        self.unlogged, self.firsts = {}, [self.first(*it) for it in self.cases]
         self.searched = Searched([search for first in self.firsts if first.is_explored() for search in self.searches(first)], self.known)
+
+    def first(self, search, number, case):
+        """Returns a first case, with its second log."""
+        name, content = case.record.log[:NAME].decode(), case.record.log[NAME:]
+        self.logs.put(name, content, search.cut.image(case))
+        return First(search, number, case, name, self.logs[name])
 
     def searches(self, first):
         """Returns the searches of the cuts of a second log."""

@@ -9,8 +9,8 @@ TITLE = "crash again 1"
 class First:
     """A first case: its search and its number there, its second log with the name of that, and the searches of the second cuts."""
 
-    def __init__(self, search, number, case, name, logs):
-        self.search, self.number, self.case, self.name, self.log = search, number, case, name, logs.found[name]
+    def __init__(self, search, number, case, name, log):
+        self.search, self.number, self.case, self.name, self.log = search, number, case, name, log
         self.searches = []
 
     def is_written(self):
@@ -39,9 +39,11 @@ class First:
 
 def entry_said(entry, has_files):
     """Returns what a line says of an entry of a second log."""
+    if entry.call is not None:
+        return f"{'flush' if entry.flags & FLUSH else 'write'}{' fua' if entry.flags & FUA else ''} by {entry.call}"
     if entry.flags & FLUSH:
         return f"flush file {entry.file}" if has_files else "flush"
-    return f"write{' fua' if entry.flags & FUA else ''} sectors {ranges([entry.sector + it for it in entry.held])}"
+    return f"write{' fua' if entry.flags & FUA else ''} sectors {ranges([entry.numbers[it] for it in entry.held])}"
 
 
 def second_line(cut, number, case):

@@ -121,7 +121,7 @@ class Known:
 
     def add(self, record, image, marks):
         """Adds a record, which may not contradict an earlier one, and returns it."""
-        first = self.first.setdefault(marks, Node())
+        first = self.first.setdefault((marks, image.images.view), Node())
         others = [it for it in self.beside(first, image, set(record.looked)) if it.verdict != record.verdict]
         if others:
             earlier = min(it.line for it in others)
@@ -146,7 +146,8 @@ class Known:
 
     def telling(self, image, marks):
         """Returns the first record that tells an image, or None."""
-        waiting, found = [self.first[marks]] if marks in self.first else [], None
+        key = marks, image.images.view
+        waiting, found = [self.first[key]] if key in self.first else [], None
         while waiting:
             node = waiting.pop()
             if node.records and (found is None or node.records[0].line < found.line):

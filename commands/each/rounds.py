@@ -213,7 +213,7 @@ def judged_any(given, program, folder, say, test_unchanged):
 @contextlib.contextmanager
 def served_rounds(given, records, marks, folder, cuts):
     """Gives rounds on a mount of their own, which is gone afterwards."""
-    mount = Mount(folder, records.known.images, given.runners, notes=given.again)
+    mount = Mount(folder, records.known.images, given.runners, notes=given.skipped if given.again else None)
     try:
         crew = Crew(folder, given, functools.partial(ServedRunner, mount=mount))
         try:

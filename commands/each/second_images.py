@@ -5,6 +5,7 @@ are those of one log (docs/CRASH-MODEL.md, 'A crash while recovery is at work').
 """
 import re
 
+from commands.each.second_calls import OWN_SECTORS
 from commands.each.served_log import SECTOR, LogImage, LogImages, fates_of, kept, text_of
 
 # A choice of both logs: that of the first, the second cut, its choice, and the name of the second log.
@@ -24,13 +25,14 @@ class SecondImages:
     def __init__(self, first, cut, log, name):
         self.first, self.cut, self.log, self.name = first, cut, log, name
         self.sectors, self.by_write, self.unders = first.sectors, first.by_write, {}
+        self.view = log.view
         self.marks = [first.marks[cut]] * (cut + len(log.entries) + 1)
 
     def counts(self, _number):
         return True
 
     def initial(self, number):
-        return self.first.initial(number)
+        return self.log.laid.initial(number) if number >= OWN_SECTORS else self.first.initial(number)
 
     def part(self, entry, place):
         """Returns the part of a sector of an entry."""
@@ -53,12 +55,11 @@ class SecondImages:
         if entry < self.cut:
             return self.first.covered(part)
         it = self.log.entries[entry - self.cut]
-        return [it.sector + at for at in (it.held if place is None else [place])]
+        return [it.numbers[at] for at in (it.held if place is None else [place])]
 
     def holding(self, sector, number):
         """Returns the entries of the second log before a cut that hold a sector, each with its place there."""
-        found = [it for it in self.log.holding.get(sector, ()) if self.cut + it < number]
-        return [(self.cut + it, sector - self.log.entries[it].sector) for it in found]
+        return [(self.cut + it, place) for it, place in self.log.holding.get(sector, ()) if self.cut + it < number]
 
     def over(self, sector, number):
         """Yields what covers a sector before a cut, in order: the entry, and the place of the sector in it."""
@@ -78,7 +79,7 @@ class SecondImages:
         """Returns which bytes of a sector of a part that isn't whole reach the device."""
         if entry < self.cut:
             return self.first.stretch(fate, entry, place)
-        count = 1 if not self.by_write else self.log.entries[entry - self.cut].count
+        count = 1 if not self.by_write else len(self.log.entries[entry - self.cut].numbers)
         at = 0 if not self.by_write else SECTOR * place
         return tuple(min(max(it - at, 0), SECTOR) for it in kept(fate, SECTOR * count))
 
@@ -106,7 +107,7 @@ class SecondImages:
 
     def number_of(self, number, whole):
         """Returns a number of the image of a cut in which nothing is lost, by that of the image that the first crash leaves so."""
-        image, under = self.image_of(number, {}), self.under({})
+        image, under, whole = self.image_of(number, {}), self.under({}), whole ^ hash(self.view)
         for sector in self.log.holding:
             whole ^= hash((sector, under.sector(sector))) ^ hash((sector, image.sector(sector)))
         return whole
@@ -115,6 +116,17 @@ class SecondImages:
         """Returns the fates, or what else there is of parts, of the first log and of the second one, whose entries are numbered from 0."""
         own = {part: it for part, it in fates.items() if part[0] < self.cut}
         return own, {(entry - self.cut, place): it for (entry, place), it in fates.items() if entry >= self.cut}
+
+
+class LaidImage:
+    """An image that a second crash leaves on the device of its calls, by the sectors of that."""
+
+    def __init__(self, image):
+        self.image, self.images, self.laid = image, image.images, image.images.log.laid
+        self.sectors = self.laid.sectors
+
+    def sector(self, number):
+        return self.image.sector(self.laid.number(number))
 
 
 class SecondImage(LogImage):
@@ -126,7 +138,9 @@ class SecondImage(LogImage):
 
     def found(self, number):
         """Looks up a sector; where the second log doesn't hold it, in the image that the first crash left."""
-        return super().found(number) if number in self.images.log.holding else self.under.sector(number)
+        if number in self.images.log.holding:
+            return super().found(number)
+        return self.images.initial(number) if number >= OWN_SECTORS else self.under.sector(number)
 
 
 def image_said(first, cut, text, logs):

@@ -60,7 +60,10 @@ def mapped(path):
 
 
 class LogImages:
-    """A log, of which images are looked up. `flushes` are the entries before which a flush is added."""
+    """A log, of which images are looked up. `flushes` are the entries before which a flush is added. `view` tells images apart that a program
+    sees in another way: here there is none."""
+
+    view = None
 
     def __init__(self, path, base, sectors, by_write, flushes=()):
         self.bytes, self.base, self.sectors, self.by_write = mapped(path), mapped(base), sectors, by_write

@@ -120,9 +120,10 @@ def missing():
 
 
 class Mount:
-    """The mount of a run, and its server. `channels` has one for each runner. With `notes` what a program does to its image is noted."""
+    """The mount of a run, and its server. `channels` has one for each runner. With `notes`, the names that weren't recorded, what a
+    program does to its image is noted."""
 
-    def __init__(self, folder, images, runners, is_direct=True, notes=False):
+    def __init__(self, folder, images, runners, is_direct=True, notes=None):
         self.path = os.path.join(folder, "mount")
         os.mkdir(self.path)
         try:

@@ -11,10 +11,11 @@ import stat
 import struct
 
 from commands.each import served_wire as wire
-from commands.each.second_images import image_said
+from commands.each.second_calls import noted_rename
+from commands.each.second_images import LaidImage, image_said
 from commands.each.second_log import Noted, NotedImage, SecondLogs
 from commands.each.served_folder import FILES, MAP, Folders
-from commands.each.served_tree import IMAGE, TIME, Fault, File, Folder, Link, Looks, Node, image_folder, rename
+from commands.each.served_tree import EXCHANGE, IMAGE, TIME, Fault, File, Folder, Hidden, LaidLooks, Link, Looks, Node, image_folder, rename
 
 ROOT = 1
 # Before each message stands its length. One of a runner has its number, the cut, and the choice. With the cut ENDS the run is over, and with
@@ -40,17 +41,21 @@ class Root:
             raise Fault(errno.ENOENT)
         return self.seats[name]
 
+    def sync(self, _data=False):
+        """(Nothing is written here.)"""
+
     @property
     def names(self):
         return self.seats
 
 
 class Server:
-    """The mount: its nodes by their numbers, and what is open. With `notes` what a program does to its image is noted."""
+    """The mount: its nodes by their numbers, and what is open. With `notes`, the names that weren't recorded, what a program does to its
+    image is noted."""
 
-    def __init__(self, device, images, is_direct, path, notes=False):
+    def __init__(self, device, images, is_direct, path, notes=None):
         self.device, self.images, self.is_direct, self.path = device, images, is_direct, os.fsencode(path)
-        self.root, self.folders, self.logs = Root(), Folders(), SecondLogs() if notes else None
+        self.root, self.folders, self.logs = Root(), Folders(notes or ()), None if notes is None else SecondLogs()
         self.nodes, self.numbers, self.open, self.next, self.next_open = {ROOT: self.root}, {}, {}, ROOT, 0
         self.asked = {
             wire.LOOKUP: self.lookup,
@@ -72,7 +77,7 @@ class Server:
             wire.RELEASE: self.release,
             wire.RELEASEDIR: self.release,
             wire.FSYNC: self.fsync,
-            wire.FSYNCDIR: self.nothing,
+            wire.FSYNCDIR: self.fsync,
             wire.FLUSH: self.nothing,
             wire.OPENDIR: self.opendir,
             wire.READDIR: self.readdir,
@@ -194,7 +199,7 @@ class Server:
     def make_file(self, folder, name, mode):
         if folder is self.root:
             raise Fault(errno.EACCES)
-        return folder.put(name, File(folder.looks, mode, folder.looks.number()))
+        return folder.put(name, folder.new_file(name, mode))
 
     def mknod(self, folder, data):
         """Makes a file, or something special of the run's own."""
@@ -219,7 +224,7 @@ class Server:
             if folder.looks.noted:
                 folder.looks.noted.has_files = True
             return self.made(folder, name, self.folders.of_run(folder, os.path.join(self.path, seat, FILES)))
-        return self.made(folder, name, Folder(folder.looks, stat.S_IFDIR | mode & WRITABLE_BITS, folder.looks.number()))
+        return self.made(folder, name, folder.new_folder(name, stat.S_IFDIR | mode & WRITABLE_BITS))
 
     def symlink(self, folder, data):
         """Makes a symbolic link of the run's own."""
@@ -267,7 +272,10 @@ class Server:
         if not isinstance(folder, Folder) or not isinstance(target, Folder) or folder.looks is not target.looks:
             raise Fault(errno.EXDEV)
         name, _zero, new = text.partition(b"\0")
-        rename(folder, name, target, wire.text(new), flags)
+        noted = folder.looks.noted or Noted()
+        with noted.pause():
+            rename(folder, name, target, wire.text(new), flags)
+        noted_rename(noted, folder, name, target, wire.text(new), bool(flags & EXCHANGE))
         return b""
 
     # What is open
@@ -314,8 +322,8 @@ class Server:
         node.write(at, data[wire.WRITE_IN.size : wire.WRITE_IN.size + size])
         return wire.WRITE_OUT.pack(size, 0)
 
-    def fsync(self, node, _data):
-        node.sync()
+    def fsync(self, node, data):
+        node.sync(bool(wire.FSYNC_IN.unpack_from(data)[1] & wire.DATA))
         return b""
 
     def fallocate(self, node, data):
@@ -355,10 +363,18 @@ class Server:
             self.end_notes(self.root.seats[b"%02d" % seat])
             return NOTHING
         text = data[TOLD.size :].decode()
-        looks = Looks(self.images.image(cut, text) if self.logs is None else image_said(self.images, cut, text, self.logs.found))
-        looks.noted = None if self.logs is None else Noted()
-        self.root.seats[b"%02d" % seat] = image_folder(looks, File if self.logs is None else NotedImage)
+        self.root.seats[b"%02d" % seat] = image_folder(Looks(self.images.image(cut, text))) if self.logs is None else self.noted_folder(cut, text)
         return NOTHING
+
+    def noted_folder(self, cut, text):
+        """Returns the folder of a run of which it is noted what it does to its image, where this is one of the log."""
+        image = image_said(self.images, cut, text, self.logs)
+        is_laid = image.images.view is not None
+        looks = LaidLooks(LaidImage(image)) if is_laid else Looks(image)
+        looks.noted = Noted()
+        if image.images is not self.images:
+            looks.noted.end()
+        return image_folder(looks, Hidden if is_laid else NotedImage)
 
     def ended(self, name):
         """Drops the files of a run, and says at which sectors it looked, and what it did to its image where that was noted."""
@@ -377,8 +393,8 @@ class Server:
         if noted is None or folder.looks.image.images is not self.images:
             return b""
         self.end_notes(folder)
-        self.logs.name(noted.told())
-        return noted.told()
+        content = noted.told()
+        return self.logs.keep(content, folder.looks.image).encode() + content
 
     def end_notes(self, folder):
         """Notes nothing more of a run."""
@@ -414,7 +430,7 @@ def received(channel):
     return data[LENGTH.size :]
 
 
-def serve(device, images, channels, is_direct, path, notes=False):
+def serve(device, images, channels, is_direct, path, notes=None):
     """Answers requests and messages until the mount at a path is gone, or nobody is left who tells of runs."""
     server, poller = Server(device, images, is_direct, path, notes), select.poll()
     poller.register(device, select.POLLIN)

@@ -73,7 +73,7 @@ class Node:
     def asked_by(self, _how, _flags):
         """Is told how a write comes, and the flags of the open file."""
 
-    def sync(self):
+    def sync(self, _data=False):
         """Is told of a sync, which changes nothing that is seen."""
 
 
@@ -187,6 +187,13 @@ class Folder(Node):
     def changed(self):
         """Is told that a name is to change."""
 
+    def new_file(self, _name, mode):
+        """Returns a file that the run makes here."""
+        return File(self.looks, mode, self.looks.number())
+
+    def new_folder(self, _name, mode):
+        return Folder(self.looks, mode, self.looks.number())
+
     def find(self, name):
         """Returns what has a name; without one it is no entry."""
         found = self.names.get(name)
@@ -272,6 +279,22 @@ def rename(folder, name, target, new, flags):
     folder.links -= isinstance(node, Folder)
     target.names[new] = node
     target.links += isinstance(node, Folder)
+
+
+class LaidLooks(Looks):
+    """The looks at an image on a device of its own, by the numbers that its sectors have beside those of the log."""
+
+    def sector(self, number):
+        self.looked.setdefault(self.image.laid.number(number))
+        return self.image.sector(number)
+
+
+class Hidden(File):
+    """The image of such a run, at which nobody can look: its files are those of another device."""
+
+    def read(self, _at, _size):
+        self.looks.fault = "the program looks at its image beside the files of it, so no power cut can be told of what it does to these"
+        raise Fault(errno.EIO)
 
 
 def image_folder(looks, make=File):

@@ -35,6 +35,8 @@ class Words:
 
     first = resume = read_only = cure = stay = again = False
     keep, seconds, spot, part, recover = None, 60.0, None, None, None
+    # The names that a recording left out.
+    skipped = ()
     # What is done in place of the program, by its words: what crashbpf-files does.
     inside = None
 
@@ -150,8 +152,8 @@ def split(words):
 
 
 def of_recording(pairs, folder, program):
-    """Returns the words with what the folder of a recording knows in its place: the log, its options but for those that are given, and
-    the program, which is run on the files of an image where the folder has their map."""
+    """Returns the words with what the folder of a recording knows in its place: the log, its options but for those that are given; the
+    program, which is run on the files of an image where the folder has their map; and the names that were left out."""
     try:
         it = recording.read(folder)
     except recording.Unknown as unknown:
@@ -164,7 +166,7 @@ def of_recording(pairs, folder, program):
         # (it is run in another folder)
         program = [os.path.abspath(program[0]) if "/" in program[0] else program[0], *program[1:]]
         program = [shutil.which("crashbpf-files") or FILES, it.path(it.map), "{}", "--", *program]
-    return [(name, it.log()) if name == "" else (name, value) for name, value in pairs] + known, program
+    return [(name, it.log()) if name == "" else (name, value) for name, value in pairs] + known, program, it.skipped
 
 
 def beside_any(given, names):
@@ -209,9 +211,9 @@ def parse(words):
     pairs = split(before)
     logs = [value for name, value in pairs if name == ""]
     is_folder = len(logs) == 1 and os.path.isdir(logs[0])
-    judge = program
+    judge, skipped = program, ()
     if is_folder:
-        pairs, program = of_recording(pairs, logs[0], program)
+        pairs, program, skipped = of_recording(pairs, logs[0], program)
         logs = [value for name, value in pairs if name == ""]
     names = [name for name, _value in pairs if name]
     if len(logs) != 1 or "--sectors" not in names:
@@ -220,6 +222,7 @@ def parse(words):
     if twice:
         raise Refusal(f"{twice} stands there twice")
     given = Words(logs[0], sized([it for it in pairs if it[0] in VALUED + FLAGS + OF_ANY + FLAGS_OF_ANY]), program)
+    given.skipped = skipped
     if is_folder and len(program) > len(judge):
         from commands.record import laying
 

@@ -109,7 +109,7 @@ class Trial:
         """Yields what ends otherwise than the text says."""
         if not self.text.is_whole:
             yield "the text isn't complete"
-        mount = Mount(self.room, self.images, 1, notes=True)
+        mount = Mount(self.room, self.images, 1, notes=())
         try:
             for cut in range(self.design.first, len(self.images.entries) + 1):
                 parts = self.images.at_risk(cut)

@@ -62,14 +62,13 @@ class Judged:
     def judge(self, image):
         """Returns what the program ends in, the sectors at which it looked, and what it did to the image where that is noted."""
         self.runs += 1
-        looks = Looks(image_said(self.known.images, image.cut, image.choice.decode(), self.logs.found))
+        looks = Looks(image_said(self.known.images, image.cut, image.choice.decode(), self.logs))
         is_first = looks.image.images is self.known.images
         looks.noted = Noted()
         file = image_folder(looks, NotedImage).names[b"image"]
         verdict = Verdict(EXIT, self.program(Served(file), image.marks))
         log = looks.noted.told() if is_first else b""
-        self.logs.name(log)
-        return verdict, list(looks.looked), log
+        return verdict, list(looks.looked), self.logs.keep(log, looks.image).encode() + log
 
     def rounds(self, step, take):
         """Goes round by round until nothing is wanted."""
