@@ -162,7 +162,7 @@ impl KnownParts {
 
     /// What the representative of the case loses and tears.
     pub fn into_lost(self) -> Vec<Departure>
-        ensures { result.items ≡ self.entry.lost }
+        ensures { result.items ≡ self.lost }
     {
         self.lost
     }

@@ -1,13 +1,14 @@
 -- Where records begin in a text.
-use Rattle.std.proofs.Common.{ℕ, suc, ◌≡◌, ◌+◌, ◌-◌, ◌<◌, ◌≤◌, ◌==◌, ◌&&◌, Bool, true, false, if◌then◌else◌, List, [], ◌∷◌, ◌++◌, length, take, filter, count_by, get_or, slice_get, None, unwrap_or, refl, sym, ap, ◌∙◌, subst, arith, append-nil, length-append, add-one}
+use Rattle.std.proofs.Common.{ℕ, suc, ◌≡◌, ◌+◌, ◌-◌, ◌<◌, ◌≤◌, ◌==◌, ◌&&◌, Bool, true, false, if◌then◌else◌, List, [], ◌∷◌, ◌++◌, length, take, filter, count_by, get_or, slice_get, Option, None, unwrap_or, refl, sym, ap, ◌∙◌, subst, arith, append-nil, length-append, add-one}
 use Rattle.std.specs.List.{range_with_len}
+use Rattle.std.specs.Option.{option_map_or}
 use Rattle.std.proofs.Math.Seq.{get_or-append_seam}
 use Rattle.std.proofs.lemmas.Bool.Decides.{eqb_tells}
 use Rattle.std.proofs.lemmas.List.Elements.{filter-append}
 use Rattle.std.proofs.lemmas.List.Sums.{count_by_more_yes, count_by_more_no}
-use Rattle.std.proofs.lemmas.Option.{slice_get_past, unwrap_or-slice_get}
+use Rattle.std.proofs.lemmas.Option.{slice_get-get_or, slice_get_past, unwrap_or-slice_get}
 use Rattle.base.proofs.Lists.{range_with_len-more, range_with_len-append}
-use Rattle.known_runs.specs.Lines.{begins_record, record_starts, line_at, record_line}
+use Rattle.known_runs.specs.Lines.{has_byte, begins_record, record_starts, line_at, record_line}
 
 -- the records that begin before byte n
 pub starts_before : List ℕ → ℕ → List ℕ
@@ -49,13 +50,18 @@ starts_counted bytes n before new b is was more =
     let own = one_kept (begins_record bytes) n b is in
     more ∙ (λ i. was i + sym own i) ∙ sym long
 
-lines_counted : (bytes : List ℕ) (n line new : ℕ) (b : Bool) → n < length bytes → (get_or bytes n 0 == 10) ≡ b → line ≡ line_at bytes n → new ≡ line + (if b then 1 else 0)
+read_byte : (bytes : List ℕ) (n byte : ℕ) → n < length bytes → has_byte bytes n byte ≡ (get_or bytes n 0 == byte)
+read_byte bytes n byte less = ap (λ (o : Option ℕ). option_map_or (λ (b : ℕ). b == byte) o false) (slice_get-get_or bytes n 0 less)
+
+lines_counted : (bytes : List ℕ) (n line new : ℕ) (b : Bool) → n < length bytes → has_byte bytes n 10 ≡ b → line ≡ line_at bytes n → new ≡ line + (if b then 1 else 0)
     → new ≡ line_at bytes (n + 1)
 lines_counted bytes n line new true less is was more =
-    let next = count_by_more_yes (λ (x : ℕ). x == 10) bytes n 0 less is in
+    let own : (get_or bytes n 0 == 10) ≡ true = sym (read_byte bytes n 10 less) ∙ is in
+    let next = count_by_more_yes (λ (x : ℕ). x == 10) bytes n 0 less own in
     omega (arith, was, more, next)
 lines_counted bytes n line new false less is was more =
-    let next = count_by_more_no (λ (x : ℕ). x == 10) bytes n 0 less is in
+    let own : (get_or bytes n 0 == 10) ≡ false = sym (read_byte bytes n 10 less) ∙ is in
+    let next = count_by_more_no (λ (x : ℕ). x == 10) bytes n 0 less own in
     omega (arith, was, more, next)
 
 stays_low : (begins : Bool) (before new place : ℕ) → before ≤ place → (begins && (before == place)) ≡ false → new ≡ before + (if begins then 1 else 0) → new ≤ place
@@ -71,7 +77,7 @@ adds_one true old new most low is = omega (arith, low, is)
 adds_one false old new most low is = omega (arith, low, is)
 
 pub counts_more : (bytes : List ℕ) (place n before line begins_before new_line : ℕ) (begins ends : Bool) → Counts bytes place n before line → n < length bytes
-    → begins ≡ begins_record bytes n → (begins && (before == place)) ≡ false → ends ≡ (get_or bytes n 0 == 10)
+    → begins ≡ begins_record bytes n → (begins && (before == place)) ≡ false → ends ≡ has_byte bytes n 10
     → begins_before ≡ before + (if begins then 1 else 0) → new_line ≡ line + (if ends then 1 else 0) → Counts bytes place (n + 1) begins_before new_line
 counts_more bytes place n before line new_before new_line begins ends c less begins_is other ends_is more next = record {
   within = omega (arith, less);

@@ -239,11 +239,11 @@ fn put_image(
 }
 
 /// The image at a place; without one, what the device held before entry 0.
-fn shown_of<'b, 'a>(
-    images: &'b [WantedImage<'a>],
-    initial: &'b WantedImage<'a>,
+fn shown_of<'x>(
+    images: &'x [WantedImage<'x>],
+    initial: &'x WantedImage<'x>,
     last: Option<usize>,
-) -> &'b WantedImage<'a>
+) -> &'x WantedImage<'x>
     requires { IfSome last (λ place. place < length images.now) }
     ensures { result.now ≡ shown_in images.now initial.now last }
 {
@@ -261,13 +261,13 @@ fn last_with(last: Option<usize>, place: usize, is: bool) -> Option<usize>
 }
 
 /// Appends the text of each image, and answers how many are new.
-fn put_images(
+fn put_images<'x>(
     alloc: Global,
     out: &mut Vec<u8>,
     plan: &Plan<'_>,
     by: By,
-    images: &[WantedImage<'_>],
-    initial: &WantedImage<'_>,
+    images: &'x [WantedImage<'x>],
+    initial: &'x WantedImage<'x>,
 ) -> Result<u64, AllocError>
     requires images { AreOfLog plan.now.log images.now }
     requires initial { initial.now ≡ initial_view plan.now.log }
