@@ -1,7 +1,6 @@
 -- What the cases of a cut tell of a checker.
 use Rattle.std.proofs.Common.{ℕ, zero, suc, ◌≡◌, ◌+◌, ◌<◌, ◌≤◌, ◌==◌, Bool, true, false, if◌then◌else◌, List, [], ◌∷◌, ◌++◌, length, slice_get, Option, None, Some, refl, sym, subst, ◌∙◌, ap, arith, inl, inr}
 use Rattle.std.specs.List.{range_with_len, AllByRecursion}
-use Rattle.std.proofs.lemmas.Bool.{eq-eqb}
 use Rattle.std.proofs.lemmas.Bool.Decides.{eqb_tells}
 use Rattle.std.proofs.lemmas.List.Elements.{All-from_recursion}
 use Rattle.std.proofs.lemmas.Option.{slice_get_past, slice_get_cases}
@@ -13,7 +12,7 @@ use Rattle.machine.specs.Outcome.{Ending, OutOfSteps}
 use Rattle.machine.specs.Footprint.{HaveSame}
 use Rattle.checker.specs.Checker.{CheckerValue, judgement}
 use Rattle.checker.specs.Footprints.{kept_footprint, AgreeingAreJudgedAlike}
-use Rattle.images.specs.Views.{sectors_of, context_at}
+use Rattle.images.specs.Views.{sectors_of}
 use Rattle.images.specs.Whole.{length_view}
 use Rattle.cases.specs.Risk.{parts_at_risk}
 use Rattle.cases.specs.Choices.{Choice, departures, image_at}

@@ -33,9 +33,9 @@ use Rattle.losses.specs.declared.found.FailingCase.{FailingCase}
 use Rattle.losses.specs.FoundCases.{FailingValue, failing_value}
 use Rattle.case_runs.specs.Leaves.{failing_from}
 use Rattle.case_runs.specs.Laws.{CheckersTell, subject_at, judged_at}
-use Rattle.case_runs.specs.Found.{IsFoundAt, AreFoundIn}
+use Rattle.case_runs.specs.Found.{IsFoundAt}
 use Rattle.case_runs.specs.Cuts.{is_all, is_explored, explored_cuts, are_last_enough, first_wanted, last_wanted, case_cuts}
-use Rattle.case_runs.specs.AnyLoss.{IsAskedFor, IsInFailing, LossesAreFound, FoundCutsAreWanted}
+use Rattle.case_runs.specs.AnyLoss.{IsAskedFor, LossesAreFound, FoundCutsAreWanted}
 use Rattle.case_runs.proofs.Judged.{in_leaves, length_image}
 
 -- what passes a test in a range stands among what passes
@@ -372,8 +372,8 @@ cut_is_wanted lost wanted es i k has at = by_way (are_last_enough lost wanted) r
         let kept : is_of_kind wanted.kind es k ≡ true = of_all wanted.kind es k (both_true (is_all wanted.kind) (is_none lost) enough).0 in (
           omega (arith, high),
           ap (λ b. b && is_after_first wanted.from k && is_before_last wanted.to k) kept
-          ∙ ap (λ b. b && is_before_last wanted.to k) (not_before wanted.from n k has low)
-          ∙ not_after wanted.to n k high,
+              ∙ ap (λ b. b && is_before_last wanted.to k) (not_before wanted.from n k has low)
+              ∙ not_after wanted.to n k high,
         )
     by_way false each own =
         let it = kept_from (is_wanted wanted es) 0 (n + 1) i k own in

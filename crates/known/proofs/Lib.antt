@@ -6,3 +6,4 @@ pub mod Reaching
 pub mod Contrary
 pub mod Truth
 pub mod Once
+pub mod Rounds

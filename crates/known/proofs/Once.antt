@@ -208,9 +208,9 @@ begins_so asked at records stops leaves others left rest waiting more a b few =
     let there : map (pair_of at asked.tears) others ≡ map (pair_of at asked.tears) leaves ++ map (pair_at s) on.0 =
     pairs_said s asked.tears at others b.endings ∙ ap (map (pair_at s)) on.1 ∙ pairs_more s (map F leaves) on.0 ∙ ap (λ (xs : List Pair). xs ++ map (pair_at s) on.0) (sym here) in
     sym (
-      taken_pairs at asked.tears (length leaves) others ∙ ap (take (length leaves)) there
-      ∙ ap (λ n. take n (map (pair_of at asked.tears) leaves ++ map (pair_at s) on.0)) (sym (length-map leaves (pair_of at asked.tears)))
-      ∙ take_front (map (pair_of at asked.tears) leaves) (map (pair_at s) on.0)
+    taken_pairs at asked.tears (length leaves) others ∙ ap (take (length leaves)) there
+    ∙ ap (λ n. take n (map (pair_of at asked.tears) leaves ++ map (pair_at s) on.0)) (sym (length-map leaves (pair_of at asked.tears)))
+    ∙ take_front (map (pair_of at asked.tears) leaves) (map (pair_at s) on.0)
     )
 
 -- where a search ended no other comes to more leaves

@@ -139,7 +139,7 @@ found_one p (y ∷ xs) x is = by (λ here. found_one p xs x here) (p y) refl is
     by again true own here = let same : y ≡ x = same_Some y x here in record { place = 0; there = ap (λ z. Some z) same; does = ap p (sym same) ∙ own }
     by again false own here = let rest = again here in record { place = suc rest.place; there = rest.there; does = rest.does }
 
-found_none : {A : Type 0} (p : A → Bool) (xs : List A) (i : ℕ) (x : A) → find p xs ≡ None → slice_get xs i ≡ Some x → p x ≡ false
+pub found_none : {A : Type 0} (p : A → Bool) (xs : List A) (i : ℕ) (x : A) → find p xs ≡ None → slice_get xs i ≡ Some x → p x ≡ false
 found_none p [] i x none there = absurd (let bad : None ≡ Some x = there in cc)
 found_none p (y ∷ xs) i x none there = by (λ rest j at. found_none p xs j x rest at) (p y) refl none i there
   where
@@ -159,7 +159,7 @@ unfolding tells
 tells_same log way marks device r is =
     agree_same (image_of_run log way r) device r.looked.items (second_so (r.marks == marks) (agree (image_of_run log way r) device r.looked.items) is)
 
-leaf_ends : (s : Subject) (tears : Bool) (at : CutValue) (leaves : List LeafValue) (i : ℕ) (leaf : LeafValue) → All (EndsSo s tears at) leaves → slice_get leaves i ≡ Some leaf → EndsSo s tears at leaf
+pub leaf_ends : (s : Subject) (tears : Bool) (at : CutValue) (leaves : List LeafValue) (i : ℕ) (leaf : LeafValue) → All (EndsSo s tears at) leaves → slice_get leaves i ≡ Some leaf → EndsSo s tears at leaf
 leaf_ends s tears at leaves i leaf all there =
     subst (EndsSo s tears at) (get_or_from_slice_get leaves i leaf leaf there) (All-get_or (EndsSo s tears at) leaves i leaf (slice_get_within leaves i leaf there) all)
 
@@ -287,7 +287,7 @@ mapped_one f (x ∷ xs) (suc i) y there = let rest = mapped_one f xs i y there i
 
 -- nothing is open, left out or pending
 
-none_mapped : {A B : Type 0} (f : A → B) (xs : List A) → map f xs ≡ [] → xs ≡ []
+pub none_mapped : {A B : Type 0} (f : A → B) (xs : List A) → map f xs ≡ [] → xs ≡ []
 none_mapped f [] is = refl
 none_mapped f (x ∷ xs) is = absurd (let bad : f x ∷ map f xs ≡ [] = is in cc)
 
@@ -401,7 +401,7 @@ complete_has_all alike asked at records stops found truth choice within true_of 
     own : IsOf failing_value found.failing.items kept.place kept.value
     own = mapped_one failing_value found.failing.items kept.place kept.value (ap (λ (fs : List FailingValue). slice_get fs kept.place) is.failing ∙ kept.there)
 
-has_one : {A : Type 0} (xs : List A) (i : ℕ) → i < length xs → (x : A) × (slice_get xs i ≡ Some x)
+pub has_one : {A : Type 0} (xs : List A) (i : ℕ) → i < length xs → (x : A) × (slice_get xs i ≡ Some x)
 has_one [] i lt = absurd (omega (arith, lt))
 has_one (x ∷ xs) zero lt = (x, refl)
 has_one (x ∷ xs) (suc i) lt = has_one xs i (omega (arith, lt))

@@ -6,3 +6,4 @@ pub mod Leaves
 pub mod Found
 pub mod Laws
 pub mod Once
+pub mod Rounds

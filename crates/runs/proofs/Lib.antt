@@ -16,3 +16,4 @@ pub mod Leading
 pub mod Finding
 pub mod Unseeing
 pub mod Contexts
+pub mod Flushing

@@ -16,6 +16,8 @@
 //! | `run_with(rt, alloc, gate, question)` | by what is wanted the report; the same run told by its causes (`causes.rt`), or as a page for a browser (`paging.rt`); where flushes are missing, and what is left with them, run by run (`curing.rt`); the failing cases of any number of losses (`case_command.rt`), or a cure by these. With it what is known of the programs for the notes |
 //! | `blind_programs_pass()` | a law, by a function that does nothing: what it means that a program is blind (`blind.rt`) |
 //! | `any_loss_is_told()`, `told_cases_fail()` | laws: on which images that are asked for a program fails, by the text of cases |
+//! | `cases_are_faultless()` | a law: no program that the verifier accepted without guards has a fault on any image of any cut |
+//! | `flushes_bring_nothing()` | a law: what a log with added flushes leaves is left by the log without them |
 //!
 //! # What is proved
 //!
@@ -108,4 +110,7 @@ mod task;
 pub use explore_command::{
     Explored, Question, RunAnswer, WantedAnswer, explore, explore_with, run_with,
 };
-pub use laws::{any_loss_is_told, blind_programs_pass, told_cases_fail};
+pub use laws::{
+    any_loss_is_told, blind_programs_pass, cases_are_faultless, flushes_bring_nothing,
+    told_cases_fail,
+};

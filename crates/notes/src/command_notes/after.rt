@@ -834,7 +834,10 @@ pub fn notes_after(
         }
         Cause::Request(RequestCause::Option) => { put_note(&mut out, rule_of(words, refusal.at))? },
         Cause::Request(RequestCause::NotInLog) => put_note(&mut out, NOT_IN_LOG)?,
-        Cause::Request(RequestCause::NotReport) => put_note(&mut out, report_rule(words.request()))?,
+        Cause::Request(RequestCause::NotReport) => put_note(
+            &mut out,
+            report_rule(words.request()),
+        )?,
         Cause::Request(RequestCause::File) => put_file_notes(alloc, &mut out, words, files, at)?,
         Cause::Join(cause) => put_join_notes(alloc, &mut out, words, files, cause, at)?,
         Cause::Work(_cause) => put_work_notes(&mut out, words)?,
