@@ -83,21 +83,21 @@ NoneSame e i n = (j : ℕ) → j < n → is_same (view_at e i) (view_at e j) ≡
 
 pub none_same_more : (e : ExportedValue) (i n : ℕ) (one other : ViewValue) (b : Bool) → NoneSame e i n → view_at e i ≡ one → view_at e n ≡ other → b ≡ is_same one other → b ≡ false
     → NoneSame e i (n + 1)
-none_same_more e i n one other b none first second is no j lt = elim (cases_lt j n) [
+none_same_more e i n one other b none first second is fails j lt = elim (cases_lt j n) [
   | inl before ↦ none j before
   | inr past ↦
       let here : j ≡ n = omega (arith, past, lt) in
-      ap (λ k. is_same (view_at e i) (view_at e k)) here ∙ (λ t. is_same (first t) (second t)) ∙ sym is ∙ no
+      ap (λ k. is_same (view_at e i) (view_at e k)) here ∙ (λ t. is_same (first t) (second t)) ∙ sym is ∙ fails
 ]
 
 pub first_found : (e : ExportedValue) (i n : ℕ) (one other : ViewValue) (b : Bool) → NoneSame e i n → n < i → view_at e i ≡ one → view_at e n ≡ other → b ≡ is_same one other → b ≡ true
     → Some n ≡ first_same e i
 unfolding first_same
-first_found e i n one other b none less first second is yes =
+first_found e i n one other b none less first second is holds =
     sym (first_is (λ j. is_same (view_at e i) (view_at e j)) 0 i n (record {
       low = omega arith;
       high = omega (arith, less);
-      passes = (λ t. is_same (first t) (second t)) ∙ sym is ∙ yes;
+      passes = (λ t. is_same (first t) (second t)) ∙ sym is ∙ holds;
       before = λ k from lt. none k lt;
     }))
 

@@ -1,6 +1,6 @@
 //! At which line of a text a record stands.
 
-ghost use Rattle.std.specs.Prelude.{◌≡◌, ◌+◌, ◌<◌, ◌^◌, if◌then◌else◌};
+ghost use Rattle.std.specs.Prelude.{◌≡◌, ◌==◌, ◌&&◌, ◌+◌, ◌<◌, ◌^◌, if◌then◌else◌};
 ghost use Rattle.known_runs.specs.Lines.{has_byte, begins_line, begins_record, record_line};
 ghost use Rattle.known_runs.specs.Told.{contradiction_fault};
 
@@ -45,6 +45,13 @@ pub(crate) fn with(count: u64, is: bool) -> u64
     if is { count + 1 } else { count }
 }
 
+/// Whether a record begins, and as many begin before it.
+fn is_that(begins: bool, before: u64, place: u64) -> bool
+    ensures { result ≡ (begins && (before == place)) }
+{
+    begins && before == place
+}
+
 /// The number of the line at which the record at a place stands.
 fn record_line(bytes: &[u8], place: u64) -> u64
     ensures { result ≡ record_line bytes.now place }
@@ -53,7 +60,8 @@ fn record_line(bytes: &[u8], place: u64) -> u64
     let mut before = 0;
     for at in 0..bytes.len() {
         let begins = begins_record(bytes, at);
-        if begins && before == place {
+        let found = is_that(begins, before, place);
+        if found {
             return line;
         }
         before = with(before, begins);
