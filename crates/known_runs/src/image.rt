@@ -70,6 +70,7 @@ impl<'a> WantedImage<'a> {
         requires cut { number ≤ length log.now.entries }
         ensures { IfOk result (λ image. image ≡ view_of_case (record { log = log.now; way = by; cut = number }) tears sets.now) }
     {
+        let _sectors = log.sectors();
         let cut = Cut::new(alloc, log, by, number)?;
         let mut known = KnownParts::new(alloc);
         known.read(tears, cut.parts(), sets)?;
