@@ -88,7 +88,7 @@ class Bounded:
             raise Refusal(f"crashbpf refuses the log: {product.first_line(done.stderr)}")
         return int(last[0].split()[1])
 
-    def explore(self, log, until=lambda case: False):
+    def explore(self, log, until=None):
         """Explores a log. It ends early where `until` says so of a case that fails."""
         # (it stands in memory where there is room)
         most = max(len(log.in_flight(cut)) for cut in log.cuts())
@@ -110,7 +110,7 @@ class Bounded:
         found, waiting = Found(), []
         for case in cases:
             waiting.append(case)
-            if self.fails(case) and until(case):
+            if until and self.fails(case) and until(case):
                 found.stopped = True
                 break
         self.judge.settle()
