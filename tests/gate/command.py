@@ -460,7 +460,6 @@ def agrees(folder):
     from commands.record import traced
     from commands.test.explore import lost_of
     from commands.test.source import Source
-    from types import SimpleNamespace
 
     made = Path(folder, "made")
     made.mkdir()
@@ -468,7 +467,7 @@ def agrees(folder):
     log = Source(str(made)).log("writeback", [(10**6, ("folder", 0))])
     given = [*log.write(folder), "--bound", "1", "--tears"]
     total = int(subprocess.run(["crashbpf", "images", *given], capture_output=True, text=True).stdout.split()[-1])
-    export, device, wrong = product.Export("crashbpf", SimpleNamespace(of_images=lambda: given)), bytearray(log.base), []
+    export, device, wrong = product.Export("crashbpf", given), bytearray(log.base), []
     inputs(export.file)
     for it in images(export.file, log.sectors, total):
         for at in range(0, len(it.records or b""), RECORD):
