@@ -223,6 +223,11 @@ def store(name, more):
     STORED.write_text(json.dumps({it.name: rows[it.name] for it in ROWS if it.name in rows}, indent=1) + "\n")
 
 
+def store_seen(name, kernel, seen):
+    """Stores what was seen of a row on the ext4 of a kernel."""
+    store(name, {"on ext4": {**stored_rows().get(name, {}).get("on ext4", {}), kernel: seen}})
+
+
 def told(name, it):
     """The line of a row."""
     cured = "" if not it["cured"] else f"; with them {it['cured'][0]} of {it['cured'][1]}"
@@ -245,6 +250,14 @@ def cells(line):
     return [it.strip() for it in line.strip().strip("|").split("|")]
 
 
+def on_ext4(it):
+    """Returns what docs/FOUND.md says of a row on a real ext4."""
+    found = it.get("on ext4", {}).values()
+    if any(one["seen"] for one in found):
+        return "seen"
+    return f"not in {sum(one['images'] for one in found):,} images" if found else "not tried" if it["failing"] else "-"
+
+
 def document():
     """Yields what docs/FOUND.md has otherwise than what is stored."""
     known = stored_rows()
@@ -254,7 +267,7 @@ def document():
     for name in sorted(known.keys() & rows.keys()):
         it = known[name]
         cured = f"{it['cured'][0]:,} of {it['cured'][1]:,}" if it["cured"] else "not tried" if it["missing"] else "-"
-        figures = [it["version"], f"{it['failing']:,} of {it['cases']:,}", cured]
+        figures = [it["version"], f"{it['failing']:,} of {it['cases']:,}", cured, on_ext4(it)]
         yield from (f"{name}: {figure} isn't in its row" for figure in figures if figure not in rows[name])
 
 

@@ -3,9 +3,9 @@
 
     python3 tests/by_hand/found_on_ext4.py [--store] [--all] FOLDER here|KERNEL [ROW ..]
 
-The programs of the rows are run one after the other on an ext4 that is mounted by default but for its commits, which come each second.
-What reaches its disk is recorded. Each crash image between a row's begin and its end is recovered by e2fsck, and the row's own check judges
-the files. First come images of cuts at marks where nothing is lost, then such ones of all cuts, then those that lack one write of the disk.
+The programs of the rows are run one after the other on an ext4 that is mounted by default. What reaches its disk is recorded. Each crash
+image between a row's begin and its end is recovered by e2fsck, and the row's own check judges the files. First come images of cuts at marks
+where nothing is lost, then such ones of all cuts, then those that lack one write of the disk.
 
 With `here` the file system is one of this machine's kernel, on a loop device over a file that crashbpf-record --fuse serves. That takes
 root; it is mounted where nobody else sees it. With KERNEL, a folder with boot/vmlinuz-* and lib/modules, it is one of a guest, by
@@ -13,10 +13,11 @@ crashbpf-record --guest. The guest has this machine's programs, so they are thos
 
 Without ROW these are the rows of which a case fails by examples/found/found.json. A crash is seldom where it hurts, so calls that write,
 sync or change names take longer here, by strace. Meanwhile bytes are written out, as a kernel may do at any time: sync_file_range asks for
-it here, and a clock of the guest there. Which calls, and of which rows the bytes wait for a commit, stands in PACES.
+it here, and a clock of the guest there. Of some rows the bytes wait as long as they do by default, and commits come each second in place of
+each fifth. Which rows these are, and which calls take longer, stands in PACES.
 
 A line for each row has how many images were judged, how many differ, and with which status the check ends how often. Once an image
-of a row fails the others are left out, but for --all. With --store found.json has what was seen. The status is 1 where no image of a row fails.
+of a row fails, or 400 are right, the others are left out, but for --all. With --store found.json has what was seen. The status is 1 where no image of a row fails.
 
 FOLDER keeps the recording, and ROW.seen what was found on each image, so that a run may be gone on with. It wants what found.py wants,
 and e2fsprogs; qemu-system-common and fuse3 here, or qemu-system-x86, busybox-static, cpio and dmsetup for a guest.
@@ -41,19 +42,18 @@ import rooms
 rooms.enter()
 
 import found
-from names_in_guest import Unreadable, exported, run, spans
-from notation import MARK, TOP
-from rows.recording import entries_of
+from names_in_guest import Unreadable, run, spans
+from notation import FLUSH, FUA, MARK, SECTOR, TOP, entries_of
 
 from commands.each.image_file import ImageFile
 from commands.record import guest
 
 SECTORS = 131072
-# After how many failing images a row is left.
-ENOUGH = 1
 # Asks again and again that the files of a folder are written out.
 WRITER = TOP / "tests/by_hand/writer.py"
 CALLS = "write,pwrite64,writev,pwritev,ftruncate,rename,renameat,renameat2,unlink,unlinkat,link,linkat,fsync,fdatasync,msync"
+# How many images of a row are judged where none fails, but for --all.
+MOST = 400
 # A row that takes longer than this in the guest is ended there.
 ROW_SECONDS = 1500
 
@@ -111,6 +111,7 @@ def lines_of(row, top, writes_out):
     """Returns the lines of a row in the script. `writes_out` are those by which bytes are written out soon, or wait for a commit."""
     files = f"{top}/files/{row.name}"
     return [
+        f"mount -o remount,commit={1 if pace(row).is_late else 5} {top} || exit 1",
         *writes_out(row, files),
         f"sync -f {top} && mark {row.name}:begin",
         f"FILES={files} timeout {ROW_SECONDS} {shlex.join(map(str, words_of(row, files)))} || echo '{row.name}: status' $?",
@@ -158,7 +159,7 @@ HERE = """\
 loop=$(losetup -f --show "$DEVICE") || exit 1
 leave() { cd / && umount {top}; losetup -d $loop; }
 trap leave EXIT
-mount -t ext4 -o commit=1 $loop {top} || exit 1
+mount -t ext4 $loop {top} || exit 1
 printf '#!/bin/sh\nRECORDING=%s exec {mark} "$@"\n' "$RECORDING" >{top}.mark/mark && chmod +x {top}.mark/mark || exit 1
 unset RECORDING && PATH={top}.mark:$PATH
 """
@@ -179,8 +180,7 @@ def recorded_here(folder, rows):
 def recorded_in_guest(folder, kernel, rows):
     """Records the rows in a guest."""
     script = folder / "rows.sh"
-    begin = [f"mount -o remount,commit=1 {guest.TOP}"]
-    script.write_text("\n".join([*begin, *(line for row in rows for line in lines_of(row, guest.TOP, in_guest)), ""]))
+    script.write_text("\n".join([*(line for row in rows for line in lines_of(row, guest.TOP, in_guest)), ""]))
     kept_by(["--guest", kernel, "--sectors", str(SECTORS), "--base", folder / "files", folder / "recording", "--", "sh", script])
     shutil.copyfile(folder / "recording" / guest.BASE, folder / guest.BASE)
 
@@ -242,12 +242,11 @@ class Judge:
     def __init__(self, folder, row):
         self.row, self.path, self.verdicts = row, folder / f"{row.name}.seen", {}
         lines = [json.loads(it) for it in self.path.read_text().splitlines()] if self.path.exists() else []
-        self.known = {(it["cut"], it["choice"], it["marks"]): it for it in lines}
+        self.known = {(it["cut"], it["lost"]): it for it in lines}
         self.verdicts = {(it["sum"], it["marks"]): (it["status"], it["said"]) for it in lines}
 
-    def judged(self, image, file, marks):
-        """Returns what is known of an image."""
-        key = image.cut, image.choice.decode(), marks
+    def judged(self, key, file, marks):
+        """Returns what is known of an image, by its cut and what is lost."""
         if key not in self.known:
             with tempfile.TemporaryDirectory(prefix="crashbpf-found.") as room:
                 files = laid_out(file, self.row.name, room)
@@ -255,31 +254,76 @@ class Judge:
                 if which not in self.verdicts:
                     self.verdicts[which] = verdict(self.row, files, marks, room)
             status, said = self.verdicts[which]
-            line = {"cut": key[0], "choice": key[1], "marks": marks, "sum": which[0], "status": status, "said": said}
+            line = {"cut": key[0], "lost": key[1], "marks": marks, "sum": which[0], "status": status, "said": said}
             with open(self.path, "a") as out:
                 out.write(json.dumps(line) + "\n")
             self.known[key] = line
         return self.known[key]
 
 
-def judged(folder, row, log, base, place, is_all):
-    """Judges the images of a row: those at marks where nothing is lost, then such ones at all cuts, then those that lack a write. Returns
-    their lines."""
-    _, first, last, before = place
-    entries, judge, lines = entries_of(log.read_bytes()), Judge(folder, row), {}
+def in_flight(entries, cut):
+    """Returns the numbers of the writes that a crash at a cut may lose: those after the last flush, but for FUA."""
+    found = []
+    for number, it in enumerate(entries[:cut]):
+        if it.flags & FLUSH:
+            found = []
+        if it.data and not it.flags & (FUA | MARK):
+            found.append(number)
+    return found
+
+
+def sectors_of(entries, known):
+    """Returns the sectors that some entries write, over those that are known."""
+    found = dict(known)
+    for it in entries:
+        if not it.flags & MARK:
+            found.update((it.sector + at, it.data[SECTOR * at : SECTOR * (at + 1)]) for at in range(len(it.data) // SECTOR))
+    return found
+
+
+class Disk:
+    """The disk of a recording as a crash leaves it, in a file."""
+
+    def __init__(self, path, base):
+        self.base, self.held = base.read_bytes(), {}
+        self.file = ImageFile(path, len(self.base) // SECTOR, base, False)
+
+    def hold(self, sectors):
+        """Has the file hold some sectors, and else what the base has."""
+        old = {at: self.base[SECTOR * at : SECTOR * (at + 1)] for at in self.held if at not in sectors}
+        changed = old | {at: data for at, data in sectors.items() if self.held.get(at) != data}
+        self.file.patch(b"".join(at.to_bytes(8, "little") + data for at, data in changed.items()))
+        self.held = sectors
+
+
+def crashes(entries, first, last):
+    """Yields what a crash may leave of a row: the cut, and the write that is lost, or none. Cuts after marks come first."""
+    cuts = range(first + 1, last + 1)
+    yield from ((cut, None) for cut in cuts if entries[cut - 1].flags & MARK)
+    yield from ((cut, None) for cut in cuts)
+    yield from ((cut, number) for cut in cuts for number in in_flight(entries, cut))
+
+
+def judged(folder, row, entries, base, place, is_all):
+    """Judges the images of a row. Returns their lines."""
+    _, first, last, _ = place
+    judge, lines, begun = Judge(folder, row), {}, sectors_of(entries[:first], {})
     most = sum(bool(it.flags & MARK) for it in entries[first + 1 : last]) - 1
-    for cuts, bound in (("mark", "0"), ("all", "0"), ("all", "1")):
-        os.environ |= {"CUTS": cuts, "BOUND": bound}
-        with tempfile.TemporaryDirectory(dir=folder) as room:
-            file = ImageFile(os.path.join(room, "image"), SECTORS, base, False)
-            for image in exported(log, base, SECTORS, first + 1, last):
-                if image.same is None:
-                    file.patch(image.records)
-                    line = judge.judged(image, file, max(0, min(image.marks - before, most)))
-                    lines[image.cut, image.choice] = line
-                if not is_all and sum(it["status"] != 0 for it in lines.values()) >= ENOUGH:
-                    return [*lines.values()]
+    with tempfile.TemporaryDirectory(dir=folder) as room:
+        disk = Disk(os.path.join(room, "image"), base)
+        for cut, lost in crashes(entries, first, last):
+            marks = sum(bool(it.flags & MARK) for it in entries[first + 1 : cut])
+            disk.hold(sectors_of((it for number, it in enumerate(entries[first:cut], first) if number != lost), begun))
+            line = lines[cut, lost] = judge.judged((cut, lost), disk.file, min(marks, most))
+            if not is_all and (line["status"] != 0 or len(lines) == MOST):
+                break
     return [*lines.values()]
+
+
+def kernel_of(word):
+    """Returns the first two numbers of the kernel's version."""
+    release = os.uname().release if word == "here" else next(Path(word).glob("boot/vmlinuz-*")).name.removeprefix("vmlinuz-")
+    return ".".join(release.split(".")[:2])
 
 
 def told(row, lines):
@@ -300,15 +344,15 @@ def main(words):
     folder, rows = Path(words[0]).resolve(), chosen(words[2:])
     folder.mkdir(exist_ok=True)
     log, base = recorded(folder, words[1], rows)
-    places, unseen = {it[0]: it for it in spans(log)}, 0
+    places, entries, unseen = {it[0]: it for it in spans(log)}, entries_of(log.read_bytes()), 0
     for row in rows:
         if row.name not in places:
             continue
-        line, seen = told(row, judged(folder, row, log, base, places[row.name], is_all))
+        line, seen = told(row, judged(folder, row, entries, base, places[row.name], is_all))
         print(line, flush=True)
         unseen += not seen["seen"]
         if is_stored:
-            found.store(row.name, {"on ext4": seen})
+            found.store_seen(row.name, kernel_of(words[1]), seen)
     return unseen > 0
 
 

@@ -20,6 +20,7 @@ rooms.enter()
 from notation import TOP
 
 from commands.shared import program
+from commands.shared.verdicts import EXIT, SIGNAL, Verdict
 from commands.test import judge
 
 
@@ -29,6 +30,12 @@ def loaded(name, path):
     made = importlib.util.module_from_spec(importlib.util.spec_from_loader(name, loader))
     loader.exec_module(made)
     return made
+
+
+def as_by_a_shell(ended):
+    """Returns how a process ended as a shell says it, which has a status where a signal ended its command."""
+    kind, number = ended.verdict
+    return ended._replace(verdict=Verdict(EXIT, 128 + number)) if kind == SIGNAL else ended
 
 
 def main(words):
@@ -43,7 +50,7 @@ def main(words):
         sys.argv = given
         return check.main() or 0
 
-    judge.run = lambda words, surroundings, seconds, hang_up, nothing: program.run(words, surroundings, seconds, hang_up, nothing, act)
+    judge.run = lambda words, *others: as_by_a_shell(program.run(words, *others, act))
     return test.main(words)
 
 
