@@ -1,14 +1,17 @@
 -- What records tell of a cut is one.
-use Rattle.std.proofs.Common.{ℕ, zero, suc, ◌≡◌, ◌⊎◌, ◌+◌, ◌<◌, ◌≤◌, ◌==◌, nat_le, nat_lt, Bool, true, false, not, ◌&&◌, ◌||◌, if◌then◌else◌, List, [], ◌∷◌, ◌++◌, length, map, filter, take, count_by, None, Some, refl, sym, subst, ◌∙◌, ap, arith, inl, inr}
-use Rattle.std.specs.List.{All, list_any}
+use Rattle.std.proofs.Common.{ℕ, zero, suc, ◌≡◌, ◌⊎◌, ◌+◌, ◌<◌, ◌≤◌, ◌==◌, nat_le, nat_lt, Bool, true, false, not, ◌&&◌, ◌||◌, if◌then◌else◌, List, [], ◌∷◌, ◌++◌, length, map, filter, take, count_by, slice_get, Option, None, Some, option_map, refl, sym, subst, ◌∙◌, ap, arith, inl, inr}
+use Rattle.std.specs.List.{All, list_any, find}
 use Rattle.std.specs.Option.{option_map_or}
 use Rattle.std.proofs.lemmas.Bool.{false≢true, cases_lt}
 use Rattle.std.proofs.lemmas.List.{length-map, length-append}
 use Rattle.std.proofs.lemmas.List.Elements.{All-head, All-tail}
-use Rattle.machine.specs.Outcome.{Ending, Verdict, OutOfSteps, Stray, fails}
+use Rattle.machine.specs.Outcome.{Ending, Verdict, Stopped, OutOfSteps, Stray, fails}
 use Rattle.cases.specs.Cases.{Case, Split, whole_case, with_part, representative}
-use Rattle.cases.specs.AtCut.{CutValue, parts_of, case_of}
-use Rattle.cases.specs.Trees.{Subject, ending_of as ending_at, is_within, split_of}
+use Rattle.logfmt.specs.Bounds.{LogValue}
+use Rattle.epochs.specs.declared.part.By.{By}
+use Rattle.epochs.specs.Units.{marks_at}
+use Rattle.cases.specs.AtCut.{CutValue, parts_of, case_of, image_of}
+use Rattle.cases.specs.Trees.{Program, Subject, ending_of as ending_at, is_within, split_of}
 use Rattle.cases.specs.Search.{LeafValue, leaf_case, LeadTo, are_there, past_beyond, past_leaf, past_split, EndsSo, is_torn_beyond, plus}
 use Rattle.losses.specs.declared.found.Losses.{Losses}
 use Rattle.losses.specs.FoundCases.{FailingValue}
@@ -17,16 +20,18 @@ use Rattle.case_runs.specs.Found.{KnownCase}
 use Rattle.case_runs.proofs.FirstOnce.{GoesOn as GoOn, goes_on, longer}
 use Rattle.case_runs.proofs.Once.{known_value, known_from, known_all, ending_in, endings_told}
 use Rattle.known.specs.declared.run.RunEnd.{RunEnd}
-use Rattle.known.specs.declared.run.RunEnd.TheVariants as end
+use Rattle.known.specs.declared.run.RunEnd.TheVariants as ended
 use Rattle.known.specs.declared.found.Stops.{Stops}
 use Rattle.known.specs.declared.found.KnownAt.{KnownAt}
 use Rattle.known.specs.declared.found.KnownFailing.{KnownFailing}
 use Rattle.known.specs.declared.found.OpenCase.{OpenCase}
-use Rattle.known.specs.Ends.{ending_of, is_open}
-use Rattle.known.specs.Records.{RecordsValue}
+use Rattle.known.specs.declared.run.KnownRun.{KnownRun}
+use Rattle.known.specs.Contradictions.{both_contradict, contradict_at}
+use Rattle.known.specs.Ends.{ending_of, is_open, open_ending, same_end}
+use Rattle.known.specs.Records.{RecordsValue, agree, contradict, first_telling, in_both, program_of, tells, told_ending, told_looks}
 use Rattle.known.specs.Leaves.{is_told, told_of, open_of, is_told_failing, has_stopped, failing_value, open_sets, sets_of_leaf}
-use Rattle.known.specs.Found.{subject_at, GoesOn, Reached, StopsAtLeaf, IsKnownAt, IsPast, cases_at}
-use Rattle.known.specs.Once.{FailingCaseValue, failing_case_value, open_case, SameKnown, FoundIsOne}
+use Rattle.known.specs.Found.{subject_at, Reached, StopsAtLeaf, StopsRight, IsKnownAt, IsPast, cases_at}
+use Rattle.known.specs.Once.{FailingCaseValue, failing_case_value, open_case, RunValue, run_value, SaySame, SameKnown, FoundIsOne}
 use Rattle.known.proofs.Meeting.{told_and_open}
 
 -- TWO WAYS THROUGH A TREE
@@ -307,22 +312,17 @@ same_rest asked at records stops found other a b = by (has_stopped stops a.leave
 
 -- how a program ended is said by how the machine says it
 abbrev end_by : Ending → RunEnd
-end_by e = end_in e
-  where
-    end_in : Ending → RunEnd
-    end_in (Verdict answer codes) = end.Answer answer
-    end_in (Stray signal) = end.Signal signal
-    end_in e = end.OutOfTime
+end_by (Verdict answer codes) = ended.Answer answer
+end_by (Stopped cause slot) = ended.OutOfTime
+end_by OutOfSteps = ended.OutOfTime
+end_by (Stray signal) = ended.Signal signal
 
 end_back : (e : RunEnd) → end_by (ending_of e) ≡ e
-end_back (end.Answer answer) = refl
-end_back (end.Signal signal) = refl
-end_back end.OutOfTime = refl
+end_back (ended.Answer answer) = refl
+end_back (ended.Signal signal) = refl
+end_back ended.OutOfTime = refl
 
--- a failing leaf that was found, as one of a run
-abbrev run_value : CutValue → Bool → FailingValue → FailingCaseValue
-run_value at tears f = record { number = f.number; end = end_by f.ending; is = case_of tears (parts_of at) f.sets }
-
+-- a failing leaf, as one of a run
 abbrev of_known : KnownCase → FailingCaseValue
 of_known k = record { number = k.number; end = end_by k.ending; is = k.is }
 
@@ -390,8 +390,125 @@ more_found asked at records stops found most is past =
     let count = count_found asked at records stops found is in
     omega (arith, few, many, count)
 
+-- RECORDS THAT SAY THE SAME
+
+abbrev said_image : LogValue → By → RunValue → List (List ℕ)
+said_image log way x = image_of (record { log = log; way = way; cut = x.cut }) (case_of true (parts_of (record { log = log; way = way; cut = x.cut })) x.sets)
+
+-- which record tells an image is said by what they say
+unfoldable said_tells : LogValue → By → ℕ → List (List ℕ) → RunValue → Bool
+said_tells log way marks device x = (x.marks == marks) && agree (said_image log way x) device x.looked
+
+tells_said : (log : LogValue) (way : By) (marks : ℕ) (device : List (List ℕ)) (r : KnownRun) → tells log way marks device r ≡ said_tells log way marks device (run_value r)
+unfolding tells said_tells
+tells_said log way marks device r = refl
+
+abbrev said_ending : Option RunValue → Ending
+said_ending None = open_ending
+said_ending (Some x) = ending_of x.end
+
+abbrev said_looks : Option RunValue → List ℕ
+said_looks None = []
+said_looks (Some x) = x.looked
+
+first_said : (log : LogValue) (way : By) (marks : ℕ) (device : List (List ℕ)) (runs : List KnownRun)
+    → option_map run_value (first_telling log way marks device runs) ≡ find (said_tells log way marks device) (map run_value runs)
+first_said log way marks device [] = refl
+first_said log way marks device (r ∷ runs) = by (tells log way marks device r) (said_tells log way marks device (run_value r)) (tells_said log way marks device r) (first_said log way marks device runs)
+  where
+    by : (b c : Bool) → b ≡ c → option_map run_value (first_telling log way marks device runs) ≡ find (said_tells log way marks device) (map run_value runs)
+        → option_map run_value (if b then Some r else first_telling log way marks device runs) ≡ (if c then Some (run_value r) else find (said_tells log way marks device) (map run_value runs))
+    by true true same rest = refl
+    by false false same rest = rest
+    by true false same rest = absurd (false≢true (sym same))
+    by false true same rest = absurd (false≢true same)
+
+ending_said : (o : Option KnownRun) → told_ending o ≡ said_ending (option_map run_value o)
+ending_said None = refl
+ending_said (Some r) = refl
+
+looks_said : (o : Option KnownRun) → told_looks o ≡ said_looks (option_map run_value o)
+looks_said None = refl
+looks_said (Some r) = refl
+
+-- so they are one program
+abbrev said_program : LogValue → By → List RunValue → ℕ → Program
+said_program log way said marks = record {
+  ending = λ device. said_ending (find (said_tells log way marks device) said);
+  footprint = λ device. said_looks (find (said_tells log way marks device) said);
+}
+
+program_said : (v : RecordsValue) (marks : ℕ) → program_of v marks ≡ said_program v.log v.way (map run_value v.runs) marks
+program_said v marks = λ i. record {
+  ending = λ device. (ending_said (first_telling v.log v.way marks device v.runs) ∙ ap said_ending (first_said v.log v.way marks device v.runs)) i;
+  footprint = λ device. (looks_said (first_telling v.log v.way marks device v.runs) ∙ ap said_looks (first_said v.log v.way marks device v.runs)) i;
+}
+
+same_program : (v w : RecordsValue) (marks : ℕ) → SaySame v w → program_of v marks ≡ program_of w marks
+same_program v w marks same = program_said v marks ∙ (λ i. said_program (same.log i) (same.way i) (same.runs i) marks) ∙ sym (program_said w marks)
+
+same_subject : (asked : Losses) (at : CutValue) (v w : RecordsValue) → SaySame v w → subject_at asked at v ≡ subject_at asked at w
+same_subject asked at v w same =
+    ap (λ (p : Program). record { log = at.log; way = at.way; cut = at.cut; program = p; torn = asked.torn; lost = asked.lost }) (same_program v w (marks_at at.log.entries at.cut) same)
+
+reached_by : (asked : Losses) (at : CutValue) (v w : RecordsValue) (stops : Stops) (leaves : List LeafValue) (left waiting : List Case) → SaySame v w → Reached asked at v stops leaves left waiting
+    → Reached asked at w stops leaves left waiting
+reached_by asked at v w stops leaves left waiting same h =
+    let one = same_subject asked at v w same in
+    record {
+      leads = subst (λ (s : Subject). LeadTo s waiting (whole_case asked.tears ∷ []) (map (leaf_case asked.tears at) leaves) left) one h.leads;
+      endings = subst (λ (s : Subject). All (EndsSo s asked.tears at) leaves) one h.endings;
+      on = h.on;
+    }
+
+known_by : (asked : Losses) (at : CutValue) (v w : RecordsValue) (stops : Stops) (found : KnownAt) → SaySame v w → IsKnownAt asked at v stops found → IsKnownAt asked at w stops found
+known_by asked at v w stops found same h =
+    let one = same_subject asked at v w same in
+    record {
+      leaves = h.leaves;
+      left = h.left;
+      waiting = h.waiting;
+      reached = reached_by asked at v w stops h.leaves h.left h.waiting same h.reached;
+      ended = h.ended;
+      right = λ stop. subst (λ (s : Subject). StopsRight s (whole_case asked.tears ∷ []) (map (leaf_case asked.tears at) h.leaves) h.left h.waiting) one (h.right stop);
+      cut = h.cut;
+      told = h.told;
+      failing = h.failing;
+      are_open = h.are_open;
+      torn = h.torn ∙ ap (λ (s : Subject). plus 0 (count_by (is_torn_beyond s) h.left)) one;
+      lost = h.lost ∙ ap (λ (s : Subject). plus 0 (count_by (λ c. not (is_torn_beyond s c)) h.left)) one;
+      stopped = h.stopped;
+    }
+
+-- and contradict each other in the same way
+unfoldable said_contradict : LogValue → By → RunValue → RunValue → Bool
+said_contradict log way x y = (x.marks == y.marks) && (not (same_end x.end y.end) && agree (said_image log way x) (said_image log way y) (in_both x.looked y.looked))
+
+abbrev said_both : LogValue → By → Option RunValue → Option RunValue → Bool
+said_both log way None y = false
+said_both log way (Some x) None = false
+said_both log way (Some x) (Some y) = said_contradict log way x y
+
+both_said : (log : LogValue) (way : By) (a b : Option KnownRun) → both_contradict log way a b ≡ said_both log way (option_map run_value a) (option_map run_value b)
+unfolding contradict said_contradict
+both_said log way None b = refl
+both_said log way (Some r) None = refl
+both_said log way (Some r) (Some t) = refl
+
+at_said : (runs : List KnownRun) (i : ℕ) → option_map run_value (slice_get runs i) ≡ slice_get (map run_value runs) i
+at_said [] i = refl
+at_said (r ∷ runs) zero = refl
+at_said (r ∷ runs) (suc i) = at_said runs i
+
+against_said : (v : RecordsValue) (i j : ℕ) → contradict_at v i j ≡ said_both v.log v.way (slice_get (map run_value v.runs) i) (slice_get (map run_value v.runs) j)
+against_said v i j = both_said v.log v.way (slice_get v.runs i) (slice_get v.runs j) ∙ (λ k. said_both v.log v.way (at_said v.runs i k) (at_said v.runs j k))
+
+same_against : (v w : RecordsValue) (i j : ℕ) → SaySame v w → contradict_at v i j ≡ contradict_at w i j
+same_against v w i j same = against_said v i j ∙ (λ k. said_both (same.log k) (same.way k) (slice_get (same.runs k) i) (slice_get (same.runs k) j)) ∙ sym (against_said w i j)
+
 pub found_is_one : FoundIsOne
 found_is_one = record {
-  same = λ asked at records stops found other a b. same_known asked at records stops found other a b;
-  more = λ asked at records stops found most is past. more_found asked at records stops found most is past;
+  same = λ asked at records others stops found other say a b. same_known asked at others stops found other (known_by asked at records others stops found say a) b;
+  more = λ asked at records others stops found most say is past. more_found asked at others stops found most (known_by asked at records others stops found say is) past;
+  against = λ records others i j say. same_against records others i j say;
 }

@@ -1,5 +1,5 @@
 -- What records tell of the cases of some cuts.
-use Rattle.std.specs.Prelude.{ℕ, ◌≡◌, ◌+◌, ◌<◌, ◌≤◌, ◌==◌, ◌⊎◌, true, false, not, List, [], ◌∷◌, length, map, take, count_by, slice_get, None, Some, All, sum_by}
+use Rattle.std.specs.Prelude.{ℕ, ◌≡◌, ◌+◌, ◌<◌, ◌≤◌, ◌==◌, ◌⊎◌, true, false, not, List, [], ◌∷◌, ◌++◌, length, map, take, count_by, slice_get, None, Some, All, sum_by}
 use Rattle.logfmt.specs.Bounds.{LogValue}
 use Rattle.epochs.specs.declared.part.By.{By}
 use Rattle.epochs.specs.Units.{marks_at}
@@ -113,13 +113,13 @@ abbrev pub StopsIn : Losses → LogValue → By → List ℕ → RecordsValue �
 StopsIn asked log way cuts records stops fault.Memory = Unit {0}
 StopsIn asked log way cuts records stops (fault.TooMany cut) = AreTooMany asked log way cuts records stops cut
 
--- a search came to the last of some leaves from some cases, and no further, and counted the cases that it left out
-pub record CameRight (s : Subject) (case_of_leaf : LeafValue → Case) (from : List Case) (torn lost : ℕ) (new : SearchValue) (leaves : List LeafValue) : Type 0 where
+-- a search came to the last of some leaves from some cases, and no further, and counted the cases that it left out, from two numbers on
+pub record CameRight (s : Subject) (case_of_leaf : LeafValue → Case) (from : List Case) (first second : ℕ) (new : SearchValue) (leaves : List LeafValue) : Type 0 where
   pub left : List Case
   pub leads : LeadTo s (pending new) from (map case_of_leaf leaves) left
   pub right : StopsRight s from (map case_of_leaf leaves) left (pending new)
-  pub torn : new.torn_beyond ≡ plus torn (count_by (is_torn_beyond s) left)
-  pub lost : new.lost_beyond ≡ plus lost (count_by (λ c. not (is_torn_beyond s c)) left)
+  pub torn : new.torn_beyond ≡ plus first (count_by (is_torn_beyond s) left)
+  pub lost : new.lost_beyond ≡ plus second (count_by (λ c. not (is_torn_beyond s c)) left)
 
 abbrev pub WentRight : Program → SearchValue → SearchValue → List LeafValue → Type 0
 WentRight program old new leaves =
