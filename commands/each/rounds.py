@@ -7,6 +7,7 @@ from collections import deque
 from typing import NamedTuple
 
 from commands.each import product
+from commands.each.again import Again
 from commands.each.crew import Crew
 from commands.each.curing import Cure
 from commands.each.progress import Progress
@@ -36,6 +37,14 @@ class Job(NamedTuple):
     looked: str = ""
 
 
+class Seen(NamedTuple):
+    """What was seen of a run: what it ended in, at which sectors it looked, and what it did to its image where that was noted."""
+
+    verdict: Verdict
+    looked: str
+    log: bytes
+
+
 def is_doubtful(verdict):
     """Whether it may be the machine that was slow or short of memory, and not the image."""
     return verdict.kind == OUT_OF_TIME or verdict == (SIGNAL, KILLED)
@@ -51,16 +60,27 @@ class Rounds:
     """The rounds of a run. `runs` counts how often the program was run, `judged` the images. With `cuts` those of other cuts aren't judged."""
 
     def __init__(self, given, records, crew, marks, cuts=None):
-        self.records, self.crew, self.marks, self.cuts = records, crew, marks, cuts
+        self.records, self.crew, self.marks, self.cuts, self.most = records, crew, marks, cuts, given.runs
         self.is_told = None
         self.round = self.runs = self.judged = self.failing = self.left = 0
         self.jobs, self.at, self.alone, self.first = deque(), {}, deque(), first_number(given.keep)
 
     def go(self, step):
-        """Judges until a step wants nothing."""
+        """Judges until a step wants nothing, and returns that step. Where more is wanted than --runs says, one that ends each cut at its first
+        failing case goes on."""
         while wanted := [it for it in step.wanted() if self.cuts is None or it.cut in self.cuts]:
+            stops = step.given.has("--stop-at-failing")
+            if not stops and self.most is not None and self.records.known.count + len(wanted) > self.most:
+                step = step.asking({"--stop-at-failing": True})
+                continue
             self.round, self.is_told = self.round + 1, step.is_told
-            self.judge(wanted, step.given.has("--stop-at-failing"))
+            self.judge(wanted, stops)
+        return step
+
+    def go_on(self, again):
+        """Judges what a second crash leaves, until nothing is wanted. What is found stands in other records."""
+        self.records = again
+        self.go(again)
 
     def judge(self, wanted, stops):
         """Judges the images of a round, as many at a time as there are runners, and in the end by itself what was doubtful."""
@@ -96,18 +116,20 @@ class Rounds:
         for number, verdict, left, said in self.crew.heard(SECONDS):
             job = self.at.pop(number)
             self.left += left
-            self.settle(job, verdict, said.decode(), stops)
+            looked, _end, log = said.partition(b"\n")
+            self.settle(job, Seen(verdict, looked.decode(), log), stops)
 
     def pass_over(self, failing):
         """Leaves out what comes after a failing image at its cut: it isn't wanted any more."""
         self.jobs = deque(it for it in self.jobs if it.is_again or it.image.cut != failing.cut or it.image.number < failing.number)
 
-    def settle(self, job, verdict, looked, stops):
+    def settle(self, job, seen, stops):
         """Records a verdict, or compares it with the one before."""
+        verdict, looked, log = seen
         if is_doubtful(verdict) and not job.is_again:
             self.alone.append(job._replace(is_again=True))
         elif job.verdict is None:
-            self.records.add(job.image, verdict, looked)
+            self.records.add(job.image, verdict, looked, log)
             self.judged += 1
             self.failing += not verdict.is_good()
             if not verdict.is_good() and stops:
@@ -116,10 +138,10 @@ class Rounds:
                 self.jobs.append(job._replace(is_again=True, verdict=verdict, looked=looked))
         elif verdict != job.verdict:
             self.records.write(f"{record(job.image, verdict, looked)}\n")
-            where = f"cut {job.image.cut} choice {job.image.choice.decode()}"
+            where = f"cut {job.image.cut} choice {job.image.choice.decode().partition(' of ')[0]}"
             raise Refusal(f"run again on one image the program ends otherwise, so it looks at more than the image: {job.verdict.text()}, then {verdict.text()}, at {where}")
         elif looked != job.looked:
-            self.records.add(job.image, verdict, looked)
+            self.records.add(job.image, verdict, looked, log)
 
 
 def share(risks, part, parts):
@@ -143,7 +165,7 @@ class Answer(NamedTuple):
 
 def judged_part(step, rounds, path):
     """Judges a part. Its text are its records, and its status is 1 where something fails of what is known."""
-    rounds.go(step)
+    step = rounds.go(step)
     status, _text, _said = step.text()
     with open(path, "rb") as file:
         return Answer(int(status == 1), file.read(), [], step.given)
@@ -157,8 +179,12 @@ def answer(given, step, rounds, path):
         return Answer(status, text, said, cure.step.given)
     if given.part:
         return judged_part(step, rounds, path)
-    rounds.go(step)
-    return Answer(*step.text(), given)
+    step = rounds.go(step)
+    if given.again:
+        again = Again(step)
+        rounds.go_on(again)
+        return Answer(*again.text(), step.given)
+    return Answer(*step.text(), step.given)
 
 
 def judged_any(given, program, folder, say, test_unchanged):
@@ -193,7 +219,7 @@ def judged_any(given, program, folder, say, test_unchanged):
 @contextlib.contextmanager
 def served_rounds(given, records, marks, folder, cuts):
     """Gives rounds on a mount of their own, which is gone afterwards."""
-    mount = Mount(folder, records.known.images, given.runners)
+    mount = Mount(folder, records.known.images, given.runners, notes=given.skipped if given.again else None)
     try:
         crew = Crew(folder, given, functools.partial(ServedRunner, mount=mount))
         try:

@@ -6,10 +6,11 @@ import shutil
 import stat
 from pathlib import Path
 
+from commands.each.served_mount import missing
 from commands.shared import recording
 from commands.shared.faults import Refusal
 
-USAGE = "usage: crashbpf-each [-j N] [--first] [--keep DIR] [--timeout S] [--resume] [--read-only] LOG --sectors N .. -- PROGRAM {} .."
+USAGE = "usage: crashbpf-each [-j N] [--keep DIR] [--timeout S] [--resume] LOG --sectors N [--bound K] .. -- PROGRAM {} .."
 USAGE += ", or with the folder of a recording in place of LOG --sectors N"
 # The options of `crashbpf images` that say which images there are, with a value and without one.
 VALUED = ("--sectors", "--flush", "--base", "--cuts", "--from", "--to", "--bound", "--by")
@@ -19,10 +20,19 @@ OF_ANY, FLAGS_OF_ANY = ("--torn", "--at-most", "--cases"), ("--stop-at-failing",
 # Those of `log`, which takes the same log.
 OF_LOG = ("--sectors", "--flush", "--large")
 # The options of this program.
-OWN_VALUED = {"-j": "runners", "--keep": "keep", "--timeout": "seconds", "--spot": "spot", "--part": "part"}
-OWN_FLAGS = {"--first": "first", "--resume": "resume", "--read-only": "read_only", "--cure": "cure", "--stay": "stay"}
+OWN_VALUED = {
+    "-j": "runners",
+    "--keep": "keep",
+    "--timeout": "seconds",
+    "--spot": "spot",
+    "--part": "part",
+    "--runs": "runs",
+    "--recover": "recover",
+}
+OWN_FLAGS = {"--first": "first", "--resume": "resume", "--read-only": "read_only", "--cure": "cure", "--stay": "stay", "--again": "again"}
 # Those of both kinds that stand beside `--bound any` alone, and those that never do.
-ONLY_ANY, NEVER_ANY = (*OF_ANY, *FLAGS_OF_ANY, "--spot", "--part", "--cure", "--stay"), ("--first", "--read-only")
+ONLY_ANY = (*OF_ANY, *FLAGS_OF_ANY, "--runs", "--spot", "--part", "--cure", "--stay", "--again", "--recover")
+NEVER_ANY = ("--first", "--read-only")
 MOST_RUNNERS, MOST_SECONDS, MOST_SECTORS, MOST_SPOTS, MOST_PARTS, MOST_CASES = 64, 86400, 33554432, 1000000, 10000, 16777216
 SECTOR = 512
 # What runs a program on the files of an image.
@@ -33,10 +43,14 @@ NUMBER, DECIMAL = re.compile(r"0|[1-9]\d{0,18}", re.A), re.compile(r"\d{1,9}(\.\
 class Words:
     """What is asked for. `options` are those of the images, a pair of each name and its value, as they were given."""
 
-    first = resume = read_only = cure = stay = False
-    keep, seconds, spot, part = None, 60.0, None, None
+    first = resume = read_only = cure = stay = again = False
+    keep, seconds, spot, part, runs, recover = None, 60.0, None, None, None, None
+    # The names that a recording left out.
+    skipped = ()
     # What is done in place of the program, by its words: what crashbpf-files does.
     inside = None
+    # Why one loss at a time is judged, where no bound was given and that isn't what is meant by none.
+    narrowed = ""
 
     def __init__(self, log, options, program):
         self.log, self.options, self.program = log, options, program
@@ -150,8 +164,8 @@ def split(words):
 
 
 def of_recording(pairs, folder, program):
-    """Returns the words with what the folder of a recording knows in its place: the log, its options but for those that are given, and
-    the program, which is run on the files of an image where the folder has their map."""
+    """Returns the words with what the folder of a recording knows in its place: the log, its options but for those that are given; the
+    program, which is run on the files of an image where the folder has their map; and the names that were left out."""
     try:
         it = recording.read(folder)
     except recording.Unknown as unknown:
@@ -164,12 +178,25 @@ def of_recording(pairs, folder, program):
         # (it is run in another folder)
         program = [os.path.abspath(program[0]) if "/" in program[0] else program[0], *program[1:]]
         program = [shutil.which("crashbpf-files") or FILES, it.path(it.map), "{}", "--", *program]
-    return [(name, it.log()) if name == "" else (name, value) for name, value in pairs] + known, program
+    return [(name, it.log()) if name == "" else (name, value) for name, value in pairs] + known, program, it.skipped
+
+
+def without_bound(given, names):
+    """Returns the words with a bound, of which none was given: every loss, or one at a time where that can't be had, and why."""
+    if any(it in ONLY_ANY for it in names):
+        return given.asking({"--bound": "any"})
+    of_images = next((it for it in names if it in NEVER_ANY), None)
+    why = f"{of_images} is of images" if of_images else missing()
+    given = given.asking({"--bound": "1" if why else "any"})
+    given.narrowed = why
+    return given
 
 
 def beside_any(given, names):
     """Tests what stands beside `--bound any`."""
     if not given.is_any():
+        if "--part" in names:
+            raise Refusal("--part is of every loss, with --bound any: join takes no reports of a program of yours, so a run with a bound has no parts")
         other = next((it for it in names if it in ONLY_ANY), None)
         if other:
             raise Refusal(f"{other} is of every loss, with --bound any")
@@ -180,11 +207,23 @@ def beside_any(given, names):
     if "--cases" in names:
         number("--cases", given.value("--cases"), MOST_CASES)
     beside_cure(names)
+    beside_again(names)
+
+
+def beside_again(names):
+    """Tests what stands beside `--again` and `--recover`."""
+    other = next((it for it in names if it in ("--cure", "--part", "--spot")), None)
+    if "--again" in names and other:
+        raise Refusal(f"{other} is of the log alone, and --again goes on with what the program does to its images")
+    if "--recover" in names and "--again" not in names:
+        raise Refusal("--recover says what is cut by --again")
+    if "--recover" in names and "--stay" in names:
+        raise Refusal("a program that stays recovers by itself, so --recover isn't for it")
 
 
 def beside_cure(names):
     """Tests what stands beside `--cure` and `--part`."""
-    other = next((it for it in names if it in ("--stop-at-failing", "--cases", "--part", "--cuts")), None)
+    other = next((it for it in names if it in ("--stop-at-failing", "--cases", "--runs", "--part", "--cuts")), None)
     if "--cure" in names and other:
         raise Refusal(f"{other} doesn't stand beside --cure, which makes rounds of its own, over all cuts")
     if "--part" in names and "--spot" in names:
@@ -197,9 +236,9 @@ def parse(words):
     pairs = split(before)
     logs = [value for name, value in pairs if name == ""]
     is_folder = len(logs) == 1 and os.path.isdir(logs[0])
-    judge = program
+    judge, skipped = program, ()
     if is_folder:
-        pairs, program = of_recording(pairs, logs[0], program)
+        pairs, program, skipped = of_recording(pairs, logs[0], program)
         logs = [value for name, value in pairs if name == ""]
     names = [name for name, _value in pairs if name]
     if len(logs) != 1 or "--sectors" not in names:
@@ -208,11 +247,14 @@ def parse(words):
     if twice:
         raise Refusal(f"{twice} stands there twice")
     given = Words(logs[0], sized([it for it in pairs if it[0] in VALUED + FLAGS + OF_ANY + FLAGS_OF_ANY]), program)
+    given.skipped = skipped
     if is_folder and len(program) > len(judge):
         from commands.record import laying
 
         given.inside = laying.main
     number("--sectors", given.value("--sectors"), MOST_SECTORS)
+    if not given.has("--bound"):
+        given = without_bound(given, names)
     beside_any(given, names)
     if "--stay" in names and "{}" in program:
         raise Refusal("a program that stays is told its images by lines, so no word of it is {}, and the folder of a recording of files isn't for it")
@@ -225,8 +267,12 @@ def parse(words):
             given.keep = value
         elif name == "--spot":
             given.spot = spotted(value)
+        elif name == "--runs":
+            given.runs = number("--runs", value, MOST_CASES)
         elif name == "--part":
             given.part = parted(value)
+        elif name == "--recover":
+            given.recover = value
         elif name in OWN_FLAGS:
             setattr(given, OWN_FLAGS[name], True)
     return given

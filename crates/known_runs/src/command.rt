@@ -180,10 +180,7 @@ struct ReadLogs<'x> {
 }
 
 /// The log of a question, whose text of records isn't too long.
-fn read_logs<'x>(
-    alloc: Global,
-    question: &KnownQuestion<'x>,
-) -> Result<ReadLogs<'x>, KnownRunFault>
+fn read_logs<'x>(alloc: Global, question: &KnownQuestion<'x>) -> Result<ReadLogs<'x>, KnownRunFault>
     ensures short { OnOk result (length question.now.records.now ≤ 2 ^ 30) }
     ensures log { IfOk result (λ logs. IsLogOf question.now.recording.now question.now.options.now logs.log) }
     ensures plain { IfOk result (λ logs. IsRecorded question.now.recording.now question.now.options.now logs.plain) }
@@ -211,10 +208,7 @@ fn read_logs<'x>(
 /// That the text of records has more than 1 GiB; the refusals of the log and of the number of its images; the first line that is none of
 /// records of the log; the first two records that contradict each other, by the later one; 12 at the cut with which there are more than
 /// 16,777,216 told leaves and open cases; or want of memory.
-pub fn tell_known(
-    alloc: Global,
-    question: &KnownQuestion<'_>,
-) -> Result<KnownTold, KnownRunFault>
+pub fn tell_known(alloc: Global, question: &KnownQuestion<'_>) -> Result<KnownTold, KnownRunFault>
     ensures told { IfOk result (λ t. TellsKnown (asked_of question.now) t.bytes.items t.status) }
     ensures refused { IfErr result (RefusesKnown (asked_of question.now)) }
 {
@@ -238,10 +232,7 @@ pub fn tell_known(
 /// # Errors
 ///
 /// Those of `tell_known`.
-pub fn wanted_known(
-    alloc: Global,
-    question: &KnownQuestion<'_>,
-) -> Result<Vec<u8>, KnownRunFault>
+pub fn wanted_known(alloc: Global, question: &KnownQuestion<'_>) -> Result<Vec<u8>, KnownRunFault>
     ensures wanted { IfOk result (λ bytes. TellsWanted (asked_of question.now) bytes.items) }
     ensures refused { IfErr result (RefusesKnown (asked_of question.now)) }
 {

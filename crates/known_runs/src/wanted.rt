@@ -36,14 +36,7 @@ fn push_cases<'a>(
     ensures { OnOk result (images.new.items ≡ images.old.items ++ map (λ o. wanted_view log.now by (wanted_case log.now by tears cut o.sets.items)) cases.now) }
 {
     for case in cases {
-        images.push(WantedImage::of(
-            alloc,
-            log,
-            by,
-            tears,
-            cut,
-            case.sets.as_slice(),
-        )?)?;
+        images.push(WantedImage::of(alloc, log, by, tears, cut, case.sets.as_slice())?)?;
     }
     Ok(())
 }
@@ -280,16 +273,7 @@ fn put_images<'x>(
     let mut count = 0;
     for place in 0..images.len() {
         let shown = shown_of(images, initial, last);
-        let new = put_image(
-            out,
-            &mut line,
-            &mut numbers,
-            plan,
-            by,
-            images,
-            shown,
-            place,
-        )?;
+        let new = put_image(out, &mut line, &mut numbers, plan, by, images, shown, place)?;
         last = last_with(last, place, new);
         count = with(count, new);
     }

@@ -28,6 +28,17 @@ fn put_explored_notes(out: &mut String, facts: &RunFacts) -> Result<(), AllocErr
     put_blind(out, facts.blind.as_slice())
 }
 
+/// Appends that a program of which there are records looked at nothing of what the log writes, where that is so.
+fn put_records_notes(out: &mut String, facts: &RunFacts) -> Result<(), AllocError> {
+    match facts.blind.as_slice() {
+        [true] => put_note(
+            out,
+            "program 0: looked at no sector that an entry writes, in no record, so no loss changes what it ends in",
+        ),
+        _ => Ok(()),
+    }
+}
+
 /// Appends which marks of a log promise what nothing made durable, where some do.
 fn put_mark_notes(out: &mut String, log: &LogFacts) -> Result<(), AllocError> {
     match &log.promises {
@@ -121,7 +132,7 @@ fn put_program_notes(out: &mut String, words: &Words, facts: &RunFacts) -> Resul
         Request::Cure(_) | Request::Page(_) => put_explored_notes(out, facts),
         Request::Marked(_) => put_explored_notes(out, facts),
         Request::Cases(_, _) | Request::CureCases(_, _) => put_explored_notes(out, facts),
-        Request::Known(_, _) => put_explored_notes(out, facts),
+        Request::Known(_, _) => put_records_notes(out, facts),
         _ => Ok(()),
     }
 }
