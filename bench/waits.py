@@ -149,7 +149,7 @@ def row(name, make, program, folder):
 
     explored, cases, replay = of("explore"), of("explore", "--bound", "any"), of("explore", "--bound", "0")
     why, page = of("why", "--bound", "any")[0], of("page", "--bound", "any")[0]
-    judged, replayed = each(), each("--bound", "0")
+    judged, replayed = each("--bound", "1"), each("--bound", "0")
     cell = [f"{counted(text)}, {told(taken)}" for taken, text in (explored, cases, judged, replay, replayed)]
     return [name, str(entries), told(seconds) if seconds else "in a guest", cell[0], cell[1], f"{told(why)}; {told(page)}", cell[2], f"{cell[3]}; {cell[4]}"]
 

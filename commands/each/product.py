@@ -38,6 +38,11 @@ def first_line(said):
     return lines[0] if lines else "it says nothing"
 
 
+def notes_in(said):
+    """Returns the notes of what crashbpf said on standard error, but those of marks that promise too much, which `marks` has."""
+    return [it for it in said.decode(errors="replace").splitlines() if it.startswith("note: ") and not it.startswith(PROMISES)]
+
+
 def asked(program, words):
     """Runs crashbpf, and returns its status and what it printed on both outputs."""
     try:
@@ -101,7 +106,7 @@ def case_options(program, given, folder):
     options = lines[2] if lines[1:2] and lines[1].startswith("inputs ") else lines[1] if len(lines) > 2 else ""
     if status not in (0, 1) or lines[0] != "crash cases 1" or not options.startswith("sectors "):
         raise Refusal(f"crashbpf refuses the log {given.log}, or its options: {first_line(said)}")
-    return options, [it for it in said.decode(errors="replace").splitlines() if it.startswith("note: ") and not it.startswith(("note: program ", *PROMISES))]
+    return options, [it for it in notes_in(said) if not it.startswith("note: program ")]
 
 
 def marks(program, given):
@@ -135,12 +140,11 @@ def beyond(program, given):
 
 
 class Export:
-    """The process of `crashbpf export`, and its output as a file."""
+    """The process of `crashbpf export` with some words, and its output as a file."""
 
-    def __init__(self, program, given):
+    def __init__(self, program, words):
         self.said = tempfile.TemporaryFile()
-        words = [program, "export", *given.of_images()]
-        self.process = subprocess.Popen(words, stdin=subprocess.DEVNULL, stdout=subprocess.PIPE, stderr=self.said, bufsize=1 << 20, start_new_session=True)
+        self.process = subprocess.Popen([program, "export", *words], stdin=subprocess.DEVNULL, stdout=subprocess.PIPE, stderr=self.said, bufsize=1 << 20, start_new_session=True)
         self.file = self.process.stdout
 
     def end_in_order(self):
@@ -159,6 +163,11 @@ class Export:
     def first_line(self):
         self.said.seek(0)
         return first_line(self.said.read(65536))
+
+    def refusal(self, error):
+        """Returns why the text can't be taken. A refusal of crashbpf is why it is cut off."""
+        status = self.status_now()
+        return Refusal(f"{error}; it ended with {status}: {self.first_line()}" if status else str(error))
 
     def close(self):
         """Ends the process of the export, and closes its files."""

@@ -60,16 +60,22 @@ class Rounds:
     """The rounds of a run. `runs` counts how often the program was run, `judged` the images. With `cuts` those of other cuts aren't judged."""
 
     def __init__(self, given, records, crew, marks, cuts=None):
-        self.records, self.crew, self.marks, self.cuts = records, crew, marks, cuts
+        self.records, self.crew, self.marks, self.cuts, self.most = records, crew, marks, cuts, given.runs
         self.is_told = None
         self.round = self.runs = self.judged = self.failing = self.left = 0
         self.jobs, self.at, self.alone, self.first = deque(), {}, deque(), first_number(given.keep)
 
     def go(self, step):
-        """Judges until a step wants nothing."""
+        """Judges until a step wants nothing, and returns that step. Where more is wanted than --runs says, one that ends each cut at its first
+        failing case goes on."""
         while wanted := [it for it in step.wanted() if self.cuts is None or it.cut in self.cuts]:
+            stops = step.given.has("--stop-at-failing")
+            if not stops and self.most is not None and self.records.known.count + len(wanted) > self.most:
+                step = step.asking({"--stop-at-failing": True})
+                continue
             self.round, self.is_told = self.round + 1, step.is_told
-            self.judge(wanted, step.given.has("--stop-at-failing"))
+            self.judge(wanted, stops)
+        return step
 
     def go_on(self, again):
         """Judges what a second crash leaves, until nothing is wanted. What is found stands in other records."""
@@ -159,7 +165,7 @@ class Answer(NamedTuple):
 
 def judged_part(step, rounds, path):
     """Judges a part. Its text are its records, and its status is 1 where something fails of what is known."""
-    rounds.go(step)
+    step = rounds.go(step)
     status, _text, _said = step.text()
     with open(path, "rb") as file:
         return Answer(int(status == 1), file.read(), [], step.given)
@@ -173,12 +179,12 @@ def answer(given, step, rounds, path):
         return Answer(status, text, said, cure.step.given)
     if given.part:
         return judged_part(step, rounds, path)
-    rounds.go(step)
+    step = rounds.go(step)
     if given.again:
         again = Again(step)
         rounds.go_on(again)
-        return Answer(*again.text(), given)
-    return Answer(*step.text(), given)
+        return Answer(*again.text(), step.given)
+    return Answer(*step.text(), step.given)
 
 
 def judged_any(given, program, folder, say, test_unchanged):

@@ -78,7 +78,6 @@ class Server:
             wire.RELEASEDIR: self.release,
             wire.FSYNC: self.fsync,
             wire.FSYNCDIR: self.fsync,
-            wire.FLUSH: self.nothing,
             wire.OPENDIR: self.opendir,
             wire.READDIR: self.readdir,
             wire.CREATE: self.create,
@@ -170,7 +169,7 @@ class Server:
         return self.entry(folder.find(wire.text(data)), folder is not self.root)
 
     def getattr(self, node, _data):
-        return wire.ATTR_OUT.pack(0 if node is self.root else wire.FOR_LONG, 0, 0) + wire.attributes(node)
+        return wire.ATTR_OUT.pack(wire.FOR_LONG, 0, 0) + wire.attributes(node)
 
     def setattr(self, node, data):
         """Sets a mode, an owner, a size or times, for this run alone."""

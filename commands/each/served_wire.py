@@ -59,9 +59,8 @@ def attributes(node):
 
 
 def entry(number, is_lasting, node):
-    """The answer of a look-up, or of what makes a name."""
-    seconds = FOR_LONG if is_lasting else 0
-    return ENTRY_OUT.pack(number, 0, seconds, seconds, 0, 0) + attributes(node)
+    """The answer of a look-up, or of what makes a name; `is_lasting` says whether the name stays that of the node."""
+    return ENTRY_OUT.pack(number, 0, FOR_LONG if is_lasting else 0, FOR_LONG, 0, 0) + attributes(node)
 
 
 def names(listing, at, size):

@@ -6,10 +6,11 @@ import shutil
 import stat
 from pathlib import Path
 
+from commands.each.served_mount import missing
 from commands.shared import recording
 from commands.shared.faults import Refusal
 
-USAGE = "usage: crashbpf-each [-j N] [--first] [--keep DIR] [--timeout S] [--resume] [--read-only] LOG --sectors N .. -- PROGRAM {} .."
+USAGE = "usage: crashbpf-each [-j N] [--keep DIR] [--timeout S] [--resume] LOG --sectors N [--bound K] .. -- PROGRAM {} .."
 USAGE += ", or with the folder of a recording in place of LOG --sectors N"
 # The options of `crashbpf images` that say which images there are, with a value and without one.
 VALUED = ("--sectors", "--flush", "--base", "--cuts", "--from", "--to", "--bound", "--by")
@@ -19,10 +20,19 @@ OF_ANY, FLAGS_OF_ANY = ("--torn", "--at-most", "--cases"), ("--stop-at-failing",
 # Those of `log`, which takes the same log.
 OF_LOG = ("--sectors", "--flush", "--large")
 # The options of this program.
-OWN_VALUED = {"-j": "runners", "--keep": "keep", "--timeout": "seconds", "--spot": "spot", "--part": "part", "--recover": "recover"}
+OWN_VALUED = {
+    "-j": "runners",
+    "--keep": "keep",
+    "--timeout": "seconds",
+    "--spot": "spot",
+    "--part": "part",
+    "--runs": "runs",
+    "--recover": "recover",
+}
 OWN_FLAGS = {"--first": "first", "--resume": "resume", "--read-only": "read_only", "--cure": "cure", "--stay": "stay", "--again": "again"}
 # Those of both kinds that stand beside `--bound any` alone, and those that never do.
-ONLY_ANY, NEVER_ANY = (*OF_ANY, *FLAGS_OF_ANY, "--spot", "--part", "--cure", "--stay", "--again", "--recover"), ("--first", "--read-only")
+ONLY_ANY = (*OF_ANY, *FLAGS_OF_ANY, "--runs", "--spot", "--part", "--cure", "--stay", "--again", "--recover")
+NEVER_ANY = ("--first", "--read-only")
 MOST_RUNNERS, MOST_SECONDS, MOST_SECTORS, MOST_SPOTS, MOST_PARTS, MOST_CASES = 64, 86400, 33554432, 1000000, 10000, 16777216
 SECTOR = 512
 # What runs a program on the files of an image.
@@ -34,11 +44,13 @@ class Words:
     """What is asked for. `options` are those of the images, a pair of each name and its value, as they were given."""
 
     first = resume = read_only = cure = stay = again = False
-    keep, seconds, spot, part, recover = None, 60.0, None, None, None
+    keep, seconds, spot, part, runs, recover = None, 60.0, None, None, None, None
     # The names that a recording left out.
     skipped = ()
     # What is done in place of the program, by its words: what crashbpf-files does.
     inside = None
+    # Why one loss at a time is judged, where no bound was given and that isn't what is meant by none.
+    narrowed = ""
 
     def __init__(self, log, options, program):
         self.log, self.options, self.program = log, options, program
@@ -169,9 +181,22 @@ def of_recording(pairs, folder, program):
     return [(name, it.log()) if name == "" else (name, value) for name, value in pairs] + known, program, it.skipped
 
 
+def without_bound(given, names):
+    """Returns the words with a bound, of which none was given: every loss, or one at a time where that can't be had, and why."""
+    if any(it in ONLY_ANY for it in names):
+        return given.asking({"--bound": "any"})
+    of_images = next((it for it in names if it in NEVER_ANY), None)
+    why = f"{of_images} is of images" if of_images else missing()
+    given = given.asking({"--bound": "1" if why else "any"})
+    given.narrowed = why
+    return given
+
+
 def beside_any(given, names):
     """Tests what stands beside `--bound any`."""
     if not given.is_any():
+        if "--part" in names:
+            raise Refusal("--part is of every loss, with --bound any: join takes no reports of a program of yours, so a run with a bound has no parts")
         other = next((it for it in names if it in ONLY_ANY), None)
         if other:
             raise Refusal(f"{other} is of every loss, with --bound any")
@@ -198,7 +223,7 @@ def beside_again(names):
 
 def beside_cure(names):
     """Tests what stands beside `--cure` and `--part`."""
-    other = next((it for it in names if it in ("--stop-at-failing", "--cases", "--part", "--cuts")), None)
+    other = next((it for it in names if it in ("--stop-at-failing", "--cases", "--runs", "--part", "--cuts")), None)
     if "--cure" in names and other:
         raise Refusal(f"{other} doesn't stand beside --cure, which makes rounds of its own, over all cuts")
     if "--part" in names and "--spot" in names:
@@ -228,6 +253,8 @@ def parse(words):
 
         given.inside = laying.main
     number("--sectors", given.value("--sectors"), MOST_SECTORS)
+    if not given.has("--bound"):
+        given = without_bound(given, names)
     beside_any(given, names)
     if "--stay" in names and "{}" in program:
         raise Refusal("a program that stays is told its images by lines, so no word of it is {}, and the folder of a recording of files isn't for it")
@@ -240,6 +267,8 @@ def parse(words):
             given.keep = value
         elif name == "--spot":
             given.spot = spotted(value)
+        elif name == "--runs":
+            given.runs = number("--runs", value, MOST_CASES)
         elif name == "--part":
             given.part = parted(value)
         elif name == "--recover":

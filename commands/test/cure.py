@@ -37,7 +37,7 @@ class Cure:
         self.source, self.table, self.explorer, self.place, self.say = source, table, explorer, place, say
         self.answer = Answer()
 
-    def explored(self, table, syncs, until=lambda case: False):
+    def explored(self, table, syncs, until=None):
         """What is found of the recording with syncs."""
         log = self.source.log(table, syncs)
         return log, self.explorer.explore(log, until)

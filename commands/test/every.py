@@ -1,7 +1,7 @@
 """Explores every loss of any number of writes: what crashbpf-each finds with `--bound any`, on images that it serves.
 
-First it explores as `Bounded` does. Where nothing fails so, every loss is judged, each cut to its first failing case. What fails there is
-judged once more on files that are laid out, and has to end alike.
+All failing cases are found up to a number of runs of the check, and from there on each cut's first one. What fails is judged once more on
+files that are laid out, and has to end alike. Where images can't be served it explores as `Bounded` does.
 """
 import os
 import re
@@ -12,12 +12,13 @@ from pathlib import Path
 
 from commands.each.served_mount import missing
 from commands.each.spot import CASE
+from commands.shared import recording
 from commands.shared.faults import Refusal
-from commands.test.explore import Bounded, Case, choice_of, lost_of
+from commands.test.explore import Bounded, Case, Found, choice_of, lost_of
 
-EACH, FILES = (str(Path(__file__).resolve().parents[1] / it) for it in ("each/crashbpf-each", "record/crashbpf-files"))
-# Of one cut no more cases are looked at: a check that reads all that is in flight has very many.
-MOST_CASES = 500
+EACH, MAP = str(Path(__file__).resolve().parents[1] / "each/crashbpf-each"), "files.txt"
+# After as many runs a cut is left at its first failing case, and at as many cases: a check that reads all that is in flight has very many.
+MOST_RUNS, MOST_CASES = 500, 500
 TOTALS = re.compile(r"cuts \d+ cases (\d+) failing \d+ torn beyond \d+ lost beyond \d+ open \d+ stopped (\d+)( complete)?")
 RUNS = re.compile(r"note: the program was run (\d+) times")
 
@@ -32,22 +33,21 @@ class Every(Bounded):
     """Explores every loss. `check` are the words of the check, `runners` how many run at a time, `seconds` what each may take."""
 
     def __init__(self, judge, check, runners, seconds, say=lambda text: None):
-        super().__init__(judge, None, False, say)
-        self.options = ["--bound", "any", "--stop-at-failing", "--cases", str(MOST_CASES), "-j", str(runners), "--timeout", str(seconds)]
         self.check, self.lacking = check, missing()
+        super().__init__(judge, None if self.lacking else 1, False, say)
+        self.options = ["--bound", "any", "--runs", str(MOST_RUNS), "--cases", str(MOST_CASES), "-j", str(runners), "--timeout", str(seconds)]
 
-    def explore(self, log, until=lambda case: False):
-        """Explores a log. It ends early where `until` says so of a case that fails."""
-        found = super().explore(log, until)
-        if found.failing or found.complete or found.stopped:
-            return found
+    def explore(self, log, until=None):
+        """Explores a log. It ends early where `until` says so of a case that fails, which one lost write may show already."""
         if self.lacking:
-            found.scope += f"; every loss can't be judged: {self.lacking}"
+            found = super().explore(log, until)
+            found.scope += "" if found.complete else f"; every loss can't be judged: {self.lacking}"
             return found
-        return self.every(log, found)
+        found = super().explore(log, until) if until else Found()
+        return found if found.stopped else self.every(log)
 
-    def every(self, log, found):
-        """Judges every loss of a log of which nothing else fails."""
+    def every(self, log):
+        """Judges every loss of a log."""
         self.say("every loss of any number of writes")
         text, runs = self.judged(log)
         lines = text.splitlines()
@@ -56,11 +56,9 @@ class Every(Bounded):
             raise Refusal("crashbpf-each prints no text of cases")
         self.judge.runs += runs
         failing = [self.case(log, it) for it in map(CASE.fullmatch, lines) if it]
-        found.cases, found.failing, found.complete = found.cases + int(totals[1]), list(dict.fromkeys(failing)), bool(totals[3])
-        found.cut_short = totals[2] != "0"
-        stopped = "" if found.complete else f"; at {totals[2]} cuts not to the end"
-        found.scope = f"every loss of any number of writes, each of them whole{stopped}"
-        return found
+        stopped = "" if totals[3] else f"; at {totals[2]} cuts not to the end"
+        scope = f"every loss of any number of writes, each of them whole{stopped}"
+        return Found(list(dict.fromkeys(failing)), int(totals[1]), scope, bool(totals[3]), cut_short=totals[2] != "0")
 
     def case(self, log, line):
         """Returns a failing case, which has to fail alike where its files are laid out."""
@@ -74,9 +72,10 @@ class Every(Bounded):
     def judged(self, log):
         """Returns the text of cases that crashbpf-each prints of a log, and how often it ran the check."""
         with tempfile.TemporaryDirectory(dir=self.judge.folder) as folder:
-            given, files = log.write(folder), Path(folder, "files.txt")
-            files.write_text(log.map_text())
-            words = [sys.executable, EACH, *self.options, *given, "--", sys.executable, FILES, str(files), "{}", "--", *self.check]
+            is_large = "--large" in log.write(folder)
+            Path(folder, MAP).write_text(log.map_text())
+            recording.Recording(folder, log.sectors, is_large, base="base.img", map=MAP).write()
+            words = [sys.executable, EACH, *self.options, folder, "--", *self.check]
             running = subprocess.Popen(words, cwd=folder, stdin=subprocess.DEVNULL, stdout=subprocess.PIPE, stderr=subprocess.PIPE, env={**os.environ, "CRASHBPF": self.program})
             try:
                 printed, said = running.communicate()

@@ -9,7 +9,6 @@ import subprocess
 import tempfile
 from dataclasses import dataclass, field
 from itertools import chain
-from types import SimpleNamespace
 
 from commands.each import product
 from commands.shared.faults import Refusal
@@ -88,7 +87,7 @@ class Bounded:
             raise Refusal(f"crashbpf refuses the log: {product.first_line(done.stderr)}")
         return int(last[0].split()[1])
 
-    def explore(self, log, until=lambda case: False):
+    def explore(self, log, until=None):
         """Explores a log. It ends early where `until` says so of a case that fails."""
         # (it stands in memory where there is room)
         most = max(len(log.in_flight(cut)) for cut in log.cuts())
@@ -110,7 +109,7 @@ class Bounded:
         found, waiting = Found(), []
         for case in cases:
             waiting.append(case)
-            if self.fails(case) and until(case):
+            if until and self.fails(case) and until(case):
                 found.stopped = True
                 break
         self.judge.settle()
@@ -140,7 +139,7 @@ class Bounded:
 
     def exported(self, log, given, bound, total):
         """The images that crashbpf exports, each handed to the judge."""
-        export = product.Export(self.program, SimpleNamespace(of_images=lambda: self.words(given, bound)))
+        export = product.Export(self.program, self.words(given, bound))
         device, keys = bytearray(log.base), {}
         try:
             inputs(export.file)
@@ -157,7 +156,6 @@ class Bounded:
                 yield Case(it.cut, lost, keys[it.number if it.same is None else it.same])
             export.end_in_order()
         except Refusal as error:
-            status = export.status_now()
-            raise Refusal(f"{error}; it ended with {status}: {export.first_line()}" if status else str(error)) from None
+            raise export.refusal(error) from None
         finally:
             export.close()

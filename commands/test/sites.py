@@ -35,8 +35,8 @@ class Site:
         return self.key[0]
 
     def order_facts(self):
-        """Puts the facts in the order in which they are told: after a mark first, then what was lost last before its need."""
-        self.facts.sort(key=lambda it: (self.log.passed[it.shown.cut] == 0, it.need - min(it.numbers())))
+        """Puts the facts in the order in which they are told: after a mark first, then what was lost last before its need, then the first one."""
+        self.facts.sort(key=lambda it: (self.log.passed[it.shown.cut] == 0, it.need - min(it.numbers()), it.need))
         first = self.first()
         mine = [it for it in self.instances if it[0] == place_of(self.log.call(first.need))]
         self.instances = {it: self.instances[it] for it in [*mine, *self.instances]}

@@ -41,7 +41,7 @@ def parser():
     made.add_argument("--base", metavar="PATH", help="what $FILES has at first: a file or a folder")
     made.add_argument("--skip", metavar="NAME", action="append", default=[], help="leave this file out, as a lock")
     made.add_argument("--mapped", action="store_true", help="look at files that are mapped for writing at each call")
-    made.add_argument("--bound", metavar="N", type=bound, help="how many writes are lost at once, 0 to 3, or any; without it one, and up to three where nothing fails and these are few")
+    made.add_argument("--bound", metavar="N", type=bound, help="how many writes are lost at once, 0 to 3, or any, which is every loss; without it any where that can be had")
     made.add_argument("--tears", action="store_true", help="writes may be torn too")
     made.add_argument("--timeout", metavar="S", type=float, default=60.0, help="end a check that takes longer than S seconds (60)")
     made.add_argument("-j", dest="runners", metavar="N", type=positive(MOST_RUNNERS), help="let N checks run at a time (as many as there are processors)")

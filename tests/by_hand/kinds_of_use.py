@@ -267,7 +267,7 @@ def judged(folder, row, out):
     else:
         return f"not judged: it has more than {MOST} images, and no fewer at marks" if found else f"not judged: {counted.stderr.strip()}", None
     (out / "crashbpf-each.state").unlink(missing_ok=True)
-    command = [EACH, "-j", "2", "--cuts", cuts, out, "--", "sh", "-c", row.judge]
+    command = [EACH, "-j", "2", "--bound", "1", "--cuts", cuts, out, "--", "sh", "-c", row.judge]
     done = subprocess.run(command, cwd=out, env=environment, capture_output=True, text=True, errors="replace")
     total = re.search(r"(?m)^images (\d+) failing (\d+) ", done.stdout)
     if not total:

@@ -1,9 +1,10 @@
 #!/usr/bin/env python3
 """Tries the rules of records (docs/OUTPUT.md, 'Records of a program of yours') on many random runs, by the model known_model.py.
 
-    python3 tests/by_hand/known_soak.py [--runs N] [--seed S] [--only NUMBER]
+    python3 tests/by_hand/known_soak.py [--runs N] [--seed S] [--only NUMBER] [PROGRAM]
 
-N is 2,000 where it isn't given, S is 1. A run has a log of up to eight entries, what the device held before, and options picked at random:
+N is 2,000 where it isn't given, S is 1. Where PROGRAM is given, what `explore` and `export` print by each text of records is compared with
+the model, to the byte, with its status; and each text that is refused is refused by the program too, at the same line. A run has a log of up to eight entries, what the device held before, and options picked at random:
 the cuts, tears, `--torn`, `--at-most`, `--by`, `--from`, `--to`, `--flush`, `--stop-at-failing` and `--cases`. A judge reads some bytes, of
 which sectors hangs on what it found; it ends with a status, by a signal or out of time. From an empty text it goes round by round: what is
 exported is judged, or only some of it, and records are appended. On their way they are shuffled, doubled, put together with a second head,
@@ -17,8 +18,11 @@ that are damaged are refused with their number and line. It takes some ten minut
 """
 import argparse
 import random
+import subprocess
 import sys
+import tempfile
 from dataclasses import replace
+from pathlib import Path
 
 sys.dont_write_bytecode = True
 
@@ -31,11 +35,13 @@ import known_model
 from cases_model import LOST, Cut, Losses, cases, choices, image_of, judged_cuts, read_case, read_line
 from known_model import Ended, Refused, head_text, record_text, told
 from model import Checker, covered
-from notation import FLUSH, FUA, SECTOR, random_entry
+from notation import FLUSH, FUA, SECTOR, log, random_entry
 from parts_model import WideRun
 
 # At most as many choices are made of a cut, and as many rounds of a run in which only some is judged.
 MOST, MOST_ROUNDS = 256, 200
+# How many seconds the program may take.
+LIMIT = 120
 WORDS, SUM = "./check {}", "5f0c"
 
 
@@ -105,11 +111,41 @@ def looked_in(chance, run, looked, is_wide):
     return chance.sample(wide, len(wide)) if is_wide and chance.random() < 0.5 else kept
 
 
+class Program:
+    """The program under test, if one is, with the folder of its files."""
+
+    def __init__(self, name, folder):
+        self.name, self.folder = name and str(Path(name).resolve()), Path(folder)
+
+    def called(self, command, run, losses, content):
+        """What a command answers on a log and a text of records: its status, what it prints, and what it says of it."""
+        for name, held in (("log", log(run.recorded)), ("base", run.base), ("known", content)):
+            (self.folder / name).write_bytes(held)
+        words = run.options().replace("--bound 1", losses.options()).split()
+        done = subprocess.run([self.name, command, "log", *words, "--known", "known"], cwd=self.folder, capture_output=True, timeout=LIMIT)
+        return done.returncode, done.stdout, done.stderr.decode()
+
+    def differs(self, it, content, stated, text):
+        """What the program says otherwise than the model."""
+        for command, wanted in (("explore", (stated, text)), ("export", (0, known_model.exported(it)))) if self.name else ():
+            status, out, error = self.called(command, it.run, it.losses, content)
+            if (status, out) != wanted:
+                yield f"{command} ends with {status} in place of {wanted[0]}, and prints {out} in place of {wanted[1]}: {error}"
+
+    def refuses(self, run, losses, content, place):
+        """What is otherwise where the text of records has to be refused at a line, or where there is none taken."""
+        if not self.name:
+            return []
+        status, out, error = self.called("explore", run, losses, content)
+        wanted = f"refused 16 at {place}\n"
+        return [] if (status, out) == (2, b"") and error.startswith(wanted) else [f"the program says {status} {error} in place of {wanted}"]
+
+
 class Rounds:
     """The rounds of a run: its records so far, as their lines."""
 
-    def __init__(self, chance, run, losses, judge):
-        self.chance, self.run, self.losses, self.judge = chance, run, losses, judge
+    def __init__(self, chance, run, losses, judge, program):
+        self.chance, self.run, self.losses, self.judge, self.program = chance, run, losses, judge, program
         self.inputs, self.lines, self.content = known_model.inputs_of(run), [], b""
         self.is_wide = chance.random() < 0.3
 
@@ -227,7 +263,9 @@ def damage_holds(rounds):
 
     def is_refused(what, text, *wanted):
         found = refused(rounds.run, text, rounds.losses, rounds.inputs)
-        return [] if found == wanted else [f"{what}: {found} in place of {wanted}"]
+        if found != wanted:
+            return [f"{what}: {found} in place of {wanted}"]
+        return [f"{what}: {it}" for it in rounds.program.refuses(rounds.run, rounds.losses, text, found[1])] if found else []
 
     said = is_refused("no newline", content[:-1], 17, end)
     said += is_refused("a part of a head", content + head[: head.index("sum")].encode(), 17, end + 4)
@@ -248,18 +286,19 @@ def damage_holds(rounds):
     return said
 
 
-def run_holds(number, seed):
+def run_holds(number, seed, program):
     """What isn't as the rules say of the run with that number; None where it has too many choices."""
     chance = random.Random(f"{seed} {number}")
     run, losses, judge = some_run(chance)
     if not is_small(run):
         return None
-    rounds, count, said = Rounds(chance, run, losses, judge), 0, []
+    rounds, count, said = Rounds(chance, run, losses, judge, program), 0, []
     wanted = True
     while wanted and count < MOST_ROUNDS:
         it = rounds.told()
         stated, text = known_model.explored(it)
         said += [*ends_hold(it, stated, text.decode()), *(choices_hold(it, judge) if chance.random() < 0.5 or not count else [])]
+        said += program.differs(it, rounds.content, stated, text)
         if rounds.lines and chance.random() < 0.1:
             # (as of a run that was killed)
             del rounds.lines[chance.randrange(len(rounds.lines)) :]
@@ -271,6 +310,7 @@ def run_holds(number, seed):
     it = rounds.told()
     said += choices_hold(it, judge)
     found, expected = known_model.explored(it), beginning(run, losses, judge)
+    said += program.differs(it, rounds.content, *found)
     if found[1].decode() != expected and not rounds.is_wide:
         said.append(f"the text is {found[1].decode()}, and not {expected}")
     plain = cases(run, [Checker(f"outside {WORDS}\nsum {SUM}", judge)], replace(losses, at_failing=False, cases=None), rounds.inputs)
@@ -311,16 +351,19 @@ def main():
     parser.add_argument("--runs", type=int, default=2_000)
     parser.add_argument("--seed", type=int, default=1)
     parser.add_argument("--only", type=int)
+    parser.add_argument("program", nargs="?")
     given = parser.parse_args()
     passed = failed = number = 0
     number = given.only or 0
-    while passed + failed < (1 if given.only is not None else given.runs):
-        found = [run_holds(number, given.seed), rounds_hold(number, given.seed)]
-        what = None if found == [None, None] else [line for it in found if it for line in it]
-        for line in what or []:
-            print(f"run {number}: {line}", flush=True)
-        passed, failed = passed + (what == []), failed + bool(what)
-        number += 1
+    with tempfile.TemporaryDirectory() as folder:
+        program = Program(given.program, folder)
+        while passed + failed < (1 if given.only is not None else given.runs):
+            found = [run_holds(number, given.seed, program), rounds_hold(number, given.seed)]
+            what = None if found == [None, None] else [line for it in found if it for line in it]
+            for line in what or []:
+                print(f"run {number}: {line}", flush=True)
+            passed, failed = passed + (what == []), failed + bool(what)
+            number += 1
     print(f"{passed} passed, {failed} failed")
     return 1 if failed else 0
 

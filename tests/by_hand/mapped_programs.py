@@ -105,7 +105,7 @@ def judged(out, row, program):
     """Judges the images of a recording. Returns how many there are, and the cuts and answers of those that fail."""
     sectors = re.search(r"sectors (\d+)", (out / "files.txt").read_text())[1]
     judge = [RECORD / "crashbpf-files", out / "files.txt", "{}", "--", "sh", "-c", f"exec {program} read . $CRASH_MARKS"]
-    words = [EACH, out / "writes.log", "--sectors", sectors, "--base", out / "base.img", "--by", "write", "--", *judge]
+    words = [EACH, out / "writes.log", "--sectors", sectors, "--base", out / "base.img", "--by", "write", "--bound", "1", "--", *judge]
     done = subprocess.run(words, env={**os.environ, "MODE": row.mode, "CRASHBPF": PROGRAM}, capture_output=True, text=True, cwd=out)
     total = re.search(r"(?m)^images (\d+) failing \d+ ", done.stdout)
     if not total:

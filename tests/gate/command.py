@@ -26,10 +26,13 @@ import rooms
 
 rooms.enter()
 
+from commands.each.served_mount import missing as unserved
 from notation import TOP
 from shells import differs, try_all
 
 COMMAND = TOP / "commands/test/crashbpf-test"
+# Whether every loss is judged here. The answer with most failing cases stands first, so the order hangs on it.
+IS_SERVED = not unserved()
 SAVING = TOP / "examples/saving"
 AT_A_TIME = 2
 
@@ -258,7 +261,7 @@ def names_saving(folder):
         ("both", text, [], ()),
         ("no sync of the file", text.replace(of_file, "true"), [moved], ()),
         ("no sync of the folder", text.replace(of_folder, "true"), [marked], ()),
-        ("none", text.replace(of_file, "true").replace(of_folder, "true"), [marked, moved], ()),
+        ("none", text.replace(of_file, "true").replace(of_folder, "true"), [moved, marked] if IS_SERVED else [marked, moved], ()),
     ):
         Path(folder, "it.sh").write_text(kept)
         found += explains(name, folder, check, ["sh", "it.sh", "sync"], wanted, useless)
@@ -416,7 +419,8 @@ def keeps(folder):
     words = ["--check", f"sh {SAVING}/check.sh", "--no-cure"]
     done, answer, left = run(folder, [*words, "--keep", "kept", "--page", "page"], ["sh", SAVING / "save.sh"])
     page = Path(folder, "page").read_text()
-    heads = [f"<h2>{number}&ensp;fsync of {html.escape(it)}" for number, it in ((1, "the folder before each mark"), (2, '"new" before rename('))]
+    heads = ['"new" before rename(', "the folder before each mark"]
+    heads = [f"<h2>{number}&ensp;fsync of {html.escape(it)}" for number, it in enumerate(heads if IS_SERVED else heads[::-1], 1)]
     lanes = re.findall("<tr><th>(.*?)</th>(.*?)</tr>", page)
     found += differs("what the page lacks", [it for it in heads if it not in page], []) + differs("what it takes from elsewhere", re.findall("src=|href=|url\\(", page), [])
     found += differs("its lanes", [it[0] for it in lanes], ["answer", "names", "new"])
@@ -456,7 +460,6 @@ def agrees(folder):
     from commands.record import traced
     from commands.test.explore import lost_of
     from commands.test.source import Source
-    from types import SimpleNamespace
 
     made = Path(folder, "made")
     made.mkdir()
@@ -464,7 +467,7 @@ def agrees(folder):
     log = Source(str(made)).log("writeback", [(10**6, ("folder", 0))])
     given = [*log.write(folder), "--bound", "1", "--tears"]
     total = int(subprocess.run(["crashbpf", "images", *given], capture_output=True, text=True).stdout.split()[-1])
-    export, device, wrong = product.Export("crashbpf", SimpleNamespace(of_images=lambda: given)), bytearray(log.base), []
+    export, device, wrong = product.Export("crashbpf", given), bytearray(log.base), []
     inputs(export.file)
     for it in images(export.file, log.sectors, total):
         for at in range(0, len(it.records or b""), RECORD):

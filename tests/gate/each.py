@@ -190,7 +190,7 @@ def takes_recordings(folder):
         recording.Recording(str(Path(folder, "it")), 4, base="base.img", map=given).write()
         Path(folder, "false").write_text("#!/bin/sh\nexit 1\n")
         Path(folder, "false").chmod(0o755)
-        done = each(folder, ["it", *(["--bound", "2"] if options.bound == 2 else [])], judge)
+        done = each(folder, ["it", "--bound", str(options.bound)], judge)
         words = [re.search(r"outside (\S+)", done.stdout)[1], "it/files.txt", "{}", "--", *judge] if given else judge
         words = [f"{folder}/false" if it == "./false" else it for it in words]
         says = "answer 1 codes -" if judge == ["./false"] else None
@@ -484,8 +484,8 @@ REFUSED = {
     "disk.log --sectors 4 --sectors 4 -- true": "--sectors stands there twice",
     "disk.log --sectors 04 -- true": "--sectors is 1 to 33554432",
     "disk.log --sectors 33554433 -- true": "--sectors is 1 to 33554432",
-    "disk.log --sectors 20000 -- true": "crashbpf refuses the log disk.log, or its options: refused 13 at 1",
-    "disk.log --sectors 1 -- true": "crashbpf refuses the log disk.log, or its options: refused 9 at 0",
+    "disk.log --sectors 20000 --bound 1 -- true": "crashbpf refuses the log disk.log, or its options: refused 13 at 1",
+    "disk.log --sectors 1 --bound 1 -- true": "crashbpf refuses the log disk.log, or its options: refused 9 at 0",
     "disk.log --sectors 4 --bound 4 -- true": "crashbpf refuses the log disk.log, or its options: refused 13 at 2",
     "disk.log --sectors 4 --base disk.log -- true": "crashbpf refuses the log disk.log, or its options: refused 13 at 14",
     "disk.log --sectors 4 --base absent -- true": ".*No such file.*absent",
@@ -495,7 +495,7 @@ REFUSED = {
     "disk.log --sectors=base --base /dev/null -- true": "--sectors base wants a file of whole sectors of 512 bytes after --base",
     "absent --sectors 4 -- true": ".*No such file.*absent",
     ". --sectors 4 -- true": r"\. is no folder of crashbpf-record: it has no recording\.json",
-    "/dev/null --sectors 4 -- true": "/dev/null is no regular file",
+    "/dev/null --sectors 4 --bound 1 -- true": "/dev/null is no regular file",
     "-j 0 disk.log --sectors 4 -- true": "-j is 1 to 64",
     "-j 65 disk.log --sectors 4 -- true": "-j is 1 to 64",
     "--timeout 0 disk.log --sectors 4 -- true": "--timeout is ",
@@ -503,7 +503,7 @@ REFUSED = {
     "--timeout 86401 disk.log --sectors 4 -- true": "--timeout is ",
     "--keep full disk.log --sectors 4 -- true": "full isn't empty",
     "--keep disk.log disk.log --sectors 4 -- true": ".*File exists",
-    "--resume disk.log --sectors 4 -- true": f"there is no {STATE} to go on with",
+    "--resume disk.log --sectors 4 --bound 1 -- true": f"there is no {STATE} to go on with",
     "disk.log --sectors 4 -- ./absent": "there is no program ./absent",
     "disk.log --sectors 4 -- ./disk.log": "there is no program ./disk.log",
     "disk.log --sectors 4 -- ./broken {}": "the program can't be run: .*Exec format error",

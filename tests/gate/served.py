@@ -213,11 +213,40 @@ def test_cured(folder):
 
 
 def test_unserved(folder):
-    """Where no image can be served it is refused with what is missing."""
+    """Where no image can be served every loss is refused with what is missing. Where no bound was given one loss is judged, and it is said."""
     put(folder)
     hidden = ["unshare", "-m", "sh", "-c", 'mount --bind /dev/null /dev/fuse && exec "$@"', "sh"] if not missing() else []
-    done = subprocess.run([*hidden, EACH, *WORDS, "--", "python3", "judge.py", "{}"], cwd=folder, capture_output=True, text=True, stdin=subprocess.DEVNULL)
-    return differs(f"where it was asked for: {done.stderr}", (done.returncode, done.stdout, "can't be had: " in done.stderr), (2, "", True))
+    call = lambda *words: subprocess.run([*hidden, EACH, *words], cwd=folder, capture_output=True, text=True, stdin=subprocess.DEVNULL)
+    found = []
+    for words in (WORDS, [*USUAL, "--cure"], [*USUAL, "--part", "1/2"]):
+        done = call(*words, "--", "python3", "judge.py", "{}")
+        found += differs(f"where it was asked for: {done.stderr}", (done.returncode, done.stdout, "can't be had: " in done.stderr), (2, "", True))
+    for judge, status in ((["true"], 3), (["false"], 1)):
+        done = call(*USUAL, "--", *judge)
+        says = "note: one loss at a time was judged, as by --bound 1, since every loss can't be: " in done.stderr and "can't be had: " in done.stderr
+        found += differs(f"without a bound: {done.stderr}", (done.returncode, says), (status, True))
+        bound = call(*USUAL, "--bound", "1", "--", *judge)
+        found += differs(f"with a bound of 1: {bound.stderr}", (bound.returncode, bound.stdout), (0 if status == 3 else 1, done.stdout))
+    if shutil.which("strace"):
+        done = tested(folder, "", hidden)
+        says = "a crash may lose more; every loss can't be judged: " in done.stdout and "can't be had: " in done.stdout
+        found += differs(f"what crashbpf-test says: {done.stdout}", (done.returncode, says), (1, True))
+    return found
+
+
+def test_bounds(folder):
+    """Without a bound it is every loss, but with an option of images, which is said; and --runs ends the search of all cases."""
+    put(folder)
+    usual, any_number = (each(folder, usual=words) for words in (USUAL, WORDS))
+    found = differs(f"without a bound: {usual[2]}", usual[:2], any_number[:2])
+    for option in ("--first", "--read-only"):
+        status, printed, said = each(folder, option, usual=USUAL, program=["true"])
+        found += differs(f"with {option}: {said}", (status, " bound 1 " in printed, f"can't be: {option} is of images" in said), (3, True, True))
+    stopped = each(folder, "--stop-at-failing")[:2]
+    for count, wanted in (("1000", any_number[:2]), ("1", stopped), ("3", stopped)):
+        status, printed, said = each(folder, "--runs", count)
+        found += differs(f"the text with --runs {count}: {said}", (status, printed), wanted)
+    return found
 
 
 def refused(words):
@@ -233,9 +262,11 @@ def test_options(_folder):
     """What doesn't stand beside it, or without it, is refused."""
     wrong = (
         ("of images", [*WORDS, "--first"], [*WORDS, "--read-only"]),
-        ("beside --cure", [*WORDS, "--cure", "--cases", "2"], [*WORDS, "--cure", "--part", "1/2"], [*WORDS, "--cure", "--cuts", "all"]),
-        ("is 1 to ", [*WORDS, "--cases", "0"], [*WORDS, "--part", "3/2"], [*WORDS, "--spot", "0"]),
-        ("with --bound any", [*USUAL, "--cure"], [*USUAL, "--at-most", "1"], [*USUAL, "--spot", "2"], [*USUAL, "--bound", "2", "--stay"]),
+        ("beside --cure", [*WORDS, "--cure", "--cases", "2"], [*WORDS, "--cure", "--part", "1/2"], [*WORDS, "--cure", "--cuts", "all"], [*USUAL, "--cure", "--runs", "9"]),
+        ("is 1 to ", [*WORDS, "--cases", "0"], [*WORDS, "--part", "3/2"], [*WORDS, "--spot", "0"], [*WORDS, "--runs", "0"]),
+        ("with --bound any", *([*USUAL, "--bound", "1", *it] for it in (["--cure"], ["--at-most", "1"], ["--spot", "2"], ["--stay"], ["--runs", "9"]))),
+        ("join takes no reports", [*USUAL, "--bound", "1", "--part", "1/2"]),
+        ("of images, and with --bound any", [*USUAL, "--first", "--cure"]),
     )
     return [it for says, *rows in wrong for words in rows for it in differs(f"{words} refused with {refused(words)}", says in refused(words), True)]
 
@@ -325,14 +356,11 @@ def test_full(folder):
     return differs(f"what is said: {done.stderr}", (done.returncode, "No space left" in done.stderr), (2, True))
 
 
-# crashbpf-test, of which nothing is found before every loss is judged.
-TESTED = """\
-import runpy, sys
-from commands.test import every, explore
-every.Bounded.explore = lambda self, log, until=None: explore.Found(scope="nothing")
-sys.argv = sys.argv[1:]
-runpy.run_path(sys.argv[0], run_name="__main__")
-"""
+def tested(folder, word, hidden=()):
+    """Runs crashbpf-test on the example that saves settings, with a word after it."""
+    saving = TOP / "examples/saving"
+    words = [*hidden, TOP / "commands/test/crashbpf-test", "-j", "2", "--no-lines", "--check", f"sh {saving}/check.sh", "--", "sh", saving / "save.sh", *word.split()]
+    return subprocess.run(words, cwd=folder, capture_output=True, text=True, stdin=subprocess.DEVNULL)
 
 
 def test_program(folder):
@@ -340,11 +368,9 @@ def test_program(folder):
     if not shutil.which("strace"):
         print("not run: crashbpf-test with every loss, which needs strace")
         return []
-    found, saving = [], TOP / "examples/saving"
+    found = []
     for word, wanted in (("", (1, True, True)), ("sync", (0, False, False))):
-        words = [sys.executable, "-c", TESTED, TOP / "commands/test/crashbpf-test", "--bound", "any", "-j", "2", "--no-lines", "--check", f"sh {saving}/check.sh", "--"]
-        surroundings = {**os.environ, "PYTHONPATH": str(TOP)}
-        done = subprocess.run([*words, "sh", saving / "save.sh", *word.split()], cwd=folder, env=surroundings, capture_output=True, text=True, stdin=subprocess.DEVNULL)
+        done = tested(folder, word)
         says = ["  fsync of the folder before each mark, 3 times" in done.stdout, '  fsync of "new" before rename("new", "settings"), 3 times' in done.stdout]
         found += differs(f"what is said of {word}: {done.stdout}{done.stderr}", (done.returncode, *says), wanted)
         complete = "none fails, complete" if not word else "none fails: every loss of whole writes was explored"
@@ -361,6 +387,7 @@ ROWS = {
     "a program that stays": test_stays,
     "where there is no FUSE": test_unserved,
     "options": test_options,
+    "bounds": test_bounds,
     "a server that is killed": test_killed,
     **{name: hostile(name) for name in HOSTILE},
     "a disk that is full": test_full,

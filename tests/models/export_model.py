@@ -46,9 +46,9 @@ def exported(run, first=0, last=None):
     return exported_images(run, list(run.images())[first:last])
 
 
-def exported_images(run, images):
-    """The text of these images."""
-    shown, told, text = initial(run), [], f"inputs {number_of_report(run)}\n".encode()
+def exported_images(run, images, inputs=None):
+    """The text of these images, by the number of the inputs where another one than that of a report is told."""
+    shown, told, text = initial(run), [], f"inputs {number_of_report(run) if inputs is None else inputs}\n".encode()
     for image in images:
         content, marks = image.content(), image.marks()
         text += f"image {image.number} cut {image.cut} epoch {image.epoch()} marks {marks} choice {image.choice()}".encode()

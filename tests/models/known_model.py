@@ -223,8 +223,8 @@ def wanted(it):
 
 
 def exported(it):
-    """What `export` prints by records."""
-    return exported_images(it.run, wanted(it))
+    """What `export` prints by records: with their number."""
+    return exported_images(it.run, wanted(it), it.inputs)
 
 
 def notes(it):

@@ -1,5 +1,5 @@
 -- Images of representatives: what departs are parts of the log, and each part has a set.
-use Rattle.std.proofs.Common.{ℕ, zero, suc, ◌≡◌, ◌+◌, ◌<◌, ◌≤◌, ◌⊎◌, inl, inr, if◌then◌else◌, Bool, List, [], ◌∷◌, ◌++◌, length, slice_get, slice_index_or, get_or, Option, None, Some, refl, sym, subst, ◌∙◌, ap, arith}
+use Rattle.std.proofs.Common.{ℕ, zero, suc, ◌≡◌, ◌+◌, ◌<◌, ◌≤◌, ◌⊎◌, inl, inr, if◌then◌else◌, Bool, true, false, List, [], ◌∷◌, ◌++◌, length, slice_get, slice_index_or, get_or, Option, None, Some, refl, sym, subst, ◌∙◌, ap, arith}
 use Rattle.std.specs.Option.{option_map_or}
 use Rattle.std.proofs.lemmas.Bool.{cases_lt}
 use Rattle.std.proofs.lemmas.List.{get_or_append_left, length-append}
@@ -21,6 +21,7 @@ use Rattle.cases.specs.Risk.{is_at_risk, parts_at_risk}
 use Rattle.cases.specs.Sets.{fates_in}
 use Rattle.cases.proofs.Cases.{among_kept}
 use Rattle.cases.proofs.Rows.{part_before}
+use Rattle.case_text.specs.Known.{KnownValue, known_of}
 use Rattle.images.specs.Images.{crash_image}
 use Rattle.images.specs.Table.{AreParts}
 use Rattle.images.specs.Views.{ViewValue, sectors_of}
@@ -104,7 +105,7 @@ full_more tears sets old new n set long are more own = subst (λ (xs : List ℕ)
   where
     each : (m : ℕ) → m < length (old ++ set ∷ []) → fates_in (slice_index_or (old ++ set ∷ []) m 0) ≡ option_map_or fates_in (slice_get sets m) (all_fates tears)
     each m lt = elim (cases_lt m n) [
-      | inl before ↦ ap fates_in (get_or_append_left old (set ∷ []) m 0 (omega (arith, before, long))) ∙ are.each m (omega (arith, before, long))
+      | inl before ↦ ap fates_in (get_or_append_left old (set ∷ []) 0 m (omega (arith, before, long))) ∙ are.each m (omega (arith, before, long))
       | inr past ↦
           let size = length-append old (set ∷ []) in
           let here : m ≡ length old = omega (arith, past, lt, size, long) in
@@ -119,3 +120,15 @@ pub sector_shown : (log : LogValue) (at : CutValue) (tears : Bool) (sets : List 
 unfolding sectors_of
 sector_shown log at tears sets ds n sector is there =
     ap (λ (xs : List Departure). slice_get (crash_image at.log at.cut xs) n) is.lost ∙ there
+
+-- the image of a case, as it is made
+pub image_of_case : (log : LogValue) (asked at : CutValue) (tears : Bool) (sets full : List ℕ) (ds : List Departure) (parts counted : List Part) (known : KnownValue)
+    → at ≡ asked → IsLog asked.log → asked.cut ≤ length asked.log.entries → parts ≡ parts_of at → counted ≡ parts_of at → length full ≡ length counted → AreFull tears sets full
+    → known ≡ known_of tears (case_of tears parts sets) parts → ds ≡ known.lost → log ≡ asked.log → IsImage log at tears full ds
+image_of_case log asked at tears sets full ds parts counted known is bounds within own count long are read taken of_log =
+    let same : at.log ≡ asked.log = ap (λ (a : CutValue). a.log) is in
+    let cut : at.cut ≡ asked.cut = ap (λ (a : CutValue). a.cut) is in
+    let size : length asked.log.entries ≡ length log.entries = ap (λ (l : LogValue). length l.entries) (sym of_log) in
+    let said : ds ≡ lost_in at tears sets =
+    taken ∙ ap (λ (k : KnownValue). k.lost) read ∙ (λ i. departures (representative (case_of tears (own i) sets)) (own i)) in
+    image_made log at tears sets full ds (of_log ∙ sym same) (subst IsLog (sym of_log) bounds) (omega (arith, cut, within, size)) (long ∙ ap (λ (ps : List Part). length ps) count) are said

@@ -1,16 +1,17 @@
 -- Where records begin in a text.
-use Rattle.std.proofs.Common.{ℕ, suc, ◌≡◌, ◌+◌, ◌-◌, ◌<◌, ◌≤◌, ◌==◌, ◌&&◌, Bool, true, false, if◌then◌else◌, List, [], ◌∷◌, ◌++◌, length, take, filter, count_by, get_or, slice_get, None, unwrap_or, refl, sym, ap, ◌∙◌, subst, arith, append-nil, length-append, add-one}
+use Rattle.std.proofs.Common.{ℕ, suc, ◌≡◌, ◌+◌, ◌-◌, ◌<◌, ◌≤◌, ◌==◌, ◌&&◌, Bool, true, false, if◌then◌else◌, List, [], ◌∷◌, ◌++◌, length, take, filter, count_by, get_or, slice_get, Option, None, unwrap_or, refl, sym, ap, ◌∙◌, subst, inl, inr, arith, append-nil, length-append, add-one}
 use Rattle.std.specs.List.{range_with_len}
+use Rattle.std.specs.Option.{option_map_or}
 use Rattle.std.proofs.Math.Seq.{get_or-append_seam}
-use Rattle.std.proofs.lemmas.Bool.Decides.{eqb_tells}
+use Rattle.std.proofs.lemmas.Bool.Decides.{eqb_tells, nat_tests}
 use Rattle.std.proofs.lemmas.List.Elements.{filter-append}
 use Rattle.std.proofs.lemmas.List.Sums.{count_by_more_yes, count_by_more_no}
-use Rattle.std.proofs.lemmas.Option.{slice_get_past, unwrap_or-slice_get}
+use Rattle.std.proofs.lemmas.Option.{slice_get-get_or, slice_get_past, unwrap_or-slice_get}
 use Rattle.base.proofs.Lists.{range_with_len-more, range_with_len-append}
-use Rattle.known_runs.specs.Lines.{begins_record, record_starts, line_at, record_line}
+use Rattle.known_runs.specs.Lines.{has_byte, begins_record, record_starts, line_at, record_line}
 
 -- the records that begin before byte n
-pub starts_before : List ℕ → ℕ → List ℕ
+abbrev pub starts_before : List ℕ → ℕ → List ℕ
 starts_before bytes n = filter (begins_record bytes) (range_with_len 0 n)
 
 -- what is counted of the first n bytes
@@ -49,13 +50,18 @@ starts_counted bytes n before new b is was more =
     let own = one_kept (begins_record bytes) n b is in
     more ∙ (λ i. was i + sym own i) ∙ sym long
 
-lines_counted : (bytes : List ℕ) (n line new : ℕ) (b : Bool) → n < length bytes → (get_or bytes n 0 == 10) ≡ b → line ≡ line_at bytes n → new ≡ line + (if b then 1 else 0)
+read_byte : (bytes : List ℕ) (n byte : ℕ) → n < length bytes → has_byte bytes n byte ≡ (get_or bytes n 0 == byte)
+read_byte bytes n byte less = ap (λ (o : Option ℕ). option_map_or (λ (b : ℕ). b == byte) o false) (slice_get-get_or bytes n 0 less)
+
+lines_counted : (bytes : List ℕ) (n line new : ℕ) (b : Bool) → n < length bytes → has_byte bytes n 10 ≡ b → line ≡ line_at bytes n → new ≡ line + (if b then 1 else 0)
     → new ≡ line_at bytes (n + 1)
 lines_counted bytes n line new true less is was more =
-    let next = count_by_more_yes (λ (x : ℕ). x == 10) bytes n 0 less is in
+    let own : (get_or bytes n 0 == 10) ≡ true = sym (read_byte bytes n 10 less) ∙ is in
+    let next = count_by_more_yes (λ (x : ℕ). x == 10) bytes n 0 less own in
     omega (arith, was, more, next)
 lines_counted bytes n line new false less is was more =
-    let next = count_by_more_no (λ (x : ℕ). x == 10) bytes n 0 less is in
+    let own : (get_or bytes n 0 == 10) ≡ false = sym (read_byte bytes n 10 less) ∙ is in
+    let next = count_by_more_no (λ (x : ℕ). x == 10) bytes n 0 less own in
     omega (arith, was, more, next)
 
 stays_low : (begins : Bool) (before new place : ℕ) → before ≤ place → (begins && (before == place)) ≡ false → new ≡ before + (if begins then 1 else 0) → new ≤ place
@@ -70,14 +76,14 @@ adds_one : (b : Bool) (old new most : ℕ) → old ≤ most → new ≡ old + (i
 adds_one true old new most low is = omega (arith, low, is)
 adds_one false old new most low is = omega (arith, low, is)
 
-pub counts_more : (bytes : List ℕ) (place n before line begins_before new_line : ℕ) (begins ends : Bool) → Counts bytes place n before line → n < length bytes
-    → begins ≡ begins_record bytes n → (begins && (before == place)) ≡ false → ends ≡ (get_or bytes n 0 == 10)
+pub counts_more : (bytes : List ℕ) (place n before line begins_before new_line : ℕ) (begins found ends : Bool) → Counts bytes place n before line → n < length bytes
+    → begins ≡ begins_record bytes n → found ≡ (begins && (before == place)) → found ≡ false → ends ≡ has_byte bytes n 10
     → begins_before ≡ before + (if begins then 1 else 0) → new_line ≡ line + (if ends then 1 else 0) → Counts bytes place (n + 1) begins_before new_line
-counts_more bytes place n before line new_before new_line begins ends c less begins_is other ends_is more next = record {
+counts_more bytes place n before line new_before new_line begins found ends c less begins_is found_is other ends_is more next = record {
   within = omega (arith, less);
   lines = lines_counted bytes n line new_line ends less (sym ends_is) c.lines next;
   starts = starts_counted bytes n before new_before begins (sym begins_is) c.starts more;
-  low = stays_low begins before new_before place c.low other more;
+  low = stays_low begins before new_before place c.low (sym found_is ∙ other) more;
   few_lines = let few = adds_one ends line new_line (n + 1) c.few_lines next in omega (arith, few);
   few = adds_one begins before new_before n c.few more;
 }
@@ -85,10 +91,17 @@ counts_more bytes place n before line new_before new_line begins ends c less beg
 kept_first : (p : ℕ → Bool) (n : ℕ) (ns : List ℕ) → p n ≡ true → filter p (n ∷ ns) ≡ n ∷ filter p ns
 kept_first p n ns is = rw is refl
 
+both_so : (a b : Bool) → (a && b) ≡ true → (a ≡ true) × (b ≡ true)
+both_so true b is = (refl, is)
+both_so false b is = absurd (let bad : false ≡ true = is in cc)
+
 -- the record at that place begins at byte n
-pub counts_there : (bytes : List ℕ) (place n before line : ℕ) (begins : Bool) → Counts bytes place n before line → n < length bytes → begins ≡ begins_record bytes n
-    → begins ≡ true → before ≡ place → line ≡ record_line bytes place
-counts_there bytes place n before line begins c less begins_is yes same =
+pub counts_there : (bytes : List ℕ) (place n before line : ℕ) (begins found : Bool) → Counts bytes place n before line → n < length bytes → begins ≡ begins_record bytes n
+    → found ≡ (begins && (before == place)) → found ≡ true → line ≡ record_line bytes place
+counts_there bytes place n before line begins found c less begins_is found_is holds =
+    let two = both_so begins (before == place) (sym found_is ∙ holds) in
+    let test = two.1 in
+    let same : before ≡ place = grind (arith, nat_tests, test) in
     let p = begins_record bytes in
     let rest : ℕ = length bytes - (n + 1) in
     let split : n + suc rest ≡ length bytes = omega (arith, less) in
@@ -97,7 +110,7 @@ counts_there bytes place n before line begins c less begins_is yes same =
     ap (λ (m : ℕ). filter p (range_with_len 0 m)) (sym split) ∙ ap (filter p) (range_with_len-append 0 n (suc rest))
     ∙ filter-append p (range_with_len 0 n) (range_with_len (0 + n) (suc rest))
     ∙ ap (λ (m : ℕ). starts_before bytes n ++ filter p (range_with_len m (suc rest))) zero_first
-    ∙ ap (λ (xs : List ℕ). starts_before bytes n ++ xs) (kept_first p n (range_with_len (n + 1) rest) (sym begins_is ∙ yes)) in
+    ∙ ap (λ (xs : List ℕ). starts_before bytes n ++ xs) (kept_first p n (range_with_len (n + 1) rest) (sym begins_is ∙ two.0)) in
     let at : place ≡ length (starts_before bytes n) = sym same ∙ c.starts in
     let found : get_or (record_starts bytes) place (length bytes) ≡ n =
     (λ i. get_or (all i) (at i) (length bytes)) ∙ get_or-append_seam (starts_before bytes n) n (filter p (range_with_len (n + 1) rest)) (length bytes) in

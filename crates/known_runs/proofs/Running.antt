@@ -42,7 +42,7 @@ all_looked m (r ∷ ranges) are =
 pub is_run : (log : LogValue) (way : By) (line : List ℕ) (r : KnownRun) → IsRan log way line (ran_of r) → IsRun log way r
 is_run log way line r is = record {
   within = is.within;
-  each = ap (λ (xs : List ℕ). length xs) is.sets ∙ length-map (λ (p : Part). set_of (is.said.choice p)) (parts_of (cut_at log way r.cut));
+  each = ap (λ (xs : List ℕ). length xs) is.sets ∙ length-map (parts_of (cut_at log way r.cut)) (λ (p : Part). set_of (is.said.choice p));
   device = subst (λ (xs : List ℕ). All (λ s. s < log.sectors) xs) (sym is.sectors.all) (all_looked log.sectors is.sectors.ranges is.sectors.are);
 }
 

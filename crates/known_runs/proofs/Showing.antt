@@ -1,5 +1,5 @@
 -- Images one after the other: which are the same, and what is told of each.
-use Rattle.std.proofs.Common.{ℕ, zero, suc, nat_eq, ◌≡◌, ◌+◌, ◌<◌, ◌≤◌, ◌==◌, Bool, true, false, ◌&&◌, if◌then◌else◌, List, [], ◌∷◌, ◌++◌, length, map, filter, count_by, slice_index_or, Option, None, Some, IfSome, inl, inr, All, codes, refl, sym, subst, ◌∙◌, ap, arith, append_assoc, append-nil}
+use Rattle.std.proofs.Common.{ℕ, zero, suc, nat_eq, ◌≡◌, ◌+◌, ◌<◌, ◌≤◌, ◌==◌, Bool, true, false, ◌&&◌, if◌then◌else◌, List, [], ◌∷◌, ◌++◌, length, map, take, filter, count_by, slice_index_or, Option, None, Some, IfSome, inl, inr, All, codes, refl, sym, subst, ◌∙◌, ap, arith, append_assoc, append-nil}
 use Rattle.std.specs.List.{range_with_len, flat_map}
 use Rattle.std.specs.Option.{is_none}
 use Rattle.std.specs.Cmp.Lexicographic.{pointwise, pointwise_decides}
@@ -8,6 +8,7 @@ use Rattle.std.proofs.lemmas.Bool.{cases_lt}
 use Rattle.std.proofs.lemmas.Bool.Decides.{Decides-eqb}
 use Rattle.std.proofs.lemmas.Grind.{flat_map-append}
 use Rattle.std.proofs.lemmas.List.{get_or_default, length-map}
+use Rattle.std.proofs.lemmas.List.Elements.{All-nil, All-cons}
 use Rattle.std.proofs.lemmas.List.Sums.{sum_by_push}
 use Rattle.std.proofs.lemmas.Option.{slice_get-get_or}
 use Rattle.base.proofs.Lists.{range_with_len-more}
@@ -19,7 +20,13 @@ use Rattle.export.specs.Export.{record_text}
 use Rattle.export.specs.Kept.{new_text, same_text}
 use Rattle.export.proofs.First.{IsFirst, first_is, none_is}
 use Rattle.export.proofs.Keeping.{nowhere_differs, nothing_differs, numbers_inside}
-use Rattle.known_runs.specs.Wanted.{ExportedValue, initial_view, view_at, marks_of, is_same, first_same, is_new, last_new, head_text, told_text, image_text, new_count}
+use Rattle.known_runs.specs.Wanted.{WantedValue, wanted_case, wanted_at, wanted_in, wanted_view, ExportedValue, initial_view, view_at, marks_of, is_same, first_same, is_new, last_new, head_text, told_text, image_text, new_count}
+use Rattle.epochs.specs.declared.part.By.{By}
+use Rattle.epochs.specs.Units.{marks_at}
+use Rattle.cases.specs.Risk.{parts_at_risk}
+use Rattle.known.specs.declared.found.KnownAt.{KnownAt}
+use Rattle.known.specs.declared.found.OpenCase.{OpenCase}
+use Rattle.known_runs.specs.Imaged.{view_of_case}
 use Rattle.known_runs.specs.Showing.{AreOfLog, shown_in}
 
 both : (a b : Bool) → (a && b) ≡ true → (a ≡ true) × (b ≡ true)
@@ -83,21 +90,21 @@ NoneSame e i n = (j : ℕ) → j < n → is_same (view_at e i) (view_at e j) ≡
 
 pub none_same_more : (e : ExportedValue) (i n : ℕ) (one other : ViewValue) (b : Bool) → NoneSame e i n → view_at e i ≡ one → view_at e n ≡ other → b ≡ is_same one other → b ≡ false
     → NoneSame e i (n + 1)
-none_same_more e i n one other b none first second is no j lt = elim (cases_lt j n) [
+none_same_more e i n one other b none first second is fails j lt = elim (cases_lt j n) [
   | inl before ↦ none j before
   | inr past ↦
       let here : j ≡ n = omega (arith, past, lt) in
-      ap (λ k. is_same (view_at e i) (view_at e k)) here ∙ (λ t. is_same (first t) (second t)) ∙ sym is ∙ no
+      ap (λ k. is_same (view_at e i) (view_at e k)) here ∙ (λ t. is_same (first t) (second t)) ∙ sym is ∙ fails
 ]
 
 pub first_found : (e : ExportedValue) (i n : ℕ) (one other : ViewValue) (b : Bool) → NoneSame e i n → n < i → view_at e i ≡ one → view_at e n ≡ other → b ≡ is_same one other → b ≡ true
     → Some n ≡ first_same e i
 unfolding first_same
-first_found e i n one other b none less first second is yes =
+first_found e i n one other b none less first second is holds =
     sym (first_is (λ j. is_same (view_at e i) (view_at e j)) 0 i n (record {
       low = omega arith;
       high = omega (arith, less);
-      passes = (λ t. is_same (first t) (second t)) ∙ sym is ∙ yes;
+      passes = (λ t. is_same (first t) (second t)) ∙ sym is ∙ holds;
       before = λ k from lt. none k lt;
     }))
 
@@ -117,7 +124,7 @@ records_told shown image numbers out a b new line own log these head first more 
     let told : map (with_content (sectors_of image)) numbers ≡ changed_sectors (sectors_of shown) (sectors_of image) =
     ap (map (with_content (sectors_of image))) these ∙ ap (λ n. map (with_content (sectors_of image)) (filter (differs (sectors_of shown) (sectors_of image)) (range_with_len 0 n))) size in
     let many : length numbers ≡ length (changed_sectors (sectors_of shown) (sectors_of image)) =
-    sym (length-map (with_content (sectors_of image)) numbers) ∙ ap (λ (xs : List ChangedValue). length xs) told in
+    sym (length-map numbers (with_content (sectors_of image))) ∙ ap (λ (xs : List ChangedValue). length xs) told in
     let cs : List ChangedValue = changed_sectors (sectors_of shown) (sectors_of image) in
     let mid : List ℕ = codes " new " ++ decimal (length cs) ++ codes "\n" in
     more ∙ (λ i. (first ∙ ap (λ xs. out ++ xs) head) i ++ flat_map record_text (told i))
@@ -206,3 +213,47 @@ pub shows_all : (e : ExportedValue) (initial : ViewValue) (n : ℕ) (old new : L
     → (new ≡ old ++ flat_map (image_text e) (range_with_len 0 (length e.views))) × (count ≡ new_count e (length e.views))
 shows_all e initial n old new last count all s =
     (s.text ∙ ap (λ m. old ++ flat_map (image_text e) (range_with_len 0 m)) all, s.counted ∙ ap (new_count e) all)
+
+-- how many marks stand before the cut of an image, as they are read
+pub marks_read : (log : LogValue) (v : ViewValue) (cut marks : ℕ) → v.log ≡ log → cut ≡ v.cut → marks ≡ marks_at log.entries cut → marks ≡ marks_of v
+marks_read log v cut marks own at is = is ∙ (λ i. marks_at (sym own i).entries (at i))
+
+-- a line that begins with its head
+pub head_begun : (empty line head : List ℕ) → empty ≡ [] → line ≡ empty ++ head → line ≡ head
+head_begun empty line head none is = is ∙ ap (λ xs. xs ++ head) none
+
+map_twice : {A B C : Type 0} (f : B → C) (g : A → B) (xs : List A) → map f (map g xs) ≡ map (λ x. f (g x)) xs
+map_twice f g [] = refl
+map_twice f g (x ∷ xs) = ap (λ ys. f (g x) ∷ ys) (map_twice f g xs)
+
+mapped_append : {A B : Type 0} (f : A → B) (xs ys : List A) → map f (xs ++ ys) ≡ map f xs ++ map f ys
+mapped_append f [] ys = refl
+mapped_append f (x ∷ xs) ys = ap (λ zs. f x ∷ zs) (mapped_append f xs ys)
+
+-- the images of the open cases of one more cut
+pub images_more : (log : LogValue) (way : By) (tears : Bool) (fs : List KnownAt) (n : ℕ) (x y : KnownAt) (old new : List ViewValue) (cases : List OpenCase) → take (n + 1) fs ≡ take n fs ++ x ∷ [] → y ≡ x
+    → old ≡ map (wanted_view log way) (wanted_in log way tears (take n fs)) → cases ≡ y.open_cases.items
+    → new ≡ old ++ map (λ (o : OpenCase). wanted_view log way (wanted_case log way tears y.cut o.sets.items)) cases
+    → new ≡ map (wanted_view log way) (wanted_in log way tears (take (n + 1) fs))
+images_more log way tears fs n x y old new cases more same was those is =
+    let V : List WantedValue → List ViewValue = map (wanted_view log way) in
+    let front : List WantedValue = wanted_in log way tears (take n fs) in
+    let own : map (λ (o : OpenCase). wanted_view log way (wanted_case log way tears y.cut o.sets.items)) cases ≡ V (wanted_at log way tears x) =
+    ap (map (λ (o : OpenCase). wanted_view log way (wanted_case log way tears y.cut o.sets.items))) those
+    ∙ sym (map_twice (wanted_view log way) (λ (o : OpenCase). wanted_case log way tears y.cut o.sets.items) y.open_cases.items) ∙ ap (λ (f : KnownAt). V (wanted_at log way tears f)) same in
+    let whole : wanted_in log way tears (take (n + 1) fs) ≡ front ++ wanted_at log way tears x =
+    ap (wanted_in log way tears) more ∙ flat_map-append (wanted_at log way tears) (take n fs) (x ∷ []) ∙ ap (λ (ws : List WantedValue). front ++ ws) (append-nil (wanted_at log way tears x)) in
+    is ∙ (λ i. was i ++ own i) ∙ sym (mapped_append (wanted_view log way) front (wanted_at log way tears x)) ∙ ap V (sym whole)
+
+-- all images are of one log
+mapped_of_log : (log : LogValue) (way : By) (ws : List WantedValue) → AreOfLog log (map (wanted_view log way) ws)
+mapped_of_log log way [] = All-nil (λ (v : ViewValue). v.log ≡ log)
+mapped_of_log log way (w ∷ ws) = All-cons (λ (v : ViewValue). v.log ≡ log) (wanted_view log way w) (map (wanted_view log way) ws) refl (mapped_of_log log way ws)
+
+pub all_of_log : (log : LogValue) (way : By) (tears : Bool) (found : List KnownAt) → AreOfLog log (map (wanted_view log way) (wanted_in log way tears found))
+all_of_log log way tears found = mapped_of_log log way (wanted_in log way tears found)
+
+-- nothing is at risk at cut 0
+pub first_view : (log : LogValue) (way : By) (tears : Bool) (sets : List ℕ) → view_of_case (record { log = log; way = way; cut = 0 }) tears sets ≡ initial_view log
+unfolding parts_at_risk
+first_view log way tears sets = refl

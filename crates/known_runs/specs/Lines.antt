@@ -1,14 +1,19 @@
 -- At which line of a text a record stands.
-use Rattle.std.specs.Prelude.{ℕ, ◌+◌, ◌-◌, ◌==◌, nat_le, Bool, ◌&&◌, ◌||◌, List, length, take, filter, count_by, slice_index_or}
+use Rattle.std.specs.Prelude.{ℕ, ◌+◌, ◌-◌, ◌==◌, Bool, false, ◌&&◌, ◌||◌, List, length, take, filter, count_by, slice_get, slice_index_or}
+use Rattle.std.specs.Option.{option_map_or}
 use Rattle.std.specs.List.{range_with_len}
+
+-- byte n of a text is that one
+abbrev pub has_byte : List ℕ → ℕ → ℕ → Bool
+has_byte bytes n byte = option_map_or (λ (b : ℕ). b == byte) (slice_get bytes n) false
 
 -- byte n of a text is the first of its line
 abbrev pub begins_line : List ℕ → ℕ → Bool
-begins_line bytes n = (n == 0) || (slice_index_or bytes (n - 1) 0 == 10)
+begins_line bytes n = (n == 0) || has_byte bytes (n - 1) 10
 
 -- and it is that of a record: no line of a head begins with an r
 abbrev pub begins_record : List ℕ → ℕ → Bool
-begins_record bytes n = begins_line bytes n && (slice_index_or bytes n 0 == 114)
+begins_record bytes n = begins_line bytes n && has_byte bytes n 114
 
 -- where the records of a text begin, in order
 abbrev pub record_starts : List ℕ → List ℕ

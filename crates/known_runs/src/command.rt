@@ -52,6 +52,7 @@ fn found_of<'t>(
     requires plan { plan.now ≡ plan_of question.now.options.now log.now }
     ensures inputs { IfOk result (λ f. f.inputs ≡ (source_of (asked_of question.now) plain.now).inputs) }
     ensures found { IfOk result (λ f. FindsKnown (asked_of question.now) log.now plain.now (option_map head_said f.head) f.found.items) }
+    ensures within { IfOk result (λ f. All (λ found. found.cut ≤ length log.now.entries) f.found.items) }
     ensures refused { IfErr result (RefusesOf (asked_of question.now) log.now plain.now) }
 {
     let file = question.recording.log();
@@ -180,10 +181,7 @@ struct ReadLogs<'x> {
 }
 
 /// The log of a question, whose text of records isn't too long.
-fn read_logs<'x>(
-    alloc: Global,
-    question: &KnownQuestion<'x>,
-) -> Result<ReadLogs<'x>, KnownRunFault>
+fn read_logs<'x>(alloc: Global, question: &KnownQuestion<'x>) -> Result<ReadLogs<'x>, KnownRunFault>
     ensures short { OnOk result (length question.now.records.now ≤ 2 ^ 30) }
     ensures log { IfOk result (λ logs. IsLogOf question.now.recording.now question.now.options.now logs.log) }
     ensures plain { IfOk result (λ logs. IsRecorded question.now.recording.now question.now.options.now logs.plain) }
@@ -211,10 +209,7 @@ fn read_logs<'x>(
 /// That the text of records has more than 1 GiB; the refusals of the log and of the number of its images; the first line that is none of
 /// records of the log; the first two records that contradict each other, by the later one; 12 at the cut with which there are more than
 /// 16,777,216 told leaves and open cases; or want of memory.
-pub fn tell_known(
-    alloc: Global,
-    question: &KnownQuestion<'_>,
-) -> Result<KnownTold, KnownRunFault>
+pub fn tell_known(alloc: Global, question: &KnownQuestion<'_>) -> Result<KnownTold, KnownRunFault>
     ensures told { IfOk result (λ t. TellsKnown (asked_of question.now) t.bytes.items t.status) }
     ensures refused { IfErr result (RefusesKnown (asked_of question.now)) }
 {
@@ -238,10 +233,7 @@ pub fn tell_known(
 /// # Errors
 ///
 /// Those of `tell_known`.
-pub fn wanted_known(
-    alloc: Global,
-    question: &KnownQuestion<'_>,
-) -> Result<Vec<u8>, KnownRunFault>
+pub fn wanted_known(alloc: Global, question: &KnownQuestion<'_>) -> Result<Vec<u8>, KnownRunFault>
     ensures wanted { IfOk result (λ bytes. TellsWanted (asked_of question.now) bytes.items) }
     ensures refused { IfErr result (RefusesKnown (asked_of question.now)) }
 {

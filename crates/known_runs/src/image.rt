@@ -36,12 +36,7 @@ impl<'a> Model for WantedImage<'a> {
 }
 
 /// Of each part, by its number, the set of what a case leaves it; all fates, where it has no set.
-fn full_sets(
-    alloc: Global,
-    sets: &[u16],
-    tears: bool,
-    count: usize,
-) -> Result<Vec<u16>, AllocError>
+fn full_sets(alloc: Global, sets: &[u16], tears: bool, count: usize) -> Result<Vec<u16>, AllocError>
     ensures long { IfOk result (λ full. length full.items ≡ count) }
     ensures same { IfOk result (λ full. AreFull tears sets.now full.items) }
 {
@@ -70,6 +65,7 @@ impl<'a> WantedImage<'a> {
         requires cut { number ≤ length log.now.entries }
         ensures { IfOk result (λ image. image ≡ view_of_case (record { log = log.now; way = by; cut = number }) tears sets.now) }
     {
+        let _sectors = log.sectors();
         let cut = Cut::new(alloc, log, by, number)?;
         let mut known = KnownParts::new(alloc);
         known.read(tears, cut.parts(), sets)?;

@@ -38,7 +38,13 @@ pub(crate) fn read_records<'t>(
     ensures known { IfOk result (λ known. IsKnownOnly (source_of (asked_of question.now) plain.now) question.now.records.now (option_map head_said known.head) (map ran_of known.runs.items)) }
     ensures refused { IfErr result (RefusesText (asked_of question.now) plain.now) }
 {
-    match read_known(alloc, question.records, plain, question.options.by(), inputs) {
+    match read_known(
+        alloc,
+        question.records,
+        plain,
+        question.options.by(),
+        inputs,
+    ) {
         Ok(known) => Ok(known),
         Err(fault) => Err(text_fault(fault)),
     }

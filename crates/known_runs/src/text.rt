@@ -38,12 +38,7 @@ fn put_program(out: &mut Vec<u8>, by: &Option<KnownHead<'_>>) -> Result<(), Allo
 }
 
 /// What stands before the program.
-fn opening_of(
-    alloc: Global,
-    inputs: u64,
-    head: &Head,
-    asked: Losses,
-) -> Result<Vec<u8>, AllocError>
+fn opening_of(alloc: Global, inputs: u64, head: &Head, asked: Losses) -> Result<Vec<u8>, AllocError>
     ensures { IfOk result (λ bytes. bytes.items ≡ opening_lines inputs head.now asked) }
 {
     let mut out = String::new(alloc);

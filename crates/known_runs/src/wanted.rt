@@ -36,14 +36,7 @@ fn push_cases<'a>(
     ensures { OnOk result (images.new.items ≡ images.old.items ++ map (λ o. wanted_view log.now by (wanted_case log.now by tears cut o.sets.items)) cases.now) }
 {
     for case in cases {
-        images.push(WantedImage::of(
-            alloc,
-            log,
-            by,
-            tears,
-            cut,
-            case.sets.as_slice(),
-        )?)?;
+        images.push(WantedImage::of(alloc, log, by, tears, cut, case.sets.as_slice())?)?;
     }
     Ok(())
 }
@@ -239,11 +232,11 @@ fn put_image(
 }
 
 /// The image at a place; without one, what the device held before entry 0.
-fn shown_of<'b, 'a>(
-    images: &'b [WantedImage<'a>],
-    initial: &'b WantedImage<'a>,
+fn shown_of<'x>(
+    images: &'x [WantedImage<'x>],
+    initial: &'x WantedImage<'x>,
     last: Option<usize>,
-) -> &'b WantedImage<'a>
+) -> &'x WantedImage<'x>
     requires { IfSome last (λ place. place < length images.now) }
     ensures { result.now ≡ shown_in images.now initial.now last }
 {
@@ -261,13 +254,13 @@ fn last_with(last: Option<usize>, place: usize, is: bool) -> Option<usize>
 }
 
 /// Appends the text of each image, and answers how many are new.
-fn put_images(
+fn put_images<'x>(
     alloc: Global,
     out: &mut Vec<u8>,
     plan: &Plan<'_>,
     by: By,
-    images: &[WantedImage<'_>],
-    initial: &WantedImage<'_>,
+    images: &'x [WantedImage<'x>],
+    initial: &'x WantedImage<'x>,
 ) -> Result<u64, AllocError>
     requires images { AreOfLog plan.now.log images.now }
     requires initial { initial.now ≡ initial_view plan.now.log }
@@ -280,16 +273,7 @@ fn put_images(
     let mut count = 0;
     for place in 0..images.len() {
         let shown = shown_of(images, initial, last);
-        let new = put_image(
-            out,
-            &mut line,
-            &mut numbers,
-            plan,
-            by,
-            images,
-            shown,
-            place,
-        )?;
+        let new = put_image(out, &mut line, &mut numbers, plan, by, images, shown, place)?;
         last = last_with(last, place, new);
         count = with(count, new);
     }

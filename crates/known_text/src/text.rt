@@ -306,7 +306,7 @@ fn some_known<'t>(
 }
 
 /// The records of a program of a log, by the bytes of their text, of at most 1 GiB: of a log without flushes that are added, of what departs as one, and of
-/// the number H that it has (docs/OUTPUT.md, The text of records).
+/// the number H that it has (docs/OUTPUT.md, Records of a program of yours).
 ///
 /// # Errors
 ///
