@@ -405,6 +405,7 @@ class NamedTracing(Tracing):
         self.tree.end_sync(flight.sync)
 
     def end_range(self, call, process, flight):
+        """As without names; and what stands before the part may not be written back yet."""
         super().end_range(call, process, flight)
         file = process.table.get(call.number(0), (None, False))[0]
         if file is not None and isinstance(file.file, File) and not call.failed():
