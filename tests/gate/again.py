@@ -231,7 +231,7 @@ def test_refused(_folder):
 BEGUN = "import os, sys\nfile = os.open(sys.argv[1], os.O_RDWR)\nfirst = os.pread(file, 1, 4095)[0] != 9\n"
 HOSTILE = {
     "recovery that never ends": ("if first: os.pwrite(file, bytes([9]), 4095)\nelse:\n while True: os.pwrite(file, b'1', 0)", ["--timeout", "1", "--stop-at-failing", "--from", "8"], " out of time kept "),
-    "a million syncs": ("os.pwrite(file, bytes([9]), 4095)\nfor it in range(10 ** 6 if first else 1): os.fsync(file)", ["--timeout", "100", "--from", "8"], " written 1 unexplored 0 cuts 2 cases 3 failing 0 "),
+    "a hundred thousand syncs": ("os.pwrite(file, bytes([9]), 4095)\nfor it in range(10 ** 5 if first else 1): os.fsync(file)", ["--timeout", "100", "--from", "8"], " written 1 unexplored 0 cuts 2 cases 3 failing 0 "),
     "ten thousand writes": ("os.pwrite(file, bytes([9]), 4095)\nfor it in range(10 ** 4 if first else 1): os.pwrite(file, b'1', 0); os.fsync(file)", ["--from", "8"], "made more than 4096 writes"),
     "beyond the end": ("os.pwrite(file, bytes([9]), 5120)", ["--from", "8"], "wrote beyond the end of its image"),
     "another size": ("os.ftruncate(file, 4096); os.ftruncate(file, 5120)", ["--from", "8"], "changed the size of its image"),
@@ -251,7 +251,7 @@ def hostile(name):
         status, printed, said = each(folder, "-j", "2", *words, usual=USUAL)
         found = differs(f"what is said, status {status}: {printed[-400:]} {said[-300:]}", wanted in printed + said, True)
         is_clean = status == 0
-        found += differs("whether it is clean", is_clean, name == "a million syncs")
+        found += differs("whether it is clean", is_clean, name == "a hundred thousand syncs")
         return found + differs("what is left", left(folder), [])
 
     return check
