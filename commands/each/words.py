@@ -252,6 +252,8 @@ def parse(words):
         from commands.record import laying
 
         given.inside = laying.main
+        if "--recover" in names:
+            raise Refusal("--recover is for a device that is one file: of recorded files the program recovers and judges")
     number("--sectors", given.value("--sectors"), MOST_SECTORS)
     if not given.has("--bound"):
         given = without_bound(given, names)
