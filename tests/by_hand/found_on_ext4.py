@@ -60,16 +60,19 @@ ROW_SECONDS = 1500
 
 @dataclass(frozen=True)
 class Pace:
-    """How a row is run: how long each of some calls takes, in milliseconds; whether only those on this file do; and whether the
-    kernel writes bytes out at once, or leaves them to the commits."""
+    """How a row is run: how long each of some calls takes, in milliseconds; whether only those on this file do; whether the kernel writes
+    bytes out at once, or leaves them to the commits; and whose bytes these are, here, by their files' names."""
 
     slow: int = 400
     calls: str = CALLS
     file: str = ""
     is_late: bool = False
+    written: str = "*"
 
 
 PACES = {
+    # (the log is overwritten before the database is synced)
+    "kyoto-nommap": Pace(written="*.wal"),
     "git": Pace(1200, "rename,renameat,link,linkat", is_late=True),
     "git-all": Pace(0),
     "dpkg-unsafe": Pace(0, is_late=True),
@@ -128,7 +131,7 @@ def in_guest(row, files):
 
 def here(row, files):
     """The lines by which bytes are written out soon on this machine."""
-    return [] if pace(row).is_late else [f"{shlex.join([sys.executable, str(WRITER), files])} & writer=$!"]
+    return [] if pace(row).is_late else [f"{shlex.join([sys.executable, str(WRITER), files, pace(row).written])} & writer=$!"]
 
 
 def laid(rows, base):
