@@ -23,6 +23,7 @@ from pathlib import Path
 sys.dont_write_bytecode = True
 
 import ledger
+import plain_words
 
 TOP = Path(__file__).resolve().parent.parent
 PAGE = "docs/STATEMENT.md"
@@ -34,8 +35,10 @@ PROMISES = [
             ("runs", "explore_with", "report"),
             ("runs", "explore_with", "run"),
             ("workers", "lines_are_set", ""),
-            ("runs", "any_loss_is_told", ""),
-            ("runs", "told_cases_fail", ""),
+            ("case_runs", "losses_are_found", ""),
+            ("case_runs", "their_images_fail", ""),
+            ("case_runs", "found_cuts_are_wanted", ""),
+            ("runs", "run_with", "told"),
         ],
     ),
     (
@@ -116,9 +119,20 @@ LEFT_OUT = [
         "which program they spell is said without it",
     ),
     (
-        "the page, and the groups of `why` with what they end in",
-        [("runs", "Paged", "IsPageOf"), ("losses", "CountedGroups", "AreGrouped ends_as"), ("losses", "ProgramOutcomes", "outcomes_failing")],
+        "the page, the groups of `why` with what they end in, and `why` and the page of cases",
+        [
+            ("runs", "Paged", "IsPageOf"),
+            ("losses", "CountedGroups", "AreGrouped ends_as"),
+            ("losses", "ProgramOutcomes", "outcomes_failing"),
+            ("case_text", "Why", "TellsWhy"),
+            ("case_page", "CaseFlushes", "IsCasePage"),
+        ],
         "no promise of the list is of them",
+    ),
+    (
+        "the text of the first failing case alone",
+        [("runs", "Cases", "TellsFirst")],
+        "`--first`, an option that no promise of the list names",
     ),
     (
         "cures, run by run",
@@ -323,7 +337,14 @@ of x, `(x : A) → B` says B of each x, `(x : A) × B` that there is an x with B
 
 | Part | Has | Definitions |
 |---|---|---|
+| [On one page](#on-one-page) | the first promise in plain words | |
 | [The promises](#the-promises) | the clauses that carry each | |
+"""
+PLAIN = """
+## On one page
+
+README.md's first promise in plain words: what the definitions on which it rests say, file by file. Whoever believes these lines, \
+and what [PROVED.md](PROVED.md#what-has-to-be-believed) trusts, has the promise. Each file stands once, where it comes first.
 """
 CONTENTS = """| [What is named alone](#what-is-named-alone) | types of the code, the library, what is left out and why | |
 | [All files of definitions](#all-files-of-definitions) | the files of `specs/` on which PROVED.md rests, by crate | |
@@ -378,7 +399,37 @@ class Page:
         self.crates = ledger.crates(top)
         promises = self.promises()
         contents, definitions = self.definitions()
-        self.text = "".join([HEAD, contents, CONTENTS, "\n## The promises\n", promises, definitions, self.alone(), self.files()])
+        self.text = "".join([HEAD, contents, CONTENTS, self.plain(), "\n## The promises\n", promises, definitions, self.alone(), self.files()])
+
+    def plain(self):
+        """Returns the first promise in plain words, and finds fault where these have other files than it leads to."""
+        text, before = PLAIN, set()
+        for title, about, roots, lines in plain_words.PARTS:
+            found = set(before)
+            followed(found, {it for root in roots for it in self.root(root)})
+            new = {it for it in found - before if isinstance(it, Definition)}
+            own = {it for it in new if split(it.module)[0] not in plain_words.MACHINE}
+            text += f"\n### {title}\n\n{about}\n\n| File | Says |\n|---|---|\n"
+            text += "".join(f"| {self.linked(file)} | {words} |\n" for file, words in lines.items())
+            text += f"\n{len(own)} definitions, the machine's aside.\n"
+            files = {".".join(split(it.module)) for it in own}
+            first = {".".join(split(it.module)) for it in before if isinstance(it, Definition)}
+            self.missing += [f"tools/plain_words.py has no line of {it}" for it in sorted(files - first - set(lines))]
+            self.missing += [f"tools/plain_words.py has a line of {it}, to which nothing leads" for it in sorted(set(lines) - files)]
+            before = found
+        crates = [f"`{it}`: {words}" for it, words in plain_words.MACHINE.items()]
+        return f"{text}\n### The machine\n\n" + "".join(f"- {it}.\n" for it in crates)
+
+    def root(self, root):
+        """Returns the definitions that a clause names, or the one that is named."""
+        if isinstance(root, str):
+            crate, file, name = root.split(".")
+            return {self.sources.known[f"{crate}.specs.{file}"][name]}
+        return self.sources.clause(*root)[2]
+
+    def linked(self, file):
+        crate, name = file.split(".")
+        return f"[{crate} {name}](../crates/{crate}/specs/{name}.antt)"
 
     def promises(self):
         """Returns the promises with their clauses, and takes the definitions to which these lead."""

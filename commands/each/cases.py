@@ -146,10 +146,11 @@ class Found:
 
 
 class Search:
-    """The search of a cut, which is gone on with as records come."""
+    """The search of a cut, which is gone on with as records come. It begins with the case of some fates, or of all. `whole` is a number of the
+    image in which nothing is lost there."""
 
-    def __init__(self, cut):
-        self.cut, self.first, self.found = cut, Case({}), None
+    def __init__(self, cut, whole, known=None):
+        self.cut, self.whole, self.first, self.found = cut, whole, Case(known or {}), None
 
     def go(self, known):
         """Searches as far as the records tell, and returns what was found. Where nothing was open no record changes anything."""

@@ -45,12 +45,13 @@ def verdict_of(answer, signal, late):
 
 
 class Record:
-    """A record: its line, its verdict, and those sectors at which the program looked that the log writes, in order."""
+    """A record: its line, its verdict, and those sectors at which the program looked that count, in order. `log` has what the program did to
+    the image, where that was noted."""
 
-    __slots__ = ("line", "verdict", "looked")
+    __slots__ = ("line", "verdict", "looked", "log")
 
     def __init__(self, line, verdict, looked):
-        self.line, self.verdict, self.looked = line, verdict, looked
+        self.line, self.verdict, self.looked, self.log = line, verdict, looked, None
 
     def is_good(self):
         return self.verdict.is_good()
@@ -66,14 +67,16 @@ class Node:
 
 
 class Known:
-    """All records of a log, whose images are those without added flushes. `head` has the lines that stand before them."""
+    """All records of a log, whose images are those without added flushes. `head` has the lines that stand before them. `are_blind` says
+    whether there are some, and none of them looked at a sector that the log writes."""
 
     def __init__(self, images, head):
         self.images, self.head, self.first = images, head, {}
         self.lines = self.count = self.place = 0
+        self.are_blind = False
 
     def read(self, line):
-        """Takes the next line: one of the head, which may stand there again, or a record."""
+        """Takes the next line: one of the head, which may stand there again, or a record, which is returned."""
         self.lines += 1
         if self.place < len(self.head):
             return self.read_head(line)
@@ -111,14 +114,14 @@ class Known:
         image, looked, verdict = self.image_said(cut, found[2]), sectors_of(found[7], self.images.sectors), verdict_of(found[4], found[5], found[6])
         if None in (image, looked, verdict) or self.images.marks[cut] != int(found[3]):
             raise self.refusal("isn't a record of this log")
-        self.add(Record(self.lines, verdict, [it for it in looked if self.images.covers(it)]), image, int(found[3]))
+        return self.add(Record(self.lines, verdict, [it for it in looked if self.images.counts(it)]), image, int(found[3]))
 
     def refusal(self, what):
         return Refusal(f"line {self.lines} of the records {what}")
 
     def add(self, record, image, marks):
-        """Adds a record, which may not contradict an earlier one."""
-        first = self.first.setdefault(marks, Node())
+        """Adds a record, which may not contradict an earlier one, and returns it."""
+        first = self.first.setdefault((marks, image.images.view), Node())
         others = [it for it in self.beside(first, image, set(record.looked)) if it.verdict != record.verdict]
         if others:
             earlier = min(it.line for it in others)
@@ -128,6 +131,8 @@ class Known:
             at = at.ways.setdefault(sector, {}).setdefault(image.sector(sector), Node())
         at.records.append(record)
         self.count += 1
+        self.are_blind = (self.count == 1 or self.are_blind) and not any(map(self.images.covers, record.looked))
+        return record
 
     @staticmethod
     def beside(first, image, looked):
@@ -141,14 +146,11 @@ class Known:
 
     def telling(self, image, marks):
         """Returns the first record that tells an image, or None."""
-        waiting, found = [self.first[marks]] if marks in self.first else [], None
+        key = marks, image.images.view
+        waiting, found = [self.first[key]] if key in self.first else [], None
         while waiting:
             node = waiting.pop()
             if node.records and (found is None or node.records[0].line < found.line):
                 found = node.records[0]
             waiting += filter(None, (ways.get(image.sector(sector)) for sector, ways in node.ways.items()))
         return found
-
-    def are_blind(self):
-        """Whether there are records, and none of them looked at a sector that the log writes."""
-        return self.count > 0 and all(not it.ways for it in self.first.values())

@@ -28,7 +28,8 @@ def ranges(sectors):
 def sum_of_program(given):
     """Returns the sum of all on which a verdict hangs beside the image: of the time that a program has and how it is run, and of the bytes
     of the program and of each file that a word names."""
-    total = hashlib.sha256(f"seconds {given.seconds}{' stay' if given.stay else ''}\n".encode())
+    recover = "" if given.recover is None else f" recover {given.recover}"
+    total = hashlib.sha256(f"seconds {given.seconds}{' stay' if given.stay else ''}{' again' if given.again else ''}{recover}\n".encode(errors="surrogateescape"))
     for place, word in enumerate(given.program):
         path = shutil.which(word) if place == 0 else word
         if path is not None and os.path.isfile(path):
@@ -72,10 +73,11 @@ class Records(Journal):
 
     def take(self, line):
         self.write(f"{line}\n")
-        self.known.read(line)
+        return self.known.read(line)
 
-    def add(self, image, verdict, looked):
-        self.take(record(image, verdict, looked))
+    def add(self, image, verdict, looked, log):
+        """Adds the record of an image, and keeps what the program did to it where that was noted."""
+        self.take(record(image, verdict, looked)).log = log
 
     def end(self, is_kept):
         """Closes the file, and takes it away unless it is kept or the run wasn't done."""

@@ -7,6 +7,7 @@ from collections import deque
 from typing import NamedTuple
 
 from commands.each import product
+from commands.each.again import Again
 from commands.each.crew import Crew
 from commands.each.curing import Cure
 from commands.each.progress import Progress
@@ -34,6 +35,14 @@ class Job(NamedTuple):
     is_again: bool = False
     verdict: Verdict | None = None
     looked: str = ""
+
+
+class Seen(NamedTuple):
+    """What was seen of a run: what it ended in, at which sectors it looked, and what it did to its image where that was noted."""
+
+    verdict: Verdict
+    looked: str
+    log: bytes
 
 
 def is_doubtful(verdict):
@@ -67,6 +76,11 @@ class Rounds:
             self.round, self.is_told = self.round + 1, step.is_told
             self.judge(wanted, stops)
         return step
+
+    def go_on(self, again):
+        """Judges what a second crash leaves, until nothing is wanted. What is found stands in other records."""
+        self.records = again
+        self.go(again)
 
     def judge(self, wanted, stops):
         """Judges the images of a round, as many at a time as there are runners, and in the end by itself what was doubtful."""
@@ -102,18 +116,20 @@ class Rounds:
         for number, verdict, left, said in self.crew.heard(SECONDS):
             job = self.at.pop(number)
             self.left += left
-            self.settle(job, verdict, said.decode(), stops)
+            looked, _end, log = said.partition(b"\n")
+            self.settle(job, Seen(verdict, looked.decode(), log), stops)
 
     def pass_over(self, failing):
         """Leaves out what comes after a failing image at its cut: it isn't wanted any more."""
         self.jobs = deque(it for it in self.jobs if it.is_again or it.image.cut != failing.cut or it.image.number < failing.number)
 
-    def settle(self, job, verdict, looked, stops):
+    def settle(self, job, seen, stops):
         """Records a verdict, or compares it with the one before."""
+        verdict, looked, log = seen
         if is_doubtful(verdict) and not job.is_again:
             self.alone.append(job._replace(is_again=True))
         elif job.verdict is None:
-            self.records.add(job.image, verdict, looked)
+            self.records.add(job.image, verdict, looked, log)
             self.judged += 1
             self.failing += not verdict.is_good()
             if not verdict.is_good() and stops:
@@ -122,10 +138,10 @@ class Rounds:
                 self.jobs.append(job._replace(is_again=True, verdict=verdict, looked=looked))
         elif verdict != job.verdict:
             self.records.write(f"{record(job.image, verdict, looked)}\n")
-            where = f"cut {job.image.cut} choice {job.image.choice.decode()}"
+            where = f"cut {job.image.cut} choice {job.image.choice.decode().partition(' of ')[0]}"
             raise Refusal(f"run again on one image the program ends otherwise, so it looks at more than the image: {job.verdict.text()}, then {verdict.text()}, at {where}")
         elif looked != job.looked:
-            self.records.add(job.image, verdict, looked)
+            self.records.add(job.image, verdict, looked, log)
 
 
 def share(risks, part, parts):
@@ -164,6 +180,10 @@ def answer(given, step, rounds, path):
     if given.part:
         return judged_part(step, rounds, path)
     step = rounds.go(step)
+    if given.again:
+        again = Again(step)
+        rounds.go_on(again)
+        return Answer(*again.text(), step.given)
     return Answer(*step.text(), step.given)
 
 
@@ -199,7 +219,7 @@ def judged_any(given, program, folder, say, test_unchanged):
 @contextlib.contextmanager
 def served_rounds(given, records, marks, folder, cuts):
     """Gives rounds on a mount of their own, which is gone afterwards."""
-    mount = Mount(folder, records.known.images, given.runners)
+    mount = Mount(folder, records.known.images, given.runners, notes=given.skipped if given.again else None)
     try:
         crew = Crew(folder, given, functools.partial(ServedRunner, mount=mount))
         try:

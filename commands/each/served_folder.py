@@ -7,6 +7,9 @@ import errno
 import os
 import stat
 
+from commands.each.second_calls import CalledFolder, Calling
+from commands.each.second_images import LaidImage
+from commands.each.second_log import NotedFile, NotedFolder
 from commands.each.served_tree import SECTOR, Fault, File, Folder, Link, Node
 from commands.record import layout, named_layout
 from commands.record.calls import Refused
@@ -59,6 +62,10 @@ class NamedFile(File):
         return getattr(self, name)
 
 
+class CalledNamedFile(Calling, NamedFile):
+    """A file of an image of which it is noted what the program does to it."""
+
+
 def masked():
     """Returns the permissions of a file, of a folder and of a socket that are made."""
     mask = os.umask(0)
@@ -67,11 +74,13 @@ def masked():
 
 
 class Named:
-    """Makes the folder of an image of a map with names. `path` is that of the folder, for links into it."""
+    """Makes the folder of an image of a map with names. `path` is that of the folder, for links into it; what has names of `skipped` isn't
+    recorded."""
 
-    def __init__(self, looks, found, path):
+    def __init__(self, looks, found, path, skipped=()):
         self.looks, self.image, self.path = looks, Traced(Device(looks), found), path
         self.names, self.files, self.links, self.seen, self.masked = self.image.names(self.image.chains()), {}, {}, set(), masked()
+        self.skipped, self.is_noted = skipped, looks.noted is not None
         for inside in self.names.values():
             for it in inside.values():
                 self.links[it] = self.links.get(it, 0) + 1
@@ -80,12 +89,22 @@ class Named:
         """The permissions of a file or a folder, as the map has them."""
         return self.image.modes.get((kind, number), usual)
 
-    def folder(self, number=0):
+    def look_at_sizes(self):
+        """Looks at the sizes of all files, and returns them."""
+        return [it.length for it in self.files.values()]
+
+    def empty_folder(self, number, path):
+        """Returns a folder without what is in it."""
+        mode = stat.S_IFDIR | self.mode(FOLDER, number, self.masked[1] if number else TOP)
+        if self.is_noted:
+            return CalledFolder(self.looks, mode, FOLDERS_FROM + number, (0, number), path, self.skipped)
+        return Folder(self.looks, mode, FOLDERS_FROM + number)
+
+    def folder(self, number=0, path=b""):
         """Returns a folder with all that is in it."""
-        mode = self.mode(FOLDER, number, self.masked[1] if number else TOP)
-        made = Folder(self.looks, stat.S_IFDIR | mode, FOLDERS_FROM + number)
+        made = self.empty_folder(number, path)
         for name, (kind, inside) in self.names.pop(number, {}).items():
-            made.names[name] = self.folder(inside) if kind == FOLDER else self.other(inside) if kind == OTHER else self.file(inside)
+            made.names[name] = self.folder(inside, os.path.join(path, name)) if kind == FOLDER else self.other(inside) if kind == OTHER else self.file(inside)
             made.links += kind == FOLDER
         return made
 
@@ -93,7 +112,9 @@ class Named:
         """Returns a file, which is one under all of its names."""
         if number not in self.files:
             mode, links = stat.S_IFREG | self.mode(FILE, number, self.masked[0]), self.links[FILE, number]
-            self.files[number] = NamedFile(self.looks, mode, FILES_FROM + number, links, lambda: self.image.room(number))
+            make = CalledNamedFile if self.is_noted else NamedFile
+            self.files[number] = make(self.looks, mode, FILES_FROM + number, links, lambda: self.image.room(number))
+            self.files[number].key = 0, number
         return self.files[number]
 
     def other(self, number):
@@ -111,23 +132,24 @@ def placed(looks, places):
     """Returns the folder of an image of a map of places."""
     file, folder, _socket = masked()
     file, folder = stat.S_IFREG | file, stat.S_IFDIR | folder
-    top = Folder(looks, stat.S_IFDIR | TOP, FOLDERS_FROM)
+    make_folder, make_file = (Folder, File) if looks.noted is None else (NotedFolder, NotedFile)
+    top = make_folder(looks, stat.S_IFDIR | TOP, FOLDERS_FROM)
     for turn, it in enumerate(places):
         *above, name = it.name.split(b"/")
         at = top
         for part in above:
             if part not in at.names:
-                at.names[part], at.links = Folder(looks, folder, looks.number()), at.links + 1
+                at.names[part], at.links = make_folder(looks, folder, looks.number()), at.links + 1
             at = at.names[part]
-        at.names[name] = File(looks, file, PLACES_FROM + turn, it.first, it.length)
+        at.names[name] = make_file(looks, file, PLACES_FROM + turn, it.first, it.length)
     return top
 
 
 class Folders:
     """The maps that were read, by their bytes."""
 
-    def __init__(self):
-        self.maps = {}
+    def __init__(self, skipped=()):
+        self.maps, self.skipped = {}, skipped
 
     def read(self, content):
         """Returns what a map has, whether it is one with names, and the number of sectors."""
@@ -142,12 +164,22 @@ class Folders:
         """Returns the folder of the files of a run's image, by the map that lies beside it, at a path."""
         looks, given = folder.looks, folder.names[MAP]
         try:
-            found, is_named, sectors = self.read(bytes(given.read(0, given.size)))
+            text = bytes(given.read(0, given.size))
+            found, is_named, sectors = self.read(text)
+            if isinstance(looks.image, LaidImage):
+                return Named(looks, looks.image.laid.found, path, self.skipped).folder()
             if sectors != looks.image.sectors:
                 raise Refused(f"it has {SECTOR * looks.image.sectors} bytes, and the map is of {SECTOR * sectors}")
-            return Named(looks, found, path).folder() if is_named else placed(looks, found[0])
+            return self.named(looks, found, text, path) if is_named else placed(looks, found[0])
         except (Refused, UnicodeDecodeError) as fault:
             said = File(looks, stat.S_IFREG | 0o600, looks.number())
             said.write(0, str(fault).encode())
             folder.names[FAULT] = said
             raise Fault(errno.EIO) from None
+
+    def named(self, looks, found, text, path):
+        """Returns the folder of an image of a map with names, whose text is noted where the run is."""
+        it = Named(looks, found, path, self.skipped)
+        if looks.noted is not None:
+            looks.noted.of_names(text, it)
+        return it.folder()

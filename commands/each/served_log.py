@@ -60,7 +60,10 @@ def mapped(path):
 
 
 class LogImages:
-    """A log, of which images are looked up. `flushes` are the entries before which a flush is added."""
+    """A log, of which images are looked up. `flushes` are the entries before which a flush is added. `view` tells images apart that a program
+    sees in another way: here there is none."""
+
+    view = None
 
     def __init__(self, path, base, sectors, by_write, flushes=()):
         self.bytes, self.base, self.sectors, self.by_write = mapped(path), mapped(base), sectors, by_write
@@ -87,6 +90,10 @@ class LogImages:
         """Whether an entry of the log covers a sector."""
         return any(sector <= number < sector + count for sector, count, _flags, _data in map(self.entries.__getitem__, self.blocks.get(number // BLOCK, ())))
 
+    def counts(self, number):
+        """Whether a look at a sector counts: no choice changes another one."""
+        return self.covers(number)
+
     def initial(self, number):
         """What a sector held before entry 0."""
         return self.base[SECTOR * number : SECTOR * (number + 1)].ljust(SECTOR, b"\0")
@@ -111,8 +118,16 @@ class LogImages:
         return range(first, first + count) if place is None else range(first + place, first + place + 1)
 
     def over(self, sector, cut):
-        """Yields what covers a sector before a cut, in order: the entry, and the place of the sector in it."""
-        for entry in self.blocks.get(sector // BLOCK, ()):
+        """Yields what covers a sector before a cut, in order, each with the place of the sector in it."""
+        return self.those_over(sector, cut, self.blocks.get(sector // BLOCK, ()))
+
+    def back_over(self, sector, cut):
+        """Yields what covers a sector before a cut, the last first."""
+        return self.those_over(sector, cut, reversed(self.blocks.get(sector // BLOCK, ())))
+
+    def those_over(self, sector, cut, entries):
+        """Yields those of some entries that cover a sector before a cut."""
+        for entry in entries:
             first, count, _flags, _data = self.entries[entry]
             if entry < cut and first <= sector < first + count:
                 yield entry, sector - first
@@ -140,6 +155,16 @@ class LogImages:
                 held[first + place] = content
             yield number
 
+    def is_mark(self, entry):
+        return bool(self.entries[entry][2] & MARK)
+
+    def has_parts(self, entry):
+        return self.entries[entry][1] > 0
+
+    def said(self, cut, fates):
+        """Returns the cut of an image, and its choice as it is told to who judges it."""
+        return cut, text_of(fates)
+
     def image_of(self, cut, fates):
         """Returns the image of a cut by the fates of those parts that aren't whole."""
         return LogImage(self, cut, fates)
@@ -166,11 +191,7 @@ class LogImage:
     def found(self, number):
         """Looks up a sector: what the last whole unit left, and what torn ones after it did to that."""
         images, torn, found = self.images, [], None
-        for entry in reversed(images.blocks.get(number // BLOCK, ())):
-            sector, count, _flags, _data = images.entries[entry]
-            place = number - sector
-            if entry >= self.cut or not 0 <= place < count:
-                continue
+        for entry, place in images.back_over(number, self.cut):
             fate = self.fates.get(images.part(entry, place), WHOLE)
             if fate == WHOLE:
                 found = images.content(entry, place)

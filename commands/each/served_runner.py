@@ -1,13 +1,14 @@
 """A runner whose images are served: it tells the server which one is next, lets the program judge it, and asks at which sectors it looked."""
 import os
 import shutil
-import struct
 
 from commands.each.records import ranges
 from commands.each.runner import Runner
-from commands.each.served_server import ENDS, SAID, TOLD, received, sent
+from commands.each.served_server import ENDS, RECOVERED, TOLD, answered, received, sent
 from commands.each.stayed import Stayed
 from commands.shared.faults import Refusal
+from commands.shared.program import run
+from commands.shared.verdicts import EXIT
 
 GONE = "the server of the images has ended, or its mount is gone"
 
@@ -32,7 +33,7 @@ class ServedRunner(Runner):
         return {**super().surroundings(it), b"CRASH_SERVED": os.path.dirname(self.path)}
 
     def asked_of_server(self, cut, choice=b""):
-        """Tells the server something, and returns the sectors that it says."""
+        """Tells the server something, and returns the sectors that it says, and a second log."""
         try:
             sent(self.server, TOLD.pack(self.number, cut) + choice)
             said = received(self.server)
@@ -40,10 +41,10 @@ class ServedRunner(Runner):
             said = b""
         if not said:
             raise Refusal(GONE)
-        (length,) = SAID.unpack_from(said)
-        if length:
-            raise Refusal(said[SAID.size : SAID.size + length].decode())
-        return struct.unpack(f"<{(len(said) - SAID.size) // 8}Q", said[SAID.size :])
+        fault, sectors, log = answered(said)
+        if fault:
+            raise Refusal(fault)
+        return sectors, log
 
     def test_mounted(self):
         """Refuses what a program ended in whose image was taken away from it."""
@@ -54,16 +55,31 @@ class ServedRunner(Runner):
         if not is_there:
             raise Refusal(GONE)
 
+    def run(self, it):
+        """Runs the program, and before it what recovers, where that is a command of its own. Its status doesn't count; where it is killed, or
+        takes too long, that is what the image comes to."""
+        if self.given.recover is None:
+            return super().run(it)
+        words = [b"sh", b"-c", os.fsencode(self.given.recover)]
+        first = run(words, self.surroundings(it), self.given.seconds, self.channel.fileno(), self.nothing)
+        self.test_mounted()
+        self.asked_of_server(RECOVERED)
+        if first.verdict.kind != EXIT:
+            return first
+        ended = super().run(it)
+        return ended._replace(said=first.said + ended.said, more=first.more + ended.more, left=first.left or ended.left)
+
     def end(self):
         if self.stayed is not None:
             self.stayed.end()
 
     def ran(self, it):
-        """Runs the program on an image. Returns what it came to, and the sectors at which it looked."""
+        """Runs the program on an image. Returns what it came to, the sectors at which it looked, and what it did to the image where that is
+        noted."""
         self.asked_of_server(it.cut, it.choice)
         ended = self.run(it) if self.stayed is None else self.stayed.judge(self.path, it.marks)
         self.test_mounted()
-        return ended, self.asked_of_server(ENDS)
+        return ended, *self.asked_of_server(ENDS)
 
     def judged(self, it):
         """Lets the program judge an image. One that stays is started anew for an image that is run again; and where it ended in place of an
@@ -80,12 +96,12 @@ class ServedRunner(Runner):
 
     def judge(self, it):
         """Judges an image, and keeps it where it fails and that is asked for."""
-        ended, looked = self.judged(it)
+        ended, looked, log = self.judged(it)
         if self.given.keep and not ended.verdict.is_good():
             self.asked_of_server(it.cut, it.choice)
             self.keep(it.number, ended)
             self.asked_of_server(ENDS)
-        return ended, ranges(looked).encode()
+        return ended, ranges(looked).encode() + b"\n" + log
 
     def copy(self, path):
         shutil.copyfile(self.path, path)

@@ -11,15 +11,20 @@ import stat
 import struct
 
 from commands.each import served_wire as wire
+from commands.each.second_calls import noted_rename
+from commands.each.second_images import LaidImage, image_said
+from commands.each.second_log import Noted, NotedImage, SecondLogs
 from commands.each.served_folder import FILES, MAP, Folders
-from commands.each.served_tree import TIME, Fault, File, Folder, Link, Looks, Node, image_folder, rename
+from commands.each.served_tree import EXCHANGE, IMAGE, TIME, Fault, File, Folder, Hidden, LaidLooks, Link, Looks, Node, image_folder, rename
 
 ROOT = 1
-# Before each message stands its length. One of a runner has its number, the cut, and the choice. With the cut ENDS the run is over.
+# Before each message stands its length. One of a runner has its number, the cut, and the choice. With the cut ENDS the run is over, and with
+# RECOVERED nothing more is noted of it.
 LENGTH, TOLD = struct.Struct("<I"), struct.Struct("<QQ")
-ENDS = (1 << 64) - 1
-# The answer: the lengths of a fault, and the sectors, each a number of 8 bytes.
-SAID = struct.Struct("<I")
+ENDS, RECOVERED = (1 << 64) - 1, (1 << 64) - 2
+# The answer: the length of a fault, the number of sectors, and the length of the second log; then these, a sector as a number of 8 bytes.
+SAID = struct.Struct("<IQQ")
+NOTHING = SAID.pack(0, 0, 0)
 WRITABLE_BITS = 0o7777
 
 
@@ -36,17 +41,21 @@ class Root:
             raise Fault(errno.ENOENT)
         return self.seats[name]
 
+    def sync(self, _data=False):
+        """(Nothing is written here.)"""
+
     @property
     def names(self):
         return self.seats
 
 
 class Server:
-    """The mount: its nodes by their numbers, and what is open."""
+    """The mount: its nodes by their numbers, and what is open. With `notes`, the names that weren't recorded, what a program does to its
+    image is noted."""
 
-    def __init__(self, device, images, is_direct, path):
+    def __init__(self, device, images, is_direct, path, notes=None):
         self.device, self.images, self.is_direct, self.path = device, images, is_direct, os.fsencode(path)
-        self.root, self.folders = Root(), Folders()
+        self.root, self.folders, self.logs = Root(), Folders(notes or ()), None if notes is None else SecondLogs()
         self.nodes, self.numbers, self.open, self.next, self.next_open = {ROOT: self.root}, {}, {}, ROOT, 0
         self.asked = {
             wire.LOOKUP: self.lookup,
@@ -67,8 +76,8 @@ class Server:
             wire.STATFS: self.statfs,
             wire.RELEASE: self.release,
             wire.RELEASEDIR: self.release,
-            wire.FSYNC: self.nothing,
-            wire.FSYNCDIR: self.nothing,
+            wire.FSYNC: self.fsync,
+            wire.FSYNCDIR: self.fsync,
             wire.OPENDIR: self.opendir,
             wire.READDIR: self.readdir,
             wire.CREATE: self.create,
@@ -189,7 +198,7 @@ class Server:
     def make_file(self, folder, name, mode):
         if folder is self.root:
             raise Fault(errno.EACCES)
-        return folder.put(name, File(folder.looks, mode, folder.looks.number()))
+        return folder.put(name, folder.new_file(name, mode))
 
     def mknod(self, folder, data):
         """Makes a file, or something special of the run's own."""
@@ -211,8 +220,10 @@ class Server:
             raise Fault(errno.EACCES)
         seat = next((number for number, it in self.root.seats.items() if it is folder), None)
         if name == FILES and MAP in folder.names and seat is not None:
+            if folder.looks.noted:
+                folder.looks.noted.has_files = True
             return self.made(folder, name, self.folders.of_run(folder, os.path.join(self.path, seat, FILES)))
-        return self.made(folder, name, Folder(folder.looks, stat.S_IFDIR | mode & WRITABLE_BITS, folder.looks.number()))
+        return self.made(folder, name, folder.new_folder(name, stat.S_IFDIR | mode & WRITABLE_BITS))
 
     def symlink(self, folder, data):
         """Makes a symbolic link of the run's own."""
@@ -260,7 +271,10 @@ class Server:
         if not isinstance(folder, Folder) or not isinstance(target, Folder) or folder.looks is not target.looks:
             raise Fault(errno.EXDEV)
         name, _zero, new = text.partition(b"\0")
-        rename(folder, name, target, wire.text(new), flags)
+        noted = folder.looks.noted or Noted()
+        with noted.pause():
+            rename(folder, name, target, wire.text(new), flags)
+        noted_rename(noted, folder, name, target, wire.text(new), bool(flags & EXCHANGE))
         return b""
 
     # What is open
@@ -301,9 +315,15 @@ class Server:
         return node.read(at, size)
 
     def write(self, node, data):
-        _handle, at, size, *_more = wire.WRITE_IN.unpack_from(data)
+        """Writes bytes to a file."""
+        _handle, at, size, how, _owner, flags, _zero = wire.WRITE_IN.unpack_from(data)
+        node.asked_by(how, flags)
         node.write(at, data[wire.WRITE_IN.size : wire.WRITE_IN.size + size])
         return wire.WRITE_OUT.pack(size, 0)
+
+    def fsync(self, node, data):
+        node.sync(bool(wire.FSYNC_IN.unpack_from(data)[1] & wire.DATA))
+        return b""
 
     def fallocate(self, node, data):
         """Reserves room, which may make a file larger, or makes a stretch zeros."""
@@ -338,19 +358,55 @@ class Server:
         seat, cut = TOLD.unpack_from(data)
         if cut == ENDS:
             return self.ended(b"%02d" % seat)
-        looks = Looks(self.images.image(cut, data[TOLD.size :].decode()))
-        self.root.seats[b"%02d" % seat] = image_folder(looks)
-        return SAID.pack(0)
+        if cut == RECOVERED:
+            self.end_notes(self.root.seats[b"%02d" % seat])
+            return NOTHING
+        text = data[TOLD.size :].decode()
+        self.root.seats[b"%02d" % seat] = image_folder(Looks(self.images.image(cut, text))) if self.logs is None else self.noted_folder(cut, text)
+        return NOTHING
+
+    def noted_folder(self, cut, text):
+        """Returns the folder of a run of which it is noted what it does to its image, where this is one of the log."""
+        image = image_said(self.images, cut, text, self.logs)
+        is_laid = image.images.view is not None
+        looks = LaidLooks(LaidImage(image)) if is_laid else Looks(image)
+        looks.noted = Noted()
+        if image.images is not self.images:
+            looks.noted.end()
+        return image_folder(looks, Hidden if is_laid else NotedImage)
 
     def ended(self, name):
-        """Drops the files of a run, and says at which sectors it looked."""
-        looks = self.root.seats.pop(name).looks
+        """Drops the files of a run, and says at which sectors it looked, and what it did to its image where that was noted."""
+        folder = self.root.seats.pop(name)
+        looks, log = folder.looks, self.noted(folder)
         for number in [number for number, it in self.nodes.items() if it.looks is looks]:
             del self.numbers[id(self.nodes.pop(number))]
         for handle in [handle for handle, it in self.open.items() if (it[0][1] if isinstance(it, list) else it).looks is looks]:
             del self.open[handle]
         fault = (looks.fault or "").encode()
-        return SAID.pack(len(fault)) + fault + struct.pack(f"<{len(looks.looked)}Q", *looks.looked)
+        return SAID.pack(len(fault), len(looks.looked), len(log)) + fault + struct.pack(f"<{len(looks.looked)}Q", *looks.looked) + log
+
+    def noted(self, folder):
+        """Returns what a run did to its image, and keeps it, where that is noted and the image is one of the log's."""
+        noted = folder.looks.noted
+        if noted is None or folder.looks.image.images is not self.images:
+            return b""
+        self.end_notes(folder)
+        content = noted.told()
+        return self.logs.keep(content, folder.looks.image).encode() + content
+
+    def end_notes(self, folder):
+        """Notes nothing more of a run."""
+        if not isinstance(folder.names.get(IMAGE), NotedImage):
+            folder.looks.noted.give_up("the program renamed or removed its image")
+        folder.looks.noted.end()
+
+
+def answered(said):
+    """Returns what an answer has: the text of a fault, the sectors, and the second log."""
+    length, count, log = SAID.unpack_from(said)
+    at = SAID.size + length
+    return said[SAID.size : at].decode(), struct.unpack_from(f"<{count}Q", said, at), said[len(said) - log :]
 
 
 def sent(channel, data):
@@ -373,9 +429,9 @@ def received(channel):
     return data[LENGTH.size :]
 
 
-def serve(device, images, channels, is_direct, path):
+def serve(device, images, channels, is_direct, path, notes=None):
     """Answers requests and messages until the mount at a path is gone, or nobody is left who tells of runs."""
-    server, poller = Server(device, images, is_direct, path), select.poll()
+    server, poller = Server(device, images, is_direct, path, notes), select.poll()
     poller.register(device, select.POLLIN)
     left = {it.fileno(): it for it in channels}
     for number in left:

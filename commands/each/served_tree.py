@@ -9,6 +9,7 @@ import stat
 import time
 
 SECTOR = 512
+IMAGE = b"image"
 WHOLE = (1 << SECTOR) - 1
 # What a run may make and write.
 MOST_NODES, MOST_BYTES, LARGEST = 10_000, 128 << 20, 1 << 46
@@ -32,10 +33,12 @@ class Looks:
     def __init__(self, image):
         self.image, self.looked, self.nodes, self.bytes, self.fault = image, {}, 0, 0, None
         self.next = OWN
+        # What the run does to its image, where that is noted.
+        self.noted = None
 
     def sector(self, number):
-        """Returns the bytes of a sector, and notes it where an entry of the log covers it."""
-        if number not in self.looked and self.image.images.covers(number):
+        """Returns the bytes of a sector, and notes it where it counts as looked at: where an entry of the log covers it, or all count."""
+        if number not in self.looked and self.image.images.counts(number):
             self.looked[number] = None
         return self.image.sector(number)
 
@@ -66,6 +69,12 @@ class Node:
 
     def set_time(self, place, nanoseconds):
         self.times[place] = time.time_ns() if nanoseconds is None else nanoseconds
+
+    def asked_by(self, _how, _flags):
+        """Is told how a write comes, and the flags of the open file."""
+
+    def sync(self, _data=False):
+        """Is told of a sync, which changes nothing that is seen."""
 
 
 class File(Node):
@@ -175,6 +184,16 @@ class Folder(Node):
     def size(self):
         return 4096
 
+    def changed(self):
+        """Is told that a name is to change."""
+
+    def new_file(self, _name, mode):
+        """Returns a file that the run makes here."""
+        return File(self.looks, mode, self.looks.number())
+
+    def new_folder(self, _name, mode):
+        return Folder(self.looks, mode, self.looks.number())
+
     def find(self, name):
         """Returns what has a name; without one it is no entry."""
         found = self.names.get(name)
@@ -188,6 +207,7 @@ class Folder(Node):
             raise Fault(errno.EEXIST)
         if len(name) > 255:
             raise Fault(errno.ENAMETOOLONG)
+        self.changed()
         self.looks.spend(1, 0)
         self.names[name] = node
         self.links += isinstance(node, Folder)
@@ -195,6 +215,7 @@ class Folder(Node):
 
     def take(self, name):
         """Takes a name away."""
+        self.changed()
         node = self.names.pop(name)
         self.links -= isinstance(node, Folder)
         node.links -= 2 if isinstance(node, Folder) else 1
@@ -239,6 +260,8 @@ def rename(folder, name, target, new, flags):
         other = target.find(new)
     if isinstance(node, Folder) and is_below(target, node) or flags & EXCHANGE and isinstance(other, Folder) and is_below(folder, other):
         raise Fault(errno.EINVAL)
+    folder.changed()
+    target.changed()
     if flags & EXCHANGE:
         folder.names[name], target.names[new] = other, node
         for it, moved in ((folder, isinstance(other, Folder) - isinstance(node, Folder)), (target, isinstance(node, Folder) - isinstance(other, Folder))):
@@ -258,8 +281,24 @@ def rename(folder, name, target, new, flags):
     target.links += isinstance(node, Folder)
 
 
-def image_folder(looks):
-    """The folder of a run: the image, as a file."""
+class LaidLooks(Looks):
+    """The looks at an image on a device of its own, by the numbers that its sectors have beside those of the log."""
+
+    def sector(self, number):
+        self.looked.setdefault(self.image.laid.number(number))
+        return self.image.sector(number)
+
+
+class Hidden(File):
+    """The image of such a run, at which nobody can look: its files are those of another device."""
+
+    def read(self, _at, _size):
+        self.looks.fault = "the program looks at its image beside the files of it, so no power cut can be told of what it does to these"
+        raise Fault(errno.EIO)
+
+
+def image_folder(looks, make=File):
+    """The folder of a run: the image, as a file, which `make` makes."""
     folder = Folder(looks, stat.S_IFDIR | 0o700, 1)
-    folder.names[b"image"] = File(looks, stat.S_IFREG | 0o600, 2, 0, SECTOR * looks.image.sectors)
+    folder.names[IMAGE] = make(looks, stat.S_IFREG | 0o600, 2, 0, SECTOR * looks.image.sectors)
     return folder

@@ -26,6 +26,7 @@ WRITE_OUT = struct.Struct("<II")
 STATFS_OUT = struct.Struct("<QQQQQIII28x")
 MKNOD_IN, MKDIR_IN, CREATE_IN = struct.Struct("<IIII"), struct.Struct("<II"), struct.Struct("<IIII")
 RENAME_IN, RENAME2_IN, LINK_IN = struct.Struct("<Q"), struct.Struct("<QI4x"), struct.Struct("<Q")
+FSYNC_IN = struct.Struct("<QI4x")
 FALLOCATE_IN, HANDLE = struct.Struct("<QQQI4x"), struct.Struct("<Q")
 FORGET_IN, BATCH_FORGET_IN, FORGET_ONE = struct.Struct("<Q"), struct.Struct("<II"), struct.Struct("<QQ")
 ENTRY = struct.Struct("<QQII")
@@ -36,6 +37,10 @@ ATOMIC_TRUNCATE, BIG_WRITES, PARALLEL_FOLDERS, MORE_FLAGS = 1 << 3, 1 << 5, 1 <<
 DIRECT_AND_MAPPED = 1 << 36
 # Of what is opened: reads and writes go past the page cache.
 DIRECT = 1
+# Of a write: it comes from the page cache, to which a mapping stored.
+OF_MAPPING = 1
+# Of a sync: it is of the data alone, as that of fdatasync.
+DATA = 1
 # What SETATTR sets.
 MODE, OWNER, GROUP, SIZE, ATIME, MTIME, CTIME, ATIME_NOW, MTIME_NOW = 1, 2, 4, 8, 16, 32, 1024, 128, 256
 VERSION, MINOR = 7, 39

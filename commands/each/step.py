@@ -4,9 +4,10 @@ This is all that the rounds know of it. The search is a script's, and isn't prov
 cuts cases are looked for and how many parts are at risk there: what the search takes for that is compared.
 """
 from commands.each import product
-from commands.each.case_lines import text
+from commands.each.case_lines import TITLE, text
 from commands.each.cases import MOST_TORN, Asked, Cut, Search
-from commands.each.served_log import FLUSH, FUA, MARK, LogImages, text_of
+from commands.each.second_images import SeenImages
+from commands.each.served_log import FLUSH, FUA, MARK, LogImages
 from commands.each.stream import Image
 from commands.shared.faults import Refusal
 
@@ -26,7 +27,8 @@ def asked_of(given):
 
 def images_of(given, flushes=()):
     """Returns the images of the log."""
-    return LogImages(given.log, given.value("--base"), given.sectors(), given.value("--by") == "write", flushes)
+    make = SeenImages if given.again else LogImages
+    return make(given.log, given.value("--base"), given.sectors(), given.value("--by") == "write", flushes)
 
 
 def flushes_of(given):
@@ -50,12 +52,17 @@ def cuts_of(given, entries):
     return [it for it in cuts if given.has("--at-most") or is_last_cut(entries, it) or it == last]
 
 
-class Searched:
-    """Some cuts of a log, searched as far as records tell."""
+def searches_of(images, asked, cuts):
+    """Returns the searches of some cuts of a log."""
+    wholes = list(images.numbers())
+    return [Search(Cut(images, it, asked), wholes[it]) for it in cuts]
 
-    def __init__(self, images, asked, cuts, known):
-        self.known, self.wholes = known, list(images.numbers())
-        self.searches = [Search(Cut(images, it, asked)) for it in cuts]
+
+class Searched:
+    """Some cuts, searched as far as records tell."""
+
+    def __init__(self, searches, known):
+        self.searches, self.known = searches, known
 
     def search(self):
         """Searches as far as the records tell."""
@@ -70,16 +77,16 @@ class Searched:
         """Returns the images that are wanted, each once: the representatives of the open cases."""
         self.search()
         found = {}
-        for cut, case in ((it.cut, case) for it in self.searches for case in it.found.open):
-            marks = cut.images.marks[cut.number]
-            image = Image(len(found), cut.number, marks, text_of(cut.choice(case)).encode(), None, None)
-            found.setdefault((marks, self.wholes[cut.number] ^ cut.changed(case)), image)
+        for it, case in ((it, case) for it in self.searches for case in it.found.open):
+            marks = it.cut.images.marks[it.cut.number]
+            cut, choice = it.cut.images.said(it.cut.number, it.cut.choice(case))
+            found.setdefault((marks, it.whole ^ it.cut.changed(case)), Image(len(found), cut, marks, choice.encode(), None, None))
         return list(found.values())
 
-    def text(self, options):
+    def text(self, options, title=TITLE):
         """Returns what is counted over all cuts, and the text of cases."""
         self.search()
-        return text(self.known.head[1:], options, self.searches)
+        return text(self.known.head[1:], options, self.searches, title)
 
 
 class Step:
@@ -89,7 +96,7 @@ class Step:
         self.program, self.given, self.folder, self.known = program, given, folder, known
         self.options, self.notes = product.case_options(program, given, folder)
         images = images_of(given, flushes_of(given))
-        self.searched = Searched(images, asked_of(given), cuts_of(given, images.entries), known)
+        self.searched = Searched(searches_of(images, asked_of(given), cuts_of(given, images.entries)), known)
         if [(it.cut.number, len(it.cut.parts)) for it in self.searched.searches] != product.risks(program, given):
             raise Refusal("crashbpf looks for cases at other cuts, or has other parts at risk there: this is a bug of crashbpf-each")
 
@@ -107,4 +114,4 @@ class Step:
     def text(self):
         """Returns the status and the text of cases by all records, and the notes."""
         totals, found = self.searched.text(self.options)
-        return totals.status(), found.encode(), [*self.notes, *[BLIND] * self.known.are_blind(), *totals.notes()]
+        return totals.status(), found.encode(), [*self.notes, *[BLIND] * self.known.are_blind, *totals.notes()]

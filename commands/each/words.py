@@ -20,10 +20,19 @@ OF_ANY, FLAGS_OF_ANY = ("--torn", "--at-most", "--cases"), ("--stop-at-failing",
 # Those of `log`, which takes the same log.
 OF_LOG = ("--sectors", "--flush", "--large")
 # The options of this program.
-OWN_VALUED = {"-j": "runners", "--keep": "keep", "--timeout": "seconds", "--spot": "spot", "--part": "part", "--runs": "runs"}
-OWN_FLAGS = {"--first": "first", "--resume": "resume", "--read-only": "read_only", "--cure": "cure", "--stay": "stay"}
+OWN_VALUED = {
+    "-j": "runners",
+    "--keep": "keep",
+    "--timeout": "seconds",
+    "--spot": "spot",
+    "--part": "part",
+    "--runs": "runs",
+    "--recover": "recover",
+}
+OWN_FLAGS = {"--first": "first", "--resume": "resume", "--read-only": "read_only", "--cure": "cure", "--stay": "stay", "--again": "again"}
 # Those of both kinds that stand beside `--bound any` alone, and those that never do.
-ONLY_ANY, NEVER_ANY = (*OF_ANY, *FLAGS_OF_ANY, "--runs", "--spot", "--part", "--cure", "--stay"), ("--first", "--read-only")
+ONLY_ANY = (*OF_ANY, *FLAGS_OF_ANY, "--runs", "--spot", "--part", "--cure", "--stay", "--again", "--recover")
+NEVER_ANY = ("--first", "--read-only")
 MOST_RUNNERS, MOST_SECONDS, MOST_SECTORS, MOST_SPOTS, MOST_PARTS, MOST_CASES = 64, 86400, 33554432, 1000000, 10000, 16777216
 SECTOR = 512
 # What runs a program on the files of an image.
@@ -34,8 +43,10 @@ NUMBER, DECIMAL = re.compile(r"0|[1-9]\d{0,18}", re.A), re.compile(r"\d{1,9}(\.\
 class Words:
     """What is asked for. `options` are those of the images, a pair of each name and its value, as they were given."""
 
-    first = resume = read_only = cure = stay = False
-    keep, seconds, spot, part, runs = None, 60.0, None, None, None
+    first = resume = read_only = cure = stay = again = False
+    keep, seconds, spot, part, runs, recover = None, 60.0, None, None, None, None
+    # The names that a recording left out.
+    skipped = ()
     # What is done in place of the program, by its words: what crashbpf-files does.
     inside = None
     # Why one loss at a time is judged, where no bound was given and that isn't what is meant by none.
@@ -153,8 +164,8 @@ def split(words):
 
 
 def of_recording(pairs, folder, program):
-    """Returns the words with what the folder of a recording knows in its place: the log, its options but for those that are given, and
-    the program, which is run on the files of an image where the folder has their map."""
+    """Returns the words with what the folder of a recording knows in its place: the log, its options but for those that are given; the
+    program, which is run on the files of an image where the folder has their map; and the names that were left out."""
     try:
         it = recording.read(folder)
     except recording.Unknown as unknown:
@@ -167,7 +178,7 @@ def of_recording(pairs, folder, program):
         # (it is run in another folder)
         program = [os.path.abspath(program[0]) if "/" in program[0] else program[0], *program[1:]]
         program = [shutil.which("crashbpf-files") or FILES, it.path(it.map), "{}", "--", *program]
-    return [(name, it.log()) if name == "" else (name, value) for name, value in pairs] + known, program
+    return [(name, it.log()) if name == "" else (name, value) for name, value in pairs] + known, program, it.skipped
 
 
 def without_bound(given, names):
@@ -196,6 +207,18 @@ def beside_any(given, names):
     if "--cases" in names:
         number("--cases", given.value("--cases"), MOST_CASES)
     beside_cure(names)
+    beside_again(names)
+
+
+def beside_again(names):
+    """Tests what stands beside `--again` and `--recover`."""
+    other = next((it for it in names if it in ("--cure", "--part", "--spot")), None)
+    if "--again" in names and other:
+        raise Refusal(f"{other} is of the log alone, and --again goes on with what the program does to its images")
+    if "--recover" in names and "--again" not in names:
+        raise Refusal("--recover says what is cut by --again")
+    if "--recover" in names and "--stay" in names:
+        raise Refusal("a program that stays recovers by itself, so --recover isn't for it")
 
 
 def beside_cure(names):
@@ -213,9 +236,9 @@ def parse(words):
     pairs = split(before)
     logs = [value for name, value in pairs if name == ""]
     is_folder = len(logs) == 1 and os.path.isdir(logs[0])
-    judge = program
+    judge, skipped = program, ()
     if is_folder:
-        pairs, program = of_recording(pairs, logs[0], program)
+        pairs, program, skipped = of_recording(pairs, logs[0], program)
         logs = [value for name, value in pairs if name == ""]
     names = [name for name, _value in pairs if name]
     if len(logs) != 1 or "--sectors" not in names:
@@ -224,6 +247,7 @@ def parse(words):
     if twice:
         raise Refusal(f"{twice} stands there twice")
     given = Words(logs[0], sized([it for it in pairs if it[0] in VALUED + FLAGS + OF_ANY + FLAGS_OF_ANY]), program)
+    given.skipped = skipped
     if is_folder and len(program) > len(judge):
         from commands.record import laying
 
@@ -247,6 +271,8 @@ def parse(words):
             given.runs = number("--runs", value, MOST_CASES)
         elif name == "--part":
             given.part = parted(value)
+        elif name == "--recover":
+            given.recover = value
         elif name in OWN_FLAGS:
             setattr(given, OWN_FLAGS[name], True)
     return given

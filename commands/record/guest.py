@@ -11,27 +11,28 @@ import shutil
 import struct
 import subprocess
 import tempfile
+from dataclasses import dataclass
 from pathlib import Path
 
+from commands.record import mounting
 from commands.record import traced
 from commands.record.calls import Refused
 from commands.record.device import last_image
 from commands.record.disk import MARK, SECTOR
 from commands.record.layout import is_large, trace_log
-from commands.record.systems import PATH, done, map_text, tool
+from commands.record.systems import ACCELERATORS, KINDS, PATH, by_machine, done, map_text, tool
 from commands.shared.recording import NAME, Recording
 
 GUEST = Path(__file__).resolve().parents[2] / "examples/recording/guest"
 LOG, BASE, DISK, CONSOLE, MAP = "writes.log", "base.img", "disk.img", "console", "files.txt"
-MADE = (LOG, BASE, DISK, MAP, NAME)
+MADE = (LOG, BASE, DISK, MAP, NAME, mounting.MACHINE)
 # What stands in the folder of a recording that was refused.
 LEFT = (*MADE, CONSOLE)
 # Where the disk is mounted, and the folder on it, $FILES.
 TOP, FILES = "/crashbpf", "files"
-# How many sectors a disk has where nothing is said.
-SECTORS = 32_768
-MKFS = "mke2fs -q -F -t ext4 -b 4096 -E nodiscard,lazy_itable_init=0,lazy_journal_init=0,root_owner=0:0"
 DISCARD = 4
+# The modules of ext4, which each machine of `guest` has.
+THERE = ("crc32c_generic", "libcrc32c")
 BEGUN, ENDED = "the program begins", "the program has ended"
 
 SCRIPT = """\
@@ -55,7 +56,7 @@ shift
 exec "$@"
 RUN
 chmod +x $root/run/crashbpf/mark $root/run/crashbpf/run
-mount -t {kind} $DEVICE $root{top} || exit 125
+mount -t {kind} -o {options} $DEVICE $root{top} || exit 125
 echo '{begun}'
 chroot $root /usr/bin/env -i {environment} /run/crashbpf/run {at} {words} </dev/null
 status=$?
@@ -66,18 +67,45 @@ exit $status
 """
 
 
-def lay_disk(folder, base, sectors):
-    """Makes the disk with the folder $FILES, in which is what --base has."""
-    tool("mke2fs", "e2fsprogs")
+@dataclass(frozen=True)
+class Guest:
+    """What a machine is made of: the folder of its kernel, the kind of its file system, and how many sectors its disk has."""
+
+    kernel: str
+    kind: str
+    sectors: int
+    accelerator: str = ACCELERATORS[0]
+
+
+def wanted(kernel, kind, sectors):
+    """The machine that is asked for, or why there is none."""
+    if not list(Path(kernel).glob("boot/vmlinuz-*")) or not Path(kernel, "lib/modules").is_dir():
+        raise Refused(f"{kernel} has no boot/vmlinuz-* and lib/modules: `dpkg -x linux-image-*.deb KERNEL` makes such a folder of Debian's package")
+    sectors, accelerator = KINDS[kind].sectors if sectors is None else sectors, os.environ.get("ACCEL") or ACCELERATORS[0]
     if not 1 <= sectors <= trace_log.LARGE.sectors or sectors % 8:
         raise Refused(f"the disk has 8 to {trace_log.LARGE.sectors} sectors, a multiple of 8: say how many by --sectors")
-    path = os.path.join(folder, BASE)
+    if accelerator not in ACCELERATORS:
+        raise Refused(f"ACCEL is {' or '.join(ACCELERATORS)}, and not {accelerator}")
+    return Guest(os.path.realpath(kernel), kind, sectors, accelerator)
+
+
+def lay_disk(folder, base, guest):
+    """Makes the disk with the folder $FILES, in which is what --base has."""
+    system, path = KINDS[guest.kind], os.path.join(folder, BASE)
+    tool(system.make.split()[0], system.package)
     with tempfile.TemporaryDirectory(prefix="crashbpf-record.") as room:
         os.mkdir(os.path.join(room, FILES))
         traced.lay_base(base, os.path.join(room, FILES))
         with open(path, "xb") as file:
-            file.truncate(SECTOR * sectors)
-        done([*MKFS.split(), "-d", room, path], f"no file system of {sectors} sectors holds the base; --sectors")
+            file.truncate(SECTOR * guest.sectors)
+        why = f"no file system of {guest.sectors} sectors holds the base; --sectors"
+        if not by_machine(guest.kind):
+            done([*system.make.split(), "-d", room, path], why)
+            return
+        done([*system.make.split(), path], why)
+        state = os.path.join(folder, mounting.MACHINE)
+        mounting.begin(guest, path, state)
+        mounting.put(state, guest.accelerator, path, room)
 
 
 def script_of(kind, at, words):
@@ -85,7 +113,14 @@ def script_of(kind, at, words):
     given = {**os.environ, "FILES": f"{TOP}/{FILES}", "PATH": f"{PATH}{os.pathsep}/run/crashbpf"}
     known = [f"{name}={value}" for name, value in given.items() if re.fullmatch(r"[A-Za-z_]\w*", name) and "\n" not in value]
     return SCRIPT.format(
-        top=TOP, kind=kind, begun=BEGUN, ended=ENDED, environment=shlex.join(known), at=shlex.quote(at), words=shlex.join(words)
+        top=TOP,
+        kind=kind,
+        options=KINDS[kind].options,
+        begun=BEGUN,
+        ended=ENDED,
+        environment=shlex.join(known),
+        at=shlex.quote(at),
+        words=shlex.join(words),
     )
 
 
@@ -96,15 +131,21 @@ def said_by(console):
     return found and found[1]
 
 
-def run(folder, kernel, kind, sectors, words):
+def surroundings_of(folder, guest):
+    """The environment of the script that makes the machine."""
+    modules = mounting.loadable(guest.kernel, [it for it in KINDS[guest.kind].modules.split() if it not in THERE])
+    return {**os.environ, "PATH": PATH, "BASE": os.path.join(folder, BASE), "SHARE": "/", "MODULES": " ".join(modules)}
+
+
+def run(folder, guest, words):
     """Runs the program in the machine. Returns its status, and what it said."""
     room, at = os.path.join(folder, "guest"), os.getcwd()
     tool("qemu-system-x86_64", "qemu-system-x86")
     with tempfile.NamedTemporaryFile("w", errors="surrogateescape") as script:
-        script.write(script_of(kind, at, words))
+        script.write(script_of(guest.kind, at, words))
         script.flush()
-        surroundings = {**os.environ, "PATH": PATH, "BASE": os.path.join(folder, BASE), "SHARE": "/"}
-        running = subprocess.Popen([str(GUEST), kernel, str(sectors), room, script.name], env=surroundings, stdin=subprocess.DEVNULL, stderr=subprocess.PIPE)
+        called = [str(GUEST), guest.kernel, str(guest.sectors), room, script.name]
+        running = subprocess.Popen(called, env=surroundings_of(folder, guest), stdin=subprocess.DEVNULL, stderr=subprocess.PIPE)
         try:
             said = running.communicate()[1].decode(errors="replace").strip()
         except BaseException:
@@ -140,20 +181,19 @@ def without_end(log):
 
 def record(folder, kernel, kind, base, sectors, words):
     """Records a program. Returns its status, and what is said of the log."""
-    sectors = SECTORS if sectors is None else sectors
-    if not list(Path(kernel).glob("boot/vmlinuz-*")) or not Path(kernel, "lib/modules").is_dir():
-        raise Refused(f"{kernel} has no boot/vmlinuz-* and lib/modules: `dpkg -x linux-image-*.deb KERNEL` makes such a folder of Debian's package")
-    lay_disk(folder, base, sectors)
+    guest = wanted(kernel, kind, sectors)
+    lay_disk(folder, base, guest)
     begun = os.stat(os.path.join(folder, BASE)).st_ctime_ns
-    status, printed = run(folder, kernel, kind, sectors, words)
+    status, printed = run(folder, guest, words)
     log, marks, units = without_end(Path(folder, LOG).read_bytes())
     if last_image(log, Path(folder, BASE).read_bytes()) != Path(folder, DISK).read_bytes():
         raise Refused("the last image of the log isn't the disk of the machine")
     Path(folder, LOG).write_bytes(log)
     (entries,) = struct.unpack_from("<Q", log, 16)
-    large = is_large(sectors, entries, units, len(log))
-    Path(folder, MAP).write_text(map_text(kind, sectors, FILES))
-    Recording(folder, sectors, large, BASE, MAP, files=f"{TOP}/{FILES}", at=os.getcwd(), begun=begun, program=list(words)).write()
+    large = is_large(guest.sectors, entries, units, len(log))
+    Path(folder, MAP).write_text(map_text(kind, guest.sectors, FILES, guest.accelerator))
+    Recording(folder, guest.sectors, large, BASE, MAP, files=f"{TOP}/{FILES}", at=os.getcwd(), begun=begun, program=list(words)).write()
     said = printed.decode(errors="replace")
-    told = f"entries {entries} marks {marks} sectors {sectors}{', by the limits of --large' if large else ''}: crashbpf-each {shlex.quote(os.path.relpath(folder))} -- COMMAND"
+    told = f"entries {entries} marks {marks} sectors {guest.sectors}{', by the limits of --large' if large else ''}: "
+    told += f"crashbpf-each {shlex.quote(os.path.relpath(folder))} -- COMMAND"
     return status, f"{said}{told}" if not said or said.endswith("\n") else f"{said}\n{told}"

@@ -28,13 +28,30 @@ def read_map(text):
     return layout.read_map(text)
 
 
-def lay_out(found, image, sectors, folder):
-    """Makes the files of an image in a folder. `found` are places, or what a map with names, or that of a file system, has."""
+def is_system(found):
+    """Whether that is what a map of a file system has."""
+    return isinstance(found, tuple) and isinstance(found[0], str)
+
+
+def lay_system(found, image, beside, folder):
+    """Makes the files of an image of a file system in a folder: by its tools, or by the machine whose state lies beside the map."""
+    _kind, _sectors, inside, accelerator = found
+    if accelerator is None:
+        return systems.lay_out(image, inside, folder, is_served(image))
+    # (it names modules that other images have no use for)
+    from commands.record import mounting
+
+    return mounting.take(os.path.join(beside, mounting.MACHINE), accelerator, image, inside, folder)
+
+
+def lay_out(found, image, sectors, folder, beside):
+    """Makes the files of an image in a folder. `found` are places, or what a map with names, or that of a file system, has. What is
+    beside the map lies in the folder `beside`."""
     with open(image, "rb") as device:
         if os.fstat(device.fileno()).st_size != layout.SECTOR * sectors:
             raise Refused(f"{image}: it has {os.fstat(device.fileno()).st_size} bytes, and the map is of {layout.SECTOR * sectors}")
-        if isinstance(found, tuple) and isinstance(found[0], str):
-            return systems.lay_out(image, found[2], folder)
+        if is_system(found):
+            return lay_system(found, image, beside, folder)
         if isinstance(found, tuple):
             try:
                 return named_layout.Image(device, found).lay_out(folder)
@@ -91,10 +108,10 @@ def main(words):
             found, sectors = read_map(text.decode())
         except (Refused, UnicodeDecodeError) as fault:
             raise Refused(f"{words[0]}:{fault if isinstance(fault, Refused) else '1: it is no text'}") from None
-        if is_served(words[1]):
+        if is_served(words[1]) and not is_system(found):
             return run(words[3:], served_folder(text, words[1]))
         with tempfile.TemporaryDirectory(prefix="crashbpf-files.") as folder:
-            lay_out(found, words[1], sectors, folder)
+            lay_out(found, words[1], sectors, folder, os.path.dirname(words[0]))
             return run(words[3:], folder)
     except Refused as refused:
         return ends.say("crashbpf-files", str(refused))

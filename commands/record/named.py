@@ -6,6 +6,7 @@ What becomes of them, and in which order, says `orders.py`.
 import os
 
 from commands.record.calls import NAMED, Refused, shown, unhexed
+from commands.record.disk import SECTOR
 from commands.record.files import MARKS, Another, File, Other, skips_below
 from commands.record.orders import FILE, FOLDER, OTHER, Past, Tree
 from commands.record.outside import ADVICE, Unknown
@@ -349,6 +350,11 @@ class NamedTracing(Tracing):
         self.tree.began = flight.version
         self.tree.resize(file, size)
 
+    def allocate(self, call, file, start, end, flight):
+        if self.is_resized(call, file, end, flight):
+            self.tree.began = flight.version
+            self.tree.allocate(file, start, end)
+
     def end_fallocate(self, call, process, flight):
         """Follows the call as without names, and notes the room that it reserves."""
         super().end_fallocate(call, process, flight)
@@ -379,21 +385,21 @@ class NamedTracing(Tracing):
                 flight.sync = self.tree.begin_folder(self.folders[name])
 
     def covers(self, begun):
-        places, laid, some = begun
         settled = self.tree.disk.sectors
-        return bool(laid) or any(some.values()) or any(version > settled[place][it].durable for place, found in places.items() for it, version in found.items())
+        flying = (version > settled[place][it].durable for place, found in begun.places.items() for it, version in found.items())
+        return bool(begun.laid) or any(begun.changes.values()) or any(flying)
 
     def end_synced(self, flight):
         self.tree.end_sync(flight.sync)
 
     def add_sync(self, found, file, sectors):
-        """As without names. The size and the names are durable as by fdatasync, unless bytes past the durable size stay in flight: a
-        file system may give a file its size with these alone."""
-        places, laid, some = ({}, [], {}) if found is None else found
-        these, more, _ = self.tree.begin_file(file, sectors, data=True)
-        if self.tree.grows_apart(file, sectors):
-            these = {place: it for place, it in these.items() if place is file.rooms[-1]}
-        for place, versions in these.items():
-            held = places.setdefault(place, {})
+        """As without names. The size is durable up to the end of these sectors, and the names with it."""
+        begun = self.tree.begin_range(file, sectors, min(SECTOR * sectors[-1] + SECTOR, file.size))
+        if found is None:
+            return begun
+        for place, versions in begun.places.items():
+            held = found.places.setdefault(place, {})
             held.update({number: max(it, held.get(number, 0)) for number, it in versions.items()})
-        return places, laid + [it for it in more if it not in laid], some
+        found.laid += [it for it in begun.laid if it not in found.laid]
+        found.ends = {**begun.ends, **found.ends}
+        return found

@@ -25,18 +25,22 @@ Which entries a call makes, a write below being a write entry that is in flight 
 - write: of the bytes; where they are in a block that the append begins, by `ordered` a FUA write, since no image shows them before
   the size. By `writeback` a write before them of what a new block held, and at last two writes of the bytes of those that had
   the blocks before (`again.py`). Where the size grew, a write of the sector of the size: at each multiple of 4,096 bytes that
-  it passed, and at its end.
-- ftruncate, truncate, fallocate to a larger size: a write of the sector of the size.
+  it passed, in a gap too, and at its end.
+- ftruncate, truncate to a larger size: a write of the sector of the size.
+- fallocate to a larger size: the same, and before it one at each multiple of 4,096 bytes that it reserves.
 - ftruncate, truncate, O_TRUNC to a smaller size: zeros are written to the rest of the last block that is kept. Then a write of
   the sector of the size, by which the bytes lie in other sectors from now on. These hold at first what was durable of the part
-  that is kept. What is in flight of that part is written there, too.
+  that is kept. What is in flight of that part is written there, too. By `writeback`, `strict` and `btrfs` they hold all of the last
+  block, and the zeros are written there as well.
 - a write to a block that the file had before it got shorter: where the old size may still be there, the bytes are written to where
   that size shows them, too.
 - fallocate that makes a hole, or zeros: a write of the bytes.
 - fsync, fdatasync, sync, and a write with O_DSYNC after its own entries: where nothing else is in flight that an image could show,
   a flush. Else FUA writes of what it makes durable, and after these a write of what came later. By `ext4` and `xfs` fsync has the names
   durable up to the last change of the file's own, by `btrfs` the file's own, and fdatasync hasn't. By `strict` and `btrfs` a sync
-  of a file that has no name is nothing.
+  of a file that has no name is nothing. A sync of a part has the first size durable that reaches its end, and the names older than that.
+- by `strict` and `btrfs` a sync of a folder into which a file was renamed from another: of the rename the new name is durable, and that
+  the old one is gone is a change by itself from then on.
 
 - by `strict` and `btrfs` where a sync of a file begins: a write of each state of the names that the log of such a sync leaves besides, in which
   the file has its names, and what it isn't synced with may be gone. Then a write of the state with all changes.
@@ -49,7 +53,7 @@ docs/RECORDING.md has the tables with their sources. `tests/models/named_model.p
 import functools
 import struct
 from collections import deque
-from dataclasses import dataclass, field
+from dataclasses import dataclass, field, replace
 
 from commands.record.again import BLOCK, Again
 from commands.record.calls import Refused
@@ -71,21 +75,25 @@ class Rules:
     filled: bool = False
     # a block that was freed is used again before that is durable, and shows what it held where the new bytes are lost
     again: bool = False
+    # where a file gets shorter, the zeros after its new end may be lost: what was cut off is there where it gets longer
+    uncut: bool = False
 
 
 TABLES = {
     "ext4": Rules(own=True),
     "ordered": Rules(filled=True),
-    "writeback": Rules(again=True),
+    "writeback": Rules(again=True, uncut=True),
     "xfs": Rules(own=True, quiet=True),
-    "btrfs": Rules(one=False, own=True),
-    "strict": Rules(one=False),
+    "btrfs": Rules(one=False, own=True, uncut=True),
+    "strict": Rules(one=False, uncut=True),
 }
 # (A file system gives a file whole blocks. Where a write goes on in one that the file has, nothing orders its bytes.)
 FILE, FOLDER, OTHER = 1, 2, 3
 # The number of the folder of all.
 FOLDER_TOP = 0
 
+# How many sizes are tried of those that a file may have between two.
+MOST_BETWEEN = 512
 # How many changes of names are remembered that may have been made at once with another.
 MOST_RECENT = 64
 # In how many ways a crash may leave a set of names, by `strict`.
@@ -171,6 +179,22 @@ class Names:
             found |= it
         return {slot: held for slot, held in found.items() if held is not None}
 
+    def leave(self):
+        """Looks for all states that a crash leaves of the changes, where these aren't those that were made."""
+        numbers, found = {frozenset(self.versions[number].items()): number for number in self.left.values()}, [0]
+        for bit, change in self.changes.items():
+            before = self.follows(change, bit)
+            found += [it | bit for it in found if it & before == before]
+            self.refuse_many(len(found))
+        states = {bits: self.after(bits) for bits in found}
+        known = {bits: numbers.get(frozenset(state.items())) for bits, state in states.items()}
+        self.left = {bits: self.new(states[bits]) if number is None else number for bits, number in known.items()}
+
+    def refuse_many(self, count):
+        """Refuses more states than are wanted."""
+        if count > MOST_LEFT:
+            raise Refused(f"a crash may leave names that renames tie together in more than {MOST_LEFT} ways; that is for the guest")
+
     def follows(self, slots, before=None):
         """The changes that a change of these slots follows: those with a slot in common, and all that these follow. `before` is the bit
         of one that they stand before."""
@@ -205,8 +229,8 @@ class Names:
         """A change of these slots. Yields the number of each state that it is the last change of; last the one with all changes."""
         before, bit = self.follows(slots), 1 << self.count
         more = [it for it in self.left if it & before == before]
-        if len(more) > 1 and len(self.left) + len(more) > MOST_LEFT:
-            raise Refused(f"a crash may leave names that renames tie together in more than {MOST_LEFT} ways; that is for the guest")
+        if len(more) > 1:
+            self.refuse_many(len(self.left) + len(more))
         self.changes[bit], self.count, self.time = slots, self.count + 1, self.time + 1
         self.when[bit] = self.time
         for bits in more:
@@ -249,15 +273,32 @@ class Names:
         self.versions.append(state)
         return len(self.versions) - 1
 
-    def settle(self, bits):
-        """These changes are durable. Returns the numbers of the states that are left: first the durable one, last the one with all
-        changes; or nothing where none of them is new."""
+    def moved_into(self, folder, bits):
+        """Of some changes those that moved files into this folder from another one, each with the names that it took there, unless another of
+        these changes is of such a name, too."""
+        found = {}
+        for bit, change in self.changes.items():
+            gone = {slot: None for slot, held in change.items() if held is None and slot[0] != folder}
+            comes = any(held is not None and held[0] != FOLDER and slot[0] == folder for slot, held in change.items())
+            again = any(other & bits and other > bit and not gone.keys().isdisjoint(later) for other, later in self.changes.items())
+            if bit & bits and comes and not again:
+                found[bit] = gone
+        return found
+
+    def settle(self, bits, kept):
+        """These changes are durable, but for the slots that are `kept` of some: these are a change by themselves then. Returns the numbers of
+        the states that are left: first the durable one, last the one with all changes; or nothing where none of them is new."""
         bits &= sum(self.changes)
         if not bits:
             return None
+        kept = {bit: gone for bit, gone in kept.items() if bit & bits and gone}
+        changes = {bit: kept.get(bit, change) for bit, change in self.changes.items() if not bit & bits or bit in kept}
+        self.changes = {bit: {slot: held for slot, held in change.items() if slot not in kept.get(bit, ())} for bit, change in self.changes.items()}
         self.durable = self.after(bits)
         self.left = {it & ~bits: number for it, number in self.left.items() if it & bits == bits}
-        self.changes = {bit: change for bit, change in self.changes.items() if not bit & bits}
+        self.changes = changes
+        if kept:
+            self.leave()
         every = sum(self.changes)
         self.known = {frozenset(self.versions[number].items()) for number in self.left.values()}
         return [*(self.left[it] for it in sorted(self.left, key=lambda it: (it != 0, it == every))), *self.beside()]
@@ -285,6 +326,29 @@ class Past:
         return links or inside or not things.isdisjoint(others) or not self.slots.keys().isdisjoint(other.slots)
 
 
+@dataclass(frozen=True)
+class End:
+    """A size of a file that its file system may have written down: which of the file's sizes it is, and the version of the names when the
+    file system may have done so first."""
+
+    size: int
+    number: int
+    stamp: int
+
+
+@dataclass
+class Begun:
+    """What a sync that has begun will make durable: versions of sectors by their places; sectors that were laid, each with its room; where
+    names are by themselves, changes of each set; and the sizes of files."""
+
+    places: dict = field(default_factory=dict)
+    laid: list = field(default_factory=list)
+    changes: dict = field(default_factory=dict)
+    ends: dict = field(default_factory=dict)
+    # of a folder: by the sets of `changes` the renames into it, with the names that they took in other folders
+    kept: dict = field(default_factory=dict)
+
+
 class Named(File):
     """A file with its names, its size and its bytes."""
 
@@ -293,6 +357,8 @@ class Named(File):
         self.number, self.rooms, self.place = number, [Bytes(0, content, len(content))], Size(number)
         # up to where it has blocks; the version of the names when its size changed last; how many names it has, and had
         self.blocks, self.stamp, self.names, self.known = len(content), 0, 0, {name}
+        # the sizes that the file system may have written down: one that it has, and what writes made of it since, each larger
+        self.ends = [End(len(content), 0, 0)]
         # the slots that hold it
         self.slots = set()
         # the names that it had and lost
@@ -335,6 +401,8 @@ class Tree:
         self.others, self.above = {}, {}
         # by tables in which names are by themselves: of each folder that was made the set, and the bit of the change
         self.made = {}
+        # the calls of which some sizes between aren't tried
+        self.skipping = {}
         # which permissions files and folders had last, by pairs of a kind and a number
         self.modes = {}
         # the last changes; the call that makes the next one, and the changes that were made at once with that; and of each change with
@@ -478,9 +546,10 @@ class Tree:
             if kind == FILE and not self.files[number].names:
                 self.files[number].lost = last
 
-    def settle(self, names, bits):
-        """Changes of a set are durable, by `strict`. Returns the version of its sector that is, or nothing where none is new."""
-        left = names.settle(bits)
+    def settle(self, names, bits, kept):
+        """Changes of a set are durable, by `strict`, but for the slots that are kept of some. Returns the version of its sector that is, or
+        nothing where none is new."""
+        left = names.settle(bits, kept)
         if not names.changes:
             self.moving.pop(names, None)
         if left is None:
@@ -543,6 +612,7 @@ class Tree:
         file = self.new_file(slot[1])
         self.change({slot: (FILE, file.number)})
         file.stamp = file.named if self.rules.one else 0
+        file.ends = [End(0, 0, file.stamp)]
         return file
 
     def bring_file(self, slot, content):
@@ -591,8 +661,9 @@ class Tree:
         file.blocks, room.length = max(file.blocks, file.size), max(room.length, file.size)
         if self.again:
             first, sectors = self.write_blocks(file, first, sectors)
+        sizes = self.reached(file, old, start)
         if not self.shown(file):
-            self.stamp(file, file.size > old)
+            self.sized(file, sizes)
             self.show_blocks(file, first, len(sectors) // SECTOR)
             return
         self.suspect(file)
@@ -603,11 +674,10 @@ class Tree:
             self.disk.lay(room, first + known, sectors[SECTOR * known :])
             room.laid |= set(range(first + known, first + len(sectors) // SECTOR))
             self.laying[room] = None
-        if file.size > old:
-            self.sized(file, [*range(up(max(old, start) + 1, BLOCK), file.size, BLOCK), file.size])
+        self.sized(file, sizes)
         self.show_blocks(file, first, len(sectors) // SECTOR)
         if through:
-            self.end_sync(self.begin_file(file, own, data=True))
+            self.end_sync(self.begin_range(file, own, start + len(data)))
 
     def write_blocks(self, file, first, sectors):
         """Sectors are written where blocks are used again: of new blocks all, and what these held before comes first. Returns the first
@@ -641,48 +711,63 @@ class Tree:
                 self.disk.write(room, first, data[: SECTOR * count], is_direct)
             limit = min(limit, room.shared)
 
+    def reached(self, file, old, start):
+        """The sizes that a crash may leave of a file that a write at some place made longer: at the end of each of its blocks, since what is
+        written back first may be any of these, and its own."""
+        if file.size <= old:
+            return []
+        return [*self.between(old, start + 1), *range(up(max(old, start) + 1, BLOCK), file.size, BLOCK), file.size]
+
+    def between(self, first, last):
+        """The ends of blocks that lie after one place and before another; of many some."""
+        found = range(up(first + 1, BLOCK), last, BLOCK)
+        if len(found) > MOST_BETWEEN:
+            self.skipping[self.disk.entries.call] = None
+        return found[:: -(-len(found) // MOST_BETWEEN) or 1]
+
     def sized(self, file, sizes):
-        """A file has these sizes, one after the other."""
+        """A file has these sizes, one after the other. Which names a sync of it has to make durable then is noted, also where no crash shows
+        the file."""
+        if not sizes:
+            return
+        # (which of the names that changed meanwhile were first isn't known)
+        now = (self.version(self.one) if self.began is None else self.began) if self.rules.one else 0
+        file.stamp, is_shown = max(now, file.stamp), self.shown(file)
         for it in sizes:
-            self.disk.write(file.place, 0, file.size_text(it))
-        self.stamp(file, True)
+            if is_shown:
+                self.disk.write(file.place, 0, file.size_text(it))
+            file.ends.append(End(it, file.sizes, now))
 
-    def stamp(self, file, grew):
-        """Notes which names a sync of a file has to make durable, where its size has changed: also where no crash shows the file."""
-        if grew:
-            # (which of the names that changed meanwhile were first isn't known)
-            now = self.version(self.one) if self.began is None else self.began
-            file.stamp = max(now, file.stamp) if self.rules.one else 0
-
-    def resize(self, file, size):
-        """A file gets longer or shorter."""
+    def resize(self, file, size, between=()):
+        """A file gets longer or shorter. Its file system writes that down at once, unless that is the size that it has written down; `between`
+        has those that it writes down before."""
+        known = next((it for it in file.ends if it.size == size), None)
         if size < file.size:
             self.shorten(file, size)
         else:
             file.grow(size)
         file.rooms[-1].length = max(file.rooms[-1].length, size)
         self.suspect(file)
-        self.sized(file, [size] if self.shown(file) else [])
+        self.sized(file, [*between, size])
+        file.ends = [replace(file.ends[-1], stamp=known.stamp) if known else file.ends[-1]]
+
+    def allocate(self, file, start, size):
+        """A file gets blocks from a place up to a larger size, and this size. A file system reserves them by pieces."""
+        self.resize(file, size, self.between(max(file.size, start), size))
 
     def shorten(self, file, size):
         """A file gets new sectors for its bytes, which hold what it keeps. Of the last block that it keeps the rest becomes zeros."""
         if self.again:
             self.again.freed(file, up(size, BLOCK) // BLOCK)
-        old, found = file.rooms[-1], self.disk.sectors.get(file.rooms[-1], {})
-        count, kept, later = up(size, SECTOR) // SECTOR, b"", {}
-        for number in range(count):
-            keep = min(size - SECTOR * number, SECTOR)
-            first, *since = (it[:keep].ljust(SECTOR, b"\0") for it in self.versions(old, found.get(number), number))
-            kept += first
-            for turn, content in zip(self.disk.turns_of(old, number, len(since)), since):
-                later.setdefault(turn, []).append((number, content))
-        step = old.unit // SECTOR
-        for number in range(size // old.unit * step, min(up(size, BLOCK) // SECTOR, old.sectors), step) if self.shown(file) else ():
-            self.put(file, number, bytes(file.content[SECTOR * number : max(size, SECTOR * number)]).ljust(old.unit, b"\0"))
+        old, until = file.rooms[-1], up(size, BLOCK)
+        initial, later = self.kept(old, size)
+        if not self.rules.uncut:
+            self.put_zeros(file, size, old.sectors)
         file.changed.append((size // SECTOR, -(-file.size // SECTOR)))
         file.content[size:] = bytes(len(file.content) - size)
         file.size, file.grown, file.blocks = size, file.grown + 1, size
-        file.rooms.append(Bytes(len(file.rooms), kept, size, shared=up(size, BLOCK) // SECTOR, unit=old.unit))
+        length = until if self.rules.uncut else size
+        file.rooms.append(Bytes(len(file.rooms), initial, length, shared=until // SECTOR, unit=old.unit))
         if self.again:
             self.again.moved(file)
         if self.shown(file):
@@ -690,6 +775,30 @@ class Tree:
                 one_by_one = ((None, *it) for it in later[turn])
                 for _, number, content in runs({None: dict(later[turn])}) if self.disk.pages else one_by_one:
                     self.disk.write(file.rooms[-1], number, content, True)
+        if self.rules.uncut:
+            self.put_zeros(file, size, old.sectors)
+
+    def kept(self, old, size):
+        """What the sectors of a room hold that a file keeps where it gets shorter: what is durable, and what comes then, by its turn. Where the
+        zeros after the new end may be lost that is the whole of each version, and then what is kept of those before the last."""
+        initial, later, found = b"", {}, self.disk.sectors.get(old, {})
+        for number in range(up(size, BLOCK if self.rules.uncut else SECTOR) // SECTOR):
+            whole = self.rules.uncut and number >= size // SECTOR
+            versions = self.versions(old, found.get(number), number)
+            cut = [it[: max(size - SECTOR * number, 0)].ljust(SECTOR, b"\0") for it in versions]
+            first, *since = versions if whole else cut
+            turns = [-1, *self.disk.turns_of(old, number, len(since))]
+            initial += first.ljust(SECTOR, b"\0")
+            for turn, content in [*(((0, turn), it) for turn, it in zip(turns[1:], since)), *(((1, turn), it) for turn, it in zip(turns, cut[: -1 if whole else 0]))]:
+                later.setdefault(turn, []).append((number, content))
+        return initial, later
+
+    def put_zeros(self, file, size, sectors):
+        """The rest of a file's last block becomes zeros, where it had as many sectors."""
+        unit = file.rooms[-1].unit
+        step = unit // SECTOR
+        for number in range(size // unit * step, min(up(size, BLOCK) // SECTOR, sectors), step) if self.shown(file) else ():
+            self.put(file, number, bytes(file.content[SECTOR * number : max(size, SECTOR * number)]).ljust(unit, b"\0"))
 
     def versions(self, room, it, number):
         """The versions that a crash may leave of a sector of a file, where nothing is said of its size."""
@@ -733,23 +842,35 @@ class Tree:
 
     # Syncs
 
-    def begin_file(self, file, sectors=None, data=False):
-        """A sync of a file begins, or of some of its sectors; with `data` one that does no more than fdatasync. Returns what it will
-        make durable."""
+    def begin_file(self, file, data=False):
+        """A sync of a file begins, with `data` one that does no more than fdatasync. Returns what it will make durable."""
+        own, last = self.rules.own and not data, file.ends[-1]
+        return self.begin_bytes(file, last, max(file.stamp, file.named) if own else last.stamp, own)
+
+    def begin_range(self, file, sectors, until):
+        """A sync of some sectors of a file begins, that has its size durable as far as one place. Of the sizes that the file system may have
+        written down the first that is as large is durable then, and with it the names that are surely older."""
+        end = next((it for it in file.ends if it.size >= until), file.ends[-1])
+        begun = self.begin_bytes(file, end, end.stamp)
+        room = file.rooms[-1]
+        if room in begun.places:
+            begun.places[room] = {number: it for number, it in begun.places[room].items() if number in sectors}
+        return replace(begun, laid=[it for it in begun.laid if it[1] in sectors])
+
+    def begin_bytes(self, file, end, stamp, own=False):
+        """A sync of a file begins that has one of its sizes durable, and all names up to a version. `own` has those of the file durable where
+        names are by themselves."""
         room = file.rooms[-1]
         if self.one is None:
             self.log_names(file)
             if not file.names:
                 # (btrfs logs no file without a name, and a crash may bring its names back with what was durable before)
-                return {}, [], {}
+                return Begun()
         found = self.disk.begin_sync([room, file.place])
-        laid = [(room, it) for it in room.laid if sectors is None or it in sectors]
-        if sectors is not None:
-            found[room] = {number: it for number, it in found[room].items() if number in sectors}
-        stamp = max(file.stamp, file.named) if self.rules.own and not data else file.stamp
+        found[file.place] = {number: min(it, end.number) for number, it in found[file.place].items()}
         if self.rules.one and stamp:
             found[self.one] = {0: stamp}
-        return found, laid, self.own_names(file) if self.rules.own and not data and self.one is None else {}
+        return Begun(found, [(room, it) for it in room.laid], self.own_names(file) if own and self.one is None else {}, {file: end})
 
     def names_with(self, file):
         """Where names are by themselves: of each set with names of a file, or of the folders that were made for these, which of these it has,
@@ -783,35 +904,32 @@ class Tree:
                 self.disk.write(names, 0, copy_text(number))
         entries.call, entries.slots = call, ()
 
-    def grows_apart(self, file, sectors):
-        """Whether bytes past the durable size of a file are in flight that aren't in these sectors."""
-        room = file.rooms[-1]
-        durable = struct.unpack_from("<Q", self.held(file.place, struct.pack("<QQ", len(file.initial), 0))[0])[0]
-        flying = room.laid | {number for number, it in self.disk.sectors.get(room, {}).items() if it.since}
-        return any(it >= durable // SECTOR and it not in sectors for it in flying)
-
     def begin_folder(self, folder):
         """A sync of a folder begins."""
         if self.one is None:
-            return {}, [], {it: it.up_to([slot for slot in it.slots if slot[0] == folder]) for it in self.moving}
-        return {it: {0: it.touched[folder]} for it in self.all_sets() if folder in it.touched}, [], {}
+            changes = {it: it.up_to([slot for slot in it.slots if slot[0] == folder]) for it in self.moving}
+            # (its log has the names that it has, and not what others lost)
+            return Begun(changes=changes, kept={it: it.moved_into(folder, bits) for it, bits in changes.items()})
+        return Begun({it: {0: it.touched[folder]} for it in self.all_sets() if folder in it.touched})
 
     def begin_all(self):
         """Returns what a sync of everything covers as it begins."""
         sets = list(self.moving) if self.one is None else []
         found = self.disk.begin_sync([it for it in self.disk.unsure if not isinstance(it, Names) or it is self.one])
         laid = [(room, it) for room in self.laying for it in room.laid]
-        return found, laid, {it: sum(it.changes) for it in sets}
+        return Begun(found, laid, {it: sum(it.changes) for it in sets}, {it: it.ends[-1] for it in self.files.values()})
 
     def end_sync(self, begun):
         """The sync has ended. What nobody will see is left as it is, and keeps no flush away."""
-        places, laid, some = begun
-        versions = {names: self.settle(names, bits) for names, bits in some.items()}
-        places = {**places, **{names: {0: version} for names, version in versions.items() if version is not None}}
-        for room, number in laid:
+        versions = {names: self.settle(names, bits, begun.kept.get(names, {})) for names, bits in begun.changes.items()}
+        places = {**begun.places, **{names: {0: version} for names, version in versions.items() if version is not None}}
+        for room, number in begun.laid:
             room.laid.discard(number)
-        for room in {room for room, _ in laid if not room.laid}:
+        for room in {room for room, _ in begun.laid if not room.laid}:
             self.laying.pop(room, None)
+        for file, end in begun.ends.items():
+            # (it is there no more where the file got another size at once)
+            file.ends = file.ends[file.ends.index(end) :] if end in file.ends else file.ends
         if self.one in places:
             places = {**places, self.one: {0: self.settle_beside(places[self.one][0])}}
         gone = self.gone_with(places)

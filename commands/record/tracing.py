@@ -692,6 +692,10 @@ class Tracing(Copying):
         file.changed.append((size // SECTOR, -(-file.size // SECTOR)))
         file.size = size
 
+    def allocate(self, call, file, _start, end, flight):
+        """A file gets longer by blocks that are reserved for it."""
+        self.resize(call, file, end, flight)
+
     def note_cut(self, file):
         """A file has been given the size that it has. A call in flight may have made it longer before that, or may do it now."""
         for other in self.flights.values():
@@ -749,7 +753,7 @@ class Tracing(Copying):
             raise Refused(f"{call}: what it moves isn't followed")
         if "FALLOC_FL_KEEP_SIZE" not in flags:
             if start + length > file.size:
-                self.resize(call, file, start + length, flight)
+                self.allocate(call, file, start, start + length, flight)
             for other in self.flights.values():
                 other.kept[file] = max(start + length, other.kept.get(file, 0))
         if flags & {"FALLOC_FL_PUNCH_HOLE", "FALLOC_FL_ZERO_RANGE"}:

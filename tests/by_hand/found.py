@@ -2,6 +2,7 @@
 """Makes the rows of docs/FOUND.md anew, and compares them with what it says. By hand.
 
     python3 tests/by_hand/found.py [--store] [--no-cure] [--keep FOLDER] [NAME ..]
+    python3 tests/by_hand/found.py --seeds 1-20 [--keep FOLDER] [NAME ..]
     python3 tests/by_hand/found.py --document
 
 Each row is a program and a check that crashbpf-test is given: stores by examples/kv, all else by examples/found. NAME is a row, or the
@@ -10,18 +11,22 @@ how many fail, which syncs lack, and what is left with them. Where counts differ
 cases fail. With --store the file is written. With --no-cure no syncs
 are tried, which takes a third of the time, and what is left with them isn't compared. With --keep the answers are kept in a folder, each with its text.
 
+With --seeds the rows of stores are made with other commits, by these seeds. A line tells each, and what its row doesn't have: syncs that are
+missing, why no sync helps, and how the check ends.
+
 With --document nothing is run: the tables of docs/FOUND.md have to have the rows and the figures of that file, and no others.
 
 It wants the built program, which CRASHBPF names where it is another, strace, and the packages that the rows name; a row whose packages aren't
 there says what lacks. A line tells each row. The status is 1 where one is otherwise.
 """
+import argparse
 import json
 import os
 import re
 import subprocess
 import sys
 import tempfile
-from dataclasses import dataclass
+from dataclasses import dataclass, replace
 from pathlib import Path
 
 sys.dont_write_bytecode = True
@@ -33,6 +38,8 @@ rooms.enter()
 from notation import TOP
 
 TEST, KV, FOUND = TOP / "commands/test/crashbpf-test", TOP / "examples/kv", TOP / "examples/found"
+# (a check of a store is loaded once)
+LOADED = TOP / "tests/by_hand/loaded.py"
 STORED, DOCUMENT = FOUND / "found.json", TOP / "docs/FOUND.md"
 SECONDS = 3600
 # The commits of stores: by this seed a key is overwritten, another removed, and a checkpoint is made after the second.
@@ -74,6 +81,16 @@ def script(name, packages, folder, words="", base="", options="", varies=False, 
     return Row(name, packages, ("sh", at / "program.sh", *words.split()), f"sh {at / 'check.sh'}", tuple(options.split()), made, bound, varies)
 
 
+def seeded(row, seed):
+    """Returns the row of a store with another seed."""
+
+    def words(given):
+        return tuple(str(seed) if it == str(SEED) else it for it in given)
+
+    check = row.check.replace(f"--seed {SEED} ", f"--seed {seed} ")
+    return replace(row, name=f"{row.name}@{seed}", program=words(row.program), base=words(row.base), check=check, bound="1")
+
+
 def sqlite_rows():
     """Yields the rows of SQLite. By its document a commit may be lost where synchronous is OFF, or NORMAL in WAL."""
     for journal in ("DELETE", "TRUNCATE", "PERSIST", "WAL"):
@@ -103,6 +120,8 @@ ROWS = [
     kv("kyoto-nommap", "libkyotocabinet16v5 libkyotocabinet-dev", "kyoto:NOMMAP", is_new=False),
     kv("tokyo", "libtokyocabinet9 libtokyocabinet-dev", "tokyo", "--mapped", is_new=False),
     kv("redis-always", "redis-server python3-redis", "redis:always", "--skip socket", varies=True),
+    script("postgres", "postgresql-15", "postgres", bound="1"),
+    Row("etcd", "etcd-server etcd-client", ("sh", FOUND / "etcd/program.sh"), f"sh {FOUND / 'etcd/check.sh'}", bound="1", varies=True),
     script("git", "git", "git"),
     script("git-all", "git", "git", base="all", bound="1"),
     script("dpkg", "dpkg", "dpkg", "--no-force-unsafe-io", bound="1"),
@@ -116,9 +135,11 @@ ROWS = [
     script("resize2fs-grow", "e2fsprogs", "ext4", "resize2fs", "2M", bound="1"),
     script("resize2fs-shrink", "e2fsprogs", "ext4", "resize2fs -M", bound="1"),
     script("fatlabel", "dosfstools", "fat"),
+    script("btrfs-label", "btrfs-progs", "btrfs", bound="1"),
     script("maildrop", "maildrop", "mail", "maildrop"),
     script("procmail", "procmail", "mail", "procmail"),
     script("python-maildir", "python3", "mail", "python"),
+    script("mutt", "mutt", "mail", "mutt"),
     script("vim", "vim", "editor", "vim"),
     script("vim-n", "vim", "editor", "vim-n"),
     script("nano", "nano bsdutils", "editor", "nano"),
@@ -155,7 +176,8 @@ def asked(row, keep, options_more):
     with tempfile.TemporaryDirectory(prefix="crashbpf-found.") as room:
         out = Path(keep or room, f"{row.name}.json")
         bound = ("--bound", row.bound) if row.bound else ()
-        words = [TEST, *options_more, *bound, "--no-lines", "--json", out, *options(row, room), "--check", row.check, "--", *row.program]
+        test = LOADED if row.check.startswith(str(KV)) else TEST
+        words = [test, *options_more, *bound, "--no-lines", "--json", out, *options(row, room), "--check", row.check, "--", *row.program]
         out.unlink(missing_ok=True)
         done = subprocess.run(words, env=surroundings(room), cwd=TOP, stdin=subprocess.DEVNULL, capture_output=True, text=True, errors="replace", timeout=SECONDS)
         if keep:
@@ -182,11 +204,28 @@ def summary(answer):
 
 
 def is_same(row, found, stored):
-    """Whether a row is as it is stored. What isn't known on a side isn't compared."""
-    if not row.varies:
-        left_out = {"version": "", **({} if found["cured"] and stored["cured"] else {"cured": None})}
-        return {**found, **left_out} == {**stored, **left_out}
-    return [found["missing"], found["helpless"], found["failing"] > 0] == [stored["missing"], stored["helpless"], stored["failing"] > 0]
+    """Whether a row is as it is stored. The version isn't compared, and no cure where none was tried on a side."""
+    if row.varies:
+        return [found["missing"], found["helpless"], found["failing"] > 0] == [stored["missing"], stored["helpless"], stored["failing"] > 0]
+    left_out = {"version", *(() if found["cured"] and stored["cured"] else ("cured",))}
+    return all(value == stored[name] for name, value in found.items() if name not in left_out)
+
+
+def stored_rows():
+    """Returns what is stored, by the rows' names."""
+    return json.loads(STORED.read_text()) if STORED.exists() else {}
+
+
+def store(name, more):
+    """Stores something of a row; the rows stand in the order in which they are made."""
+    rows = stored_rows()
+    rows[name] = {**rows.get(name, {}), **more}
+    STORED.write_text(json.dumps({it.name: rows[it.name] for it in ROWS if it.name in rows}, indent=1) + "\n")
+
+
+def store_seen(name, kernel, seen):
+    """Stores what was seen of a row on the ext4 of a kernel."""
+    store(name, {"on ext4": {**stored_rows().get(name, {}).get("on ext4", {}), kernel: seen}})
 
 
 def told(name, it):
@@ -211,45 +250,87 @@ def cells(line):
     return [it.strip() for it in line.strip().strip("|").split("|")]
 
 
+def on_ext4(it):
+    """Returns what docs/FOUND.md says of a row on a real ext4."""
+    found = it.get("on ext4", {}).values()
+    if any(one["seen"] for one in found):
+        return "seen"
+    return f"not in {sum(one['images'] for one in found):,} images" if found else "not tried" if it["failing"] else "-"
+
+
 def document():
     """Yields what docs/FOUND.md has otherwise than what is stored."""
-    known = json.loads(STORED.read_text())
+    known = stored_rows()
     rows = {it[0].strip("`"): it for it in map(cells, DOCUMENT.read_text().splitlines()) if re.fullmatch(r"`[a-z0-9-]+`", it[0]) and len(it) > 4}
     yield from (f"{name}: no row in {DOCUMENT.name}" for name in known if name not in rows)
     yield from (f"{name}: not in {STORED.name}" for name in rows if name not in known)
     for name in sorted(known.keys() & rows.keys()):
         it = known[name]
         cured = f"{it['cured'][0]:,} of {it['cured'][1]:,}" if it["cured"] else "not tried" if it["missing"] else "-"
-        figures = [it["version"], f"{it['failing']:,} of {it['cases']:,}", cured]
+        figures = [it["version"], f"{it['failing']:,} of {it['cases']:,}", cured, on_ext4(it)]
         yield from (f"{name}: {figure} isn't in its row" for figure in figures if figure not in rows[name])
 
 
-def main(words):
-    is_stored, keep, more = "--store" in words, None, ["-j", os.environ.get("FOUND_RUNNERS", "2"), *(it for it in words if it == "--no-cure")]
-    if "--document" in words:
-        found = list(document())
-        print("\n".join([*found, f"{len(found)} findings"]))
-        return 1 if found else 0
-    if "--keep" in words:
-        at = words.index("--keep")
-        keep = Path(words[at + 1]).resolve()
-        keep.mkdir(exist_ok=True)
-        del words[at : at + 2]
-    names, wrong = [it for it in words if it not in ("--store", "--no-cure")], 0
-    for row in ROWS:
-        if names and not any(row.name == it or it.endswith("*") and row.name.startswith(it[:-1]) for it in names):
-            continue
+def is_asked(name, names):
+    """Whether a row is asked for: by its name, by the beginning of it before a `*`, or as all are."""
+    return not names or any(name == it or it.endswith("*") and name.startswith(it[:-1]) for it in names)
+
+
+def try_seeds(row, seeds, keep, more):
+    """Makes the row of a store by other seeds, and prints of each what it comes to, and what the row itself doesn't have."""
+    known = stored_rows().get(row.name, {"missing": [], "helpless": [], "statuses": []})
+    for seed in seeds:
+        line, found = made(seeded(row, seed), keep, more)
+        parts = {} if found is None else {name: sorted({*found[name]} - {*known[name]}) for name in ("missing", "helpless", "statuses")}
+        print(line, *(f"\n    more {name}: {', '.join(its)}" for name, its in parts.items() if its), flush=True)
+
+
+def make_rows(rows, keep, more, is_stored):
+    """Makes rows, and prints the line of each. Returns how many are otherwise than they are stored."""
+    wrong = 0
+    for row in rows:
         line, found = made(row, keep, more)
         print(line, flush=True)
-        known = json.loads(STORED.read_text()) if STORED.exists() else {}
+        known = stored_rows()
         if found and is_stored:
-            STORED.write_text(json.dumps({it.name: {**known, row.name: found}[it.name] for it in ROWS if it.name in {*known, row.name}}, indent=1) + "\n")
-        elif found and not is_same(row, found, known.get(row.name, found)):
+            store(row.name, found)
+        elif found and row.name not in known:
+            print("it isn't stored", flush=True)
+        elif found and not is_same(row, found, known[row.name]):
             print(f"otherwise than stored: {told(row.name, known[row.name])}", flush=True)
             wrong += 1
         wrong += found is None
-    return wrong > 0
+    return wrong
+
+
+def parse():
+    """Returns what the words ask for."""
+    reader = argparse.ArgumentParser(description=__doc__, formatter_class=argparse.RawDescriptionHelpFormatter)
+    for it in ("store", "no-cure", "document"):
+        reader.add_argument(f"--{it}", action="store_true")
+    reader.add_argument("--keep", type=Path)
+    reader.add_argument("--seeds", type=lambda text: range(int(text.split("-")[0]), int(text.split("-")[1]) + 1))
+    reader.add_argument("names", nargs="*")
+    return reader.parse_args()
+
+
+def main():
+    given = parse()
+    if given.document:
+        found = list(document())
+        print("\n".join([*found, f"{len(found)} findings"]))
+        return 1 if found else 0
+    keep = given.keep and given.keep.resolve()
+    if keep:
+        keep.mkdir(exist_ok=True)
+    more = ["-j", os.environ.get("FOUND_RUNNERS", "2"), *(["--no-cure"] if given.no_cure or given.seeds else [])]
+    rows = [it for it in ROWS if is_asked(it.name, given.names)]
+    if not given.seeds:
+        return make_rows(rows, keep, more, given.store) > 0
+    for row in rows:
+        try_seeds(row, given.seeds, keep, more)
+    return 0
 
 
 if __name__ == "__main__":
-    sys.exit(main(sys.argv[1:]))
+    sys.exit(main())

@@ -58,7 +58,7 @@ EXT4 = "mkfs.ext4 -q -F -E nodiscard"
 class Kind:
     """A kind of file system: its table, which is to allow what it leaves, its sectors, how it is made and mounted, its modules. A write
     outside its journal takes `slow` milliseconds. On a disk that is nearly full `left` blocks of 4,096 bytes are free; 0 is any other disk.
-    With `more` the programs of MORE run on it."""
+    `runs` says which programs run on it."""
 
     table: str
     sectors: int
@@ -67,7 +67,7 @@ class Kind:
     modules: str = ""
     slow: int = 0
     left: int = 0
-    more: bool = False
+    runs: str = "usual"
 
     @property
     def by_e2fsck(self):
@@ -91,8 +91,13 @@ KINDS = {
     "ext4-full": Kind("ext4", 32768, f"{EXT4} -b 4096", "data=ordered,commit=30,dioread_nolock", left=20),
     "ext4-writeback-full": Kind("writeback", 32768, f"{EXT4} -b 4096", "data=writeback,commit=30,dioread_lock", left=20),
     # (these have programs of their own)
-    "xfs-more": Kind("xfs", 614400, "mkfs.xfs -q -f", "noatime", "xfs", more=True),
-    "btrfs-more": Kind("btrfs", 233472, "mkfs.btrfs -q", "commit=1", BTRFS, more=True),
+    "xfs-more": Kind("xfs", 614400, "mkfs.xfs -q -f", "noatime", "xfs", runs="more"),
+    "btrfs-more": Kind("btrfs", 233472, "mkfs.btrfs -q", "commit=1", BTRFS, runs="more"),
+    "ext4-parts": Kind("ext4", 32768, f"{EXT4} -b 4096", "data=ordered,commit=1,dioread_nolock", runs="parts"),
+    "ext4-lock-parts": Kind("ordered", 32768, f"{EXT4} -b 4096", "data=ordered,commit=1,dioread_lock,nodelalloc", runs="parts"),
+    "ext4-writeback-parts": Kind("writeback", 32768, f"{EXT4} -b 4096", "data=writeback,commit=1,dioread_lock", runs="parts"),
+    "xfs-parts": Kind("xfs", 614400, "mkfs.xfs -q -f", "noatime", "xfs", runs="parts"),
+    "btrfs-parts": Kind("btrfs", 233472, "mkfs.btrfs -q", "commit=1", BTRFS, runs="parts"),
 }
 PROGRAMS = {
     "replaced": "open new,append new 700 A,fsync new,rename new kept,mark 1,open new,append new 1500 B,fsync new,rename new kept,mark 2,append other 100 x,fsync other,mark 3",
@@ -146,7 +151,22 @@ MORE = {
     "back": "open a,append a 100 A,open b,append b 100 B,fsync a,fsync b,folder .,mark 1,rename a c,rename b a,rename c b,append a 10 C,fdatasync a,mark 2,append b 10 D,fsync b,mark 3",
     "stays": "open a,append a 100 A,link a b,fsync a,folder .,mark 1,rename kept a,fsync kept,mark 2,rename b kept,append kept 10 C,fsync a,mark 3",
 }
-EVERY = PROGRAMS | MORE
+# Those that write out parts of a file, make it shorter and longer again, and reserve room.
+PARTS = {
+    "through": "open f,append f 4096 A,fsync f,folder .,mark 1,mkdir d,write f 4096 4096 B,through f 0 10 B,mark 2,sleep 300",
+    "through-middle": "open f,append f 4096 A,fsync f,folder .,mark 1,mkdir d,append f 12288 B,mkdir e,through f 8192 10 C,mark 2,sleep 300",
+    "through-end": "open f,fsync f,folder .,mark 1,mkdir d,append f 100 A,mkdir e,through f 100 50 B,mark 2,truncate f 60,mkdir g,through f 0 10 C,mark 3,sleep 300",
+    "gap": "open f,folder .,mark 1,write f 8192 4096 B,write f 0 4096 A,part f 0 4096,append other 10 x,fsync other,mark 2,sleep 300",
+    "gap-after": "open f,append f 100 A,fsync f,folder .,mark 1,append f 100 B,write f 20480 100 C,part f 0 4096,append other 10 x,fsync other,mark 2,write f 9000 100 D,part f 8192 4096,append other 10 x,fsync other,mark 3,sleep 300",
+    "taken-back": "open f,fsync f,folder .,mark 1,mkdir d,append f 100 A,truncate f 0,fdatasync f,mark 2,sleep 300",
+    "taken-half": "open f,append f 4096 A,fsync f,folder .,mark 1,append f 8192 B,part f 4096 4096,mkdir d,truncate f 8192,fdatasync f,mark 2,sleep 300",
+    "cut-grown": "open f,append f 4096 A,fsync f,folder .,mark 1,truncate f 100,write f 200 10 B,append other 10 x,fsync other,mark 2,sleep 300",
+    "cut-part": "open f,append f 8192 A,fsync f,folder .,mark 1,truncate f 100,write f 4096 4096 B,part f 4096 4096,sleep 1500,append other 10 x,fsync other,mark 2,sleep 300",
+    "cut-longer": "open f,append f 4096 A,fsync f,folder .,mark 1,truncate f 100,truncate f 3000,append other 10 x,fsync other,mark 2,through f 2900 10 B,mark 3,sleep 300",
+    "reserved": "open f,folder .,mark 1,reserve f 0 40960,append other 10 x,fsync other,mark 2,mkdir d,through f 0 10 A,mark 3,truncate f 100,reserve f 50 9000,fdatasync f,mark 4,sleep 300",
+    "across": "mkdir d,mkdir e,open d/a,append d/a 300 A,fsync d/a,folder .,folder d,folder e,mark 1,sleep 1200,rename d/a e/c,folder e,mark 2,open d/a,append d/a 20 B,folder d,mark 3,rename e/c d/b,folder d,mark 4,sleep 300",
+}
+EVERY = PROGRAMS | MORE | PARTS
 # Those of which a slow or a full disk is to show something; and those whose states are too many to be counted.
 LATE = ("late", "reused", "cut", "renamed", "renamed-data", "followed")
 UNCOUNTED = ("late", "reused", "cut", "slow")
@@ -158,7 +178,7 @@ ENVIRONMENT = {**os.environ, "PATH": f"{os.environ['PATH']}:/usr/sbin:/sbin"}
 def programs_of(kind):
     """The programs that run on a kind of file system."""
     it = KINDS[kind]
-    return LATE if it.slow or it.left else tuple(MORE if it.more else PROGRAMS)
+    return LATE if it.slow or it.left else tuple({"usual": PROGRAMS, "more": MORE, "parts": PARTS}[it.runs])
 
 
 def lines_of(name):

@@ -7,10 +7,11 @@ doesn't run it, since it needs these; it runs tests/gate/traced.py, which has st
 By strace programs are recorded that write in each way that is followed, in threads and processes too, that change names and sizes,
 and those that have to be refused, with the call that shows why; of each the files are compared with those that the log has, of names also those at some marks. By FUSE a few commands are
 recorded, and their logs are compared with what they did; of each the last image has to be the disk. KERNEL is a folder as `guest` takes it. With it scripts are recorded in virtual machines: what stands before a mark of each
-kind, what a program finds by --guest and which files its images have, whether a file is there at its mark though all that is in flight is lost, and how `guest` ends where something is wrong.
+kind, what a program finds by --guest on each kind of file system and which files its images have, whether a file is there at its mark though all that is in flight is lost, and how `guest` ends where something is wrong.
 
-Prints a line for each that failed, and last `N passed, M failed`. It wants what these want, e2fsprogs, and a C compiler. It
-takes half a minute, and with KERNEL a minute and a half of processor time more; on a busy machine that was twelve minutes.
+Prints a line for each that failed, and last `N passed, M failed`. It wants what these want, e2fsprogs, and a C compiler, with KERNEL
+xfsprogs, btrfs-progs and f2fs-tools. It
+takes half a minute, and with KERNEL three minutes of processor time more; on a busy machine that was twenty minutes.
 """
 import os
 import signal
@@ -28,6 +29,8 @@ rooms.enter()
 
 from notation import DISCARD, FLUSH, FUA, MARK, SECTOR, TOP, D, F, M, S, W, log
 from rows.recording import entries_of
+
+from commands.record import systems
 
 FOLDER = TOP / "examples/recording"
 RECORD = TOP / "commands/record/crashbpf-record"
@@ -708,22 +711,23 @@ exit 3
 """
 
 
-def program(guests):
-    """What is wrong with a program that is recorded by crashbpf-record --guest, and with the files of its images."""
-    out, base, image = guests.folder / "program", guests.folder / "base", guests.folder / "files.img"
-    base.mkdir()
+def program(guests, kind):
+    """What is wrong with a program that is recorded by crashbpf-record --guest on a kind of file system, and with the files of its images."""
+    out, base, image = guests.folder / f"program_{kind}", guests.folder / "base", guests.folder / "files.img"
+    base.mkdir(exist_ok=True)
     (base / "kept").write_text("kept\n")
-    done = subprocess.run([RECORD, "--guest", guests.kernel, "--base", base, out, "--", "sh", "-c", IN_GUEST], capture_output=True, text=True, env=os.environ | {"OUTSIDE": str(guests.folder)})
+    words = [RECORD, "--guest", guests.kernel, "--fs", kind, "--base", base, out, "--", "sh", "-c", IN_GUEST]
+    done = subprocess.run(words, capture_output=True, text=True, env=os.environ | {"OUTSIDE": str(guests.folder)})
     said = done.stdout.split("\n")
     if done.returncode != 3 or said[0] != "kept" or "coreutils" not in said[1] or "mark: in a guest a mark is one word" not in said:
-        return [f"program: status {done.returncode}, {done.stdout}{done.stderr}"]
-    found = [f"{it} is left" for it in ("gone", "program/guest") if (guests.folder / it).exists()]
+        return [f"{kind}: status {done.returncode}, {done.stdout}{done.stderr}"]
+    found = [f"{it} is left" for it in ("gone", f"{out.name}/guest") if (guests.folder / it).exists()]
     entries, before = entries_of((out / "writes.log").read_bytes()), (out / "base.img").read_bytes()
     show = "for it in kept one two; do cat $it 2>/dev/null || printf ' no %s' $it; done"
     for these, wanted in (([], " no one no two"), (durable(entries[: entries.index(M("one"))]), "one no two"), (entries, "onetwo")):
         image.write_bytes(image_of(these, before))
         ran = subprocess.run([RECORD.with_name("crashbpf-files"), out / "files.txt", image, "--", "sh", "-c", show], capture_output=True, text=True)
-        found += [] if (ran.returncode, ran.stdout) == (0, f"kept\n{wanted}") else [f"program: the files of an image are {ran.stdout!r}, {ran.stderr}"]
+        found += [] if (ran.returncode, ran.stdout) == (0, f"kept\n{wanted}") else [f"{kind}: the files of an image are {ran.stdout!r}, {ran.stderr}"]
     return found
 
 
@@ -732,7 +736,7 @@ def guests_of(folder, kernel):
     guests = Guests(folder, kernel)
     return [
         *marks(guests),
-        *program(guests),
+        *(it for kind in systems.SYSTEMS for it in program(guests, kind)),
         *versions(guests, "use", True),
         *versions(guests, "files", False),
         *(refused(guests, *it) for it in REFUSED),

@@ -32,7 +32,7 @@ rooms.enter()
 from commands.each.served_folder import FILES, MAP
 from commands.each.served_log import LogImages, text_of
 from commands.each.served_mount import Mount
-from commands.each.served_server import ENDS, SAID, TOLD, received, sent
+from commands.each.served_server import ENDS, SAID, TOLD, answered, received, sent
 from commands.record import named_layout
 from commands.record.calls import Refused
 from commands.shared import recording
@@ -187,7 +187,7 @@ class Trial:
         """What is found in the served folder, and the sectors at which was looked, with what they hold."""
         channel, image = self.mount.channels[0], self.images.image(cut, text_of(choice))
         sent(channel, TOLD.pack(0, cut) + text_of(choice).encode())
-        assert received(channel) == SAID.pack(0)
+        assert received(channel) == SAID.pack(0, 0, 0)
         top = Path(self.mount.path, "00")
 
         def find(folder, begun):
@@ -199,10 +199,9 @@ class Trial:
         found = told_by(find, str(top), seed).replace(os.fsencode(top / "files"), b"$FILES")
         sent(channel, TOLD.pack(0, ENDS))
         said = received(channel)
-        (length,) = SAID.unpack_from(said)
-        if length:
-            return said[SAID.size :], {}
-        sectors = [int.from_bytes(said[at : at + 8], "little") for at in range(SAID.size, len(said), 8)]
+        fault, sectors, _log = answered(said)
+        if fault:
+            return fault.encode(), {}
         return found, {it: image.sector(it) for it in sectors}
 
     def plain(self, cut, choice, act, seed):

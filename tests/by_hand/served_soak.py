@@ -32,7 +32,7 @@ import known_model
 from cases_model import Losses, choices, image_of
 from commands.each.served_log import LogImages
 from commands.each.served_mount import Mount
-from commands.each.served_server import ENDS, SAID, TOLD, received, sent
+from commands.each.served_server import ENDS, SAID, TOLD, answered, received, sent
 from known_model import Ended, head_text, record_text, told
 from known_soak import is_small, some_entry
 from notation import SECTOR, log
@@ -235,11 +235,10 @@ class Trial:
         """What the program ends in on a served image, and the sectors at which it looked."""
         channel = mount.channels[0]
         sent(channel, TOLD.pack(0, image.cut) + image.choice().encode())
-        assert received(channel) == SAID.pack(0)
+        assert received(channel) == SAID.pack(0, 0, 0)
         status = status_of(f"{mount.path}/00/image", self.size, self.seed, image.marks())
         sent(channel, TOLD.pack(0, ENDS))
-        said = received(channel)
-        return status, struct.unpack(f"<{len(said) // 8}Q", said[SAID.size :])
+        return status, answered(received(channel))[1]
 
     def plain(self, image):
         """What it ends in on a plain file."""

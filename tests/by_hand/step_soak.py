@@ -23,7 +23,7 @@ rooms.enter()
 import known_model
 from cases_model import Losses, head
 from commands.each.known import Known
-from commands.each.step import Searched, asked_of, cuts_of, flushes_of, images_of
+from commands.each.step import Searched, asked_of, cuts_of, flushes_of, images_of, searches_of
 from commands.each.words import Words
 from commands.shared.faults import Refusal
 from known_model import Refused, head_text, told
@@ -63,7 +63,7 @@ def known_of(given, content, inputs):
 
 def searched_of(given, known):
     images = images_of(given, flushes_of(given))
-    return Searched(images, asked_of(given), cuts_of(given, images.entries), known)
+    return Searched(searches_of(images, asked_of(given), cuts_of(given, images.entries)), known)
 
 
 def first_ones(images):

@@ -95,6 +95,13 @@ MADE = ["names a=0"]
 # The bytes that are written after the unlink are seen only where it is lost.
 REST = ["fua names a=0", "flush", "names", "bytes 0", "flush", "flush"]
 
+
+
+def by_cut(cut, uncut):
+    """Entries by tables that have zeros after the end of a file that gets shorter, and by those by which these may be lost."""
+    return cut, uncut, None, cut
+
+
 # The name, the text, the entries by `ordered`, `writeback`, `strict`, `ext4` and `btrfs`, or by all of them where they are the same; what
 # stood there before. Where there are fewer `ext4` has those of `writeback`, and `btrfs` those of `strict`; `xfs` has those of `ext4`, where a
 # last list doesn't have its own.
@@ -108,14 +115,14 @@ ROWS = [
     ("an append over the end of a block", AGAIN + "pwrite64(3<a>, 'A*1000', 1000, 3600) = 1000", ["bytes 7", "fua bytes 8", "size 0 4096", "size 0 4600"], ["bytes 7-8", "size 0 4096", "size 0 4600"], {b"a": b"x" * 3600}),
     ("an append of many blocks", OPEN + "write(3<a>, 'A*8200', 8200) = 8200", [*MADE, "fua bytes 0-16", "size 0 4096", "size 0 8192", "size 0 8200"], [*MADE, "bytes 0-16", "size 0 4096", "size 0 8192", "size 0 8200"]),
     ("a write over what is there", AGAIN + WRITE, ["bytes 0"], {b"a": b"x" * 600}),
-    ("a write far after the end", OPEN + "pwrite64(3<a>, 'A*512', 512, 8192) = 512\npwrite64(3<a>, 'A*512', 512, 0) = 512", [*MADE, "fua bytes 16", "size 0 8704", "bytes 0"], [*MADE, "bytes 16", "size 0 8704", "bytes 0"]),
+    ("a write far after the end", OPEN + "pwrite64(3<a>, 'A*512', 512, 8192) = 512\npwrite64(3<a>, 'A*512', 512, 0) = 512", [*MADE, "fua bytes 16", "size 0 4096", "size 0 8192", "size 0 8704", "bytes 0"], [*MADE, "bytes 16", "size 0 4096", "size 0 8192", "size 0 8704", "bytes 0"]),
     ("ftruncate makes it longer", OPEN + "ftruncate(3<a>, 5000) = 0\n" + WRITE, [*MADE, "size 0 5000", "bytes 0"]),
-    ("ftruncate makes it shorter", AGAIN + "ftruncate(3<a>, 100) = 0\n", ["bytes 0", "bytes 1", "size 0 100 room 1"], {b"a": b"x" * 600}),
-    ("shorter, with a write in flight", AGAIN + WRITE + "ftruncate(3<a>, 100) = 0\n", ["bytes 0", "bytes 0", "bytes 1", "bytes 0", "size 0 100 room 1"], {b"a": b"x" * 600}),
-    ("shorter, and written after that", AGAIN + "ftruncate(3<a>, 100) = 0\n" + WRITE, ["bytes 0", "bytes 1", "size 0 100 room 1", "bytes 0", "bytes 0", "size 0 512 room 1"], {b"a": b"x" * 600}),
+    ("ftruncate makes it shorter", AGAIN + "ftruncate(3<a>, 100) = 0\n", *by_cut(["bytes 0", "bytes 1", "size 0 100 room 1"], ["bytes 0", "bytes 0", "bytes 1", "bytes 1", "size 0 100 room 1"]), {b"a": b"x" * 600}),
+    ("shorter, with a write in flight", AGAIN + WRITE + "ftruncate(3<a>, 100) = 0\n", *by_cut(["bytes 0", "bytes 0", "bytes 1", "bytes 0", "size 0 100 room 1"], ["bytes 0", "bytes 0", "bytes 0", "bytes 0", "bytes 0", "bytes 1", "bytes 1", "size 0 100 room 1"]), {b"a": b"x" * 600}),
+    ("shorter, and written after that", AGAIN + "ftruncate(3<a>, 100) = 0\n" + WRITE, *by_cut(["bytes 0", "bytes 1", "size 0 100 room 1", "bytes 0", "bytes 0", "size 0 512 room 1"], ["bytes 0", "bytes 0", "bytes 1", "bytes 1", "size 0 100 room 1", "bytes 0", "bytes 0", "size 0 512 room 1"]), {b"a": b"x" * 600}),
     ("truncate by the name", AGAIN + "truncate('/r/files/a', 0) = 0\n" + WRITE, ["size 0 0 room 1", "fua bytes 0", "size 0 512 room 1"], ["size 0 0 room 1", "bytes 0", "size 0 512 room 1"], {b"a": b"x" * 600}),
     ("O_TRUNC", AGAIN.replace("O_RDWR", "O_RDWR|O_TRUNC"), ["size 0 0 room 1"], {b"a": b"x" * 600}),
-    ("fallocate", OPEN + "fallocate(3<a>, 0, 0, 8192) = 0\n" + WRITE, [*MADE, "size 0 8192", "bytes 0"]),
+    ("fallocate", OPEN + "fallocate(3<a>, 0, 0, 8192) = 0\n" + WRITE, [*MADE, "size 0 4096", "size 0 8192", "bytes 0"]),
     ("blocks before the size", OPEN + "fallocate(3<a>, FALLOC_FL_KEEP_SIZE, 0, 4096) = 0\n" + WRITE, [*MADE, "bytes 0", "size 0 512"]),
     ("a hole", AGAIN + "fallocate(3<a>, FALLOC_FL_KEEP_SIZE|FALLOC_FL_PUNCH_HOLE, 0, 512) = 0", ["bytes 0"], {b"a": b"x" * 600}),
     ("O_DSYNC", AGAIN.replace("O_RDWR", "O_RDWR|O_DSYNC") + WRITE + "lseek(3<a>, 0, SEEK_END) = 600\n" + WRITE, ["bytes 0", "flush", "bytes 1-2", "size 0 1112", "flush"], {b"a": b"x" * 600}),
@@ -123,7 +130,7 @@ ROWS = [
     ("unlinkat", OPEN + "unlinkat(9</r/files>, 'a', 0) = 0", ["names a=0", "names"]),
     ("a write after an unlink", SYNCED + "unlink('/r/files/a') = 0\npwrite64(3<a>(deleted), 'B*512', 512, 0) = 512\nfsync(9</r/files>) = 0\npwrite64(3<a>(deleted), 'C*512', 512, 0) = 512\nfsync(3<a>(deleted)) = 0", [*MADE, "fua bytes 0", "size 0 512", *REST], [*MADE, "bytes 0", "size 0 512", *REST]),
     ("rename", OPEN + "rename('/r/files/a', '/r/files/b') = 0", ["names a=0", "names b=0"]),
-    ("rename over a file", OPEN + B + "rename('/r/files/a', '/r/files/b') = 0\npwrite64(3<b>, 'A*512', 512, 4096) = 512", [*MADE, "names a=0 b=1", "names b=0", "fua bytes 8", "size 0 4608"], [*MADE, "names a=0 b=1", "names b=0", "bytes 8", "size 0 4608"], [*MADE, "names b=1", "names a=0 b=1", "names b=0", "bytes 8", "size 0 4608"]),
+    ("rename over a file", OPEN + B + "rename('/r/files/a', '/r/files/b') = 0\npwrite64(3<b>, 'A*512', 512, 4096) = 512", [*MADE, "names a=0 b=1", "names b=0", "fua bytes 8", "size 0 4096", "size 0 4608"], [*MADE, "names a=0 b=1", "names b=0", "bytes 8", "size 0 4096", "size 0 4608"], [*MADE, "names b=1", "names a=0 b=1", "names b=0", "bytes 8", "size 0 4096", "size 0 4608"]),
     ("rename of a name to itself", OPEN + "rename('/r/files/a', '/r/files/a') = 0", MADE),
     ("rename to another folder", OPEN + IN + "renameat(AT_FDCWD</r/files>, 'a', 9<in>, 'b') = 0", *[[*MADE, "names a=0 in=/1", "names 1/b=0 in=/1"]] * 2, ["names a=0", "names in=/1", "names 1/b=0"]),
     ("renameat2", OPEN + B + SWAPPED, *[[*MADE, "names a=0 b=1", "names a=1 b=0"]] * 2, [*MADE, "names b=1", "names a=0 b=1", "names a=1 b=0"]),
@@ -409,8 +416,9 @@ ENTRIES = """\
 8 fsync($FILES); the names, durable; sh -c "mv it", process 100; calls:14
 9 pwrite("to b", 512 bytes at 4096); its bytes; sh -c "mv it", process 100 thread 101; calls:13
 10 pwrite("to b", 512 bytes at 4096); its size; sh -c "mv it", process 100 thread 101; calls:13
-11 sync(); a flush; sh -c "mv it", process 100; calls:16
-12 unlink("to b"); the names; sh -c "mv it", process 100; calls:18
+11 pwrite("to b", 512 bytes at 4096); its size; sh -c "mv it", process 100 thread 101; calls:13
+12 sync(); a flush; sh -c "mv it", process 100; calls:16
+13 unlink("to b"); the names; sh -c "mv it", process 100; calls:18
 """
 
 
@@ -442,7 +450,7 @@ def model_of(steps, table, looked=None, unit=SECTOR):
         elif what in ("write", "hole"):
             model.write(*words)
         elif what == "through":
-            model.synced(model.seen(words[0], model.write(*words), data=True))
+            model.synced(model.seen(words[0], model.write(*words), data=True, until=words[1] + len(words[2])))
         elif what == "resize":
             model.resize(*words)
         elif what == "allocate":
@@ -509,6 +517,19 @@ PLANS = {
     "shorter, and its blocks are used again": [("base", A, 4396), ("resize", 0, 100), ("make", D), ("write", 1, 0, b"y" * 4200), ("mark",), ("write", 0, 100, b"z" * 4196), ("sync", 0), ("mark",)],
     "a name that another file had": [("make", A), ("rename", A, D), ("make", A), ("sync", 1), ("mark",), ("sync", 0), ("mark",)],
     "a synced file whose name another had, and that gets another": [("make", A), ("write", 0, 0, b"x" * 100), ("rename", A, D), ("make", A), ("write", 1, 0, b"y" * 100), ("sync data", 1), ("mark",), ("rename", A, (0, b"e")), ("sync", 1), ("mark",)],
+    "a part is synced within the durable size": [("base", A, 600), ("folder", D), ("write", 0, 512, b"x" * 500), ("through", 0, 0, b"y" * 10), ("mark",)],
+    "a part is synced in the middle of what grew": [("base", A, 100), ("folder", D), ("write", 0, 100, b"x" * 5000), ("make", (0, b"e")), ("through", 0, 4000, b"y" * 10), ("mark",)],
+    "a part is synced past a size that was given at once": [("base", A, 100), ("resize", 0, 700), ("folder", D), ("through", 0, 0, b"y" * 10), ("mark",), ("write", 0, 700, b"x" * 100), ("through", 0, 0, b"y" * 10), ("mark",)],
+    "a gap": [("base", A, 100), ("write", 0, 4200, b"x" * 100), ("mark",), ("write", 0, 0, b"y" * 10), ("through", 0, 100, b"y" * 10), ("mark",)],
+    "growth that is taken back": [("base", A, 0), ("folder", D), ("write", 0, 0, b"x" * 100), ("resize", 0, 0), ("sync data", 0), ("mark",), ("sync", 0), ("mark",)],
+    "growth that is taken back in part": [("base", A, 100), ("write", 0, 100, b"x" * 5000), ("folder", D), ("resize", 0, 4096), ("sync data", 0), ("mark",), ("make", (0, b"e")), ("write", 0, 4096, b"y" * 10), ("sync data", 0), ("mark",)],
+    "growth that was written down is taken back": [("base", A, 0), ("write", 0, 0, b"x" * 100), ("sync data", 0), ("folder", D), ("resize", 0, 0), ("sync data", 0), ("mark",)],
+    "room is reserved": [("base", A, 100), ("folder", D), ("allocate", 0, 50, 5000), ("mark",), ("sync data", 0), ("mark",)],
+    "cut off, and longer again": [("base", A, 600), ("resize", 0, 100), ("resize", 0, 700), ("mark",), ("through", 0, 600, b"x" * 10), ("mark",), ("sync", 0), ("mark",)],
+    "cut off twice, and longer again": [("base", A, 700), ("write", 0, 100, b"z" * 300), ("resize", 0, 300), ("resize", 0, 100), ("write", 0, 512, b"x" * 10), ("mark",), ("sync data", 0), ("mark",)],
+    "moved to a folder that is synced": [("folder", D), ("make", A), ("sync all",), ("rename", A, (1, b"a")), ("sync folder", 1), ("mark",), ("make", A), ("sync", 1), ("mark",), ("sync folder", 0), ("mark",)],
+    "moved on from a folder that is synced": [("folder", D), ("make", A), ("make", (0, b"b")), ("sync all",), ("rename", A, (1, b"a")), ("sync folder", 1), ("rename", (1, b"a"), (0, b"b")), ("mark",), ("sync folder", 0), ("mark",)],
+    "moved over a file, and back": [("folder", D), ("make", A), ("make", (1, b"b")), ("sync all",), ("rename", A, (1, b"b")), ("sync folder", 1), ("mark",), ("rename", (1, b"b"), A), ("sync folder", 1), ("mark",), ("sync", 0), ("mark",)],
     "replaced": [("base", A, 100), ("make", D), ("write", 0, 0, b"x" * 50), ("write", 1, 0, b"x" * 600), ("sync", 1), ("rename", D, A), ("mark",), ("sync folder", 0)],
 }
 

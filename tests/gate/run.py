@@ -63,6 +63,7 @@ Where the rows stand, below tests/
     rows/cases.py       every loss of any number of writes, as cases: options, refusals, many logs and the designs, against the model
     rows/case_cuts.py   at which cuts cases are looked for, and parts by cuts, against the model
     rows/case_pages.py  these cases as pages, against the model
+    rows/known.py       records of a program in place of checkers: what is told of them, which images are wanted, and each refusal, against the model
     rows/why_cases.py   why these cases fail, of many logs and of the designs, against the model
     rows/cure_cases.py  where flushes are missing for these cases, of many logs and of the designs, against the model
     rows/based.py       devices that held something before entry 0, in all commands, against the model

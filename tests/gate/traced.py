@@ -459,9 +459,10 @@ def log_fault():
     return None if good else "the log has other bytes"
 
 
-def run_files(folder, *words):
-    """Runs crashbpf-files. Returns its status, and what it printed."""
-    done = subprocess.run([sys.executable, RECORD / "crashbpf-files", *words], capture_output=True, text=True, cwd=folder)
+def run_files(folder, *words, path=None):
+    """Runs crashbpf-files, with a folder in front of the path. Returns its status, and what it printed."""
+    surroundings = {**os.environ, "PATH": f"{path}:{os.environ['PATH']}"} if path else None
+    done = subprocess.run([sys.executable, RECORD / "crashbpf-files", *words], capture_output=True, text=True, cwd=folder, env=surroundings)
     return done.returncode, done.stdout, done.stderr
 
 
@@ -495,7 +496,8 @@ def files_faults():
 SBIN = {**os.environ, "PATH": systems.PATH}
 # What a map of a file system has, and texts that are none.
 SYSTEM = "crashbpf files of a file system 1\nsystem ext4\nsectors 16384\nfolder files\nend\n"
-NO_SYSTEM = (SYSTEM.replace("ext4", "ext9"), SYSTEM.replace("16384", "x"), SYSTEM.replace("folder files", "folder ../files"), SYSTEM[:-4], SYSTEM + "end\n")
+MACHINE_SYSTEM = SYSTEM.replace("ext4", "xfs").replace("end\n", "machine tcg\nend\n")
+NO_SYSTEM = (SYSTEM.replace("ext4", "ext9"), SYSTEM.replace("ext4", "xfs"), SYSTEM.replace("end\n", "machine tcg\nend\n"), MACHINE_SYSTEM.replace("tcg", "xen"), SYSTEM.replace("16384", "x"), SYSTEM.replace("folder files", "folder ../files"), SYSTEM[:-4], SYSTEM + "end\n")
 
 
 def debugged(image, *lines):
@@ -518,7 +520,7 @@ def system_faults():
         (base / "db").write_bytes(b"A" * 4096)
         (base / "link").symlink_to("db")
         os.chmod(base / "in", 0o700)
-        guest.lay_disk(folder, base, 16384)
+        guest.lay_disk(folder, base, guest.Guest("", "ext4", 16384))
         image = Path(folder, guest.BASE)
         text.write_text(SYSTEM)
         block.write_bytes(b"B" * 4096)
@@ -537,6 +539,68 @@ def system_faults():
     return found
 
 
+# In the place of QEMU: what is the machine's state is what it does. It says a part of a line first, and what is asked it has to be asked
+# twice; it has to have its disks by their names, a comma twice.
+QEMU = r"""#!/usr/bin/env python3
+import io, os, sys, tarfile
+words = sys.argv[1:]
+image, archive = (it.removeprefix("file=").split(",format=raw,if=virtio,cache=unsafe")[0].replace(",,", ",") for it in words if it.startswith("file="))
+state = words[words.index("-incoming") + 1]
+if state != "exec:cat machine" or words[:2] != ["-accel", "tcg"] or not os.path.exists(image):
+    sys.exit(f"qemu: {words}")
+does = open("machine").read()
+if does == "ends":
+    sys.exit("qemu: no such accelerator")
+asked = [sys.stdin.readline() for _ in range(2)]
+if set(asked) != {"go take files now\n"}:
+    sys.exit(f"qemu: {asked}")
+print("begun", flush=True)
+if does == "fails":
+    print("mount: mounting /dev/vda on /mnt failed: Structure needs cleaning", flush=True)
+    sys.exit(0)
+with tarfile.open(archive, "w", format=tarfile.GNU_FORMAT) as file:
+    def put(name, kind=tarfile.REGTYPE, content=b"", link=""):
+        it = tarfile.TarInfo(name)
+        it.type, it.size, it.linkname, it.mode = kind, len(content), link, 0o755 if kind == tarfile.DIRTYPE else 0o640
+        file.addfile(it, io.BytesIO(content))
+    put("./", tarfile.DIRTYPE)
+    put("./in/", tarfile.DIRTYPE)
+    put("./in/" + "a" * 200, content=open(image, "rb").read(4))
+    put("./b\udcff", tarfile.LNKTYPE, link="./in/" + "a" * 200)
+    put("./link", tarfile.SYMTYPE, link="/etc/../in")
+    put("./fifo", tarfile.FIFOTYPE)
+print("done" if does == "takes" else "", flush=True)
+"""
+SHOW = "stat -c '%h %a' b*; cat b*; readlink link; test -p fifo && ls | wc -l"
+# What is printed of the files by what the machine does, or what is said.
+MACHINES = {
+    "takes": (0, "2 640\nfile/etc/../in\n4\n", ""),
+    "fails": (2, "", "IMAGE: mount: mounting /dev/vda on /mnt failed: Structure needs cleaning"),
+    "ends": (2, "", "IMAGE: qemu: no such accelerator"),
+    "stops": (2, "", "IMAGE: the machine ends before its time"),
+    "": (2, "", "ROOM/machine isn't there, the machine that mounts the images of the recording"),
+}
+
+
+def machine_faults():
+    """What is wrong with crashbpf-files on an image that a machine mounts, with a script in the place of QEMU."""
+    found = []
+    with tempfile.TemporaryDirectory() as folder:
+        room, bin_ = Path(folder, "a,b"), Path(folder, "bin")
+        image, text, qemu = room / "image", room / "files.txt", bin_ / "qemu-system-x86_64"
+        room.mkdir(), bin_.mkdir()
+        image.write_bytes(b"file".ljust(16384 * 512, b"\0"))
+        text.write_text(MACHINE_SYSTEM)
+        qemu.write_text(QEMU)
+        qemu.chmod(0o755)
+        for does, (status, printed, said) in MACHINES.items():
+            (room / "machine").write_text(does) if does else (room / "machine").unlink()
+            said = f"crashbpf-files: {said}\n".replace("IMAGE", str(image)).replace("ROOM", str(room)) if said else ""
+            done = run_files(folder, text, image, "--", "sh", "-c", SHOW, path=bin_)
+            found += [] if done == (status, printed, said) else [f"crashbpf-files by a machine that {does or 'is gone'}: {done}"]
+    return found
+
+
 def refusal_of(act, *words):
     """Why something is refused, or nothing."""
     try:
@@ -549,7 +613,7 @@ def refusal_of(act, *words):
 def main(words):
     seed, count = (int(it) for it in (*words, *("1", "3000")[len(words) :]))
     found = [row_fault(*it) for it in FOLLOWED] + [refused_fault(*it) for it in REFUSED] + [log_fault()]
-    several = [source_faults(), cut_faults(), damage_faults(seed, count // 2), map_faults(), files_faults(), system_faults()]
+    several = [source_faults(), cut_faults(), damage_faults(seed, count // 2), map_faults(), files_faults(), system_faults(), machine_faults()]
     several.append([it for it in (model_fault(seed + turn) for turn in range(count)) if it])
     wrong = [it for it in found if it] + [it for these in several for it in these]
     for line in wrong:

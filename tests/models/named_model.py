@@ -15,6 +15,8 @@ SECTOR, BLOCK = 512, 4096
 TEXT = (b"bytes of another file, which isn't recorded\n" * BLOCK)[:BLOCK]
 # Tables by which a name is by itself, and those by which fsync of a file has names durable.
 APART, OWN = ("btrfs", "strict"), ("ext4", "xfs", "btrfs")
+# Tables by which what was cut off from a file's last block is there again where the file gets longer, until zeros arrive there.
+UNCUT = ("writeback", "btrfs", "strict")
 
 
 def chosen_of(kept, size, looked, unit=SECTOR):
@@ -36,6 +38,9 @@ class File:
         self.shared = [0]
         # how many changes of names there were when its size changed last, or when it was made; and when a name of its own did
         self.stamp = self.named = 0
+        # the sizes that the file system may have written down, each with how many changes of names there were at least; and which of its
+        # sizes was written down at once last
+        self.may, self.at_once = {(len(content), 0)}, 0
         # by `writeback`: the blocks that it has, each with who has had it, as the numbers of a file, of a time, and of a block in it;
         # those of zeros that were there at first; those that are freed hold something
         self.has = {at: [[self, 0, at]] for at in range(-(-len(content) // BLOCK))}
@@ -69,6 +74,8 @@ class Model:
 
     def __init__(self, table, looked=None, unit=SECTOR):
         self.table, self.marks, self.left, self.looked, self.unit = table, 0, set(), looked, unit
+        # of changes of names that are durable in part: the slots of which they aren't
+        self.halves = {}
         # how many sectors a block has
         self.each = BLOCK // unit
         # what renames will tie together
@@ -97,20 +104,26 @@ class Model:
     def after(self, numbers, wanted):
         """What the wanted slots hold after some of the changes."""
         state = dict(self.base)
-        for number in sorted(numbers):
-            state.update(self.changes[number])
+        for number in sorted({*numbers, *self.halves}):
+            state.update({slot: held for slot, held in self.changes[number].items() if number in numbers or slot not in self.halves[number]})
         return {slot: held for slot, held in state.items() if held is not None and wanted(slot)}
+
+    def flying(self, number):
+        """A change without the slots of which it is durable."""
+        return {slot: None for slot in self.halves[number]} if number in self.halves else self.changes[number]
 
     def states_of(self, slots):
         """What slots that are tied together may hold. Each slot has its first changes, some number of them, and a change is there for all of
         its slots or for none."""
-        mine = [[number for number, change in enumerate(self.changes) if slot in change] for slot in slots]
-        sure, found = {it for it in self.sure if set(self.changes[it]) <= slots}, []
-        for counts in itertools.product(*(range(len(it) + 1) for it in mine)):
-            there = {number for it, count in zip(mine, counts) for number in it[:count]}
-            gone = {number for it, count in zip(mine, counts) for number in it[count:]}
-            state = self.after(there, slots.__contains__)
-            if not there & gone and sure <= there and state not in found:
+        mine = [(slot, [number for number, change in enumerate(self.changes) if slot in change]) for slot in sorted(slots)]
+        found = []
+        for counts in itertools.product(*(range(len(it) + 1) for _, it in mine)):
+            there = {(number, slot) for (slot, it), count in zip(mine, counts) for number in it[:count]}
+            whole = {number for number, _ in there if all((number, slot) in there for slot in self.changes[number])}
+            durable = {(number, slot) for number, change in enumerate(self.changes) for slot in change if slot in slots}
+            durable = {(number, slot) for number, slot in durable if number in self.sure or number in self.halves and slot not in self.halves[number]}
+            state = self.after(whole, slots.__contains__)
+            if durable <= there and all(number in whole or (number, slot) in durable for number, slot in there) and state not in found:
                 found.append(state)
         return found
 
@@ -198,8 +211,10 @@ class Model:
         return found
 
     def make_file(self, slot):
+        """Makes an empty file of a new name."""
         self.files.append(File(unit=self.unit))
         self.files[-1].stamp = len(self.changes) + 1
+        self.files[-1].may = {(0, self.files[-1].stamp)}
         self.change({slot: ("file", len(self.files) - 1)})
 
     def make_folder(self, slot):
@@ -236,8 +251,9 @@ class Model:
             self.show(file.has[it][:-1], [file.sector(self.each * it + at).versions[-1] for at in range(self.each)])
         file.blocks = max(file.blocks, end)
         if end > old:
-            for size in [it for it in range(BLOCK, end, BLOCK) if it > max(old, start)] + [end]:
+            for size in [it for it in range(BLOCK, end, BLOCK) if it > old] + [end]:
                 self.sized(file, (len(file.sectors) - 1, size), needs)
+                file.may.add((size, len(self.changes)))
         self.crash()
         return own
 
@@ -246,10 +262,13 @@ class Model:
         file.needs.append(needs)
         file.stamp = len(self.changes)
 
-    def allocate(self, number, size):
-        """Gives a file blocks up to a larger size, and this size."""
-        self.resize(number, size)
+    def allocate(self, number, start, size):
+        """Gives a file blocks from a place up to a larger size, and this size: by pieces, each up to the end of a block."""
         file = self.files[number]
+        for end in range(BLOCK, size, BLOCK):
+            if end > max(start, file.size):
+                self.sized(file, (len(file.sectors) - 1, end), {})
+        self.resize(number, size)
         file.blocks = max(file.blocks, size)
         file.unwritten |= set(range(-(-size // BLOCK))) - file.has.keys()
 
@@ -261,10 +280,11 @@ class Model:
             kept = {}
             for at in range(size // unit, -(-size // BLOCK) * BLOCK // unit):
                 file.put(at, file.sector(at).versions[-1][: max(size - unit * at, 0)].ljust(unit, b"\0"))
-            for at in range(-(-size // unit)):
-                old, keep = file.sector(at), min(size - unit * at, unit)
+            for at in range(-(-size // BLOCK) * BLOCK // unit):
+                versions = file.sector(at).versions[file.sector(at).sure :]
+                cut = [it[: max(size - unit * at, 0)].ljust(unit, b"\0") for it in versions]
                 kept[at] = Sector(b"", unit)
-                kept[at].versions = [it[:keep].ljust(unit, b"\0") for it in old.versions[old.sure :]]
+                kept[at].versions = [*versions[:-1], *cut] if at >= size // unit and self.table in UNCUT else cut
             file.sectors.append(kept)
             file.shared.append(-(-size // BLOCK) * BLOCK // unit)
             file.blocks = size
@@ -272,6 +292,9 @@ class Model:
             for at, it in file.has.items():
                 it[-1] = [file, len(file.sectors) - 1, at]
         self.sized(file, (len(file.sectors) - 1, size), {})
+        # (where it had that size written down, that was no change of it)
+        file.may = {(size, min([count for it, count in file.may if it == size] or [len(self.changes)]))}
+        file.at_once = len(file.sizes) - 1
         self.crash()
 
     # Syncs: what begins says what is to be durable, when it ends it is
@@ -279,30 +302,42 @@ class Model:
     def names_up_to(self, count, wanted):
         """The numbers of the changes among the first `count` that are wanted, and of those that stand before them: of all, or by
         `strict` of those of the same slots."""
-        found = {number for number in range(count) if wanted(self.changes[number])}
+        found = {number for number in range(count) if wanted(self.flying(number))}
         if self.table not in APART:
             return set(range(max(found, default=-1) + 1))
         for number in reversed(range(count)):
-            if any(later > number and set(self.changes[later]) & set(self.changes[number]) for later in found):
+            if any(later > number and set(self.flying(later)) & set(self.flying(number)) for later in found):
                 found.add(number)
         return found
 
-    def seen(self, number, sectors=None, data=False, alone=True):
-        """What a sync of a file, that begins now, has to make durable: its sectors, its size, names. By `ext4` and `xfs` fsync has the names
-        up to the last change of the file's own, by `btrfs` its own; fdatasync, which is `data`, hasn't. Where names are by themselves one that is
-        `alone`, and no sync of everything, has nothing of a file without a name."""
+    def seen(self, number, sectors=None, data=False, alone=True, until=None):
+        """What a sync of a file, that begins now, has to make durable: its sectors, its size, names, and which of the sizes that the file system
+        may have written down aren't there any more then. By `ext4` and `xfs` fsync has the names up to the last change of the file's own,
+        by `btrfs` its own; fdatasync, which is `data`, hasn't. Where names are by themselves one that is `alone`, and no sync of everything,
+        has nothing of a file without a name. A sync of some sectors has the size as far as `until`."""
         file = self.files[number]
         time = len(file.sectors) - 1
         these = {(number, time, at): len(it.versions) - 1 for at, it in file.sectors[time].items() if sectors is None or at in sectors}
         own = self.table in OWN and not data
+        kept = {it for it in file.may if (it[0] == file.size if until is None else it[0] >= until)}
+        first = min(count for _, count in kept)
+        kept = {(size, count) for size, count in kept if until is not None or count == first}
         if self.table in APART:
             self.log(number)
             if alone and not self.where(number)[0]:
-                return {}, {}, set()
+                return {}, {}, set(), {}
             names = self.own_names(number) if own else set()
         else:
-            names = self.names_up_to(max(file.stamp, file.named) if own else file.stamp, lambda _: True)
-        return these, {number: len(file.sizes) - 1}, names
+            names = self.names_up_to(max(file.stamp, file.named) if own else first, lambda _: True)
+        return these, {number: self.size_seen(file, until)}, names, {number: (file.at_once, file.may - kept)}
+
+    def size_seen(self, file, until):
+        """Which of its sizes a file has at least, once a sync has ended that has its size as far as `until`: the last that was written down
+        at once, or the first that is as large, and so are all after it."""
+        found = len(file.sizes) - 1
+        while until is not None and found > file.at_once and file.sizes[found - 1][1] >= until:
+            found -= 1
+        return found
 
     def own_names(self, number):
         """By `btrfs` the changes that gave a file the names that it has, and that made the folders of these, each with all that stand before it
@@ -316,10 +351,8 @@ class Model:
         for tied in self.tied():
             mine = [(held, {it for it in changes if set(self.changes[it]) <= tied} - self.sure) for held, changes in wanted]
             changes = set().union(*(its for _, its in mine))
-            state = dict(self.base)
-            for it in sorted(changes | self.sure):
-                state.update(self.changes[it])
-            if {state[slot] for it in changes for slot in self.changes[it] if state[slot]} <= {held for held, its in mine}:
+            state = self.after(changes | self.sure, lambda _: True)
+            if {state[slot] for it in changes for slot in self.flying(it) if slot in state} <= {held for held, its in mine}:
                 found |= changes
         return found
 
@@ -390,30 +423,46 @@ class Model:
         def wanted(change):
             return any(it == folder for it, _ in change) or change is made
 
-        return {}, {}, self.names_up_to(len(self.changes), wanted)
+        names = self.names_up_to(len(self.changes), wanted)
+        return {}, {}, {it: self.left_behind(it, folder, names) for it in names} if self.table in APART else names, {}
+
+    def left_behind(self, number, folder, names):
+        """The slots of a change that a sync of a folder may leave as they were: that a file had in other folders from which it was renamed into
+        this one, where no other change that is durable then is of these."""
+        change = self.flying(number)
+        gone = {slot for slot, held in change.items() if held is None and slot[0] != folder}
+        comes = any(held and held[0] != "folder" for slot, held in change.items() if slot[0] == folder)
+        return gone if comes and not any(gone & set(self.flying(it)) for it in names if it > number) else set()
 
     def seen_all(self):
         """Returns what a sync of everything makes sure."""
-        found = {}, {}, self.names_up_to(len(self.changes), lambda _: True)
+        found = {}, {}, self.names_up_to(len(self.changes), lambda _: True), {}
         for number in range(len(self.files)):
-            these, sizes, _ = self.seen(number, alone=False)
+            these, sizes, _, gone = self.seen(number, alone=False)
             found[0].update(these)
             found[1].update(sizes)
+            found[3].update(gone)
         return found
 
     def synced(self, seen):
         """Makes sure what a sync saw."""
-        sectors, sizes, names = seen
+        sectors, sizes, names, gone = seen
+        for number, (at_once, these) in gone.items():
+            if self.files[number].at_once == at_once:
+                self.files[number].may -= these
         for (number, time, at), version in sectors.items():
             it = self.files[number].sectors[time][at]
             it.sure = max(it.sure, version)
         for number, size in sizes.items():
             self.files[number].sure = max(self.files[number].sure, size)
+        fresh, kept = set(names) - self.sure, names if isinstance(names, dict) else {}
+        self.sure |= {it for it in fresh if not kept.get(it)}
+        self.halves = {it: slots for it, slots in self.halves.items() if it not in self.sure}
+        self.halves |= {it: kept[it] for it in fresh if kept.get(it)}
         for slots in self.tied() if self.table in APART else ():
-            if any(set(self.changes[it]) <= slots for it in names - self.sure):
-                self.extras[slots], self.sure = [], self.sure | {it for it in names if set(self.changes[it]) <= slots}
+            if any(set(self.changes[it]) <= slots for it in fresh):
+                self.extras[slots] = []
                 self.look(slots)
-        self.sure |= names
         self.crash()
 
     def mark(self):

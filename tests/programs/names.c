@@ -7,7 +7,8 @@
  * byte, as `65x600`, which is 600 times A.
  *
  * open NAME, close NAME, append NAME LENGTH BYTE, write NAME PLACE LENGTH BYTE, truncate NAME SIZE, fsync NAME, fdatasync NAME,
- * range NAME (sync_file_range, which only begins to write), folder NAME (fsync of a folder), rename NAME NAME, exchange NAME NAME, link NAME NAME, unlink NAME,
+ * through NAME PLACE LENGTH BYTE (a write with RWF_DSYNC), reserve NAME PLACE LENGTH (fallocate), part NAME PLACE LENGTH
+ * (sync_file_range, which waits), range NAME (sync_file_range, which only begins to write), folder NAME (fsync of a folder), rename NAME NAME, exchange NAME NAME, link NAME NAME, unlink NAME,
  * mkdir NAME, rmdir NAME, sync, sleep MILLISECONDS, mark TEXT. */
 #define _GNU_SOURCE
 #include <dirent.h>
@@ -16,6 +17,7 @@
 #include <stdlib.h>
 #include <string.h>
 #include <sys/stat.h>
+#include <sys/uio.h>
 #include <unistd.h>
 
 static struct file {
@@ -68,6 +70,19 @@ static int put(int file, long place, long length, char byte)
 	return (place < 0 ? write(file, data, length) : pwrite(file, data, length, place)) == length ? 0 : -1;
 }
 
+static int put_through(int file, long place, long length, char byte)
+{
+	struct iovec data = {malloc(length), length};
+
+	memset(data.iov_base, byte, length);
+	return pwritev2(file, &data, 1, place, RWF_DSYNC) == length ? 0 : -1;
+}
+
+static int written_out(int file, long place, long length)
+{
+	return sync_file_range(file, place, length, SYNC_FILE_RANGE_WAIT_BEFORE | SYNC_FILE_RANGE_WRITE | SYNC_FILE_RANGE_WAIT_AFTER);
+}
+
 static int synced(const char *folder)
 {
 	int at = open(folder, O_RDONLY | O_DIRECTORY), answer = at < 0 ? at : fsync(at);
@@ -96,6 +111,12 @@ static int done(const char *call, const char *a, const char *b, const char *c, c
 		return lseek(of(a), 0, SEEK_END) < 0 ? -1 : put(of(a), -1, atol(b), *c);
 	if (!strcmp(call, "write"))
 		return put(of(a), atol(b), atol(c), *d);
+	if (!strcmp(call, "through"))
+		return put_through(of(a), atol(b), atol(c), *d);
+	if (!strcmp(call, "part"))
+		return written_out(of(a), atol(b), atol(c));
+	if (!strcmp(call, "reserve"))
+		return fallocate(of(a), 0, atol(b), atol(c));
 	if (!strcmp(call, "truncate"))
 		return ftruncate(of(a), atol(b));
 	if (!strcmp(call, "fsync"))

@@ -6,7 +6,7 @@ from collections import Counter
 TABLES = """
 worked examples options each_option checkers whole_formats commands process inputs surroundings logs raw_logs
 encodings texts answers arithmetic refusals notes tables guards own_memory trials modelled small_logs shown
-any_images export why cure cases why_cases cure_cases case_cuts case_joins case_pages browser ranges based
+any_images export why cure cases known why_cases cure_cases case_cuts case_joins case_pages browser ranges based
 blind promises flushes workers footprints joining reported recording limits large
 """.split()
 

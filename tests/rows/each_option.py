@@ -3,6 +3,7 @@ silence. The commands and their options are those of the program's own help: one
 # Seen to fail for planted bugs: `--from` and `--to` without a parser, `--list` without `--guards`, an option of another name.
 import re
 
+from known_model import head_text, inputs_of
 from model import Checker, Run, explored, one
 from notation import SECTOR, D, F, Hole, M, Pair, Printable, Row, W, code, files, log, named, program
 from parts_model import part
@@ -16,6 +17,12 @@ ENTRIES = [W(0, 1, 0x11), W(1, 2, 0x22), F, W(0, 1, 0x33), M("m"), W(3, 1, 0x44)
 GOOD = code("b7000000000000009500000000000000")
 NULL_POINTER = program("mov64 r1, 0; call 1; ldxb r0, [r0+0]; exit")
 BASE = noise("each option", 4)
+HEAD = head_text(inputs_of(Run(ENTRIES, 4)), "./check {}", "5f0c")
+RECORDS = [
+    "ran cut 2 choice - marks 0 answer 0 looked 0,1",
+    "ran cut 2 choice 0.0:head1 marks 0 answer 0 looked 0,1",
+    "ran cut 6 choice - marks 1 answer 1 looked 3",
+]
 FILES = {
     **files(ENTRIES, named("whole_image")),
     "good": GOOD,
@@ -37,6 +44,9 @@ FILES = {
     # reports: each image fails, and none does
     "failing": explored(Run(ENTRIES, 4), [Checker("slots 2 budget 2", one)]).encode(),
     "clean": explored(Run(ENTRIES, 4), [Checker("slots 2 budget 2", lambda _image: (0, []))]).encode(),
+    # records of a program
+    "nothing": HEAD.encode(),
+    "three": (HEAD + "".join(f"{it}\n" for it in RECORDS)).encode(),
 }
 
 # The words of each command on the log of ENTRIES, but for the options; a run of `image` and of `show` has a number too.
@@ -194,6 +204,21 @@ PAIRS["at-most"]["images"] = dict(two=["images log --sectors 4 --bound any", "im
 
 # A part of the images, and a log with too many.
 TOO_MANY = "--sectors 3000 --bound 3"
+# Records in place of programs, none or three: what differs where one of these options stands beside them, by whether parts may be torn.
+KNOWN = "log --sectors 4 --bound any --known"
+EXPLORED, EXPORTED = ("out", "error"), ("out",)
+PAIRS["known"] = {
+    "explore": dict(two=[f"explore {KNOWN} nothing", f"explore {KNOWN} three"], statuses=(3, 1), differ=EXPLORED),
+    "export": dict(two=[f"export {KNOWN} nothing", f"export {KNOWN} three"], differ=EXPORTED),
+}
+for option, words in {"stop-at-failing": "--stop-at-failing", "cases": "--cases 1"}.items():
+    PAIRS[option] = {
+        "explore": dict(two=[f"explore {KNOWN} three", f"explore {KNOWN} three {words}"], statuses=(1, 1), differ=EXPLORED),
+        "export": dict(two=[f"export {KNOWN} three", f"export {KNOWN} three {words}"], differ=EXPORTED),
+    }
+PAIRS["torn"]["export"] = dict(two=[f"export {KNOWN} three --tears", f"export {KNOWN} three --tears --torn 2"], differ=EXPORTED)
+PAIRS["at-most"]["export"] = dict(two=[f"export {KNOWN} three", f"export {KNOWN} three --at-most 1"], differ=EXPORTED)
+
 PAIRS["images"] = {
     "explore": dict(two=["explore log p0 --sectors 4", "explore log p0 --sectors 4 --images 0..2"], statuses=(1, 1), differ=("out 1", "out -1", "error"), holds=("crash part 1\n",)),
     "export": dict(two=["export log --sectors 4", "export log --sectors 4 --images 0..2"], differ=("out",), holds=("total 2 new 2\n",)),
@@ -244,7 +269,7 @@ def lacking(commands):
 
 
 # A word where a number is to be, and where there is no word: a fault of the command line that names the option.
-NUMBERS = {"sectors": "N", "bound": "N", "workers": "N", "cache": "N", "checked": "N", "from": "K", "to": "K", "parts": "N", "cut": "K", "epoch": "N", "marks": "N", "trace": "N", "torn": "N", "at-most": "N"}
+NUMBERS = {"sectors": "N", "bound": "N", "workers": "N", "cache": "N", "checked": "N", "from": "K", "to": "K", "parts": "N", "cut": "K", "epoch": "N", "marks": "N", "trace": "N", "torn": "N", "at-most": "N", "cases": "N"}
 
 
 def no_numbers():

@@ -56,9 +56,10 @@ def plan_of(chance):
             sizes[number] = max(sizes[number], start + length)
         elif kind == "t" and sizes:
             number = chance.randrange(len(sizes))
-            size = chance.choice((0, 0, 100, 512, 700, sizes[number] + 300))
+            size = chance.choice((0, 0, 100, 512, 700, sizes[number] + 300, 4500))
             if size != sizes[number] and size < 5500:
-                steps.append(("allocate" if size > sizes[number] and chance.random() < 0.5 else "resize", number, size))
+                grows = size > sizes[number] and chance.random() < 0.5
+                steps.append(("allocate", number, chance.choice((0, 0, sizes[number])), size) if grows else ("resize", number, size))
                 sizes[number] = size
         elif kind == "u" and files:
             slot = chance.choice(files)
@@ -297,8 +298,8 @@ class Texts:
             self.call(f"ftruncate({self.some(number)}, {size}) = 0")
         self.sizes[number] = size
 
-    def allocate(self, number, size):
-        self.call(f"fallocate({self.some(number)}, 0, 0, {size}) = 0")
+    def allocate(self, number, start, size):
+        self.call(f"fallocate({self.some(number)}, 0, {start}, {size - start}) = 0")
         self.sizes[number] = size
 
     def remove(self, slot):

@@ -33,14 +33,14 @@ one_split s c it other here there = let both : Some other ≡ Some it = sym ther
 abbrev children : Case → Split → List Case → List Case
 children c it rest = map (with_part c it.part) it.groups ++ rest
 
-abbrev GoesOn : List Case → List Case → Type 0
+abbrev pub GoesOn : List Case → List Case → Type 0
 GoesOn ls ms = (rest : List Case) × ((ms ≡ ls ++ rest) ⊎ (ls ≡ ms ++ rest))
 
 go_on : (c : Case) (ls ms : List Case) → GoesOn ls ms → GoesOn (c ∷ ls) (c ∷ ms)
 go_on c ls ms (rest, inl more) = (rest, inl (ap (λ (cs : List Case). c ∷ cs) more))
 go_on c ls ms (rest, inr more) = (rest, inr (ap (λ (cs : List Case). c ∷ cs) more))
 
-goes_on : (s : Subject) (to end cs ls left ms rest : List Case) → LeadTo s to cs ls left → LeadTo s end cs ms rest → GoesOn ls ms
+pub goes_on : (s : Subject) (to end cs ls left ms rest : List Case) → LeadTo s to cs ls left → LeadTo s end cs ms rest → GoesOn ls ms
 goes_on s to end cs ls left ms rest are_there b = (ms, inl refl)
 goes_on s to end cs ls left ms rest (past_beyond c xs ls1 left1 out a) are_there = (ls, inr refl)
 goes_on s to end cs ls left ms rest (past_leaf c xs ls1 left1 within whole a) are_there = (ls, inr refl)
@@ -113,7 +113,7 @@ first_once asked at checker f g a b = by (goes_on s a.those.to b.those.to (whole
     by (rest, inr is) = sym (more _ _ (map F b.those.told) (map F a.those.told) rest (first_bad asked at checker g b) (first_bad asked at checker f a) is)
 
 -- a way that is as long as another goes on where that ends
-longer : (ls ms : List Case) → length ls ≤ length ms → GoesOn ls ms → (rest : List Case) × (ms ≡ ls ++ rest)
+pub longer : (ls ms : List Case) → length ls ≤ length ms → GoesOn ls ms → (rest : List Case) × (ms ≡ ls ++ rest)
 longer ls ms few (rest, inl is) = (rest, is)
 longer ls ms few ([], inr is) = ([], sym (append-nil ls ∙ is ∙ append-nil ms))
 longer ls ms few (c ∷ rest, inr is) = absurd (let long = ap (λ (cs : List Case). length cs) is ∙ length-append ms (c ∷ rest) in omega (arith, few, long))

@@ -1,7 +1,6 @@
 -- What the cases of a cut tell of a checker.
 use Rattle.std.proofs.Common.{ℕ, zero, suc, ◌≡◌, ◌+◌, ◌<◌, ◌≤◌, ◌==◌, Bool, true, false, if◌then◌else◌, List, [], ◌∷◌, ◌++◌, length, slice_get, Option, None, Some, refl, sym, subst, ◌∙◌, ap, arith, inl, inr}
 use Rattle.std.specs.List.{range_with_len, AllByRecursion}
-use Rattle.std.proofs.lemmas.Bool.{eq-eqb}
 use Rattle.std.proofs.lemmas.Bool.Decides.{eqb_tells}
 use Rattle.std.proofs.lemmas.List.Elements.{All-from_recursion}
 use Rattle.std.proofs.lemmas.Option.{slice_get_past, slice_get_cases}
@@ -13,15 +12,13 @@ use Rattle.machine.specs.Outcome.{Ending, OutOfSteps}
 use Rattle.machine.specs.Footprint.{HaveSame}
 use Rattle.checker.specs.Checker.{CheckerValue, judgement}
 use Rattle.checker.specs.Footprints.{kept_footprint, AgreeingAreJudgedAlike}
-use Rattle.images.specs.Views.{sectors_of, context_at}
+use Rattle.images.specs.Views.{sectors_of}
 use Rattle.images.specs.Whole.{length_view}
 use Rattle.cases.specs.Risk.{parts_at_risk}
 use Rattle.cases.specs.Choices.{Choice, departures, image_at}
-use Rattle.cases.specs.Cases.{Case}
-use Rattle.cases.specs.Trees.{Subject, ending_of}
-use Rattle.cases.specs.Laws.{Includes, OfOne, OfNone, IsAsked, AreCases, EachIsInOne, LeavesEndAlike, LastCutsHaveAll, IsOfCut}
+use Rattle.cases.specs.Laws.{OfOne, OfNone}
 use Rattle.case_runs.specs.Judges.{most_looks, or_all, looks}
-use Rattle.case_runs.specs.Laws.{CheckersTell, subject_at, judged_at, IsInLeaf, LossesAreJudged}
+use Rattle.case_runs.specs.Laws.{CheckersTell}
 
 -- what holds of a range holds of each number in it
 in_range : (P : ℕ → Type 0) (a n i : ℕ) → AllByRecursion P (range_with_len a n) → a ≤ i → i < a + n → P i
@@ -72,7 +69,7 @@ none_one P [] one none = one
 none_one P (x ∷ xs) (inl here) none = none.0 here.0
 none_one P (x ∷ xs) (inr rest) none = none_one P xs rest.1 none.1
 
-in_leaves : {A : Type 0} (P : A → Type 0) (xs ys : List A) → OfOne P (xs ++ ys) → OfNone P ys → (i : ℕ) × (x : A) × (slice_get xs i ≡ Some x) × P x
+pub in_leaves : {A : Type 0} (P : A → Type 0) (xs ys : List A) → OfOne P (xs ++ ys) → OfNone P ys → (i : ℕ) × (x : A) × (slice_get xs i ≡ Some x) × P x
 in_leaves P [] ys one none = absurd (none_one P ys one none)
 in_leaves P (x ∷ xs) ys (inl here) none = (0, x, refl, here.0)
 in_leaves P (x ∷ xs) ys (inr rest) none = let it = in_leaves P xs ys rest.1 none in (suc it.0, it.1, it.2, it.3)
@@ -80,46 +77,3 @@ in_leaves P (x ∷ xs) ys (inr rest) none = let it = in_leaves P xs ys rest.1 no
 pub length_image : (log : LogValue) (way : By) (cut : ℕ) (choice : Choice) → length (image_at log way cut choice) ≡ log.sectors
 unfolding sectors_of
 length_image log way cut choice = length_view (record { log = log; cut = cut; departures = departures choice (parts_at_risk way log.entries cut) })
-
-pub losses_told : CheckersTell → EachIsInOne → LeavesEndAlike → LastCutsHaveAll → LossesAreJudged
-losses_told tell one ends last log way tears cut choice checker torn is within possible few = (
-  found.0,
-  record {
-    within = found.1.within;
-    is_last = found.1.is_last;
-    other = found.1.other;
-    image = found.1.image;
-    judged = judged;
-  },
-)
-  where
-    found : (k : ℕ) × IsOfCut log way tears cut k choice
-    found = last log way tears cut choice is within possible
-
-    s : Subject
-    s = subject_at log way found.0 checker torn None
-
-    asked : IsAsked s found.1.other
-    asked = record { torn = (let same = found.1.torn in omega (arith, same, few)); lost = tt }
-
-    same_context : context_at log found.0 ≡ context_at log cut
-    same_context = λ j. record { sectors = log.sectors; epoch = found.1.epoch j; marks = found.1.marks j }
-
-    first : judged_at log way cut checker choice ≡ ending_of s found.1.other
-    first =
-        let own : (length (image_at log way found.0 found.1.other) == log.sectors) ≡ true =
-        eq-eqb (length (image_at log way found.0 found.1.other)) log.sectors (length_image log way found.0 found.1.other) in
-        sym (ap (λ b. if b then judgement checker (image_at log way found.0 found.1.other) (context_at log found.0) else OutOfSteps) own
-        ∙ ap (λ d. judgement checker d (context_at log found.0)) found.1.image
-        ∙ ap (λ (c : Context). judgement checker (image_at log way cut choice) c) same_context)
-
-    judged : (leaves left : List Case) → AreCases s tears leaves left → IsInLeaf s leaves found.1.other (judged_at log way cut checker choice)
-    judged leaves left are =
-        let it = in_leaves (Includes found.1.other) leaves left (one.one s tears leaves left found.1.other are found.1.possible) (one.asked s tears leaves left found.1.other are asked) in
-        record {
-          place = it.0;
-          leaf = it.1;
-          there = it.2;
-          includes = it.3;
-          ends = first ∙ ends s tears leaves left it.0 it.1 found.1.other is found.1.within (tell checker (context_at log found.0)) are it.2 it.3;
-        }

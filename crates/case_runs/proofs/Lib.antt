@@ -16,3 +16,4 @@ pub mod Turning
 pub mod Joined
 pub mod Answering
 pub mod Crossing
+pub mod Losing

@@ -9,3 +9,4 @@ pub mod Shares
 pub mod First
 pub mod Walk
 pub mod Cuts
+pub mod AnyLoss

@@ -2,7 +2,8 @@
 
 ghost use Rattle.case_runs.specs.First.{FirstIsOne};
 ghost use Rattle.case_runs.specs.Found.{FindingIsOne, TheirImagesFail};
-ghost use Rattle.case_runs.specs.Laws.{CheckersTell, LossesAreJudged};
+ghost use Rattle.case_runs.specs.AnyLoss.{FoundCutsAreWanted, LossesAreFound};
+ghost use Rattle.case_runs.specs.Laws.{CheckersTell};
 
 use cases::{each_is_in_one, last_cuts_have_all, leaves_end_alike, tree_is_one};
 use checker::agreeing_devices_are_judged_alike;
@@ -14,16 +15,20 @@ pub fn checkers_tell()
     agreeing_devices_are_judged_alike();
 }
 
-/// Whatever is lost at a cut, and with as few torn parts as is asked, the image is in a leaf of a last cut, and a checker ends on it as
-/// on the image of the leaf's representative. So it fails exactly where that leaf does.
-pub fn losses_are_judged()
-    ensures { LossesAreJudged }
+/// Each image that is asked for, whatever is lost there, and on which a checker fails is one of a failing case that was found.
+pub fn losses_are_found()
+    ensures { LossesAreFound }
 {
     checkers_tell();
     each_is_in_one();
     leaves_end_alike();
     last_cuts_have_all();
 }
+
+/// Each cut at which cases were looked for is one that is wanted.
+pub fn found_cuts_are_wanted()
+    ensures { FoundCutsAreWanted }
+{}
 
 /// At a cut with a checker one thing is found. Where a search stops on its way, there are as many cases as it told of.
 pub fn finding_is_one()

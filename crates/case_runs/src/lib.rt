@@ -20,7 +20,7 @@
 //! | `CaseGate` | is told of each run of a checker and of each leaf, for the line of progress |
 //! | `CaseJudge::new(alloc, checker, context)` | a checker as a `Judge` of `cases`, for one cut |
 //! | `CaseImage` | the image of a case's representative, as a `Device` |
-//! | `checkers_tell()`, `losses_are_judged()`, `finding_is_one()`, `first_is_one()`, `their_images_fail()` | laws |
+//! | `checkers_tell()`, `losses_are_found()`, `found_cuts_are_wanted()`, `finding_is_one()`, `first_is_one()`, `their_images_fail()` | laws |
 //!
 //! # How it runs
 //!
@@ -60,9 +60,9 @@
 //!   many cases were left out (`AreFoundIn`, `specs/Found.antt`). No clause names the number of workers.
 //! - `case_cuts` has each last cut of the range, and its end, rising, and no other, where these have the images of all cuts.
 //! - `checkers_tell`: two devices that agree at these sectors are judged alike, so the laws of `cases` hold of each checker.
-//! - `losses_are_judged`: take an image of any cut, whatever was lost there, with as few torn parts as is asked. It is an image of a last
-//!   cut, is in a leaf there, and the checker ends on it as on the image of the leaf's representative. So it fails exactly where the leaf does.
-//!
+//! - `losses_are_found`: take a choice that is asked for: of a wanted cut, with as few torn parts and as few lost ones as is asked. Where a
+//!   checker fails on its image, that is the image of a choice in a failing case that was found. So where none of a checker was found, it
+//!   fails on none of them. `found_cuts_are_wanted`: the cuts of these cases are wanted ones.
 //! - `find_first` answers the first of these leaves that fails, if it is one of the first 16,777,216 leaves: at the cuts before its own,
 //!   with the checkers before its own, and at the leaves before it none fails (`IsFirstFailing`, `specs/First.antt`). It looks at no leaf
 //!   after it. Where none fails it answers all that was found (`AllPass`). It refuses where memory is wanting, or where the first
@@ -110,4 +110,7 @@ pub use found::{SearchFault, find_failing};
 pub use gate::CaseGate;
 pub use image::{CaseImage, Formed};
 pub use judge::CaseJudge;
-pub use laws::{checkers_tell, finding_is_one, first_is_one, losses_are_judged, their_images_fail};
+pub use laws::{
+    checkers_tell, finding_is_one, first_is_one, found_cuts_are_wanted, losses_are_found,
+    their_images_fail,
+};

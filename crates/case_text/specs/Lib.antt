@@ -4,7 +4,6 @@ pub mod Collected
 pub mod Window
 pub mod Text
 pub mod First
-pub mod Recorded
 pub mod Causes
 pub mod Why
 pub mod Cured

@@ -159,4 +159,11 @@ impl KnownParts {
         }
         Ok(())
     }
+
+    /// What the representative of the case loses and tears.
+    pub fn into_lost(self) -> Vec<Departure>
+        ensures { result.items ≡ self.lost }
+    {
+        self.lost
+    }
 }

@@ -49,7 +49,7 @@
 //! | `is_any_failing(found)` | whether a program fails on some case |
 //! | `left_out(found)` | how many cases were left out |
 //! | `are_all_cuts(cuts)` | whether a run was asked for each cut of its log |
-//! | `put_opening`, `put_options`, `put_place`, `put_number`, `put_fates`, `put_window`, `put_counts`, `put_beyond`, `put_complete` | append one part of these texts, which `join` prints from what it read of a text |
+//! | `put_opening`, `put_options`, `put_place`, `put_number`, `put_fates`, `put_known`, `put_window`, `put_counts`, `put_beyond`, `put_complete` | append one part of these texts, which `join` prints from what it read of a text, and `known_runs` from what records tell |
 //!
 //! # The definitions
 //!
@@ -110,7 +110,6 @@ mod head;
 mod known;
 mod laws;
 mod lines;
-mod recorded;
 mod said;
 mod site;
 mod told;
@@ -125,8 +124,7 @@ pub use head::{has_range, put_opening, put_options};
 pub use known::KnownParts;
 pub use laws::{case_is_shown, flush_takes_case_away, nothing_is_lost, window_is_told};
 pub use lines::{put_number, put_place};
-pub use recorded::{Records, write_recorded};
-pub use said::{put_fates, put_window};
+pub use said::{put_fates, put_known, put_window};
 pub use site::Site;
 pub use totals::{are_all_cuts, is_any_failing, left_out, put_beyond, put_complete, put_counts};
 pub use why::write_why;

@@ -115,8 +115,12 @@ fn put_among(out: &mut String, by: By, mixed: &[MixedFates]) -> Result<(), Alloc
 }
 
 /// Appends what is known of the parts at risk.
+///
+/// # Errors
+///
+/// Memory was refused.
 #[tactic(auto, unfolding(crate::specs::Text::known_text))]
-pub(crate) fn put_known(out: &mut String, by: By, known: &KnownParts) -> Result<(), AllocError>
+pub fn put_known(out: &mut String, by: By, known: &KnownParts) -> Result<(), AllocError>
     ensures { OnOk result (string_bytes out.new ≡ string_bytes out.old ++ known_text by known.now) }
 {
     write!(out, " choice ")?;

@@ -122,21 +122,21 @@ impl<'a> Site<'a> {
     }
 
     /// The number of the cut.
-    pub(crate) fn number(&self) -> u32
+    pub fn number(&self) -> u32
         ensures { result ≡ self.now.at.cut }
     {
         self.cut.number()
     }
 
     /// Its epoch.
-    pub(crate) fn epoch(&self) -> u32
+    pub fn epoch(&self) -> u32
         ensures { result ≡ epoch_at self.now.at.log.entries self.now.at.cut }
     {
         self.epoch
     }
 
     /// How many marks stand before it.
-    pub(crate) fn marks(&self) -> u32
+    pub fn marks(&self) -> u32
         ensures { result ≡ marks_at self.now.at.log.entries self.now.at.cut }
     {
         self.marks

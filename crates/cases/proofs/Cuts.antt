@@ -287,11 +287,12 @@ marks_next es k is =
     ap (count_by (λ (entry : Entry). entry.flags.flush)) place ∙ count_by-push (λ (entry : Entry). entry.flags.flush) (take k es) is.entry in
     (omega (arith, marks, mark), omega (arith, epochs, flush))
 
-itself : (log : LogValue) (way : By) (tears : Bool) (cut : ℕ) (choice : Choice) → cut ≤ length log.entries → IsChoice tears choice
-    → is_last_cut log.entries cut ≡ true → (last : ℕ) × IsOfCut log way tears cut last choice
-itself log way tears cut choice le possible is = (
+itself : (log : LogValue) (way : By) (tears : Bool) (cut to : ℕ) (choice : Choice) → cut ≤ to → IsChoice tears choice
+    → (is_last_cut log.entries cut || (cut == to)) ≡ true → (last : ℕ) × IsOfCut log way tears cut to last choice
+itself log way tears cut to choice le possible is = (
   cut,
   record {
+    from = omega arith;
     within = le;
     is_last = is;
     other = choice;
@@ -303,13 +304,15 @@ itself log way tears cut choice le possible is = (
   },
 )
 
-of_next : (log : LogValue) (way : By) (tears : Bool) (cut : ℕ) (choice : Choice) → suc cut ≤ length log.entries → (is : IsCalm log.entries cut)
-    → (last : ℕ) × IsOfCut log way tears (suc cut) last (next_choice cut choice) → (last : ℕ) × IsOfCut log way tears cut last choice
-of_next log way tears cut choice le is found =
+of_next : (log : LogValue) (way : By) (tears : Bool) (cut to : ℕ) (choice : Choice) → suc cut ≤ length log.entries → (is : IsCalm log.entries cut)
+    → (last : ℕ) × IsOfCut log way tears (suc cut) to last (next_choice cut choice) → (last : ℕ) × IsOfCut log way tears cut to last choice
+of_next log way tears cut to choice le is found =
     let own = found.1 in
+    let later = own.from in
     let counts = marks_next log.entries cut is in (
       found.0,
       record {
+        from = omega (arith, later);
         within = own.within;
         is_last = own.is_last;
         other = own.other;
@@ -321,21 +324,29 @@ of_next log way tears cut choice le is found =
       },
     )
 
-last_of_log : (es : List Entry) (cut : ℕ) → cut ≡ length es → is_last_cut es cut ≡ true
-last_of_log es cut is = let end : (cut == length es) ≡ true = grind (arith, nat_tests, is) in ap (λ b. b || (ends_here es cut || is_after_forced es cut)) end
+end_of_range : (es : List Entry) (cut to : ℕ) → cut ≡ to → (is_last_cut es cut || (cut == to)) ≡ true
+end_of_range es cut to is = let end : (cut == to) ≡ true = grind (arith, nat_tests, is) in ap (λ b. is_last_cut es cut || b) end ∙ or_true (is_last_cut es cut)
 
-from_here : (log : LogValue) (way : By) (tears : Bool) (left cut : ℕ) (choice : Choice) → cut + left ≡ length log.entries → IsChoice tears choice
-    → (last : ℕ) × IsOfCut log way tears cut last choice
-from_here log way tears zero cut choice room possible =
-    itself log way tears cut choice (omega (arith, room)) possible (last_of_log log.entries cut (omega (arith, room)))
-from_here log way tears (suc left) cut choice room possible =
-    by_last (from_here log way tears left (suc cut) (next_choice cut choice) (omega (arith, room)) (possible_next tears cut choice possible)) (is_last_cut log.entries cut) refl
+from_here : (log : LogValue) (way : By) (tears : Bool) (left cut to : ℕ) (choice : Choice) → cut + left ≡ to → to ≤ length log.entries → IsChoice tears choice
+    → (last : ℕ) × IsOfCut log way tears cut to last choice
+from_here log way tears zero cut to choice room within possible =
+    itself log way tears cut to choice (omega (arith, room)) possible (end_of_range log.entries cut to (omega (arith, room)))
+from_here log way tears (suc left) cut to choice room within possible =
+    by_last (from_here log way tears left (suc cut) to (next_choice cut choice) (omega (arith, room)) within (possible_next tears cut choice possible)) (is_last_cut log.entries cut) refl
   where
-    by_last : (last : ℕ) × IsOfCut log way tears (suc cut) last (next_choice cut choice) → (b : Bool) → is_last_cut log.entries cut ≡ b
-        → (last : ℕ) × IsOfCut log way tears cut last choice
-    by_last later true is = itself log way tears cut choice (omega (arith, room)) possible is
-    by_last later false is = of_next log way tears cut choice (omega (arith, room)) (calm log.entries cut (omega (arith, room)) is) later
+    by_last : (last : ℕ) × IsOfCut log way tears (suc cut) to last (next_choice cut choice) → (b : Bool) → is_last_cut log.entries cut ≡ b
+        → (last : ℕ) × IsOfCut log way tears cut to last choice
+    by_last later true is = itself log way tears cut to choice (omega (arith, room)) possible (ap (λ b. b || (cut == to)) is)
+    by_last later false is = of_next log way tears cut to choice (omega (arith, room, within)) (calm log.entries cut (omega (arith, room, within)) is) later
 
 pub last_cuts_have_all : LastCutsHaveAll
-last_cuts_have_all log way tears cut choice is within possible =
-    from_here log way tears (length log.entries - cut) cut choice (omega (arith, within)) possible
+last_cuts_have_all log way tears cut to choice is within inside possible =
+    from_here log way tears (to - cut) cut to choice (omega (arith, within)) inside possible
+
+-- where the range ends with the log it is a last cut
+pub last_of_log : (es : List Entry) (k : ℕ) → (is_last_cut es k || (k == length es)) ≡ true → is_last_cut es k ≡ true
+last_of_log es k is = from_end (k == length es) refl is
+  where
+    from_end : (b : Bool) → (k == length es) ≡ b → (is_last_cut es k || b) ≡ true → is_last_cut es k ≡ true
+    from_end true end either = ap (λ b. b || (ends_here es k || is_after_forced es k)) end
+    from_end false other either = sym (or_false (is_last_cut es k)) ∙ either

@@ -17,11 +17,11 @@ use Rattle.choices.specs.Choices.{nowhere}
 use Rattle.cases.specs.declared.split.Parted.{Parted}
 use Rattle.cases.specs.declared.search.Frame.{Frame}
 use Rattle.cases.specs.Cases.{Case, whole_case, is_same, with_part, firsts, kinds, show_alike}
-use Rattle.cases.specs.Trees.{Program, Subject, is_torn, is_lost, surely, is_within}
+use Rattle.cases.specs.Trees.{Program, Subject, is_torn, is_lost, surely, is_within, split_of}
 use Rattle.cases.specs.Choices.{all_fates}
 use Rattle.cases.specs.Sets.{fates_in, numbers_in, all_torn, all_lost}
 use Rattle.cases.specs.AtCut.{CutValue, Apart, parts_of, case_of, split_by, split_at, IsFound}
-use Rattle.cases.specs.Search.{Asked, subject_of, SearchValue, pending, others, LeadTo, past_beyond, past_leaf, past_split, Leads, Descends, Took, Went, case_in, count_torn, count_lost, is_torn_beyond, plus, IsSearch, SameSearch, OnlyCounts, Counted}
+use Rattle.cases.specs.Search.{Asked, subject_of, SearchValue, pending, others, LeadTo, past_beyond, past_leaf, past_split, Leads, LeadToLeaf, Descends, Took, Went, case_in, count_torn, count_lost, is_torn_beyond, plus, IsSearch, SameSearch, OnlyCounts, Counted}
 use Rattle.cases.proofs.Cases.{IsSplit, first_is, shown_kinds}
 use Rattle.cases.proofs.Distinct.{apart_risky}
 use Rattle.cases.proofs.Chosen.{case_there, case_with, count_in_case, count_same, torn_all, lost_all, torn_first, lost_first, first_group, count_set_le}
@@ -275,9 +275,15 @@ gone_more at program tears sets frames now more it next after apart so is long s
 pub gone_all : (at : CutValue) (program : Program) (tears : Bool) (sets : List ℕ) (frames : List Frame) (now : List ℕ) (more : List Frame)
     → GoneSo at program tears sets frames now more → split_at at program (case_of tears (parts_of at) now) ≡ None
     → (torn : ℕ) (lost : Option ℕ) → Descends (record { at = at; torn = torn; lost = lost }) program tears sets (reverse frames) now (reverse more)
-gone_all at program tears sets frames now more so none torn lost within end leaves rest are =
-    so.leads torn lost end (case_of tears (parts_of at) now ∷ leaves) rest within
-    (past_leaf (case_of tears (parts_of at) now) (others tears (parts_of at) now (reverse more)) leaves rest (so.within torn lost within) none are)
+gone_all at program tears sets frames now more so none torn lost within = record {
+  leads = λ end leaves rest are. so.leads torn lost end leaves rest within are;
+  within = so.within torn lost within;
+  whole = none;
+}
+
+-- past the leaf to which some cases lead
+past_it : (s : Subject) (from left : List Case) (leaf : Case) (rest : List Case) → LeadToLeaf s from left leaf rest → Leads s from (leaf ∷ []) left rest
+past_it s from left leaf rest it end more others are = it.leads end (leaf ∷ more) others (past_leaf leaf rest more others it.within it.whole are)
 
 -- the cases that were left out, so far
 pub record PassedSo (s : Subject) (old now : SearchValue) : Type 0 where
@@ -449,13 +455,19 @@ went_found asked program old mid new one same kept tears mid_taken new_taken tor
     let new_pending : pending new ≡ others mid.tears (parts_of asked.at) new.sets (reverse new.frames) =
     (λ i. (if new_taken i then case_in new ∷ [] else []) ++ others (tears i) (new_parts i) new.sets (reverse new.frames)) in
     let within : is_within s (case_of mid.tears (parts_of asked.at) mid.sets) ≡ true = sym (ap (is_within s) mid_case) ∙ one.within refl in
+    let below = down within in
+    let leaf : LeadToLeaf s (pending old) one.left (case_in new) (pending new) = record {
+      leads = λ end more rest are.
+          one.leads end more rest
+          (subst (λ (cs : List Case). LeadTo s end cs more rest) (sym (λ i. mid_case i ∷ mid_pending i))
+          (below.leads end more rest (subst (λ (cs : List Case). LeadTo s end cs more rest) (λ i. new_case i ∷ new_pending i) are)));
+      within = ap (is_within s) new_case ∙ below.within;
+      whole = ap (split_of s) new_case ∙ below.whole;
+    } in
     record {
       left = one.left;
-      leads = λ end more rest are.
-          subst (λ (c : Case). LeadTo s end (pending old) (c ∷ more) (one.left ++ rest)) (sym new_case)
-          (one.leads end (case_of mid.tears (parts_of asked.at) new.sets ∷ more) rest
-          (subst (λ (cs : List Case). LeadTo s end cs (case_of mid.tears (parts_of asked.at) new.sets ∷ more) rest) (sym (λ i. mid_case i ∷ mid_pending i))
-          (down within end more rest (subst (λ (cs : List Case). LeadTo s end cs more rest) new_pending are))));
+      leads = past_it s (pending old) one.left (case_in new) (pending new) leaf;
+      leaf = λ t. leaf;
       ended = λ f. absurd (let bad : true ≡ false = f in cc);
       torn = torn ∙ one.torn;
       lost = lost ∙ one.lost;
@@ -466,6 +478,7 @@ pub went_none : (s : Subject) (old new : SearchValue) → Took s old new false �
 went_none s old new one = record {
   left = one.left;
   leads = λ end more rest are. one.leads end more rest (subst (λ (cs : List Case). LeadTo s end cs more rest) (one.ended refl) are);
+  leaf = λ t. absurd (let bad : false ≡ true = t in cc);
   ended = one.ended;
   torn = one.torn;
   lost = one.lost;

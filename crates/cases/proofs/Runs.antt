@@ -16,7 +16,7 @@ plus_plus n a (suc b) =
     let next : suc (a + b) ≡ a + suc b = omega arith in
     ap (λ m. min (m + 1) (2 ^ 64 - 1)) (plus_plus n a b) ∙ ap (plus n) next
 
-counted_both : (p : Case → Bool) (n : ℕ) (left more : List Case) → plus (plus n (count_by p left)) (count_by p more) ≡ plus n (count_by p (left ++ more))
+pub counted_both : (p : Case → Bool) (n : ℕ) (left more : List Case) → plus (plus n (count_by p left)) (count_by p more) ≡ plus n (count_by p (left ++ more))
 counted_both p n left more = plus_plus n (count_by p left) (count_by p more) ∙ ap (plus n) (sym (sum_by-append (λ c. if p c then 1 else 0) left more))
 
 pub ran_start : (s : Subject) (v : SearchValue) (before : List LeafValue) → Ran s v v before before

@@ -1,5 +1,5 @@
 -- What holds of the cases of a cut (docs/CRASH-MODEL.md, Any number of losses).
-use Rattle.std.specs.Prelude.{ℕ, ◌≡◌, ◌≤◌, ◌⊎◌, Bool, true, List, [], ◌∷◌, ◌++◌, length, count_by, slice_get, None, Some, IfSome}
+use Rattle.std.specs.Prelude.{ℕ, ◌≡◌, ◌≤◌, ◌==◌, ◌⊎◌, Bool, true, ◌||◌, List, [], ◌∷◌, ◌++◌, length, count_by, slice_get, None, Some, IfSome}
 use Rattle.logfmt.specs.Bounds.{LogValue, IsLog}
 use Rattle.epochs.specs.declared.part.Part.{Part}
 use Rattle.epochs.specs.declared.part.By.{By}
@@ -68,10 +68,12 @@ LeavesEndAlike =
     → FootprintTellsEnding s.program → AreCases s tears leaves left → slice_get leaves i ≡ Some c → Includes choice c
     → ending_of s choice ≡ ending_of s (representative c)
 
--- an image of a cut is one of a later cut, of the same epoch and after as many marks, in which as many parts are torn
-pub record IsOfCut (log : LogValue) (way : By) (tears : Bool) (cut last : ℕ) (choice : Choice) : Type 0 where
-  pub within : last ≤ length log.entries
-  pub is_last : is_last_cut log.entries last ≡ true
+-- An image of a cut is one of a cut of a range that comes no earlier, a last cut or the end of the range, of the same epoch and after as many
+-- marks, in which as many parts are torn. Where the range ends with the log that is a last cut.
+pub record IsOfCut (log : LogValue) (way : By) (tears : Bool) (cut to last : ℕ) (choice : Choice) : Type 0 where
+  pub from : cut ≤ last
+  pub within : last ≤ to
+  pub is_last : (is_last_cut log.entries last || (last == to)) ≡ true
   pub other : Choice
   pub possible : IsChoice tears other
   pub image : image_at log way last other ≡ image_at log way cut choice
@@ -80,7 +82,7 @@ pub record IsOfCut (log : LogValue) (way : By) (tears : Bool) (cut last : ℕ) (
   pub torn : count_by (λ (p : Part). is_torn (other p)) (parts_at_risk way log.entries last)
       ≡ count_by (λ (p : Part). is_torn (choice p)) (parts_at_risk way log.entries cut)
 
--- each image of a cut is one of a last cut
+-- each image of a cut of a range is one of a last cut of the range, or of its end
 abbrev pub LastCutsHaveAll : Type 0
-LastCutsHaveAll = (log : LogValue) (way : By) (tears : Bool) (cut : ℕ) (choice : Choice) → IsLog log → cut ≤ length log.entries → IsChoice tears choice
-    → (last : ℕ) × IsOfCut log way tears cut last choice
+LastCutsHaveAll = (log : LogValue) (way : By) (tears : Bool) (cut to : ℕ) (choice : Choice) → IsLog log → cut ≤ to → to ≤ length log.entries → IsChoice tears choice
+    → (last : ℕ) × IsOfCut log way tears cut to last choice

@@ -98,11 +98,17 @@ pub record Counted (s : Subject) (old new : SearchValue) (beyond : Bool) : Type 
   pub torn : new.torn_beyond ≡ plus old.torn_beyond (if beyond && is_torn_beyond s (case_in old) then 1 else 0)
   pub lost : new.lost_beyond ≡ plus old.lost_beyond (if beyond && not (is_torn_beyond s (case_in old)) then 1 else 0)
 
+-- Some cases lead to a leaf, with others after it: none of them is another leaf, and some that come before it are left out.
+pub record LeadToLeaf (s : Subject) (from left : List Case) (leaf : Case) (rest : List Case) : Type 0 where
+  pub leads : Leads s from [] left (leaf ∷ rest)
+  pub within : is_within s leaf ≡ true
+  pub whole : split_of s leaf ≡ None
+
 -- from a case that isn't beyond what is asked it goes down to a leaf, and what is left of the case is to be explored after it
 abbrev pub Descends : Asked → Program → Bool → List ℕ → List Frame → List ℕ → List Frame → Type 0
 Descends asked program tears sets frames last more =
     is_within (subject_of asked program) (case_of tears (parts_of asked.at) sets) ≡ true
-    → Leads (subject_of asked program) (case_of tears (parts_of asked.at) sets ∷ others tears (parts_of asked.at) sets frames) (case_of tears (parts_of asked.at) last ∷ []) []
+    → LeadToLeaf (subject_of asked program) (case_of tears (parts_of asked.at) sets ∷ others tears (parts_of asked.at) sets frames) [] (case_of tears (parts_of asked.at) last)
     (others tears (parts_of asked.at) last more)
 
 -- it took the next case that isn't beyond what is asked, if there is one, and left out those before it
@@ -114,10 +120,11 @@ pub record Took (s : Subject) (old new : SearchValue) (found : Bool) : Type 0 wh
   pub torn : new.torn_beyond ≡ plus old.torn_beyond (count_by (is_torn_beyond s) left)
   pub lost : new.lost_beyond ≡ plus old.lost_beyond (count_by (λ c. not (is_torn_beyond s c)) left)
 
--- a search went from one leaf to the next, if there is one, and counted the cases between that were left out
+-- a search went from one leaf to the next, if there is one, and no further, and counted the cases between that were left out
 pub record Went (s : Subject) (old new : SearchValue) (found : Bool) : Type 0 where
   pub left : List Case
   pub leads : Leads s (pending old) (if found then case_in new ∷ [] else []) left (pending new)
+  pub leaf : IsTrue found → LeadToLeaf s (pending old) left (case_in new) (pending new)
   pub ended : IsFalse found → pending new ≡ []
   pub torn : new.torn_beyond ≡ plus old.torn_beyond (count_by (is_torn_beyond s) left)
   pub lost : new.lost_beyond ≡ plus old.lost_beyond (count_by (λ c. not (is_torn_beyond s c)) left)

@@ -18,7 +18,7 @@ pub fn leaves_end_alike()
     ensures { LeavesEndAlike }
 {}
 
-/// Each image of a cut is one of a last cut.
+/// Each image of a cut of a range is one of a last cut of that range, or of its end.
 pub fn last_cuts_have_all()
     ensures { LastCutsHaveAll }
 {}

@@ -87,7 +87,8 @@
 //!   tells what it ends in. `footprint_tells` of `machine` says that of each program.
 //! - `tree_is_one`: some cases have their leaves in one way, and leave out the same cases. Where a search stops on its way, the leaves that
 //!   it told of are no more than there are.
-//! - `last_cuts_have_all`: each image of a cut is one of a last cut, in the same epoch, after as many marks, with as many torn parts.
+//! - `last_cuts_have_all`: each image of a cut of a range is one of a last cut of that range, or of its end, in the same epoch, after as many
+//!   marks, with as many torn parts. Of a range that ends with the log it is one of a last cut.
 //!
 //! So an image of any cut, with any number of losses, fails exactly where the representative of its leaf does.
 //!

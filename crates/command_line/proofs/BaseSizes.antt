@@ -6,12 +6,13 @@ use Rattle.request.specs.declared.command.Request.TheVariants as asks
 use Rattle.request.specs.declared.command.Which.{Which}
 use Rattle.request.specs.declared.command.Which.TheVariants as which
 use Rattle.request.specs.declared.settings.CaseTelling.TheVariants as telling
+use Rattle.request.specs.declared.settings.KnownTelling.TheVariants as known
 use Rattle.request.specs.declared.settings.Retelling.{Retelling}
 use Rattle.request.specs.declared.settings.Retelling.TheVariants as retelling
 use Rattle.command_line.specs.declared.parsed.Parsed.{Parsed}
 use Rattle.command_line.specs.declared.parsed.Verb.{Verb}
 use Rattle.command_line.specs.declared.parsed.Verb.TheVariants as verb
-use Rattle.command_line.specs.Parsed.{Asks, AsksAny, AsksBounded, AsksReport, AsksTold, AreOptionsWith, IsWhich, asks_losses, counted, cured, explained, explored, losses_named, paged}
+use Rattle.command_line.specs.Parsed.{Asks, AsksAny, AsksBounded, AsksExport, AsksReport, AsksTold, AreOptionsWith, IsWhich, asks_losses, counted, cured, explained, explored, losses_named, paged, recorded}
 use Rattle.command_line.specs.Words.{options_on, request_on}
 use Rattle.command_line.specs.Sized.{numbered, SizedIsNumbered}
 
@@ -45,11 +46,21 @@ told_so : (p : Parsed) (n : ℕ) (told : Retelling) (before after : OptionWords 
 told_so p n told before after alike true r (w, are, same) = (options_on w n, options_so _ p n w are, ap (λ x. request_on x n) same)
 told_so p n told before after alike false r (w, are, same) = (options_on w n, options_so 0 p n w are, ap (λ x. request_on x n) same ∙ alike w)
 
+-- what `explore` asks for
+explored_on : (p : Parsed) (n : ℕ) (w : OptionWords) → request_on (explored p w) n ≡ explored (numbered p n) (options_on w n)
+explored_on p n w =
+    either_on (is_some p.known) (asks.Known w (recorded p known.Cases)) (if asks_losses p then asks.Cases w (losses_named p telling.Cases) else asks.Explore w) n
+    ∙ ap (λ (r : Request). if is_some p.known then asks.Known (options_on w n) (recorded p known.Cases) else r) (either_on (asks_losses p) (asks.Cases w (losses_named p telling.Cases)) (asks.Explore w) n)
+
+-- `export` with records, and without
+export_so : (p : Parsed) (n : ℕ) (recorded : Bool) (r : Request) → AsksExport p recorded r → AsksExport (numbered p n) recorded (request_on r n)
+export_so p n true r (w, are, same) = (options_on w n, options_so 0 p n w are, ap (λ x. request_on x n) same)
+export_so p n false r (w, are, same) = (options_on w n, options_so _ p n w are, ap (λ x. request_on x n) same)
+
 -- a report that says of what it is, or another
 report_so : (p : Parsed) (n : ℕ) (inputs : Bool) (r : Request) → AsksReport p inputs r → AsksReport (numbered p n) inputs (request_on r n)
 report_so p n true r (w, are, same) = (options_on w n, options_so _ p n w are, ap (λ x. request_on x n) same)
-report_so p n false r (w, are, same) =
-    (options_on w n, options_so 0 p n w are, ap (λ x. request_on x n) same ∙ either_on (asks_losses p) (asks.Cases w (losses_named p telling.Cases)) (asks.Explore w) n)
+report_so p n false r (w, are, same) = (options_on w n, options_so 0 p n w are, ap (λ x. request_on x n) same ∙ explored_on p n w)
 
 pub alike : SizedIsNumbered
 alike p n (Some verb.Explore) r asked = report_so p n p.inputs r asked
@@ -61,7 +72,7 @@ alike p n (Some verb.Page) r asked =
     told_so p n retelling.Page (paged p) (paged (numbered p n)) (λ w. either_on (asks_losses p) (asks.Cases w (losses_named p telling.Page)) (asks.Page w) n) (is_some p.report) r asked
 alike p n (Some verb.Images) r (w, are, same) =
     (options_on w n, options_so 0 p n w are, ap (λ x. request_on x n) same ∙ either_on (asks_losses p) (asks.Cuts w (losses_named p telling.Cases) p.parts) (asks.Images w p.parts) n)
-alike p n (Some verb.Export) r (w, are, same) = (options_on w n, options_so _ p n w are, ap (λ x. request_on x n) same)
+alike p n (Some verb.Export) r asked = export_so p n (is_some p.known) r asked
 alike p n (Some verb.Image) r asked = image_so p n false p.cut p.any r asked
 alike p n (Some verb.Show) r asked = image_so p n true p.cut p.any r asked
 alike p n (Some verb.Log) r (w, are, same) = (options_on w n, options_so _ p n w are, ap (λ x. request_on x n) same)

@@ -14,6 +14,7 @@ use Rattle.epochs.specs.declared.part.By.{By}
 use Rattle.epochs.specs.declared.part.By.TheVariants as by
 use Rattle.request.specs.declared.any_losses.LossWords.{LossWords}
 use Rattle.request.specs.declared.command.OptionWords.{OptionWords}
+use Rattle.request.specs.declared.known.KnownWords.{KnownWords}
 use Rattle.request.specs.declared.command.Request.{Request}
 use Rattle.request.specs.declared.command.Request.TheVariants as asks
 use Rattle.request.specs.declared.command.Which.{Which}
@@ -24,6 +25,8 @@ use Rattle.request.specs.declared.settings.OptionPlace.TheVariants as place
 use Rattle.request.specs.declared.settings.Settings.{Settings}
 use Rattle.request.specs.declared.settings.CaseTelling.{CaseTelling}
 use Rattle.request.specs.declared.settings.CaseTelling.TheVariants as telling
+use Rattle.request.specs.declared.settings.KnownTelling.{KnownTelling}
+use Rattle.request.specs.declared.settings.KnownTelling.TheVariants as known
 use Rattle.request.specs.declared.settings.Retelling.{Retelling}
 use Rattle.request.specs.declared.settings.Retelling.TheVariants as retelling
 use Rattle.clap.specs.Words.{first_value, matched_of, one_text, raw_values}
@@ -166,14 +169,23 @@ asks_losses p = p.any || is_some p.torn || is_some p.at_most
 abbrev pub losses_named : Parsed → CaseTelling → LossWords
 losses_named p telling = record { any = p.any; torn = p.torn; at_most = p.at_most; telling = telling }
 
+-- what is asked of a search by records, and what is to be told of what it finds
+abbrev pub recorded : Parsed → KnownTelling → KnownWords
+recorded p told = record { losses = losses_named p telling.Cases; at_failing = p.at_failing; cases = p.cases; telling = told }
+
 -- what `explore` asks for, with these options
 abbrev pub explored : Parsed → OptionWords → Request
-explored p options = if asks_losses p then asks.Cases options (losses_named p telling.Cases) else asks.Explore options
+explored p options = if is_some p.known then asks.Known options (recorded p known.Cases) else if asks_losses p then asks.Cases options (losses_named p telling.Cases) else asks.Explore options
 
 -- what it asks for with --inputs, which asks for a number of losses, and without
 abbrev pub AsksReport : Parsed → Bool → Request → Type 0
 AsksReport p true r = (options : OptionWords) × AreOptions p options × (r ≡ asks.Marked options)
 AsksReport p false r = (options : OptionWords) × AreOptionsWith 0 p options × (r ≡ explored p options)
+
+-- what `export` asks for, with --known and without
+abbrev pub AsksExport : Parsed → Bool → Request → Type 0
+AsksExport p true r = (options : OptionWords) × AreOptionsWith 0 p options × (r ≡ asks.Known options (recorded p known.Wanted))
+AsksExport p false r = (options : OptionWords) × AreOptions p options × (r ≡ asks.Export options)
 
 -- what `why` asks for, with these options, of programs
 abbrev pub explained : Parsed → OptionWords → Request
@@ -231,7 +243,7 @@ Asks p (Some verb.Why) r = AsksTold p retelling.Causes (explained p) (is_some p.
 Asks p (Some verb.Cure) r = AsksTold p retelling.Places (cured p) (is_some p.report) r
 Asks p (Some verb.Page) r = AsksTold p retelling.Page (paged p) (is_some p.report) r
 Asks p (Some verb.Images) r = (options : OptionWords) × AreOptionsWith 0 p options × (r ≡ counted p options)
-Asks p (Some verb.Export) r = (options : OptionWords) × AreOptions p options × (r ≡ asks.Export options)
+Asks p (Some verb.Export) r = AsksExport p (is_some p.known) r
 Asks p (Some verb.Image) r = AsksImage p false r
 Asks p (Some verb.Show) r = AsksImage p true r
 Asks p (Some verb.Log) r = (options : OptionWords) × AreOptions p options × (r ≡ asks.Log options)
@@ -244,7 +256,7 @@ Asks p (Some verb.Join) r = r ≡ asks.Join p.part
 Asks p None r = r ≡ asks.StoredRun
 
 -- the files that are named: a log, a source text or a program, then the image of a program and its lines of C, then the programs of a
--- run, or a report in their place, or the texts of parts
+-- run, or a report or records in their place, or the texts of parts
 abbrev pub first_file : Option (List ℕ) → List (List ℕ)
 first_file None = []
 first_file (Some file) = file ∷ []
@@ -254,7 +266,7 @@ program_files None = []
 program_files (Some programs) = map (λ w. w.now) programs.now
 
 abbrev pub files_named : Parsed → List (List ℕ)
-files_named p = first_file (word_bytes p.file) ++ first_file (word_bytes p.image) ++ first_file (word_bytes p.lines) ++ program_files p.programs ++ first_file (word_bytes p.report) ++ program_files p.texts
+files_named p = first_file (word_bytes p.file) ++ first_file (word_bytes p.image) ++ first_file (word_bytes p.lines) ++ program_files p.programs ++ first_file (word_bytes p.report) ++ first_file (word_bytes p.known) ++ program_files p.texts
 
 -- the number that the text after an option is
 pub record IsWritten (found : Found) (option : List ℕ) (number : ℕ) : Type 0 where
@@ -289,6 +301,7 @@ pub record IsRead (found : Found) (p : Parsed) : Type 0 where
   pub lines : word_bytes p.lines ≡ first_value found (codes "lines")
   pub programs : option_map (λ ws. map (λ w. w.now) ws.now) p.programs ≡ option_map raw_values (matched_of found (codes "programs"))
   pub report : word_bytes p.report ≡ first_value found (codes "report")
+  pub known : word_bytes p.known ≡ first_value found (codes "known")
   pub sized : p.is_sized ≡ base_named (first_value found (codes "sectors"))
   pub sectors : IsSizeOf found p.is_sized p.sectors
   pub large : IsFlagOf found (codes "large") p.large
@@ -302,6 +315,8 @@ pub record IsRead (found : Found) (p : Parsed) : Type 0 where
   pub tears : IsFlagOf found (codes "tears") p.tears
   pub torn : IsNumberOf found (codes "torn") p.torn
   pub at_most : IsNumberOf found (codes "at-most") p.at_most
+  pub at_failing : IsFlagOf found (codes "stop-at-failing") p.at_failing
+  pub cases : IsNumberOf found (codes "cases") p.cases
   pub parts : word_bytes p.by ≡ first_value found (codes "by")
   pub workers : IsNumberOf found (codes "workers") p.workers
   pub cache : IsNumberOf found (codes "cache") p.cache

@@ -4,7 +4,7 @@ ghost use Rattle.std.specs.Prelude.{◌≡◌, ◌<◌, ◌++◌, codes, length,
 ghost use Rattle.clap.specs.Words.{first_value, found_of};
 ghost use Rattle.command_line.specs.Number.{NoNumber as NoNumberText};
 ghost use Rattle.request.specs.declared.settings.Retelling.TheVariants as retelling;
-ghost use Rattle.command_line.specs.Parsed.{Asks, AsksBounded, AsksImage, AsksReport, AsksTold, AreFlushes, AreOptions, AreOptionsWith, IsBoundOf, IsExtent, any_named, asks_losses, base_named, bound_named, choice_named, command_named, counted, cured, cuts_named, explained, explored, files_named, first_file, program_files, limits_named, losses_named, no_flushes, paged, parts_named, sectors_named, settings_named, trial_asked, unnamed_in, word_bytes, IsFlagOf, IsNumberOf, IsRead, IsSizeOf, IsWhich};
+ghost use Rattle.command_line.specs.Parsed.{Asks, AsksBounded, AsksExport, AsksImage, AsksReport, AsksTold, AreFlushes, AreOptions, AreOptionsWith, IsBoundOf, IsExtent, any_named, asks_losses, base_named, bound_named, choice_named, command_named, counted, cured, cuts_named, explained, explored, files_named, first_file, program_files, limits_named, losses_named, no_flushes, paged, parts_named, recorded, sectors_named, settings_named, trial_asked, unnamed_in, word_bytes, IsFlagOf, IsNumberOf, IsRead, IsSizeOf, IsWhich};
 
 use crate::extents::extent_in;
 use crate::flush_list::flushes_in;
@@ -14,8 +14,8 @@ use base::limits::Limits;
 use clap::ArgMatches;
 use epochs::{By, CutKind, Cuts, Flushes};
 use request::{
-    CaseTelling, Extent, LossWords, OptionPlace, OptionWords, Request, Retelling, Settings,
-    TrialWords, Which,
+    CaseTelling, Extent, KnownTelling, KnownWords, LossWords, OptionPlace, OptionWords, Request,
+    Retelling, Settings, TrialWords, Which,
 };
 use std::alloc::{AllocError, Global};
 
@@ -38,6 +38,8 @@ pub struct Parsed<'a> {
     pub programs: Option<&'a [&'a str]>,
     /// The name after `--report`.
     pub report: Option<&'a str>,
+    /// The name after `--known`.
+    pub known: Option<&'a str>,
     /// Whether `base` stands after `--sectors`.
     pub is_sized: bool,
     /// The number after `--sectors`.
@@ -64,6 +66,10 @@ pub struct Parsed<'a> {
     pub torn: Option<u64>,
     /// The number after `--at-most`.
     pub at_most: Option<u64>,
+    /// Whether `--stop-at-failing` stands there.
+    pub at_failing: bool,
+    /// The number after `--cases`.
+    pub cases: Option<u64>,
     /// The word after `--by`.
     pub by: Option<&'a str>,
     /// The number after `--workers`.
@@ -354,6 +360,7 @@ impl<'a> Parsed<'a> {
             lines: matches.get_str("lines"),
             programs: matches.get_strs("programs"),
             report: matches.get_str("report"),
+            known: matches.get_str("known"),
             is_sized: base_of(matches.get_str("sectors")),
             sectors: sectors_of(matches)?,
             large: flag_of(matches, "large"),
@@ -367,6 +374,8 @@ impl<'a> Parsed<'a> {
             tears: flag_of(matches, "tears"),
             torn: number_of(matches, "torn")?,
             at_most: number_of(matches, "at-most")?,
+            at_failing: flag_of(matches, "stop-at-failing"),
+            cases: number_of(matches, "cases")?,
             by: matches.get_str("by"),
             workers: number_of(matches, "workers")?,
             cache: number_of(matches, "cache")?,
@@ -497,11 +506,25 @@ impl<'a> Parsed<'a> {
         }
     }
 
+    /// What is asked of a search by records, and what is to be told of what it finds.
+    fn recorded(&self, telling: KnownTelling) -> KnownWords
+        ensures { result ≡ recorded self.now telling }
+    {
+        KnownWords {
+            losses: self.losses(CaseTelling::Cases),
+            at_failing: self.at_failing,
+            cases: self.cases,
+            telling,
+        }
+    }
+
     /// What `explore` asks for, with these options.
     fn explored(&self, options: OptionWords) -> Request
         ensures { result ≡ explored self.now options }
     {
-        if self.asks_losses() {
+        if self.known.is_some() {
+            Request::Known(options, self.recorded(KnownTelling::Cases))
+        } else if self.asks_losses() {
             Request::Cases(options, self.losses(CaseTelling::Cases))
         } else {
             Request::Explore(options)
@@ -516,6 +539,16 @@ impl<'a> Parsed<'a> {
             Request::Marked(self.options())
         } else {
             self.explored(self.options_by(0))
+        }
+    }
+
+    /// What `export` asks for: where records are named, the images that they leave open.
+    fn exported(&self) -> Request
+        ensures { AsksExport self.now (is_some self.now.known) result }
+    {
+        match self.known {
+            Some(_name) => Request::Known(self.options_by(0), self.recorded(KnownTelling::Wanted)),
+            None => Request::Export(self.options()),
         }
     }
 
@@ -667,7 +700,7 @@ impl<'a> Parsed<'a> {
             Some(Verb::Cure) => self.cure(),
             Some(Verb::Page) => self.page(),
             Some(Verb::Images) => self.counted(self.options_by(0)),
-            Some(Verb::Export) => Request::Export(self.options()),
+            Some(Verb::Export) => self.exported(),
             Some(Verb::Image) => self.imaged(false),
             Some(Verb::Show) => self.imaged(true),
             Some(Verb::Log) => Request::Log(self.options()),
@@ -687,7 +720,7 @@ impl<'a> Parsed<'a> {
     }
 
     /// The files that are named: a log, a source text or a program, then the image of a program and its lines of C, then the programs
-    /// of a run, or a report in their place, or the texts of parts.
+    /// of a run, or a report or records in their place, or the texts of parts.
     ///
     /// # Errors
     ///
@@ -701,6 +734,7 @@ impl<'a> Parsed<'a> {
         put_name(alloc, &mut files, self.lines)?;
         put_if_named(alloc, &mut files, self.programs)?;
         put_name(alloc, &mut files, self.report)?;
+        put_name(alloc, &mut files, self.known)?;
         put_if_named(alloc, &mut files, self.texts)?;
         Ok(files)
     }

@@ -35,6 +35,7 @@ pub(crate) fn request_on(request: &Request, sectors: u64) -> Request
         ),
         Request::Page(words) => Request::Page(options_on(words, sectors)),
         Request::Retold(words, telling) => Request::Retold(options_on(words, sectors), *telling),
+        Request::Known(words, known) => Request::Known(options_on(words, sectors), *known),
         Request::Images(words, parts) => Request::Images(options_on(words, sectors), *parts),
         Request::Cuts(words, losses, parts) => Request::Cuts(
             options_on(words, sectors),

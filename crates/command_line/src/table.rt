@@ -178,7 +178,7 @@ const BOUND: Item = Item {
     id: "bound",
     option: Some("bound"),
     takes: Takes::Bound,
-    help: "How many sectors, or by write how many writes, may be\nlost or torn, 0 to 3, or any (not export) [default: 1]",
+    help: "How many sectors, or by write how many writes, may be\nlost or torn, 0 to 3, or any (export: beside --known)\n[default: 1]",
     ..NUMBER
 };
 
@@ -303,6 +303,46 @@ const INPUTS: Item = Item {
     ..FLAG
 };
 
+/// What stands beside no records: what says how programs are run, and what asks for other answers.
+const BESIDE_NO_RECORDS: &[&str] = &[
+    "workers", "cache", "checked", "guards", "progress", "first", "inputs", "images",
+];
+
+/// Records of a program in place of programs.
+const KNOWN: Item = Item {
+    id: "known",
+    option: Some("known"),
+    help: "With --bound any, judge nothing: tell what these\nrecords tell, as crashbpf-each writes them",
+    excludes: BESIDE_NO_RECORDS,
+    ..TEXT
+};
+
+/// Ends the search of a cut at its first failing case.
+const STOP_AT_FAILING: Item = Item {
+    id: "stop-at-failing",
+    option: Some("stop-at-failing"),
+    help: "With --known, end the search of each cut at its first\nfailing case",
+    needs: &["known"],
+    ..FLAG
+};
+
+/// Ends the search of a cut after some cases.
+const CASES: Item = Item {
+    id: "cases",
+    option: Some("cases"),
+    help: "With --known, end the search of each cut after N cases,\n1 to 16777216 [default: all]",
+    needs: &["known"],
+    ..NUMBER
+};
+
+/// The programs of a run, where no records are given in their place.
+const PROGRAMS_OR_KNOWN: Item = Item {
+    is_required: false,
+    in_place_of: &["known"],
+    excludes: &["known"],
+    ..PROGRAMS
+};
+
 /// The images that are judged.
 const SOME_IMAGES: Item = Item {
     id: "images",
@@ -364,6 +404,25 @@ const PARTS: Item = Item {
 const WRITTEN_IMAGES: Item = Item {
     help: "Write the images from A to below B alone",
     ..SOME_IMAGES
+};
+
+/// Records of a program, by which the open cases are written.
+const KNOWN_OF_EXPORT: Item = Item {
+    help: "With --bound any, write the images that these records\nleave open, as crashbpf-each writes them",
+    excludes: &["images"],
+    ..KNOWN
+};
+
+/// How many parts may be torn, beside records.
+const TORN_OF_EXPORT: Item = Item {
+    needs: &["known"],
+    ..TORN
+};
+
+/// How many parts may depart, beside records.
+const AT_MOST_OF_EXPORT: Item = Item {
+    needs: &["known"],
+    ..AT_MOST
 };
 
 /// The cut of an image.
@@ -512,15 +571,27 @@ of entry 8.
 
 With --bound any no number of losses is left out. Each line then names a case:
 images of a cut that the program can't tell apart, of which one is judged for
-all.
+all. With --known no program is run: the records say how yours ended on some
+images, and at which sectors it looked. A case that no record tells is open.
 
 Examples: crashbpf explore disk.log check.bpf --sectors 64 --bound 2 --tears
           crashbpf explore disk.log check.bpf --base base.img --sectors base
           crashbpf explore disk.log check.bpf --sectors 64 --bound any
 
-Exit status: 0 where no image fails, 1 where one does, 2 for a refusal.",
+Exit status: 0 where no image fails, 1 where one does, 2 for a refusal; with
+--known 3 where none fails and the text isn't complete.",
     shares: Shares::OfRun,
-    own: &[TORN, AT_MOST, FIRST, INPUTS, SOME_IMAGES, PROGRAMS],
+    own: &[
+        TORN,
+        AT_MOST,
+        KNOWN,
+        STOP_AT_FAILING,
+        CASES,
+        FIRST,
+        INPUTS,
+        SOME_IMAGES,
+        PROGRAMS_OR_KNOWN,
+    ],
 };
 
 /// The command `why`.
@@ -604,11 +675,21 @@ first) and its 512 bytes: what differs from the last new image, or for the first
 from what the device held. An image with the same bytes and as many marks as an
 earlier one, say 13, has 'same 13' in place of 'new 3', and no records.
 
+With --bound any and --known it writes the images that are to be judged next,
+one for each case that no record tells, numbered in the order of the search.
+
 Example: crashbpf export disk.log --sectors 64 > disk.images
 
 Exit status: 0, or 2 for a refusal.",
     shares: Shares::OfLog,
-    own: &[WRITTEN_IMAGES],
+    own: &[
+        WRITTEN_IMAGES,
+        TORN_OF_EXPORT,
+        AT_MOST_OF_EXPORT,
+        KNOWN_OF_EXPORT,
+        STOP_AT_FAILING,
+        CASES,
+    ],
 };
 
 /// The command `image`.

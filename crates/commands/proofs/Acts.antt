@@ -16,8 +16,7 @@ use Rattle.runs.specs.declared.explore_command.WantedAnswer.{WantedAnswer}
 use Rattle.base.specs.declared.causes.JoinCause.TheVariants as joining
 use Rattle.commands.specs.Acting.{join_refusal, most_texts, RefusesTexts, RefusesParts, for_no_part, for_many_parts, for_unread_part, for_parts, for_part_memory}
 use Rattle.commands.specs.Acting.{second_held, lines_held, RefusesCheck, for_program_file, for_image_file, for_lines_file}
-use Rattle.request.specs.declared.settings.Retelling.{Retelling}
-use Rattle.commands.specs.Acting.{RefusesReportOf, for_log_of_report, for_report_file, for_base_of_report}
+use Rattle.commands.specs.Acting.{RefusesGiven, for_log_of_report, for_report_file, for_base_of_report, for_given}
 use Rattle.commands.specs.Acting.{Files, first_file, first_held, initial_of, unread, RefusesFile, for_file, RefusesRecording, for_log_file, for_base_file, for_recording, RefusesFiles, for_unread, for_base, for_memory}
 
 -- the first file can't be read
@@ -36,17 +35,24 @@ pub no_lines_file : (w : TrialWords) (files : Files) (r : Refusal) (t : Trial) (
     → second_held files ≡ Some image → (lines_held files ≡ None) × (r ≡ file_refusal 2) → RefusesCheck w files r
 no_lines_file w files r t program image asked read shown h = rw h.1 (for_lines_file t program image asked read shown h.0)
 
--- of what is told of a report the log, the report and what the device held before can't be read
-pub no_log_of_report : (t : Retelling) (files : Files) (s : Settings) (r : Refusal) → (first_held files ≡ None) × (r ≡ file_refusal 0) → RefusesReportOf t files s r
-no_log_of_report t files s r h = rw h.1 (for_log_of_report h.0)
+-- of a report, or records, the log, they themselves and what the device held before can't be read
+pub no_log_of_report : (files : Files) (Rest : Recording → List ℕ → Refusal → Type 0) (r : Refusal) → (first_held files ≡ None) × (r ≡ file_refusal 0) → RefusesGiven files Rest r
+no_log_of_report files Rest r h = rw h.1 (for_log_of_report h.0)
 
-pub no_report_file : (t : Retelling) (files : Files) (s : Settings) (r : Refusal) (log : List ℕ) → first_held files ≡ Some log → (second_held files ≡ None) × (r ≡ file_refusal 1)
-    → RefusesReportOf t files s r
-no_report_file t files s r log read h = rw h.1 (for_report_file log read h.0)
+pub no_report_file : (files : Files) (Rest : Recording → List ℕ → Refusal → Type 0) (r : Refusal) (log : List ℕ) → first_held files ≡ Some log
+    → (second_held files ≡ None) × (r ≡ file_refusal 1) → RefusesGiven files Rest r
+no_report_file files Rest r log read h = rw h.1 (for_report_file log read h.0)
 
-pub no_base_of_report : (t : Retelling) (files : Files) (s : Settings) (r : Refusal) (log report : List ℕ) → first_held files ≡ Some log → second_held files ≡ Some report
-    → (initial_of files.base ≡ None) × (r ≡ file_refusal (length files.named)) → RefusesReportOf t files s r
-no_base_of_report t files s r log report read second h = rw h.1 (for_base_of_report log report read second h.0)
+pub no_base_of_report : (files : Files) (Rest : Recording → List ℕ → Refusal → Type 0) (r : Refusal) (log report : List ℕ) → first_held files ≡ Some log
+    → second_held files ≡ Some report → (initial_of files.base ≡ None) × (r ≡ file_refusal (length files.named)) → RefusesGiven files Rest r
+no_base_of_report files Rest r log report read second h = rw h.1 (for_base_of_report log report read second h.0)
+
+-- they can't be read, whatever is refused of them
+pub unread_given : (files : Files) (Rest : Recording → List ℕ → Refusal → Type 0) (r : Refusal) → RefusesGiven files (λ text given q. ⊥) r → RefusesGiven files Rest r
+unread_given files Rest _ (for_log_of_report h) = for_log_of_report h
+unread_given files Rest _ (for_report_file log read h) = for_report_file log read h
+unread_given files Rest _ (for_base_of_report log given read second h) = for_base_of_report log given read second h
+unread_given files Rest _ (for_given log given initial r read second based why) = absurd why
 
 -- the log of a recording can't be read, and what the device held before it can't be
 pub no_log_file : (files : Files) (Rest : Recording → Refusal → Type 0) (r : Refusal) → (first_held files ≡ None) × (r ≡ file_refusal 0) → RefusesRecording files Rest r

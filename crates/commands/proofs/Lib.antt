@@ -18,6 +18,8 @@ pub mod OneSize
 pub mod OneJoin
 pub mod OneCasesJoin
 pub mod OneRetold
+pub mod OneKnown
+pub mod RecordsTrue
 pub mod LinesOfRun
 pub mod OneAnswer
 pub mod OneWork

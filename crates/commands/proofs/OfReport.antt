@@ -31,7 +31,7 @@ use Rattle.retold.specs.declared.command.RetellFault.{RetellFault}
 use Rattle.retold.specs.Retold as retold
 use Rattle.request.specs.Inputs.{head_given, options_given}
 use Rattle.retold.specs.Retold.{starts_given, NoneIsGiven, IsGiven, Retells, IsRetoldOf, IsRetold, RefusesSourceAs, RefusesReport, RefusesRetold}
-use Rattle.commands.specs.Acting.{Files, first_held, first_file, second_held, initial_of, recording, status_of, AnswersExplore, AnswersRetold, RefusesWith, for_words, for_settings, RefusesReportOf, for_log_of_report, for_report_file, for_base_of_report, for_retold, retold_refusal}
+use Rattle.commands.specs.Acting.{Files, first_held, first_file, second_held, initial_of, recording, status_of, AnswersExplore, AnswersRetold, RefusesWith, for_words, for_settings, RefusesReportOf, for_log_of_report, for_report_file, for_base_of_report, for_given, for_fault, retold_refusal}
 use Rattle.commands.specs.OfReport.{of_images, IsOfRun, WhyOfReportIsWhy, PageOfReportIsPage}
 use Rattle.commands.specs.Parts.{asking}
 use Rattle.commands.proofs.OneAnswer.{one_told, same_files, same_initial, same_settings, same_held}
@@ -233,7 +233,7 @@ not_refused one w files report r s _ same short (retold.for_report f value whole
 not_refused one w files report r s _ same short retold.want_of_memory bad = cc
 
 not_none : AreOne → (t : Retelling) (v w : OptionWords) (files given : Files) (report : List ℕ) (refusal : Refusal) → IsOfRun v w files given report → length report ≤ 2 ^ 30
-    → RefusesWith v (RefusesReportOf t given) refusal → refusal.code ≢ Request asked.NotReport
+    → RefusesWith v (RefusesReportOf given) refusal → refusal.code ≢ Request asked.NotReport
 not_none one t v w files given report _ is short (for_words r why) = not_of_words v v.unnamed r why
 not_none one t v w files given report _ is short (for_settings s r ask why) = of_files r why
   where
@@ -243,11 +243,11 @@ not_none one t v w files given report _ is short (for_settings s r ask why) = of
     images : set_images s ≡ set_images run.settings
     images = same_images v (asking extent.Whole w) s run.settings is.images ask run.ask
 
-    of_files : (q : Refusal) → RefusesReportOf t given s q → q.code ≢ Request asked.NotReport
+    of_files : (q : Refusal) → RefusesReportOf given s q → q.code ≢ Request asked.NotReport
     of_files _ (for_log_of_report none) bad = let own : Request asked.File ≡ Request asked.NotReport = bad in cc
     of_files _ (for_report_file log read none) bad = let own : Request asked.File ≡ Request asked.NotReport = bad in cc
     of_files _ (for_base_of_report log other read second none) bad = let own : Request asked.File ≡ Request asked.NotReport = bad in cc
-    of_files _ (for_retold log other initial f read second based refused) bad =
+    of_files _ (for_given log other initial _ read second based (for_fault f refused)) bad =
         let given_log : log ≡ run.log = same_held (first_held files) log run.log (sym is.has.log ∙ read) (ap first_file run.read) in
         let given_report : other ≡ report = same_held (second_held given) other report second is.has.second in
         let given_initial : initial ≡ run.initial = same_held (initial_of files.base) initial run.initial (sym is.has.based ∙ based) run.based in

@@ -32,6 +32,13 @@ use Rattle.request.specs.OptionWords.{AskFor}
 use Rattle.request.specs.Source.{Recording, plan_of, images_of}
 use Rattle.case_runs.specs.Found.{FindingIsOne}
 use Rattle.case_runs.specs.First.{FirstIsOne}
+use Rattle.known.specs.Once.{FoundIsOne}
+use Rattle.known_runs.specs.Asked.{KnownAsked}
+use Rattle.request.specs.Known.{known_asked}
+use Rattle.request.specs.declared.known.KnownSearch.{KnownSearch}
+use Rattle.request.specs.declared.known.KnownWords.{KnownWords}
+use Rattle.request.specs.declared.settings.KnownTelling.{KnownTelling}
+use Rattle.request.specs.declared.settings.KnownTelling.TheVariants as telling_known
 use Rattle.runs.specs.Why.{Tells}
 use Rattle.retold.specs.Retold.{IsRetold}
 use Rattle.runs.specs.Cured.{TellsCure, Cures, IsAnswered}
@@ -53,7 +60,7 @@ use Rattle.inspect.specs.Verifying.{verified_text, IsAcceptedText}
 use Rattle.inspect.specs.Assembly.{listing_text, IsAssembled, IsListed}
 use Rattle.runs.specs.declared.explore_command.WantedAnswer.{WantedAnswer}
 use Rattle.runs.specs.declared.explore_command.WantedAnswer.TheVariants as wanted
-use Rattle.commands.specs.Acting.{Files, initial_of, recording, status_of, AnswersRun, AnswersFiles, AnswersExplore, AnswersMarked, marked_report, AnswersCases, wanted_by, AnswersLosses, any_words, AnswersRetold, AnswersFile, AnswersLog, AnswersOf, AnswersWith, AnswersTrial, AnswersJoin, JoinsEither, join_of_parts, join_of_cases, Answers, form_of}
+use Rattle.commands.specs.Acting.{Files, initial_of, recording, status_of, AnswersRun, AnswersFiles, AnswersExplore, AnswersMarked, marked_report, AnswersCases, wanted_by, AnswersLosses, any_words, AnswersRetold, AnswersRecords, TellsRecords, search_asked, AnswersFile, AnswersLog, AnswersOf, AnswersWith, AnswersTrial, AnswersJoin, JoinsEither, join_of_parts, join_of_cases, Answers, form_of}
 use Rattle.commands.proofs.OneReport.{same_log, same_asked, one_run}
 use Rattle.commands.proofs.OneText.{one_explanation}
 use Rattle.commands.proofs.OnePage.{one_page}
@@ -62,6 +69,7 @@ use Rattle.commands.proofs.OneFirst.{one_by_cases, one_losses}
 use Rattle.commands.proofs.OneJoin.{one_join}
 use Rattle.commands.proofs.OneCasesJoin.{one_cases_join}
 use Rattle.commands.proofs.OneRetold.{one_retold}
+use Rattle.commands.proofs.OneKnown.{known_once, wanted_once}
 
 -- what the laws of the lower layers say
 pub record Laws : Type 0 where
@@ -71,6 +79,7 @@ pub record Laws : Type 0 where
   pub sources : asm.OneProgram
   pub findings : FindingIsOne
   pub first : FirstIsOne
+  pub known : FoundIsOne
 
 -- the same bytes and the same number
 abbrev pub Same : List ℕ → List ℕ → ℕ → ℕ → Type 0
@@ -331,6 +340,23 @@ retold_once laws t w files bytes others status ended a b =
     let same = one_retold laws.texts t (recording a.log a.initial) a.report a.settings bytes others a.failing b.failing a.told told in
     (same.0, a.ends ∙ ap status_of same.1 ∙ sym b.ends)
 
+-- what is told of records
+tells_once : Laws → (t : KnownTelling) (a : KnownAsked) (bytes others : List ℕ) (status ended : ℕ) → TellsRecords t a bytes status → TellsRecords t a others ended → Same bytes others status ended
+tells_once laws telling_known.Cases a bytes others status ended x y = known_once laws.texts laws.known a bytes others status ended x y
+tells_once laws telling_known.Wanted a bytes others status ended x y = (wanted_once laws.texts laws.known a bytes others x.0 y.0, x.1 ∙ sym y.1)
+
+records_once : Laws → (w : OptionWords) (k : KnownWords) (files : Files) (bytes others : List ℕ) (status ended : ℕ)
+    → AnswersRecords w k files bytes status → AnswersRecords w k files others ended → Same bytes others status ended
+records_once laws w k files bytes others status ended a b =
+    let one = same_settings w b.settings a.settings b.asked a.asked in
+    let log = same_held _ _ _ b.read a.read in
+    let records = same_held _ _ _ b.second a.second in
+    let both : recording b.log b.initial ≡ recording a.log a.initial = λ i. recording (log i) (same_initial files b.initial a.initial b.based a.based i) in
+    let asked : search_asked (recording b.log b.initial) b.records (known_asked k b.settings) b.settings ≡ search_asked (recording a.log a.initial) a.records (known_asked k a.settings) a.settings =
+    λ i. search_asked (both i) (records i) (known_asked k (one i)) (one i) in
+    tells_once laws k.telling (search_asked (recording a.log a.initial) a.records (known_asked k a.settings) a.settings) bytes others status ended a.told
+    (subst (λ (x : KnownAsked). TellsRecords k.telling x others ended) asked b.told)
+
 -- a report that says of what it is
 marked_once : Laws → (w : OptionWords) (files : Files) (bytes others : List ℕ) (status ended : ℕ) → AnswersMarked w files bytes status → AnswersMarked w files others ended → Same bytes others status ended
 marked_once laws w files bytes others status ended a b =
@@ -349,6 +375,7 @@ one_answer laws (request.Why w) files bytes others status ended a b = explore_on
 one_answer laws (request.Cure w) files bytes others status ended a b = explore_once laws wanted.Cured w files bytes others status ended a b
 one_answer laws (request.Page w) files bytes others status ended a b = explore_once laws (wanted.Told telling.Page) w files bytes others status ended a b
 one_answer laws (request.Retold w t) files bytes others status ended a b = retold_once laws t w files bytes others status ended a b
+one_answer laws (request.Known w k) files bytes others status ended a b = records_once laws w k files bytes others status ended a b
 one_answer laws (request.Images w parts) files bytes others status ended a b = of_once w (λ s text. IsSurvey parts text s) (one_survey laws parts) files bytes others status ended a b
 one_answer laws (request.Cuts w l parts) files bytes others status ended a b =
     losses_once w l (λ s text. IsCutSurvey parts (losses_asked l s) text s) (λ s. one_cut_survey laws parts l s) files bytes others status ended a b

@@ -64,7 +64,7 @@ use Rattle.inspect.specs.TrialImage.{sectors_of}
 use Rattle.notes.specs.SourceLines.{LineOfC, AreLines, NoLines}
 use Rattle.inspect.specs.TrialText as trials
 use Rattle.inspect.specs.TrialText.{Bound, IsBoundBy, IsTried, RefusesLimit, RefusesTrial}
-use Rattle.commands.specs.Acting.{AnswersRetold, RefusesReportOf, for_log_of_report, for_report_file, for_base_of_report, for_retold}
+use Rattle.commands.specs.Acting.{AnswersRetold, RefusesReportOf, for_log_of_report, for_report_file, for_base_of_report, for_given, for_fault, RefusesGiven}
 use Rattle.commands.specs.Acting.{AnswersLosses, RefusesLosses, any_words, for_any_losses, for_any_recording, form_of}
 use Rattle.commands.specs.Acting.{AnswersTrial, RefusesCheck, for_trial_words, for_program_file, for_image_file, for_lines_file, for_trial}
 use Rattle.commands.specs.Acting.{AnswersJoin, JoinsEither, join_of_parts, join_of_cases, cases_refusal, RefusesTexts, for_texts, for_case_texts, RefusesParts, for_no_part, for_many_parts, for_unread_part, for_parts, for_part_memory}
@@ -76,6 +76,16 @@ use Rattle.commands.proofs.OneReport.{Below, same_log, same_asked, same_checkers
 use Rattle.commands.proofs.OneCases.{not_many}
 use Rattle.commands.proofs.OneFirst.{CasesAreOne, not_refused}
 use Rattle.commands.proofs.OneRetold.{retold_or_refusal}
+use Rattle.commands.proofs.OneKnown.{told_or_refusal, wanted_or_refusal as wanted_known_or_refusal}
+use Rattle.commands.specs.Acting.{AnswersRecords, TellsRecords, RefusesBy, RefusesRecords, for_search, for_records, records_refusal, search_asked}
+use Rattle.known.specs.Once.{FoundIsOne}
+use Rattle.known_runs.specs.declared.asked.KnownRunFault.{KnownRunFault}
+use Rattle.known_runs.specs.Asked.{KnownAsked}
+use Rattle.known_runs.specs.Told.{RefusesKnown}
+use Rattle.request.specs.Known.{known_asked}
+use Rattle.request.specs.declared.known.KnownWords.{KnownWords}
+use Rattle.request.specs.declared.settings.KnownTelling.{KnownTelling}
+use Rattle.request.specs.declared.settings.KnownTelling.TheVariants as telling_known
 use Rattle.retold.specs.Retold.{RefusesRetold}
 use Rattle.request.specs.declared.settings.Retelling.{Retelling}
 use Rattle.commands.proofs.OneAnswer.{same_files, same_initial, same_settings, same_held, tried_alike}
@@ -361,19 +371,47 @@ of_trial below w files bytes status _ h (for_trial t program image lines r asked
 
 -- a report of which something is told, of files that can be read
 of_retold : Below → (t : Retelling) (w : OptionWords) (files : Files) (bytes : List ℕ) (status : ℕ) (r : Refusal) → AnswersRetold t w files bytes status
-    → RefusesWith w (RefusesReportOf t files) r → IsOfMemory r.code
-of_retold below t w files bytes status r h why = of_words w h.settings (RefusesReportOf t files) r h.asked (λ q. rest q) why
+    → RefusesWith w (RefusesReportOf files) r → IsOfMemory r.code
+of_retold below t w files bytes status r h why = of_words w h.settings (RefusesReportOf files) r h.asked (λ q. rest q) why
   where
-    rest : (q : Refusal) → RefusesReportOf t files h.settings q → IsOfMemory q.code
+    rest : (q : Refusal) → RefusesReportOf files h.settings q → IsOfMemory q.code
     rest _ (for_log_of_report none) = absurd (let bad : None ≡ Some h.log = sym none ∙ h.read in cc)
     rest _ (for_report_file log read none) = absurd (let bad : None ≡ Some h.report = sym none ∙ h.second in cc)
     rest _ (for_base_of_report log report read second none) = absurd (let bad : None ≡ Some h.initial = sym none ∙ h.based in cc)
-    rest _ (for_retold log report initial f read second based refused) =
+    rest _ (for_given log report initial _ read second based (for_fault f refused)) =
         let held = same_held _ _ _ read h.read in
         let both : recording log initial ≡ recording h.log h.initial = λ i. recording (held i) (same_initial files initial h.initial based h.based i) in
         let by_log = subst (λ (text : Recording). RefusesRetold text report h.settings f) both refused in
         let given = subst (λ (bs : List ℕ). RefusesRetold (recording h.log h.initial) bs h.settings f) (same_held _ _ _ second h.second) by_log in
         retold_or_refusal below t (recording h.log h.initial) h.report h.settings bytes h.failing f h.told given
+
+-- records of which something is told, of files that can be read
+records_or_refusal : Below → FoundIsOne → (t : KnownTelling) (a : KnownAsked) (bytes : List ℕ) (status : ℕ) (f : KnownRunFault) → TellsRecords t a bytes status → RefusesKnown a f
+    → IsOfMemory (records_refusal f).code
+records_or_refusal below law telling_known.Cases a bytes status f h why = told_or_refusal below law a bytes status f h why
+records_or_refusal below law telling_known.Wanted a bytes status f h why = wanted_known_or_refusal below law a bytes f h.0 why
+
+of_known : Below → FoundIsOne → (w : OptionWords) (k : KnownWords) (files : Files) (bytes : List ℕ) (status : ℕ) (r : Refusal) → AnswersRecords w k files bytes status
+    → RefusesWith w (RefusesRecords k files) r → IsOfMemory r.code
+of_known below law w k files bytes status r h why = of_words w h.settings (RefusesRecords k files) r h.asked (λ q. rest q) why
+  where
+    asked : Recording → List ℕ → KnownAsked
+    asked text records = search_asked text records (known_asked k h.settings) h.settings
+
+    given : (q : Refusal) → RefusesGiven files (λ text records. RefusesBy (RefusesKnown (asked text records)) records_refusal) q → IsOfMemory q.code
+    given _ (for_log_of_report none) = absurd (let bad : None ≡ Some h.log = sym none ∙ h.read in cc)
+    given _ (for_report_file log read none) = absurd (let bad : None ≡ Some h.records = sym none ∙ h.second in cc)
+    given _ (for_base_of_report log records read second none) = absurd (let bad : None ≡ Some h.initial = sym none ∙ h.based in cc)
+    given _ (for_given log records initial _ read second based (for_fault f refused)) =
+        let held = same_held _ _ _ read h.read in
+        let both : recording log initial ≡ recording h.log h.initial = λ i. recording (held i) (same_initial files initial h.initial based h.based i) in
+        let by_log = subst (λ (text : Recording). RefusesKnown (asked text records) f) both refused in
+        let by_records = subst (λ (bs : List ℕ). RefusesKnown (asked (recording h.log h.initial) bs) f) (same_held _ _ _ second h.second) by_log in
+        records_or_refusal below law k.telling (asked (recording h.log h.initial) h.records) bytes status f h.told by_records
+
+    rest : (q : Refusal) → RefusesRecords k files h.settings q → IsOfMemory q.code
+    rest _ (for_search q bad) = absurd (let both : None ≡ Some q = sym h.good ∙ bad in cc)
+    rest _ (for_records q good refused) = given q refused
 
 of_texts : (part : Bool) (texts : List (List ℕ)) (bytes : List ℕ) (status : ℕ) (r : Refusal) → JoinsEither part texts bytes status → RefusesTexts part texts r → IsOfMemory r.code
 of_texts part texts bytes status _ (join_of_parts begun h) (for_texts also fault why first) = joined_or_refused part texts bytes h.failing fault h.short h.joined why
@@ -398,41 +436,42 @@ of_join part files bytes status _ h (for_parts texts r read few why) =
     of_texts part h.texts bytes status r h.joins (subst (λ (ts : List (List ℕ)). RefusesTexts part ts r) (same_files files.named texts h.texts read h.read) why)
 of_join part files bytes status _ h (for_part_memory readable) = refl
 
-pub answer_or_refusal : Below → CasesAreOne → (r : Request) (files : Files) (bytes : List ℕ) (status : ℕ) (refusal : Refusal) → Answers r files bytes status → RefusesToAct r files refusal
+pub answer_or_refusal : Below → CasesAreOne → FoundIsOne → (r : Request) (files : Files) (bytes : List ℕ) (status : ℕ) (refusal : Refusal) → Answers r files bytes status → RefusesToAct r files refusal
     → IsOfMemory refusal.code
-answer_or_refusal below findings request.StoredRun files bytes status refusal h why = of_stored below findings (wanted.Told telling.Report) _ _ _ bytes status refusal h why
-answer_or_refusal below findings (request.Explore w) files bytes status refusal h why = of_explore below findings (wanted.Told telling.Report) w files bytes status refusal h why
-answer_or_refusal below findings (request.Marked w) files bytes status refusal h why = of_explore below findings (wanted.Told telling.Report) w files h.report status refusal h.answers why
-answer_or_refusal below findings (request.Cases w l) files bytes status refusal h why = of_cases below findings false w l files bytes status refusal h why
-answer_or_refusal below findings (request.CureCases w l) files bytes status refusal h why = of_cases below findings true w l files bytes status refusal h why
-answer_or_refusal below findings (request.Why w) files bytes status refusal h why = of_explore below findings (wanted.Told telling.Causes) w files bytes status refusal h why
-answer_or_refusal below findings (request.Cure w) files bytes status refusal h why = of_explore below findings wanted.Cured w files bytes status refusal h why
-answer_or_refusal below findings (request.Page w) files bytes status refusal h why = of_explore below findings (wanted.Told telling.Page) w files bytes status refusal h why
-answer_or_refusal below findings (request.Retold w t) files bytes status refusal h why = of_retold below t w files bytes status refusal h why
-answer_or_refusal below findings (request.Images w parts) files bytes status refusal h why =
+answer_or_refusal below findings law request.StoredRun files bytes status refusal h why = of_stored below findings (wanted.Told telling.Report) _ _ _ bytes status refusal h why
+answer_or_refusal below findings law (request.Explore w) files bytes status refusal h why = of_explore below findings (wanted.Told telling.Report) w files bytes status refusal h why
+answer_or_refusal below findings law (request.Marked w) files bytes status refusal h why = of_explore below findings (wanted.Told telling.Report) w files h.report status refusal h.answers why
+answer_or_refusal below findings law (request.Cases w l) files bytes status refusal h why = of_cases below findings false w l files bytes status refusal h why
+answer_or_refusal below findings law (request.CureCases w l) files bytes status refusal h why = of_cases below findings true w l files bytes status refusal h why
+answer_or_refusal below findings law (request.Why w) files bytes status refusal h why = of_explore below findings (wanted.Told telling.Causes) w files bytes status refusal h why
+answer_or_refusal below findings law (request.Cure w) files bytes status refusal h why = of_explore below findings wanted.Cured w files bytes status refusal h why
+answer_or_refusal below findings law (request.Page w) files bytes status refusal h why = of_explore below findings (wanted.Told telling.Page) w files bytes status refusal h why
+answer_or_refusal below findings law (request.Retold w t) files bytes status refusal h why = of_retold below t w files bytes status refusal h why
+answer_or_refusal below findings law (request.Known w k) files bytes status refusal h why = of_known below law w k files bytes status refusal h why
+answer_or_refusal below findings law (request.Images w parts) files bytes status refusal h why =
     of_log_with w (λ s text. IsSurvey parts text s) (λ s text. RefusesSurvey parts text s) (of_survey below parts) files bytes status refusal h why
-answer_or_refusal below findings (request.Cuts w l parts) files bytes status refusal h why =
+answer_or_refusal below findings law (request.Cuts w l parts) files bytes status refusal h why =
     of_losses w l (λ s text. IsCutSurvey parts (losses_asked l s) text s) (λ s text. RefusesCutSurvey parts text s)
     (λ s held text r is refuses. of_cut_survey below parts l s held text r is refuses) files bytes status refusal h why
-answer_or_refusal below findings (request.Export w) files bytes status refusal h why =
+answer_or_refusal below findings law (request.Export w) files bytes status refusal h why =
     of_log_with w (λ s text. IsExport text s) (λ s text. RefusesExport text s) (of_export below) files bytes status refusal h why
-answer_or_refusal below findings (request.Log w) files bytes status refusal h why =
+answer_or_refusal below findings law (request.Log w) files bytes status refusal h why =
     of_log_with w (λ s text. IsTable text s) (λ s text. RefusesTable text s) (of_table below) files bytes status refusal h why
-answer_or_refusal below findings (request.Image w which) files bytes status refusal h why =
+answer_or_refusal below findings law (request.Image w which) files bytes status refusal h why =
     of_log_with w (λ s text. IsImage text s which) (λ s text. RefusesImage text s which)
     (λ s text shown r k. of_meant below which s text k.value k.choice r k.source k.meant.is) files bytes status refusal h why
-answer_or_refusal below findings (request.Show w which) files bytes status refusal h why =
+answer_or_refusal below findings law (request.Show w which) files bytes status refusal h why =
     of_log_with w (λ s text. IsShown text s which) (λ s text. RefusesImage text s which)
     (λ s text shown r k. of_meant below which s text k.value k.choice r k.source k.meant.is) files bytes status refusal h why
-answer_or_refusal below findings (request.AnyImage w cut in_words) files bytes status refusal h why =
+answer_or_refusal below findings law (request.AnyImage w cut in_words) files bytes status refusal h why =
     of_losses w any_words (λ s text. IsAnyImage (form_of in_words) text s cut files.choice) (λ s text. RefusesAnyImage text s cut files.choice)
     (λ s held text r is refuses. of_any_image below in_words cut files.choice s held text r is refuses) files bytes status refusal h why
-answer_or_refusal below findings (request.Verify w listed) files bytes status refusal h why =
+answer_or_refusal below findings law (request.Verify w listed) files bytes status refusal h why =
     of_with w (λ s code. IsAcceptedText code s listed) (λ s code. RefusesVerified code s) (of_verified below listed) files bytes status refusal h why
-answer_or_refusal below findings (request.Import limits) files bytes status refusal h why =
+answer_or_refusal below findings law (request.Import limits) files bytes status refusal h why =
     of_alone (λ raw. IsImported raw (sector_limit limits) limits) (RefusesImport limits) (of_imported limits) files bytes status refusal h why
-answer_or_refusal below findings (request.Check w) files bytes status refusal h why = of_trial below w files bytes status refusal h why
-answer_or_refusal below findings request.Asm files bytes status refusal h why = of_alone IsAssembled RefusesText of_assembled files bytes status refusal h why
-answer_or_refusal below findings (request.List numbered) files bytes status refusal h why =
+answer_or_refusal below findings law (request.Check w) files bytes status refusal h why = of_trial below w files bytes status refusal h why
+answer_or_refusal below findings law request.Asm files bytes status refusal h why = of_alone IsAssembled RefusesText of_assembled files bytes status refusal h why
+answer_or_refusal below findings law (request.List numbered) files bytes status refusal h why =
     of_alone (IsListed numbered) RefusesBytes (of_listed below numbered) files bytes status refusal h why
-answer_or_refusal below findings (request.Join part) files bytes status refusal h why = of_join part files bytes status refusal h why
+answer_or_refusal below findings law (request.Join part) files bytes status refusal h why = of_join part files bytes status refusal h why

@@ -33,7 +33,7 @@ use Rattle.runs.specs.Explore as explore
 use Rattle.runs.specs.Explore.{IsProgramCount, IsCheckerOf, AreCheckersOf, subject_of, report_of, IsRun, RefusesProgram, with_code_fault, with_verifier_fault, no_code_memory, no_verifier_memory, no_list_memory, Refuses, for_count, for_program, RefusesWanted, for_extent, for_rest, for_cases, for_cure}
 use Rattle.commands.specs.Laws.{IsOfMemory, OneReport}
 
-same_recorded : TextOfOneLog → (text : Recording) (s : Settings) (v w : LogValue) → IsRecorded text s v → IsRecorded text s w → v ≡ w
+pub same_recorded : TextOfOneLog → (text : Recording) (s : Settings) (v w : LogValue) → IsRecorded text s v → IsRecorded text s w → v ≡ w
 same_recorded texts text s v w h k = texts text.text v w h.of_log k.of_log (h.device ∙ sym k.device) (h.initial ∙ sym k.initial)
 
 pub same_asked : TextOfOneLog → (text : Recording) (s : Settings) (v w : LogValue) → IsLogOf text s v → IsLogOf text s w → v ≡ w

@@ -409,6 +409,7 @@ answers_alone (request.Why w) files bytes status h = explore_alone (wanted.Told 
 answers_alone (request.Cure w) files bytes status h = explore_alone wanted.Cured w files bytes status h
 answers_alone (request.Page w) files bytes status h = explore_alone (wanted.Told telling.Page) w files bytes status h
 answers_alone (request.Retold w t) files bytes status h = retold_alone t w files bytes status h
+answers_alone (request.Known w k) files bytes status h = h
 answers_alone (request.Images w parts) files bytes status h =
     of_alone w (λ s text. IsSurvey parts text s)
     (λ s held shown k. record { value = k.value; source = images_alone k.source; fits = k.fits; told = k.told }) files bytes status h

@@ -14,6 +14,11 @@ use Rattle.request.specs.declared.settings.Settings.{Settings}
 use Rattle.request.specs.declared.any_losses.AnyLosses.{AnyLosses}
 use Rattle.request.specs.declared.any_losses.LossWords.{LossWords}
 use Rattle.request.specs.AnyLosses.{losses_asked, losses_refusal}
+use Rattle.request.specs.declared.known.KnownSearch.{KnownSearch}
+use Rattle.request.specs.declared.known.KnownWords.{KnownWords}
+use Rattle.request.specs.Known.{known_asked, known_refusal}
+use Rattle.request.specs.declared.settings.KnownTelling.{KnownTelling}
+use Rattle.request.specs.declared.settings.KnownTelling.TheVariants as telling_known
 use Rattle.request.specs.declared.command.OptionWords.{OptionWords}
 use Rattle.request.specs.declared.command.Request.{Request}
 use Rattle.request.specs.declared.command.Request.TheVariants as request
@@ -37,6 +42,11 @@ use Rattle.runs.specs.declared.explore_command.WantedAnswer.TheVariants as wante
 use Rattle.runs.specs.Explore.{RefusesWanted}
 use Rattle.runs.specs.Judged.{takes}
 use Rattle.runs.specs.Cured.{IsAnswered}
+use Rattle.known_runs.specs.declared.asked.KnownRunFault.{KnownRunFault}
+use Rattle.known_runs.specs.declared.asked.KnownRunFault.TheVariants as known_fault
+use Rattle.known_runs.specs.Asked.{KnownAsked}
+use Rattle.known_runs.specs.Told.{TellsKnown, RefusesKnown}
+use Rattle.known_runs.specs.Wanted.{TellsWanted}
 use Rattle.join.specs.declared.fault.JoinFault.{JoinFault}
 use Rattle.join.specs.Joining.{IsJoin, RefusesJoin, size_of}
 use Rattle.join.specs.declared.case_parts.fault.CasesFault.{CasesFault}
@@ -108,6 +118,12 @@ initial_of (Some held) = held
 abbrev pub recording : List ℕ → List ℕ → Recording
 recording log initial = record { text = log; initial = initial }
 
+-- what the files of a command on a log and a report, or records, hold
+pub record HoldsGiven (files : Files) (r : Recording) (given : List ℕ) : Type 0 where
+  pub read : first_held files ≡ Some r.text
+  pub second : second_held files ≡ Some given
+  pub based : initial_of files.base ≡ Some r.initial
+
 -- what the files of a command on a log hold
 pub record HoldsRecording (files : Files) (r : Recording) : Type 0 where
   pub read : first_held files ≡ Some r.text
@@ -164,6 +180,28 @@ pub record AnswersRetold (t : Retelling) (w : OptionWords) (files : Files) (byte
   pub failing : Bool
   pub told : IsRetold t (recording log initial) report settings bytes failing
   pub ends : status ≡ status_of failing
+
+-- what is asked of records, of a log
+abbrev pub search_asked : Recording → List ℕ → KnownSearch → Settings → KnownAsked
+search_asked text records k s = record { text = text; records = records; losses = k.losses; stops = record { at_failing = k.at_failing; cases = k.cases }; settings = s }
+
+-- what is told of records, and its status: the text of the cases, or the images that are wanted, of which the status is 0
+abbrev pub TellsRecords : KnownTelling → KnownAsked → List ℕ → ℕ → Type 0
+TellsRecords telling_known.Cases asked bytes status = TellsKnown asked bytes status
+TellsRecords telling_known.Wanted asked bytes status = TellsWanted asked bytes × (status ≡ 0)
+
+-- what is told of the records that the second file is, of the log that the first one holds
+pub record AnswersRecords (w : OptionWords) (k : KnownWords) (files : Files) (bytes : List ℕ) (status : ℕ) : Type 0 where
+  pub settings : Settings
+  pub asked : AskFor w settings
+  pub good : known_refusal k settings ≡ None
+  pub log : List ℕ
+  pub records : List ℕ
+  pub initial : List ℕ
+  pub read : first_held files ≡ Some log
+  pub second : second_held files ≡ Some records
+  pub based : initial_of files.base ≡ Some initial
+  pub told : TellsRecords k.telling (search_asked (recording log initial) records (known_asked k settings) settings) bytes status
 
 -- what is asked of any number of losses, where no number of them is given
 abbrev pub any_words : LossWords
@@ -313,6 +351,7 @@ Answers (request.Cure w) files bytes status = AnswersExplore wanted.Cured w file
 Answers (request.CureCases w l) files bytes status = AnswersCases true w l files bytes status
 Answers (request.Page w) files bytes status = AnswersExplore (wanted.Told telling.Page) w files bytes status
 Answers (request.Retold w t) files bytes status = AnswersRetold t w files bytes status
+Answers (request.Known w k) files bytes status = AnswersRecords w k files bytes status
 Answers (request.Images w parts) files bytes status = AnswersOf w (λ s text. IsSurvey parts text s) files bytes status
 Answers (request.Cuts w l parts) files bytes status = AnswersCuts w l parts files bytes status
 Answers (request.Export w) files bytes status = AnswersOf w (λ s text. IsExport text s) files bytes status
@@ -354,20 +393,45 @@ pub data RefusesFiles (t : WantedAnswer) (files : Files) (s : Settings) : Refusa
       → initial_of files.base ≡ Some initial → RefusesWanted t (recording log initial) programs s r → RefusesFiles t files s r
   for_memory : unread files.named ≡ None → RefusesFiles t files s memory_refusal
 
--- the refusal of a report, or of what it is to be of: 16 at the line at which a report shows that it is none
+-- a report, or records, that are none: 16 at the line at which that shows
+abbrev pub report_refusal : ℕ → Refusal
+report_refusal line = record { code = AskedFor asked.NotReport; at = line; program = None }
+
+-- the refusal of a report, or of what it is to be of
 abbrev pub retold_refusal : RetellFault → Refusal
 retold_refusal (fault.Refused r) = r
-retold_refusal (fault.Report line) = record { code = AskedFor asked.NotReport; at = line; program = None }
+retold_refusal (fault.Report line) = report_refusal line
 
--- the refusals of a command on a log and a report after its options: the first file that can't be read, that of the initial content last,
--- then those of what they hold
-pub data RefusesReportOf (t : Retelling) (files : Files) (s : Settings) : Refusal → Type 0 where
-  for_log_of_report : first_held files ≡ None → RefusesReportOf t files s (file_refusal 0)
-  for_report_file : (log : List ℕ) → first_held files ≡ Some log → second_held files ≡ None → RefusesReportOf t files s (file_refusal 1)
+-- that of records, where two contradict each other at the later one
+abbrev pub records_refusal : KnownRunFault → Refusal
+records_refusal (known_fault.Refused r) = r
+records_refusal (known_fault.Line line) = report_refusal line
+records_refusal (known_fault.Other line) = report_refusal line
+records_refusal (known_fault.Contradiction earlier later) = report_refusal later
+
+-- the refusals of a command on a log and a report, or records, after its options: the first file that can't be read, that of the initial
+-- content last, then those of what they hold
+pub data RefusesGiven (files : Files) (Rest : Recording → List ℕ → Refusal → Type 0) : Refusal → Type 0 where
+  for_log_of_report : first_held files ≡ None → RefusesGiven files Rest (file_refusal 0)
+  for_report_file : (log : List ℕ) → first_held files ≡ Some log → second_held files ≡ None → RefusesGiven files Rest (file_refusal 1)
   for_base_of_report : (log report : List ℕ) → first_held files ≡ Some log → second_held files ≡ Some report → initial_of files.base ≡ None
-      → RefusesReportOf t files s (file_refusal (length files.named))
-  for_retold : (log report initial : List ℕ) (f : RetellFault) → first_held files ≡ Some log → second_held files ≡ Some report → initial_of files.base ≡ Some initial
-      → RefusesRetold (recording log initial) report s f → RefusesReportOf t files s (retold_refusal f)
+      → RefusesGiven files Rest (file_refusal (length files.named))
+  for_given : (log report initial : List ℕ) (r : Refusal) → first_held files ≡ Some log → second_held files ≡ Some report → initial_of files.base ≡ Some initial
+      → Rest (recording log initial) report r → RefusesGiven files Rest r
+
+-- a refusal is that of a fault
+pub data RefusesBy {F : Type 0} (Faults : F → Type 0) (refusal_of : F → Refusal) : Refusal → Type 0 where
+  for_fault : (f : F) → Faults f → RefusesBy Faults refusal_of (refusal_of f)
+
+-- those of a report
+abbrev pub RefusesReportOf : Files → Settings → Refusal → Type 0
+RefusesReportOf files s r = RefusesGiven files (λ text report. RefusesBy (RefusesRetold text report s) retold_refusal) r
+
+-- those of records: what is asked of them first
+pub data RefusesRecords (k : KnownWords) (files : Files) (s : Settings) : Refusal → Type 0 where
+  for_search : (r : Refusal) → known_refusal k s ≡ Some r → RefusesRecords k files s r
+  for_records : (r : Refusal) → known_refusal k s ≡ None
+      → RefusesGiven files (λ text records. RefusesBy (RefusesKnown (search_asked text records (known_asked k s) s)) records_refusal) r → RefusesRecords k files s r
 
 -- the refusals of a run by cases after its options: what is asked of losses first
 pub data RefusesCases (cured : Bool) (l : LossWords) (files : Files) (s : Settings) : Refusal → Type 0 where
@@ -438,7 +502,8 @@ RefusesToAct (request.Why w) files r = RefusesWith w (RefusesFiles (wanted.Told 
 RefusesToAct (request.Cure w) files r = RefusesWith w (RefusesFiles wanted.Cured files) r
 RefusesToAct (request.CureCases w l) files r = RefusesWith w (RefusesCases true l files) r
 RefusesToAct (request.Page w) files r = RefusesWith w (RefusesFiles (wanted.Told telling.Page) files) r
-RefusesToAct (request.Retold w t) files r = RefusesWith w (RefusesReportOf t files) r
+RefusesToAct (request.Retold w t) files r = RefusesWith w (RefusesReportOf files) r
+RefusesToAct (request.Known w k) files r = RefusesWith w (RefusesRecords k files) r
 RefusesToAct (request.Images w parts) files r = RefusesWith w (λ s. RefusesRecording files (λ text. RefusesSurvey parts text s)) r
 RefusesToAct (request.Cuts w l parts) files r = RefusesWith w (RefusesCuts l parts files) r
 RefusesToAct (request.Export w) files r = RefusesWith w (λ s. RefusesRecording files (λ text. RefusesExport text s)) r

@@ -92,6 +92,7 @@ Knows (request.Cure w) files status facts = KnowsExplored wanted.Cured w files s
 Knows (request.CureCases w l) files status facts = KnowsCases true w l files status facts
 Knows (request.Page w) files status facts = KnowsExplored (wanted.Told telling.Page) w files status facts
 Knows (request.Retold w t) files status facts = IsEmpty facts
+Knows (request.Known w k) files status facts = facts.unreached.items ≡ []
 Knows (request.Images w parts) files status facts = IsEmpty facts
 Knows (request.Cuts w l parts) files status facts = IsEmpty facts
 Knows (request.Export w) files status facts = IsEmpty facts

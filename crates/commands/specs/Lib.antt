@@ -12,3 +12,4 @@ pub mod OtherWork
 pub mod OfReport
 pub mod Largest
 pub mod CaseParts
+pub mod Records

@@ -22,7 +22,7 @@ AnswerOrRefusal = (r : Request) (files : Files) (bytes : List ℕ) (status : ℕ
 abbrev pub alone : OptionWords → OptionWords
 alone w = record w { settings = record w.settings { workers = 1; cache = 0 } }
 
--- the same request for one worker without a cache
+-- the same request for one worker without a cache; by records no worker is asked
 abbrev pub asked_alone : Request → Request
 asked_alone request.StoredRun = request.StoredRun
 asked_alone (request.Explore w) = request.Explore (alone w)
@@ -33,6 +33,7 @@ asked_alone (request.Cure w) = request.Cure (alone w)
 asked_alone (request.CureCases w l) = request.CureCases (alone w) l
 asked_alone (request.Page w) = request.Page (alone w)
 asked_alone (request.Retold w t) = request.Retold (alone w) t
+asked_alone (request.Known w k) = request.Known w k
 asked_alone (request.Images w parts) = request.Images (alone w) parts
 asked_alone (request.Cuts w l parts) = request.Cuts (alone w) l parts
 asked_alone (request.Export w) = request.Export (alone w)

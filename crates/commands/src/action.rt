@@ -7,12 +7,13 @@ ghost use Rattle.request.specs.declared.command.Request.TheVariants as asks;
 ghost use Rattle.runs.specs.Explore.{RefusesWanted};
 ghost use Rattle.request.specs.Refusals.{file_refusal};
 ghost use Rattle.runs.specs.declared.explore_command.WantedAnswer.TheVariants as wants;
-ghost use Rattle.commands.specs.Acting.{first_held, second_held, lines_held, files_of, held_by, initial_of, recording, status_of, HoldsRecording, RefusesRecording, AnswersRun, AnswersFiles, AnswersExplore, AnswersMarked, first_line, marked_report, title_length, with_inputs, AnswersCases, wanted_by, AnswersCuts, RefusesCuts, AnswersRetold, RefusesReportOf, retold_refusal, AnswersAny, RefusesAny, form_of, Shows, AnswersOf, Answers, JoinsCases, JoinsEither, JoinsTexts, RefusesTexts, are_cases, cases_refusal, join_refusal, most_texts, RefusesWith, RefusesCases, RefusesLook, RefusesToAct, RefusesFiles};
+ghost use Rattle.commands.specs.Acting.{first_held, second_held, lines_held, files_of, held_by, initial_of, recording, status_of, HoldsRecording, HoldsGiven, RefusesRecording, RefusesGiven, AnswersRun, AnswersFiles, AnswersExplore, AnswersMarked, first_line, marked_report, title_length, with_inputs, AnswersCases, wanted_by, AnswersCuts, RefusesCuts, AnswersRetold, RefusesReportOf, report_refusal, retold_refusal, AnswersAny, RefusesAny, form_of, Shows, AnswersOf, Answers, JoinsCases, JoinsEither, JoinsTexts, RefusesTexts, are_cases, cases_refusal, join_refusal, most_texts, RefusesWith, RefusesCases, RefusesLook, RefusesToAct, RefusesFiles};
 ghost use Rattle.commands.specs.Knowing.{KnowsRun, KnowsFiles, KnowsExplored, KnowsCases, KnowsVerified, KnowsTried, Knows};
 ghost use Rattle.request.specs.Found.{IsEmpty};
 ghost use Rattle.commands.specs.Stored.{stored_log, stored_programs, stored_settings};
 ghost use Rattle.request.specs.declared.settings.Telling.TheVariants as tells;
 
+use crate::records::act_records;
 use crate::stored::{stored_files, stored_options};
 use base::causes::{JoinCause, RequestCause};
 use base::limits::Limits;
@@ -135,6 +136,16 @@ impl<'x> HeldFiles<'x> {
         let initial = self.initial()?;
         Ok(Recording::of(log, initial))
     }
+
+    /// The same log, and what the second file holds that stands in place of programs: a report, or records.
+    pub(crate) fn given(&self) -> Result<(Recording<'x>, &'x [u8]), Refusal>
+        ensures { MatchResult result (λ held. HoldsGiven (held_by self.now) held.0 held.1.now) (RefusesGiven (held_by self.now) (λ text given r. ⊥)) }
+    {
+        let log = self.first()?;
+        let given = self.second()?;
+        let initial = self.initial()?;
+        Ok((Recording::of(log, initial), given))
+    }
 }
 
 /// The place of the first file that cannot be read.
@@ -158,7 +169,7 @@ fn programs_of(alloc: Global, files: &[Option<Vec<u8>>]) -> Result<Vec<Vec<u8>>,
 }
 
 /// An answer, with the status 1 where an image fails and 0 else.
-fn answer_of(bytes: Vec<u8>, failing: bool, facts: RunFacts) -> Acted
+pub(crate) fn answer_of(bytes: Vec<u8>, failing: bool, facts: RunFacts) -> Acted
     ensures bytes { result.bytes ≡ bytes }
     ensures status { result.status ≡ status_of failing }
     ensures facts { result.facts ≡ facts }
@@ -473,17 +484,24 @@ fn act_cuts(
     Ok(answer_of(bytes, false, RunFacts::none()))
 }
 
+/// The refusal of a report, or of records, that are none, by the line at which that shows.
+pub(crate) fn report_refusal_of(line: u64) -> Refusal
+    ensures { result ≡ report_refusal line }
+{
+    Refusal {
+        code: Cause::Request(RequestCause::NotReport),
+        at: line,
+        program: None,
+    }
+}
+
 /// The refusal of a report, or of what it is to be of.
 fn retold_refusal_of(fault: RetellFault) -> Refusal
     ensures { result ≡ retold_refusal fault }
 {
     match fault {
         RetellFault::Refused(refusal) => refusal,
-        RetellFault::Report(line) => Refusal {
-            code: Cause::Request(RequestCause::NotReport),
-            at: line,
-            program: None,
-        },
+        RetellFault::Report(line) => report_refusal_of(line),
     }
 }
 
@@ -496,13 +514,10 @@ fn act_retold(
 ) -> Result<Acted, Refusal>
     ensures answers { IfOk result (λ answer. AnswersRetold telling words (held_by files.now) answer.bytes.items answer.status) }
     ensures knows { IfOk result (λ answer. IsEmpty answer.facts) }
-    ensures refused { IfErr result (RefusesWith words (RefusesReportOf telling (held_by files.now))) }
+    ensures refused { IfErr result (RefusesWith words (RefusesReportOf (held_by files.now))) }
 {
     let options = options_of(words)?;
-    let log = files.first()?;
-    let report = files.second()?;
-    let initial = files.initial()?;
-    let recording = Recording::of(log, initial);
+    let (recording, report) = files.given()?;
     match retell(alloc, telling, &recording, report, &options) {
         Ok(retold) => Ok(answer_of(retold.bytes, retold.failing, RunFacts::none())),
         Err(fault) => Err(retold_refusal_of(fault)),
@@ -703,6 +718,7 @@ pub(crate) fn act_known<G: Gate + Sync, R: Threads + Wait + Sync>(
             act_explore(rt, alloc, gate, wanted, words, files)
         }
         Request::Retold(words, telling) => act_retold(alloc, telling, words, files),
+        Request::Known(words, known) => act_records(alloc, words, known, files),
         Request::Images(words, parts) => act_look(alloc, LogLook::Images(parts), words, files),
         Request::Cuts(words, losses, parts) => { act_cuts(alloc, words, losses, parts, files) }
         Request::Export(words) => act_look(alloc, LogLook::Export, words, files),

@@ -9,12 +9,14 @@ ghost use Rattle.commands.specs.OneAnswer.{OneAnswer, AnswerOrRefusal, WorkChang
 ghost use Rattle.commands.specs.Once.{EachImageStandsOnce};
 ghost use Rattle.commands.specs.OfReport.{PageOfReportIsPage, WhyOfReportIsWhy};
 ghost use Rattle.commands.specs.OtherWork.{JoinIsExploreByOwn};
+ghost use Rattle.commands.specs.Records.{RecordsTellTruth};
 ghost use Rattle.commands.specs.Parts.{JoinIsExplore, JoinedPartsAreRun, PartsOfRunAreJoined};
 
 use bpf_isa::laws::{no_fault_in_spelled, one_program};
 use case_runs::{finding_is_one, first_is_one};
 use choices::list_is_set;
 use inspect::looks::cut_parts_are_run;
+use known::{complete_has_all, found_fail, found_is_one};
 use logfmt::{text_has_no_fault, text_of_one_log};
 use losses::why::{all_stand, each_stands_once};
 use verifier::laws::one_verdict;
@@ -39,6 +41,7 @@ pub fn one_answer()
     bpf_asm::laws::one_program();
     finding_is_one();
     first_is_one();
+    found_is_one();
 }
 
 /// Where there is an answer to a request, a refusal is for want of memory alone.
@@ -52,6 +55,7 @@ pub fn answer_or_refusal()
     one_verdict();
     finding_is_one();
     first_is_one();
+    found_is_one();
 }
 
 /// Two command lines that differ in the number of workers, the size of the cache and the line of progress alone have the same
@@ -194,3 +198,13 @@ pub fn page_of_report_is_page()
 pub fn reports_are_bounded()
     ensures { ReportsAreBounded }
 {}
+
+/// What `explore` prints of records is the text of what is found by them. Where each record is true of a program, so is what is told of
+/// it: it fails on each image of a failing case, and at a cut of which nothing is open, left out or pending on no other; with status 0
+/// on no image of the cuts that were searched.
+pub fn records_tell_truth()
+    ensures { RecordsTellTruth }
+{
+    found_fail();
+    complete_has_all();
+}

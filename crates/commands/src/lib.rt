@@ -16,6 +16,7 @@
 //! - `command_line`: the words of the command line, and their help.
 //! - `runs`: `explore_with` and `run_with`, by which `explore`, with a bound or with any number of losses, `why`, `page` and `cure` go from bytes to bytes.
 //! - `inspect`: `images`, `image`, `show`, both with a bound or with any number of losses, `log`, `verify`, `asm` and `list`.
+//! - `known_runs`: `explore` and `export` with records in place of programs.
 //! - `notes`: the notes after a refusal and beside an answer.
 //!
 //! What stands here:
@@ -24,6 +25,7 @@
 //! - `exit`: `perform`, which does the same and says how the process ends: its standard output, its refusal and its status,
 //!   with what is known for the notes.
 //! - `escaping`: the words of the command line, as a fault of it shows them.
+//! - `records`: what records of a program of the user's tell, and why they are refused.
 //! - `stored`: the run that the program holds itself.
 //! - `laws`: that there is one answer at most to what is asked, and no refusal beside it but for memory; that workers, cache
 //!   and progress change nothing of it; that `show` names each sector that differs; that each failing image stands once in what
@@ -57,6 +59,10 @@
 //! run, `join` prints what it prints of the whole range, with the same status (`join_is_explore_of_cases`), whatever workers made the parts
 //! (`join_is_explore_of_cases_by_own`), and refuses them for their size or want of memory alone (`ranges_of_run_are_joined`). The ranges of
 //! `images --bound any --parts` are such (`laid_out_ranges_are_parts`).
+//!
+//! `explore --known` prints exactly the text of what is found by records, and `export --known` the images that these leave open. Where the
+//! records are true of a program, so is what the text says of it: it fails on each image of a failing case, and at a cut of which nothing is open,
+//! left out or pending on no other; with status 0 on none (`records_tell_truth`, `specs/Records.antt`).
 //!
 //! Of a report that `explore` printed `why --report` prints what `why` prints of its programs, and it isn't refused as no report up to
 //! 1 GiB (`why_of_report_is_why`); so does `page --report` (`page_of_report_is_page`). The failing lines of a report have no more bytes
@@ -113,6 +119,7 @@ mod exit;
 mod largest;
 mod laws;
 mod progress;
+mod records;
 mod stored;
 mod streamed;
 
@@ -128,11 +135,13 @@ pub use laws::{
     answer_or_refusal, cases_are_text, each_image_stands_once, join_is_explore,
     join_is_explore_by_own, join_is_explore_of_cases, join_is_explore_of_cases_by_own,
     joined_parts_are_run, laid_out_ranges_are_parts, one_answer, one_report,
-    page_of_report_is_page, parts_of_run_are_joined, ranges_of_run_are_joined, report_or_refusal,
-    reports_are_bounded, show_names_differences, why_of_report_is_why, work_changes_nothing,
+    page_of_report_is_page, parts_of_run_are_joined, ranges_of_run_are_joined, records_tell_truth,
+    report_or_refusal, reports_are_bounded, show_names_differences, why_of_report_is_why,
+    work_changes_nothing,
 };
-pub use notes::command_notes::{notes_after, notes_beside};
+pub use notes::command_notes::notes_beside;
 pub use progress::Progress;
+pub use records::notes_after;
 pub use request::facts::{Recording, RunFacts};
 pub use request::{
     Extent, OptionPlace, OptionWords, Options, Request, Settings, Telling, Which, fault_line,

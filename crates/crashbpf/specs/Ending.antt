@@ -13,9 +13,10 @@ use Rattle.input_files.specs.Sized.{base_sectors}
 abbrev pub held_in : InputsValue → List ℕ → Files
 held_in inputs choice = record { named = inputs.files; base = inputs.base; choice = choice }
 
--- the name by which the files of a command are read: `report` where one stands in place of programs
+-- the name by which the files of a command are read: `report` where one, or records, stand in place of programs
 abbrev pub files_name : Request → List ℕ → List ℕ
 files_name (request.Retold w t) command = codes "report"
+files_name (request.Known w k) command = codes "report"
 files_name r command = command
 
 -- what the words ask for beside what was read: with `--sectors base` a run on a device of as many sectors as the file after --base has

@@ -22,7 +22,7 @@
 //! `run` performs the command on what was read of its files, and ends by that (`specs/Ending.antt`): with an answer of the command, all of
 //! it written, and its status; or with status 2, where only the first bytes of an answer were written, or where the command is refused
 //! and nothing was. `read_and_run` does so on what `Inputs::read` read for the words: of the files that they name, in their order, and
-//! of the one after `--base`, within the limits that they ask for; the file of `--report` is read as a report (`files_name`). With
+//! of the one after `--base`, within the limits that they ask for; the file of `--report` or `--known` is read as a report (`files_name`). With
 //! `--sectors base` the command is performed as with the number of whole sectors of the file after `--base` (`meant`). What a file of the system holds and what standard output takes
 //! no contract can say. Nor does one say what stands on standard error. That is shown by runs of the built program.
 #![tactic(auto)]
@@ -214,7 +214,10 @@ fn run_whole<R: AllocGlobal + Eprint + Clock + Threads + Wait + Sync, W: Write>(
         Some(refusal) => {
             let refusal = inputs.refusal(refusal);
             let status = print_refusal(rt, &refusal);
-            print_notes(rt, notes_after(rt.alloc(), words, files, &refusal));
+            print_notes(
+                rt,
+                notes_after(rt.alloc(), words, files, inputs.base(), &refusal),
+            );
             rt.eprint(inputs.note(&refusal)).ok();
             CommandEnd { status, writer }
         }
@@ -263,7 +266,10 @@ fn print_stopped<R: AllocGlobal + Eprint>(
             let refusal = inputs.refusal(refusal);
             let status = print_refusal(rt, &refusal);
             let files = inputs.contents();
-            print_notes(rt, notes_after(rt.alloc(), words, files, &refusal));
+            print_notes(
+                rt,
+                notes_after(rt.alloc(), words, files, inputs.base(), &refusal),
+            );
             rt.eprint(inputs.note(&refusal)).ok();
             status
         }
@@ -297,12 +303,12 @@ fn run<R: AllocGlobal + Eprint + Clock + Threads + Wait + Sync, W: Write>(
     }
 }
 
-/// The name by which the files of a command are read: `report` where a report stands in place of programs.
+/// The name by which the files of a command are read: `report` where a report, or records, stand in place of programs.
 fn files_name<'a>(command: &'a str, words: &Words) -> &'a str
     ensures { result.now ≡ files_name words.now.request command.now }
 {
     match words.request() {
-        Request::Retold(_, _) => "report",
+        Request::Retold(_, _) | Request::Known(_, _) => "report",
         _ => command,
     }
 }
@@ -346,7 +352,7 @@ fn read_and_run<S: FileSource + AllocGlobal + Eprint + Clock + Threads + Wait + 
         Ok(inputs) => run_on_device(rt, words, &inputs, writer),
         Err(refusal) => {
             let status = print_refusal(rt, &refusal);
-            print_notes(rt, notes_after(rt.alloc(), words, &[], &refusal));
+            print_notes(rt, notes_after(rt.alloc(), words, &[], &None, &refusal));
             CommandEnd { status, writer }
         }
     }

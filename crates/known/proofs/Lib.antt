@@ -5,3 +5,5 @@ pub mod Going
 pub mod Reaching
 pub mod Contrary
 pub mod Truth
+pub mod Once
+pub mod Rounds

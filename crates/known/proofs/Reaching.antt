@@ -1,7 +1,8 @@
 -- What a search of a cut came to.
-use Rattle.std.proofs.Common.{ℕ, ◌≡◌, ◌+◌, ◌<◌, ◌≤◌, ◌==◌, not, List, [], ◌∷◌, ◌++◌, length, map, count_by, slice_get, Option, None, Some, ◌-◌, refl, sym, subst, ◌∙◌, ap, arith, inl, inr}
+use Rattle.std.proofs.Common.{ℕ, ◌≡◌, ◌+◌, ◌<◌, ◌≤◌, ◌==◌, Bool, true, false, not, List, [], ◌∷◌, ◌++◌, length, map, count_by, slice_get, Option, None, Some, ◌-◌, refl, sym, subst, ◌∙◌, ap, arith, inl, inr}
 use Rattle.std.specs.List.{All}
 use Rattle.std.specs.Global.{Vec}
+use Rattle.std.proofs.lemmas.Bool.{false≢true}
 use Rattle.std.proofs.lemmas.List.{append-nil, length-map, length-append}
 use Rattle.std.proofs.lemmas.List.Sums.{sum_by_push}
 use Rattle.std.proofs.lemmas.Option.{same_Some}
@@ -9,7 +10,7 @@ use Rattle.base.proofs.Lists.{slice_get_of_push}
 use Rattle.logfmt.specs.Bounds.{LogValue}
 use Rattle.epochs.specs.declared.part.By.{By}
 use Rattle.cases.specs.Cases.{Case, whole_case}
-use Rattle.cases.specs.Trees.{Program}
+use Rattle.cases.specs.Trees.{Program, Subject}
 use Rattle.cases.specs.AtCut.{CutValue, parts_of, case_of}
 use Rattle.cases.specs.Search.{Asked, subject_of, SearchValue, pending, Ran, LeadTo, are_there, LeafValue, leaf_case, EndsSo, is_torn_beyond, plus}
 use Rattle.losses.specs.declared.found.Losses.{Losses}
@@ -20,8 +21,8 @@ use Rattle.case_runs.specs.declared.found.SearchFault.TheVariants as fault
 use Rattle.known.specs.declared.found.Stops.{Stops}
 use Rattle.known.specs.declared.found.KnownAt.{KnownAt}
 use Rattle.known.specs.Records.{RecordsValue}
-use Rattle.known.specs.Leaves.{told_of, open_of, failing_value, open_sets, sets_of_leaf}
-use Rattle.known.specs.Found.{subject_at, Reached, IsKnownAt, cases_at, cases_in, AreFirstKnown, AreKnown, IsPast, AreTooMany, StopsAt, StopsIn, WentOn}
+use Rattle.known.specs.Leaves.{told_of, open_of, has_stopped, failing_value, open_sets, sets_of_leaf}
+use Rattle.known.specs.Found.{subject_at, Reached, IsKnownAt, cases_at, cases_in, AreFirstKnown, AreKnown, IsPast, AreTooMany, StopsAt, StopsIn, CameRight, WentOn}
 use Rattle.known.proofs.Meeting.{told_and_open}
 
 -- a search of a cut that began with all choices, and where it went
@@ -78,24 +79,64 @@ pub record FoundSo (at : CutValue) (new : SearchValue) (leaves : List LeafValue)
   pub lost : found.lost_beyond ≡ new.lost_beyond
   pub stopped : found.stopped ≡ not (length (pending new) == 0)
 
+-- the same where it was to stop
+came_so : (asked : Losses) (at : CutValue) (records : RecordsValue) (stops : Stops) (program : Program) (old new : SearchValue) (leaves : List LeafValue) (most : ℕ)
+    → CameTo asked at records stops program old new leaves most → length leaves < most → has_stopped stops leaves ≡ true
+    → CameRight (subject_at asked at records) (leaf_case asked.tears at) (whole_case asked.tears ∷ []) 0 0 new leaves
+came_so asked at records stops program old new leaves most so less stop =
+    let q : Asked = record { at = at; torn = asked.torn; lost = asked.lost } in
+    let s = subject_at asked at records in
+    let went : WentOn s.program stops old new leaves most = subst (λ (p : Program). WentOn p stops old new leaves most) so.program_is so.went in
+    let F : LeafValue → Case = leaf_case old.tears old.asked.at in
+    let own : CameRight s F (pending old) old.torn_beyond old.lost_beyond new leaves =
+    subst (λ (a : Asked). CameRight (subject_of a s.program) F (pending old) old.torn_beyond old.lost_beyond new leaves) so.asked_is (went.right less stop) in
+    let same : F ≡ leaf_case asked.tears at = λ i. leaf_case (so.tears_is i) (so.asked_is i).at in
+    let by_case = subst (λ (f : LeafValue → Case). CameRight s f (pending old) old.torn_beyond old.lost_beyond new leaves) same own in
+    let from = subst (λ (cs : List Case). CameRight s (leaf_case asked.tears at) cs old.torn_beyond old.lost_beyond new leaves) so.whole by_case in
+    let torn = subst (λ n. CameRight s (leaf_case asked.tears at) (whole_case asked.tears ∷ []) n old.lost_beyond new leaves) so.none.0 from in
+    subst (λ n. CameRight s (leaf_case asked.tears at) (whole_case asked.tears ∷ []) 0 n new leaves) so.none.1 torn
+
 pub known_so : (asked : Losses) (at : CutValue) (records : RecordsValue) (stops : Stops) (program : Program) (old new : SearchValue) (leaves : List LeafValue) (left : ℕ) (found : KnownAt)
     → CameTo asked at records stops program old new leaves (left + 1) → FoundSo at new leaves found → length leaves ≤ left → IsKnownAt asked at records stops found
-known_so asked at records stops program old new leaves left found so is few =
-    let to = reached_so asked at records stops program old new leaves (left + 1) so in
-    record {
-      leaves = leaves;
-      left = to.left;
-      waiting = pending new;
-      reached = to.reached;
-      ended = so.went.ended (omega (arith, few));
-      cut = is.cut;
-      told = is.told;
-      failing = is.failing;
-      are_open = is.are_open;
-      torn = is.torn ∙ to.torn;
-      lost = is.lost ∙ to.lost;
-      stopped = is.stopped;
-    }
+known_so asked at records stops program old new leaves left found so is few = by (has_stopped stops leaves) refl
+  where
+    to : ReachedSo asked at records stops leaves new
+    to = reached_so asked at records stops program old new leaves (left + 1) so
+
+    by : (b : Bool) → has_stopped stops leaves ≡ b → IsKnownAt asked at records stops found
+    by true stop =
+        let came = came_so asked at records stops program old new leaves (left + 1) so (omega (arith, few)) stop in
+        record {
+          leaves = leaves;
+          left = came.left;
+          waiting = pending new;
+          reached = record { leads = came.leads; endings = to.reached.endings; on = to.reached.on };
+          ended = inr stop;
+          right = λ stopped. came.right;
+          cut = is.cut;
+          told = is.told;
+          failing = is.failing;
+          are_open = is.are_open;
+          torn = is.torn ∙ came.torn;
+          lost = is.lost ∙ came.lost;
+          stopped = is.stopped;
+        }
+    by false going =
+        record {
+          leaves = leaves;
+          left = to.left;
+          waiting = pending new;
+          reached = to.reached;
+          ended = so.went.ended (omega (arith, few));
+          right = λ stopped. absurd (false≢true (sym going ∙ stopped));
+          cut = is.cut;
+          told = is.told;
+          failing = is.failing;
+          are_open = is.are_open;
+          torn = is.torn ∙ to.torn;
+          lost = is.lost ∙ to.lost;
+          stopped = is.stopped;
+        }
 
 pub few_so : (at : CutValue) (new : SearchValue) (leaves : List LeafValue) (left : ℕ) (found : KnownAt) → FoundSo at new leaves found → length leaves ≤ left → cases_at found ≤ left
 few_so at new leaves left found is few =

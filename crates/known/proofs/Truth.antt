@@ -22,6 +22,7 @@ use Rattle.cases.specs.Trees.{Subject, split_of}
 use Rattle.cases.specs.Laws.{Includes, OfNone, OfOne, LeavesLookAlike, IsOfCut, LastCutsHaveAll as EachHasLast}
 use Rattle.cases.specs.AtCut.{CutValue, parts_of, case_of}
 use Rattle.cases.specs.Search.{LeadTo, are_there, past_beyond, past_leaf, past_split, LeafValue, leaf_case, EndsSo, is_torn_beyond, plus}
+use Rattle.cases.proofs.Cuts.{last_of_log}
 use Rattle.cases.proofs.Cases.{none_of_both, one_of_first, one_of_second, none_with, here_alone, one_with, first_is, child_is, no_child}
 use Rattle.losses.specs.FoundCases.{FailingValue}
 use Rattle.case_runs.specs.Leaves.{failing_from}
@@ -138,7 +139,7 @@ found_one p (y ∷ xs) x is = by (λ here. found_one p xs x here) (p y) refl is
     by again true own here = let same : y ≡ x = same_Some y x here in record { place = 0; there = ap (λ z. Some z) same; does = ap p (sym same) ∙ own }
     by again false own here = let rest = again here in record { place = suc rest.place; there = rest.there; does = rest.does }
 
-found_none : {A : Type 0} (p : A → Bool) (xs : List A) (i : ℕ) (x : A) → find p xs ≡ None → slice_get xs i ≡ Some x → p x ≡ false
+pub found_none : {A : Type 0} (p : A → Bool) (xs : List A) (i : ℕ) (x : A) → find p xs ≡ None → slice_get xs i ≡ Some x → p x ≡ false
 found_none p [] i x none there = absurd (let bad : None ≡ Some x = there in cc)
 found_none p (y ∷ xs) i x none there = by (λ rest j at. found_none p xs j x rest at) (p y) refl none i there
   where
@@ -158,7 +159,7 @@ unfolding tells
 tells_same log way marks device r is =
     agree_same (image_of_run log way r) device r.looked.items (second_so (r.marks == marks) (agree (image_of_run log way r) device r.looked.items) is)
 
-leaf_ends : (s : Subject) (tears : Bool) (at : CutValue) (leaves : List LeafValue) (i : ℕ) (leaf : LeafValue) → All (EndsSo s tears at) leaves → slice_get leaves i ≡ Some leaf → EndsSo s tears at leaf
+pub leaf_ends : (s : Subject) (tears : Bool) (at : CutValue) (leaves : List LeafValue) (i : ℕ) (leaf : LeafValue) → All (EndsSo s tears at) leaves → slice_get leaves i ≡ Some leaf → EndsSo s tears at leaf
 leaf_ends s tears at leaves i leaf all there =
     subst (EndsSo s tears at) (get_or_from_slice_get leaves i leaf leaf there) (All-get_or (EndsSo s tears at) leaves i leaf (slice_get_within leaves i leaf there) all)
 
@@ -286,7 +287,7 @@ mapped_one f (x ∷ xs) (suc i) y there = let rest = mapped_one f xs i y there i
 
 -- nothing is open, left out or pending
 
-none_mapped : {A B : Type 0} (f : A → B) (xs : List A) → map f xs ≡ [] → xs ≡ []
+pub none_mapped : {A B : Type 0} (f : A → B) (xs : List A) → map f xs ≡ [] → xs ≡ []
 none_mapped f [] is = refl
 none_mapped f (x ∷ xs) is = absurd (let bad : f x ∷ map f xs ≡ [] = is in cc)
 
@@ -400,7 +401,7 @@ complete_has_all alike asked at records stops found truth choice within true_of 
     own : IsOf failing_value found.failing.items kept.place kept.value
     own = mapped_one failing_value found.failing.items kept.place kept.value (ap (λ (fs : List FailingValue). slice_get fs kept.place) is.failing ∙ kept.there)
 
-has_one : {A : Type 0} (xs : List A) (i : ℕ) → i < length xs → (x : A) × (slice_get xs i ≡ Some x)
+pub has_one : {A : Type 0} (xs : List A) (i : ℕ) → i < length xs → (x : A) × (slice_get xs i ≡ Some x)
 has_one [] i lt = absurd (omega (arith, lt))
 has_one (x ∷ xs) zero lt = (x, refl)
 has_one (x ∷ xs) (suc i) lt = has_one xs i (omega (arith, lt))
@@ -417,14 +418,14 @@ last_cuts_have_all alike each asked log way cuts records stops found truth cut c
   in_leaf = record { number = own.number; own = own.own; there = own.there; includes = own.includes; ends = sym same ∙ own.ends };
 }
   where
-    last : (k : ℕ) × IsOfCut log way asked.tears cut k choice
-    last = each log way asked.tears cut choice is_log within possible
+    last : (k : ℕ) × IsOfCut log way asked.tears cut (length log.entries) k choice
+    last = each log way asked.tears cut (length log.entries) choice is_log within (omega arith) possible
 
     at : CutValue
     at = record { log = log; way = way; cut = last.0 }
 
     here : (place : ℕ) × (slice_get cuts place ≡ Some last.0)
-    here = cuts_has last.0 last.1.within last.1.is_last
+    here = cuts_has last.0 last.1.within (last_of_log log.entries last.0 last.1.is_last)
 
     f : (x : KnownAt) × (slice_get found here.0 ≡ Some x)
     f = has_one found here.0 (let lt = slice_get_within cuts here.0 last.0 here.1 in let many = are.count in omega (arith, lt, many))

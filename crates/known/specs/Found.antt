@@ -1,10 +1,10 @@
 -- What records tell of the cases of some cuts.
-use Rattle.std.specs.Prelude.{ℕ, ◌≡◌, ◌+◌, ◌<◌, ◌≤◌, ◌==◌, ◌⊎◌, true, false, not, List, [], ◌∷◌, length, map, take, count_by, slice_get, Some, All, sum_by}
+use Rattle.std.specs.Prelude.{ℕ, ◌≡◌, ◌+◌, ◌<◌, ◌≤◌, ◌==◌, ◌⊎◌, true, false, not, List, [], ◌∷◌, ◌++◌, length, map, take, count_by, slice_get, None, Some, All, sum_by}
 use Rattle.logfmt.specs.Bounds.{LogValue}
 use Rattle.epochs.specs.declared.part.By.{By}
 use Rattle.epochs.specs.Units.{marks_at}
 use Rattle.cases.specs.Cases.{Case, whole_case}
-use Rattle.cases.specs.Trees.{Subject}
+use Rattle.cases.specs.Trees.{Subject, is_within, split_of}
 use Rattle.cases.specs.AtCut.{CutValue}
 use Rattle.cases.specs.Search.{SearchValue, LeafValue, SameSearch, Ran, LeadTo, leaf_case, EndsSo, is_torn_beyond, plus, pending, subject_of}
 use Rattle.cases.specs.Trees.{Program}
@@ -39,15 +39,29 @@ pub record Reached (asked : Losses) (at : CutValue) (records : RecordsValue) (st
   pub endings : All (EndsSo (subject_at asked at records) asked.tears at) leaves
   pub on : GoesOn stops leaves
 
+-- a search comes to the last of some leaves and goes no further: what it left out comes before, and what comes after is waiting
+pub record StopsAtLeaf (s : Subject) (from leaves left waiting : List Case) : Type 0 where
+  pub front : List Case
+  pub last : Case
+  pub are : leaves ≡ front ++ last ∷ []
+  pub leads : LeadTo s (last ∷ waiting) from front left
+  pub within : is_within s last ≡ true
+  pub whole : split_of s last ≡ None
+
+-- the same of one that didn't begin
+abbrev pub StopsRight : Subject → List Case → List Case → List Case → List Case → Type 0
+StopsRight s from leaves left waiting = ((leaves ≡ []) × (left ≡ []) × (waiting ≡ from)) ⊎ StopsAtLeaf s from leaves left waiting
+
 -- At a cut: the told leaves that fail, each with its number among the told ones, how many these are, the open cases, each in the order of
--- the tree, and how many cases were left out. The search ended where there are no more cases, or where it was to stop. It was stopped where
--- cases are waiting.
+-- the tree, and how many cases were left out. The search ended where there are no more cases, or right after the leaf where it was to stop. It
+-- was stopped where cases are waiting.
 pub record IsKnownAt (asked : Losses) (at : CutValue) (records : RecordsValue) (stops : Stops) (found : KnownAt) : Type 0 where
   pub leaves : List LeafValue
   pub left : List Case
   pub waiting : List Case
   pub reached : Reached asked at records stops leaves left waiting
   pub ended : (waiting ≡ []) ⊎ (has_stopped stops leaves ≡ true)
+  pub right : has_stopped stops leaves ≡ true → StopsRight (subject_at asked at records) (whole_case asked.tears ∷ []) (map (leaf_case asked.tears at) leaves) left waiting
   pub cut : found.cut ≡ at.cut
   pub told : found.told ≡ length (told_of leaves)
   pub failing : map failing_value found.failing.items ≡ failing_from 0 (told_of leaves)
@@ -99,6 +113,18 @@ abbrev pub StopsIn : Losses → LogValue → By → List ℕ → RecordsValue �
 StopsIn asked log way cuts records stops fault.Memory = Unit {0}
 StopsIn asked log way cuts records stops (fault.TooMany cut) = AreTooMany asked log way cuts records stops cut
 
+-- a search came to the last of some leaves from some cases, and no further, and counted the cases that it left out, from two numbers on
+pub record CameRight (s : Subject) (case_of_leaf : LeafValue → Case) (from : List Case) (first second : ℕ) (new : SearchValue) (leaves : List LeafValue) : Type 0 where
+  pub left : List Case
+  pub leads : LeadTo s (pending new) from (map case_of_leaf leaves) left
+  pub right : StopsRight s from (map case_of_leaf leaves) left (pending new)
+  pub torn : new.torn_beyond ≡ plus first (count_by (is_torn_beyond s) left)
+  pub lost : new.lost_beyond ≡ plus second (count_by (λ c. not (is_torn_beyond s c)) left)
+
+abbrev pub WentRight : Program → SearchValue → SearchValue → List LeafValue → Type 0
+WentRight program old new leaves =
+    CameRight (subject_of old.asked program) (leaf_case old.tears old.asked.at) (pending old) old.torn_beyond old.lost_beyond new leaves
+
 -- a search that a judge was told of went on to its end, or to where it was to stop, or to `most` leaves
 pub record WentOn (program : Program) (stops : Stops) (old new : SearchValue) (leaves : List LeafValue) (most : ℕ) : Type 0 where
   pub same : SameSearch old new
@@ -106,3 +132,4 @@ pub record WentOn (program : Program) (stops : Stops) (old new : SearchValue) (l
   pub few : length leaves ≤ most
   pub on : GoesOn stops leaves
   pub ended : length leaves < most → (pending new ≡ []) ⊎ (has_stopped stops leaves ≡ true)
+  pub right : length leaves < most → has_stopped stops leaves ≡ true → WentRight program old new leaves

@@ -5,3 +5,5 @@ pub mod Contradictions
 pub mod Leaves
 pub mod Found
 pub mod Laws
+pub mod Once
+pub mod Rounds

@@ -1,6 +1,13 @@
 //! Laws of records. The functions do nothing; each contract is a theorem.
 
+ghost use Rattle.known.specs.Once.{FoundIsOne};
 ghost use Rattle.known.specs.Laws.{EachIsInOne, ToldEndSo, NoneTellsOpen, FoundFail, CompleteHasAll, LastCutsHaveAll};
+ghost use Rattle.known.specs.Rounds.{RoundsEnd};
+
+/// What is found at a cut is one. Where a search comes to more than some leaves, more are found.
+pub fn found_is_one()
+    ensures { FoundIsOne }
+{}
 
 /// Each choice of a cut is in exactly one case that is told, open, left out or pending.
 pub fn each_is_in_one()
@@ -41,3 +48,8 @@ pub fn last_cuts_have_all()
     cases::leaves_look_alike();
     cases::last_cuts_have_all();
 }
+
+/// After records of all that was wanted were appended often enough, nothing is wanted.
+pub fn rounds_end()
+    ensures { RoundsEnd }
+{}

@@ -22,7 +22,7 @@
 //! | `find_known(alloc, plan, log, way, cuts, records, asked, stops)` | at each cut: how many told leaves there are, those that fail, the open cases, how many cases were left out, and whether the search was stopped. The log may have flushes that were added to that of the records |
 //! | `is_complete(found)` | whether nothing is open, left out or pending at a cut |
 //! | `is_failing(end)`, `is_same_end(one, other)` | whether a run failed, and whether two ended alike |
-//! | `each_is_in_one()`, `told_end_so()`, `none_tells_open()`, `found_fail()`, `complete_has_all()`, `last_cuts_have_all()` | laws |
+//! | `found_is_one()`, `each_is_in_one()`, `told_end_so()`, `none_tells_open()`, `found_fail()`, `complete_has_all()`, `last_cuts_have_all()`, `rounds_end()` | laws |
 //!
 //! # What is proved
 //!
@@ -32,6 +32,7 @@
 //!   after so many leaves, where that is asked, and not before (`has_stopped`, `GoesOn`).
 //! - It refuses where memory is wanting, or where there are more than 16,777,216 told leaves and open cases, and names the cut with which
 //!   there are (`AreTooMany`).
+//! - What is found at a cut is one (`found_is_one`, `specs/Once.antt`): the same cases, by whatever sets, and the same counts.
 //! - `first_contradiction` answers the first two records, by the later one and then by the earlier one, after as many marks, with
 //!   different ends, whose images have the same bytes in each sector that is in both lists; or that there are none.
 //! - `each_is_in_one`: each choice of a cut is in exactly one case that is told, open, left out or pending. `none_tells_open`: no record
@@ -40,6 +41,9 @@
 //!   program ends on each choice of a told leaf as the leaf says (`told_end_so`), and so it fails on each image of a failing leaf that was
 //!   found (`found_fail`). Of a cut that is complete, each choice on which the program fails is in a failing leaf that was found
 //!   (`complete_has_all`). Where each last cut is complete, that holds of every image of every cut (`last_cuts_have_all`).
+//! - In a *round* a search is made, and records are appended that tell each of its open cases (`IsRound`, `specs/Rounds.antt`). After
+//!   `m * p + 1` rounds nothing is open, where no cut has more than `p` parts at risk, and `m` is 15 with tears and 1 without
+//!   (`rounds_end`). That holds wherever the searches are to stop, and of any records, true or not.
 //!
 //! # Example
 //!
@@ -63,7 +67,8 @@ mod walk;
 pub use contradict::{Contradiction, first_contradiction};
 pub use found::{KnownAt, KnownFailing, OpenCase, Stops, is_complete};
 pub use laws::{
-    complete_has_all, each_is_in_one, found_fail, last_cuts_have_all, none_tells_open, told_end_so,
+    complete_has_all, each_is_in_one, found_fail, found_is_one, last_cuts_have_all,
+    none_tells_open, rounds_end, told_end_so,
 };
 pub use records::KnownRecords;
 pub use run::{KnownRun, RunEnd, is_failing, is_same_end};

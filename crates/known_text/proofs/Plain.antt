@@ -18,7 +18,7 @@ use Rattle.report.specs.LineText.{part_text, departure_text, next_departure_text
 use Rattle.report.specs.MarkReading.{lacks}
 use Rattle.known.specs.declared.run.RunEnd.{RunEnd}
 use Rattle.known.specs.declared.run.RunEnd.TheVariants.{Answer, Signal, OutOfTime}
-use Rattle.known_text.specs.declared.ranges.SectorRange.{SectorRange}
+use Rattle.known_text.specs.declared.looked.SectorRange.{SectorRange}
 use Rattle.known_text.specs.Ranges.{range_text, next_range, ranges_text}
 use Rattle.known_text.specs.Records.{RanWords, end_text, ran_text}
 use Rattle.known_text.specs.Texts.{is_printed, is_graphic}

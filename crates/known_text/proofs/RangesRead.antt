@@ -6,7 +6,7 @@ use Rattle.std.proofs.lemmas.Fmt.{decimal_by_steps, decimal_nonempty}
 use Rattle.std.proofs.lemmas.Bool.Decides.{nat_tests, eqb_tells}
 use Rattle.report.specs.MarkReading.{lacks}
 use Rattle.report.proofs.Back.{lacks_both}
-use Rattle.known_text.specs.declared.ranges.SectorRange.{SectorRange}
+use Rattle.known_text.specs.declared.looked.SectorRange.{SectorRange}
 use Rattle.known_text.specs.Ranges.{range_text, next_range, ranges_text}
 use Rattle.known_text.specs.Reading.{IsCut, NoCut, IsSmall, AreSmall, ReadsRange, HasReadSome, ReadsRanges}
 use Rattle.known_text.proofs.Texts.{one_cut, has_it}

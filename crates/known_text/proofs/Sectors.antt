@@ -14,7 +14,7 @@ use Rattle.std.proofs.lemmas.Map.Keys.{IsDistinct-IsPermutation, IsStrictlyIncre
 use Rattle.std.proofs.lemmas.Map.Made.{IsDistinct-from_AllPairs}
 use Rattle.std.proofs.lemmas.Map.Steps.{length-le_from_distinct_below}
 use Rattle.base.proofs.Lists.{range_with_len-more}
-use Rattle.known_text.specs.declared.ranges.SectorRange.{SectorRange}
+use Rattle.known_text.specs.declared.looked.SectorRange.{SectorRange}
 use Rattle.known_text.specs.Ranges.{ranges_text, count_in, sectors_in, is_range, IsLooked, NoLooked, IsLookedOnly}
 use Rattle.known_text.specs.Reading.{AreSmall, ReadsRanges, AreSectors, NoSectors}
 use Rattle.known_text.proofs.Texts.{byte_decides}

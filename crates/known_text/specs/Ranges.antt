@@ -2,7 +2,7 @@
 use Rattle.std.specs.Prelude.{ℕ, ◌≡◌, ◌+◌, ◌-◌, ◌==◌, ◌&&◌, nat_le, nat_lt, eqb, Bool, true, if◌then◌else◌, List, [], ◌∷◌, ◌++◌, codes}
 use Rattle.std.specs.Fmt.{decimal}
 use Rattle.std.specs.List.{flat_map, list_all, range_with_len, IsDistinct}
-use Rattle.known_text.specs.declared.ranges.SectorRange.{SectorRange}
+use Rattle.known_text.specs.declared.looked.SectorRange.{SectorRange}
 
 -- one sector, or the first and the last of some
 unfoldable pub range_text : SectorRange → List ℕ

@@ -12,7 +12,7 @@ use Rattle.cases.specs.AtCut.{parts_of}
 use Rattle.report.specs.MarkReading.{lacks}
 use Rattle.known.specs.declared.run.RunEnd.{RunEnd}
 use Rattle.known.specs.declared.run.RunEnd.TheVariants.{Answer, Signal}
-use Rattle.known_text.specs.declared.ranges.SectorRange.{SectorRange}
+use Rattle.known_text.specs.declared.looked.SectorRange.{SectorRange}
 use Rattle.lost_text.specs.Lost.{set_of}
 use Rattle.lost_text.specs.Said.{IsSaid}
 use Rattle.known_text.specs.declared.record.RanSaid.{RanSaid}

@@ -15,7 +15,7 @@
 //!
 //! | Module | Has |
 //! |---|---|
-//! | `ranges` | the sectors of a record, read from ranges |
+//! | `looked` | the sectors at which a program looked, read from ranges |
 //! | `ending` | how a program ended |
 //! | `record` | a record, read from its line: its words, and whether it is one of the log |
 //! | `marks` | how many marks stand before each cut |
@@ -69,8 +69,8 @@
 mod ending;
 mod fault;
 mod head;
+mod looked;
 mod marks;
-mod ranges;
 mod record;
 mod text;
 mod words;

@@ -6,7 +6,7 @@ ghost use Rattle.known_text.specs.Records.{IsRanOnly, NoRan, ran_of, ran_text};
 ghost use Rattle.known_text.specs.Reading.{AreMarks, AreOfLog, AreSets, IsSaidSo, NoSets, NoneIsSaidSo, ReadsRan, ran_said};
 
 use crate::ending::{end_said, is_end, put_end};
-use crate::ranges::looked_said;
+use crate::looked::looked_said;
 use cases::Cut;
 use epochs::By;
 use known::{KnownRun, RunEnd};

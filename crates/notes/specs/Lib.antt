@@ -8,6 +8,7 @@ pub mod SourceLines
 pub mod Unreached
 pub mod Large
 pub mod LeftOut
+pub mod Untold
 pub mod Breach
 pub mod Blind
 pub mod Promises

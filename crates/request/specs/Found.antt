@@ -11,6 +11,7 @@ pub record IsEmpty (facts : RunFacts) : Type 0 where
   pub unreached : facts.unreached.items ≡ []
   pub blind : facts.blind.items ≡ []
   pub left_out : facts.left_out ≡ None
+  pub untold : facts.untold ≡ None
 
 -- what no run reaches of a program that is accepted for devices of that many sectors, with guards or without: where it is accepted
 -- in both ways it has the same table in both

@@ -4,6 +4,7 @@ pub mod Extents
 pub mod Settings
 pub mod OptionWords
 pub mod AnyLosses
+pub mod Known
 pub mod Trials
 pub mod Source
 pub mod Refusals

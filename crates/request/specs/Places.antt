@@ -24,3 +24,5 @@ place_number place.Parts = 18
 place_number place.Guards = 19
 place_number place.Torn = 20
 place_number place.AtMost = 21
+place_number place.Known = 22
+place_number place.Cases = 23

@@ -4,6 +4,7 @@ ghost use Rattle.std.specs.Prelude.{◌≡◌, Some, MatchResult};
 ghost use Rattle.request.specs.OptionWords.{AskFor, words_refusal};
 
 use crate::any_losses::LossWords;
+use crate::known::KnownWords;
 use crate::options::Options;
 use crate::refusals::option_refusal_of;
 use crate::settings::{OptionPlace, Retelling, Settings};
@@ -56,6 +57,8 @@ pub enum Request {
     Page(OptionWords),
     /// `why LOG --report REPORT`, or `page` or `cure` so.
     Retold(OptionWords, Retelling),
+    /// `explore LOG --known RECORDS` or `export LOG --known RECORDS`, with any number of losses.
+    Known(OptionWords, KnownWords),
     /// `images LOG`, with the number after `--parts`, where that stands there.
     Images(OptionWords, Option<u64>),
     /// `images LOG` with any number of losses, with the number after `--parts`, where that stands there.

@@ -11,6 +11,7 @@ mod of_log;
 mod of_run;
 mod promises;
 mod recording;
+mod untold;
 
 pub use breach::{Breach, breach_of};
 pub use fewer::{Fewer, Smaller, fewer_images};
@@ -19,3 +20,4 @@ pub use of_log::{LogFacts, log_facts};
 pub use of_run::RunFacts;
 pub use promises::Promises;
 pub use recording::Recording;
+pub use untold::Untold;

@@ -3,7 +3,7 @@
 //!
 //! | Module | Has |
 //! |---|---|
-//! | `settings`, `options`, `extent`, `any_losses`, `trials` | what is asked, with its ranges |
+//! | `settings`, `options`, `extent`, `any_losses`, `known`, `trials` | what is asked, with its ranges |
 //! | `command` | what a command line asks for |
 //! | `source` | a log read, and its plan |
 //! | `facts` | what a command is given of a log, and what the notes beside its answer or after its refusal say |
@@ -22,8 +22,10 @@
 //! | `Options::new(settings)` | tests what a run is asked, option by option, and keeps it |
 //! | `options_of(words)` | the same, of options as the words of a command line have them |
 //! | `losses_of(words, options)` | tests what is asked of any number of losses, beside good options |
+//! | `known_of(words, options)` | tests what is asked of a search by records of a program, beside good options |
 //! | `trial_of(words)` | tests what a run of a program on one image is asked |
-//! | `read_log(alloc, bytes, initial, options)` | the log that bytes are, for a device of that size, over what it held before, with the flushes that are added |
+//! | `read_recorded(alloc, bytes, initial, options)` | the log that bytes are, for a device of that size, over what it held before |
+//! | `read_log(alloc, bytes, initial, options)` | the same with the flushes that are added |
 //! | `plan_of(alloc, log, options)` | the plan of a log by the options, with how many crash images it has |
 //! | `option_refusal_of(place)`, `unreadable(place)`, `bytes_refusal_of(fault)` | the refusal of an option, of a file, and of a program's bytes |
 //! | `number_of_inputs(log, programs)`, `number_of_report(log, options)` | the number of the bytes of a log and of programs, or of a log and of a report's options |
@@ -40,12 +42,13 @@
 //! |---|---|
 //! | `Recording::of(log, initial)` | the bytes of a log, with those that the device held before entry 0 |
 //! | `recording.log()` | the bytes of the log |
-//! | `recording.read(alloc, options)` | the log, as `read_log` reads it |
+//! | `recording.read(alloc, options)`, `recording.recorded(alloc, options)` | the log, as `read_log` and as `read_recorded` read it |
 //! | `log_facts(alloc, recording, options)` | what notes say of the log: how many entries are too large to be lost as a whole, how many have FUA, how many are flush entries, how many cuts are wanted, and which marks promise what nothing made durable |
 //! | `fewer_images(alloc, recording, options)` | where the log has too many images, with what there are fewer |
 //! | `breach_of(alloc, bytes, sectors, guards)` | the instruction at which the verifier refuses a program, and what is known there |
 //!
-//! `RunFacts` has what notes say of programs and of a run: `runs` and `inspect` answer it.
+//! `RunFacts` has what notes say of programs and of a run: `runs` and `inspect` answer it. Of a search by records it has how much these
+//! didn't tell (`Untold`).
 //!
 //! # What is proved
 //!
@@ -55,7 +58,8 @@
 //! where programs are accepted with guards.
 //! `losses_of` answers how many parts may be torn, at most 3 and none without tears, and how many may be lost or torn, 1 to 64 where that
 //! is bounded. It refuses exactly the first number that is out of its range, or option that doesn't go with any number of losses
-//! (`specs/AnyLosses.antt`).
+//! (`specs/AnyLosses.antt`). `known_of` answers that and after how many cases the search of a cut ends, 1 to 16,777,216 where that is
+//! asked. It refuses records without any number of losses first, then what `losses_of` refuses, then that number (`specs/Known.antt`).
 //! `options_of` refuses the first word that names nothing, of those for cuts, parts, flushes and images, and then what they ask for
 //! (`specs/OptionWords.antt`). `trial_of` refuses exactly the first number that is out of its range (`specs/Trials.antt`).
 //!
@@ -132,6 +136,7 @@ mod command;
 mod extent;
 pub mod facts;
 mod inputs;
+mod known;
 mod options;
 mod refusals;
 mod settings;
@@ -142,8 +147,9 @@ pub use any_losses::{AnyLosses, LossWords, losses_of};
 pub use command::{OptionWords, Request, Which, options_of};
 pub use extent::Extent;
 pub use inputs::{inputs_line, number_line, number_of_inputs, number_of_report, report_options};
+pub use known::{KnownSearch, KnownWords, known_of};
 pub use options::{MOST_PROGRAMS, Options};
 pub use refusals::{bytes_refusal_of, fault_line, option_refusal_of, unreadable};
-pub use settings::{CaseTelling, OptionPlace, Retelling, Settings, Telling};
-pub use source::{log_refusal_of, plan_of, read_log};
+pub use settings::{CaseTelling, KnownTelling, OptionPlace, Retelling, Settings, Telling};
+pub use source::{log_refusal_of, plan_of, read_log, read_recorded};
 pub use trials::{Trial, TrialWords, trial_of};

@@ -87,6 +87,15 @@ pub enum Retelling {
     Places,
 }
 
+/// What is to be told of what records of a program tell.
+#[derive(Clone, Copy)]
+pub enum KnownTelling {
+    /// Each failing case.
+    Cases,
+    /// The images that are wanted: those of the open cases.
+    Wanted,
+}
+
 /// What a refusal of the command line names, each by the number of its place (docs/COMMANDS.md, Options).
 #[derive(Clone, Copy)]
 pub enum OptionPlace {
@@ -124,6 +133,10 @@ pub enum OptionPlace {
     Torn = 20,
     /// How many parts may be lost or torn, of any number of losses.
     AtMost = 21,
+    /// Records of a program, without any number of losses.
+    Known = 22,
+    /// After how many cases the search of a cut ends.
+    Cases = 23,
 }
 
 impl OptionPlace {

@@ -114,13 +114,35 @@ fn log_over_base<'x>(
     }
 }
 
-/// The log of these bytes by the options: for a device of their size, over what it held before entry 0, zeros after the bytes
-/// of `initial`, with the flushes that are added.
+/// The log of these bytes as it is recorded, without flushes that are added: for a device of the options' size, over what it held before
+/// entry 0, zeros after the bytes of `initial`.
 ///
 /// # Errors
 ///
-/// 13 at 14 where `initial` has more bytes than the device; the first fault of the log; or want of memory; or 15 at the first
-/// entry or cut that is named and that the log doesn't have.
+/// 13 at 14 where `initial` has more bytes than the device; the first fault of the log; or want of memory.
+pub fn read_recorded<'x>(
+    alloc: Global,
+    bytes: &'x [u8],
+    initial: &'x [u8],
+    options: &Options,
+) -> Result<Log<'x>, Refusal>
+    ensures log { IfOk result (IsRecorded (record { text = bytes.now; initial = initial.now }) options.now) }
+    ensures refused { IfErr result (RefusesLog (record { text = bytes.now; initial = initial.now }) options.now) }
+{
+    if initial.len() > SECTOR * options.sectors() as usize {
+        return Err(option_refusal_of(OptionPlace::Base));
+    }
+    match log_over_base(alloc, bytes, initial, options) {
+        Ok(log) => Ok(log),
+        Err(fault) => Err(log_refusal_of(fault)),
+    }
+}
+
+/// The log of these bytes by the options, as `read_recorded` reads it, with the flushes that are added.
+///
+/// # Errors
+///
+/// Those of `read_recorded`; or 15 at the first entry or cut that is named and that the log doesn't have.
 pub fn read_log<'x>(
     alloc: Global,
     bytes: &'x [u8],
@@ -130,12 +152,9 @@ pub fn read_log<'x>(
     ensures log { IfOk result (IsLogOf (record { text = bytes.now; initial = initial.now }) options.now) }
     ensures refused { IfErr result (RefusesLog (record { text = bytes.now; initial = initial.now }) options.now) }
 {
-    if initial.len() > SECTOR * options.sectors() as usize {
-        return Err(option_refusal_of(OptionPlace::Base));
-    }
-    let log = match log_over_base(alloc, bytes, initial, options) {
+    let log = match read_recorded(alloc, bytes, initial, options) {
         Ok(log) => log,
-        Err(fault) => return Err(log_refusal_of(fault)),
+        Err(refusal) => return Err(refusal),
     };
     let cuts = options.cuts();
     match first_lacking(&cuts, log.entries().len()) {

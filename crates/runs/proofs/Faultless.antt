@@ -18,7 +18,7 @@ accepted_one None guards sectors c free within = within
 accepted_one (Some limit) guards sectors c free within = absurd (let bad : Some limit ≡ None = free in cc)
 
 -- each program is accepted
-accepted_all : (s : Settings) (files : List (List ℕ)) (checkers : List CheckerValue) (n : ℕ) (c : CheckerValue) → AreCheckersOf s files checkers → s.checked ≡ None
+pub accepted_all : (s : Settings) (files : List (List ℕ)) (checkers : List CheckerValue) (n : ℕ) (c : CheckerValue) → AreCheckersOf s files checkers → s.checked ≡ None
     → slice_get checkers n ≡ Some c → IsAcceptedChecker s.guards s.sectors c
 accepted_all s files [] n c made free there = absurd (let bad : None ≡ Some c = there in cc)
 accepted_all s [] (d ∷ checkers) n c made free there = absurd made
@@ -31,7 +31,7 @@ some_if true n = refl
 some_if false n = refl
 
 -- for the device of the log
-accepted_by : (guards : Bool) (subject : Subject) (sectors : ℕ) (c : CheckerValue) → subject.plan.log.sectors ≡ sectors → IsAcceptedChecker guards sectors c → IsAcceptedBy guards subject c
+pub accepted_by : (guards : Bool) (subject : Subject) (sectors : ℕ) (c : CheckerValue) → subject.plan.log.sectors ≡ sectors → IsAcceptedChecker guards sectors c → IsAcceptedBy guards subject c
 accepted_by guards subject sectors c device h =
     let v : VerifiedValue = h.verified in
     let n : ℕ = subject.plan.log.sectors in

@@ -7,7 +7,6 @@ pub mod Fitting
 pub mod Runs
 pub mod Reports
 pub mod Casing
-pub mod Losing
 pub mod ToldFail
 pub mod Explained
 pub mod Missed
@@ -17,3 +16,4 @@ pub mod Leading
 pub mod Finding
 pub mod Unseeing
 pub mod Contexts
+pub mod Flushing

@@ -16,3 +16,4 @@ pub mod Cases
 pub mod AnyLoss
 pub mod Cured
 pub mod Trials
+pub mod Flushing

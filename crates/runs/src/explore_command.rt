@@ -97,6 +97,7 @@ fn answer_of(told: Told, unreached: ArrayVec<Option<Unreached>, 8>) -> RunAnswer
             unreached,
             blind: told.blind,
             left_out: told.left_out,
+            untold: None,
         },
     }
 }

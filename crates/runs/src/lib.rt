@@ -15,7 +15,9 @@
 //! | `explore(rt, alloc, recording, programs, options)` | the bytes of the report |
 //! | `run_with(rt, alloc, gate, question)` | by what is wanted the report; the same run told by its causes (`causes.rt`), or as a page for a browser (`paging.rt`); where flushes are missing, and what is left with them, run by run (`curing.rt`); the failing cases of any number of losses (`case_command.rt`), or a cure by these. With it what is known of the programs for the notes |
 //! | `blind_programs_pass()` | a law, by a function that does nothing: what it means that a program is blind (`blind.rt`) |
-//! | `any_loss_is_told()`, `told_cases_fail()` | laws: on which images of any cut a program fails, by the text of cases |
+//! | `any_loss_is_told()`, `told_cases_fail()` | laws: on which images that are asked for a program fails, by the text of cases |
+//! | `cases_are_faultless()` | a law: no program that the verifier accepted without guards has a fault on any image of any cut |
+//! | `flushes_bring_nothing()` | a law: what a log with added flushes leaves is left by the log without them |
 //!
 //! # What is proved
 //!
@@ -43,10 +45,11 @@
 //! refused at the cut with which there are more than 16,777,216 cases. With the option `first` one thread looks for them, and the answer
 //! has the first of them alone, or where none fails that of all (`TellsFirst`); it is refused where none of the first 16,777,216 cases
 //! fails, and there are more. `AnyLosses` says what is told of them (`IsTextOf`). The text of cases of a range of the cuts has the number
-//! of the inputs (`specs/Inputs.antt`). The gate is told of each run of a program and of each case, as of a block. The law
-//! `any_loss_is_told` says what this means where all cuts are wanted, and nothing bounds the losses: each image of any cut on which a
-//! program fails, with as few torn parts as is asked, is one of a failing case that is told. The law `told_cases_fail` says the other
-//! direction: on each image of a case that is told its program fails, and ends as the case says.
+//! of the inputs (`specs/Inputs.antt`). The gate is told of each run of a program and of each case, as of a block.
+//! What this means the laws say. Asked for are the choices of the wanted cuts, with as few torn parts and as few lost ones as is asked
+//! (`IsAskedFor` of `case_runs`). `any_loss_is_told`: each image of such a choice on which a program fails is one of a failing case that is
+//! told. Where all cuts are wanted and nothing bounds the losses these are all images of all cuts. `told_cases_fail` is the other
+//! direction: a failing case that is told is one of a wanted cut, and on each of its images its program fails, and ends as the case says.
 //!
 //! A cure makes one run after the other, each of the log with the flushes that were missing before. What a run finds is one definition with
 //! two cases (`Finds` in `specs/Cured.antt`): its failing lines, or with any number of losses its failing cases (`cured_log` in
@@ -107,4 +110,7 @@ mod task;
 pub use explore_command::{
     Explored, Question, RunAnswer, WantedAnswer, explore, explore_with, run_with,
 };
-pub use laws::{any_loss_is_told, blind_programs_pass, told_cases_fail};
+pub use laws::{
+    any_loss_is_told, blind_programs_pass, cases_are_faultless, flushes_bring_nothing,
+    told_cases_fail,
+};

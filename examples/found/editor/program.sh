@@ -4,7 +4,13 @@ cd "$FILES" && export HOME=/nonexistent
 case $1 in
 vim) vim --cmd 'set backupskip=' -u NONE -N -es -c '%s/one/two/' -c wq text ;;
 vim-n) vim -n --cmd 'set backupskip=' -u NONE -N -es -c '%s/one/two/' -c wq text ;;
-nano) (sleep 3; printf '\013two\n\017\r'; sleep 1; printf '\030') | TERM=xterm script -qec 'nano -I text' /dev/null >/dev/null ;;
+nano)
+    room=$(mktemp -d) && mkfifo "$room/keys" && : >"$room/said"
+    TERM=xterm script -qefc 'nano -I text' "$room/said" <"$room/keys" >/dev/null &
+    exec 3>"$room/keys"
+    until grep -q nano "$room/said"; do sleep 0.1; done
+    sleep 0.2 && printf '\013two\n\017\r\030' >&3 && wait $!
+    ;;
 emacs) emacs -Q --batch text --eval '(progn (setq temporary-file-directory "/nonexistent/" write-region-inhibit-fsync nil) (erase-buffer) (insert "two\n") (save-buffer))' 2>/dev/null ;;
 ed) printf '%s\n' s/one/two/ w q | ed -s text ;;
 sed) sed -i s/one/two/ text ;;

@@ -305,7 +305,7 @@ pub(crate) fn log_options(request: Request) -> Option<OptionWords> {
         Request::Show(words, _) | Request::Export(words) => Some(words),
         Request::AnyImage { words, .. } | Request::Cuts(words, _, _) => Some(words),
         Request::Cases(words, _) | Request::CureCases(words, _) => Some(words),
-        Request::Retold(words, _) => Some(words),
+        Request::Retold(words, _) | Request::Known(words, _) => Some(words),
         _ => run_options(request),
     }
 }
@@ -520,6 +520,7 @@ fn put_many_notes(
         (Request::Cases(options, _) | Request::CureCases(options, _), _) => put_cases_notes(
             out, options,
         ),
+        (Request::Known(options, _), _) => put_cases_notes(out, options),
         (_, Some(options)) => put_images_notes(alloc, out, options, files),
         _ => Ok(()),
     }
@@ -532,6 +533,18 @@ const NOT_IN_LOG: &str =
 /// What a report has to be.
 const NOT_REPORT: &str =
     "the file of --report isn't the report of this log with these options, or is cut off: the number says at which line that shows; at line 2 the options, the base or the log that it says are others, or it is of the first failing image alone (docs/OUTPUT.md, The report)";
+
+/// What a text of records has to be.
+const NOT_RECORDS: &str =
+    "the file of --known isn't the text of records of this log with these --sectors, --base and --by, or is cut off: the number says at which line that shows (docs/OUTPUT.md, Records of a program of yours)";
+
+/// What the file has to be that is given in place of programs.
+fn report_rule(request: Request) -> &'static str {
+    match request {
+        Request::Known(_, _) => NOT_RECORDS,
+        _ => NOT_REPORT,
+    }
+}
 
 /// What the option or the number at a place has to be.
 fn option_rule(place: u64) -> &'static str {
@@ -558,6 +571,8 @@ fn option_rule(place: u64) -> &'static str {
         19 => "--guards doesn't stand beside --checked",
         20 => "--torn is 1 to 3, beside --bound any and --tears",
         21 => "--at-most is 1 to 64, beside --bound any",
+        22 => "--known stands beside --bound any",
+        23 => "--cases is 1 to 16777216",
         _ => {
             "the log has no image of that number with these --cuts, --by, --bound and --tears; 'crashbpf images' tells how many it has"
         },
@@ -819,7 +834,10 @@ pub fn notes_after(
         }
         Cause::Request(RequestCause::Option) => { put_note(&mut out, rule_of(words, refusal.at))? },
         Cause::Request(RequestCause::NotInLog) => put_note(&mut out, NOT_IN_LOG)?,
-        Cause::Request(RequestCause::NotReport) => put_note(&mut out, NOT_REPORT)?,
+        Cause::Request(RequestCause::NotReport) => put_note(
+            &mut out,
+            report_rule(words.request()),
+        )?,
         Cause::Request(RequestCause::File) => put_file_notes(alloc, &mut out, words, files, at)?,
         Cause::Join(cause) => put_join_notes(alloc, &mut out, words, files, cause, at)?,
         Cause::Work(_cause) => put_work_notes(&mut out, words)?,

@@ -8,6 +8,7 @@ use crate::command_notes::left_out::put_left_out;
 use crate::command_notes::no_cuts::put_no_cuts;
 use crate::command_notes::promises::put_promises;
 use crate::command_notes::unreached::put_unreached;
+use crate::command_notes::untold::put_untold;
 use crate::put_note;
 use command_line::Words;
 use epochs::{By, CutKind};
@@ -25,6 +26,17 @@ fn put_explored_notes(out: &mut String, facts: &RunFacts) -> Result<(), AllocErr
         put_unreached(out, Some(number as u8), *found)?;
     }
     put_blind(out, facts.blind.as_slice())
+}
+
+/// Appends that a program of which there are records looked at nothing of what the log writes, where that is so.
+fn put_records_notes(out: &mut String, facts: &RunFacts) -> Result<(), AllocError> {
+    match facts.blind.as_slice() {
+        [true] => put_note(
+            out,
+            "program 0: looked at no sector that an entry writes, in no record, so no loss changes what it ends in",
+        ),
+        _ => Ok(()),
+    }
 }
 
 /// Appends which marks of a log promise what nothing made durable, where some do.
@@ -120,6 +132,7 @@ fn put_program_notes(out: &mut String, words: &Words, facts: &RunFacts) -> Resul
         Request::Cure(_) | Request::Page(_) => put_explored_notes(out, facts),
         Request::Marked(_) => put_explored_notes(out, facts),
         Request::Cases(_, _) | Request::CureCases(_, _) => put_explored_notes(out, facts),
+        Request::Known(_, _) => put_records_notes(out, facts),
         _ => Ok(()),
     }
 }
@@ -131,6 +144,7 @@ fn noted_options(words: &Words) -> Option<OptionWords> {
         Request::Cure(options) | Request::Page(options) => Some(options),
         Request::Marked(options) => Some(options),
         Request::Cases(options, _) | Request::CureCases(options, _) => Some(options),
+        Request::Known(options, _) => Some(options),
         Request::Retold(options, _) | Request::Log(options) => Some(options),
         Request::Export(options) | Request::Images(options, _) => Some(options),
         Request::Cuts(options, _, _) => Some(options),
@@ -156,7 +170,7 @@ fn put_log_notes(
         Request::Log(_) => put_mark_notes(out, log),
         Request::Cuts(_, _, _) => put_cut_notes(out, options, log),
         Request::Export(_) | Request::Images(_, _) => put_survey_notes(out, options, log),
-        Request::Cases(_, _) | Request::CureCases(_, _) => {
+        Request::Cases(_, _) | Request::CureCases(_, _) | Request::Known(_, _) => {
             put_mark_notes(out, log)?;
             put_cut_notes(out, options, log)
         }
@@ -185,6 +199,19 @@ fn put_left_notes(
     }
 }
 
+/// Appends what records of a program didn't tell, or where they told all, what the search left out.
+fn put_known_notes(
+    out: &mut String,
+    options: OptionWords,
+    losses: &LossWords,
+    facts: &RunFacts,
+) -> Result<(), AllocError> {
+    match &facts.untold {
+        Some(untold) if untold.cases > 0 || untold.stopped > 0 => put_untold(out, untold),
+        _ => put_left_notes(out, options, losses, facts),
+    }
+}
+
 /// Appends that a report doesn't say of which log it is, where it doesn't: its second line then has its options.
 fn put_unmarked(out: &mut String, files: &[Option<Vec<u8>>]) -> Result<(), AllocError> {
     match files {
@@ -202,7 +229,7 @@ fn put_unmarked(out: &mut String, files: &[Option<Vec<u8>>]) -> Result<(), Alloc
 /// has one (the commands of a run, `images` and `export`; the latter where no entry is a flush), how many writes never depart as a whole,
 /// and how many entries with FUA aren't torn (`images` and the commands of a run; not where any number of losses is explored, by which
 /// each write may be dropped, and one with FUA torn while it is in flight), that an image loses at most one part (`explore` of a whole
-/// run), and that a report that is given doesn't say of which log it is. Each line begins with `note: `; mostly there is none. The log is read once more for them, and where there is no memory for that
+/// run), that a report that is given doesn't say of which log it is, and how much records of a program didn't tell. Each line begins with `note: `; mostly there is none. The log is read once more for them, and where there is no memory for that
 /// nothing is said of it.
 ///
 /// # Errors
@@ -228,6 +255,9 @@ pub fn notes_beside(
         Request::Retold(_, _) => put_unmarked(&mut out, files)?,
         Request::Cases(options, losses) => {
             put_left_notes(&mut out, options, &losses, facts)?;
+        }
+        Request::Known(options, known) => {
+            put_known_notes(&mut out, options, &known.losses, facts)?;
         }
         _ => (),
     }

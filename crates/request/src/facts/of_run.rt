@@ -4,6 +4,7 @@ ghost use Rattle.std.specs.Prelude.{◌≡◌, ◌∷◌, [], None};
 ghost use Rattle.request.specs.Found.{IsEmpty};
 
 use crate::facts::left_out::LeftOut;
+use crate::facts::untold::Untold;
 use arrayvec::ArrayVec;
 use verifier::Unreached;
 
@@ -16,6 +17,8 @@ pub struct RunFacts {
     pub blind: ArrayVec<bool, 8>,
     /// How many cases a run of any number of losses left out, where none that it judged fails.
     pub left_out: Option<LeftOut>,
+    /// How much records of a program didn't tell, where they were asked.
+    pub untold: Option<Untold>,
 }
 
 impl RunFacts {
@@ -27,6 +30,7 @@ impl RunFacts {
             unreached: ArrayVec::new(),
             blind: ArrayVec::new(),
             left_out: None,
+            untold: None,
         }
     }
 
@@ -35,6 +39,7 @@ impl RunFacts {
         ensures unreached { result.unreached.items ≡ unreached ∷ [] }
         ensures blind { result.blind.items ≡ [] }
         ensures left_out { result.left_out ≡ None }
+        ensures untold { result.untold ≡ None }
     {
         let mut facts = RunFacts::none();
         facts.unreached.push(unreached);

@@ -1,9 +1,9 @@
 //! A recording: the bytes of a log, and of what the device held before entry 0.
 
 ghost use Rattle.std.specs.Prelude.{◌≡◌, IfOk, IfErr};
-ghost use Rattle.request.specs.Source.{IsLogOf, RefusesLog};
+ghost use Rattle.request.specs.Source.{IsLogOf, IsRecorded, RefusesLog};
 
-use crate::{Options, read_log};
+use crate::{Options, read_log, read_recorded};
 use base::refusal::Refusal;
 use logfmt::Log;
 use std::alloc::Global;
@@ -50,5 +50,17 @@ impl<'x> Recording<'x> {
         ensures refused { IfErr result (RefusesLog self.now options.now) }
     {
         read_log(alloc, self.log, self.initial, options)
+    }
+
+    /// The log that it is, without flushes that are added, as `read_recorded` answers it.
+    ///
+    /// # Errors
+    ///
+    /// Those of `read_recorded`.
+    pub fn recorded(&self, alloc: Global, options: &Options) -> Result<Log<'x>, Refusal>
+        ensures log { IfOk result (IsRecorded self.now options.now) }
+        ensures refused { IfErr result (RefusesLog self.now options.now) }
+    {
+        read_recorded(alloc, self.log, self.initial, options)
     }
 }

@@ -9,4 +9,4 @@ returns c =
       programs = c.one_program.ensures;
       spelled = c.no_fault_in_spelled.ensures;
       verdicts = c.one_verdict.ensures;
-    }) (record { findings = c.finding_is_one.ensures; first = c.first_is_one.ensures })
+    }) (record { findings = c.finding_is_one.ensures; first = c.first_is_one.ensures }) c.found_is_one.ensures

@@ -10,4 +10,5 @@ returns c =
       sources = c.one_program-2.ensures;
       findings = c.finding_is_one.ensures;
       first = c.first_is_one.ensures;
+      known = c.found_is_one.ensures;
     })

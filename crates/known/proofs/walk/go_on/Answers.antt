@@ -27,7 +27,7 @@ pub returns-then-not-branch : goal.returns-then-not-branch
 returns-then-not-branch c =
     let at = c.loop-count in
     went_to_end (program_of c.args.judge.now.records c.args.judge.now.marks) (program_of at.judge.records at.judge.marks) c.args.stops c.args.search.now at.search c.next.new.self at.judge.leaves
-    c.next.new.judge.leaves at.count c.args.most c.in_ok-next.field-0 at.invariant.1 c.loop-count-test.true at.invariant.0 c.in_ok-next.ensures.same c.in_ok-next.ensures.went c.if-not-branch.true
+    c.next.new.judge.leaves at.count c.args.most c.in_ok-next.field-0 at.invariant.1 c.loop-count-test.true (sym c.if-has_stopped.ensures) at.invariant.0 c.in_ok-next.ensures.same c.in_ok-next.ensures.went c.if-not-branch.true
     c.in_ok-next.ensures.kept
 
 pub returns : goal.returns

@@ -1,5 +1,0 @@
-use Rattle.case_runs.proofs.Judged.{losses_told}
-use Rattle.case_runs.proofs.laws.losses_are_judged.Goals as goal
-
-pub returns : goal.returns
-returns c = losses_told c.checkers_tell.ensures c.each_is_in_one.ensures c.leaves_end_alike.ensures c.last_cuts_have_all.ensures

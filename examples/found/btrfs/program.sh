@@ -1,0 +1,2 @@
+# Changes the label.
+btrfs filesystem label "$FILES/disk" NEW && mark changed
