@@ -245,6 +245,34 @@ exec "$@"
 """
 
 
+# What stands in place of crashbpf: it exports the same images always, or ends in another way.
+SAME_AGAIN = """\
+#!/bin/sh
+[ "$1" = export ] || exec crashbpf "$@"
+[ -e text ] || crashbpf "$@" >text
+cat text
+"""
+ENDS_EARLY = """\
+#!/bin/sh
+[ "$1" = export ] || exec crashbpf "$@"
+crashbpf "$@" | head -c 20
+exit 7
+"""
+
+
+def test_asked(folder):
+    """Where crashbpf wants what is known, or its text is cut off, it is refused."""
+    put(folder)
+    found = []
+    for text, wanted in ((SAME_AGAIN, "wants images that records tell"), (ENDS_EARLY, "what crashbpf export printed is cut off")):
+        Path(folder, "other").write_text(text)
+        Path(folder, "other").chmod(0o755)
+        done = subprocess.run([EACH, *WORDS, "--", "python3", "judge.py", "{}"], cwd=folder, capture_output=True, text=True, stdin=subprocess.DEVNULL, env={**os.environ, "CRASHBPF": "./other"})
+        found += differs(f"what is said: {done.stderr}", (done.returncode, done.stdout, wanted in done.stderr), (2, "", True))
+        Path(folder, RECORDS).unlink(missing_ok=True)
+    return found
+
+
 def test_users(folder):
     """Without root the mount is made by fusermount3, and without that in a user namespace."""
     if os.getuid() != 0 or not shutil.which("fusermount3") or subprocess.run(["test", "-r", EACH], user=NOBODY, group=NOBODY, extra_groups=[]).returncode:
@@ -417,6 +445,7 @@ ROWS = {
     "options": test_options,
     "bounds": test_bounds,
     "other users": test_users,
+    "what is asked of crashbpf": test_asked,
     "a server that is killed": test_killed,
     **{name: hostile(name) for name in HOSTILE},
     "a disk that is full": test_full,
