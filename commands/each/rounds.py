@@ -8,6 +8,7 @@ from typing import NamedTuple
 
 from commands.each import product
 from commands.each.again import Again
+from commands.each.asking import AskedStep
 from commands.each.crew import Crew
 from commands.each.curing import Cure
 from commands.each.progress import Progress
@@ -73,8 +74,10 @@ class Rounds:
             if not stops and self.most is not None and self.records.known.count + len(wanted) > self.most:
                 step = step.asking({"--stop-at-failing": True})
                 continue
-            self.round, self.is_told = self.round + 1, step.is_told
+            self.round, self.is_told, before = self.round + 1, step.is_told, self.judged
             self.judge(wanted, stops)
+            if self.judged == before:
+                raise Refusal("crashbpf wants images that records tell: this is a bug of crashbpf-each")
         return step
 
     def go_on(self, again):
@@ -192,7 +195,8 @@ def judged_any(given, program, folder, say, test_unchanged):
     path = os.path.join(given.keep, "known") if given.keep else RECORDS
     marks, notes = product.marks(program, given)
     known = Known(images_of(given), head_of(product.inputs(program, given, folder), given))
-    step = Step(program, given, folder, known)
+    # (a second level goes on with the cases of the first, so there the search of both is that of a script)
+    step = Step(program, given, folder, known) if given.again else AskedStep(program, given, known, path)
     cuts = share(product.risks(program, given), *given.part) if given.part else None
     records, done = Records(path, known, given.resume), False
     try:

@@ -222,6 +222,7 @@ class CalledFolder(Folder):
         return skips_below(os.path.join(self.path, name), self.skipped)
 
     def new_file(self, name, mode):
+        """Returns a file that the program makes here."""
         if self.is_skipped(name):
             return super().new_file(name, mode)
         file = CalledFile(self.looks, mode, self.looks.number())
@@ -266,8 +267,12 @@ class CalledFolder(Folder):
 
 def noted_rename(noted, folder, name, target, new, exchange):
     """Notes that a name was moved."""
-    counts = [isinstance(it, CalledFolder) and not it.is_skipped(one) for it, one in ((folder, name), (target, new))]
-    if all(counts):
+    places = [(it, one) for it, one in ((folder, name), (target, new)) if isinstance(it, CalledFolder)]
+    counts = [len(places) == 2 and not it.is_skipped(one) for it, one in places]
+    moved = [it.names.get(one) for it, one in places]
+    if any(counts) and folder.skipped and any(isinstance(it, Folder) for it in moved):
+        noted.give_up("the program renamed a folder among the files of its image, some of which aren't recorded")
+    elif counts and all(counts):
         noted.call("rename", folder.key, name, target.key, new, exchange)
-    elif any(counts):
+    elif any(counts) or len(places) == 1:
         noted.give_up("the program renamed something into the files of its image, or out of them")

@@ -4,7 +4,7 @@ import shutil
 
 from commands.each.records import ranges
 from commands.each.runner import Runner
-from commands.each.served_server import ENDS, RECOVERED, TOLD, answered, received, sent
+from commands.each.served_server import ENDS, KEPT, RECOVERED, TOLD, answered, received, sent
 from commands.each.stayed import Stayed
 from commands.shared.faults import Refusal
 from commands.shared.program import run
@@ -98,7 +98,7 @@ class ServedRunner(Runner):
         """Judges an image, and keeps it where it fails and that is asked for."""
         ended, looked, log = self.judged(it)
         if self.given.keep and not ended.verdict.is_good():
-            self.asked_of_server(it.cut, it.choice)
+            self.asked_of_server(it.cut, it.choice + (KEPT.encode() if self.given.again else b""))
             self.keep(it.number, ended)
             self.asked_of_server(ENDS)
         return ended, ranges(looked).encode() + b"\n" + log

@@ -26,6 +26,8 @@ ENDS, RECOVERED = (1 << 64) - 1, (1 << 64) - 2
 SAID = struct.Struct("<IQQ")
 NOTHING = SAID.pack(0, 0, 0)
 WRITABLE_BITS = 0o7777
+# What stands after the choice of an image that is only to be copied.
+KEPT = " kept"
 
 
 class Root:
@@ -367,13 +369,13 @@ class Server:
 
     def noted_folder(self, cut, text):
         """Returns the folder of a run of which it is noted what it does to its image, where this is one of the log."""
-        image = image_said(self.images, cut, text, self.logs)
+        image = image_said(self.images, cut, text.removesuffix(KEPT), self.logs)
         is_laid = image.images.view is not None
         looks = LaidLooks(LaidImage(image)) if is_laid else Looks(image)
         looks.noted = Noted()
         if image.images is not self.images:
             looks.noted.end()
-        return image_folder(looks, Hidden if is_laid else NotedImage)
+        return image_folder(looks, Hidden if is_laid and not text.endswith(KEPT) else NotedImage)
 
     def ended(self, name):
         """Drops the files of a run, and says at which sectors it looked, and what it did to its image where that was noted."""

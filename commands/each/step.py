@@ -1,7 +1,8 @@
-"""A step of a run with any number of losses: by the records so far it says which images are wanted, and in the end the text of cases.
+"""What a run with any number of losses asks for, and its step where a second level follows: by the records so far it says which images are
+wanted, and in the end the text of cases.
 
-This is all that the rounds know of it. The search is a script's, and isn't proved. crashbpf tests the log and its options, and says at which
-cuts cases are looked for and how many parts are at risk there: what the search takes for that is compared.
+Without a second level crashbpf does that (`asking.py`). This search is a script's, and isn't proved. crashbpf tests the log and its options,
+and says at which cuts cases are looked for and how many parts are at risk there: what the search takes for that is compared.
 """
 from commands.each import product
 from commands.each.case_lines import TITLE, text

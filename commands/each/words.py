@@ -63,8 +63,12 @@ class Words:
         return int(self.value("--sectors"))
 
     def of_step(self):
-        """Those words of a step of `--bound any` that crashbpf takes."""
+        """Those words of a step of `--bound any` that crashbpf takes with programs."""
         return self.of_images((*VALUED, *FLAGS, "--torn", "--at-most"))
+
+    def of_search(self):
+        """Those that it takes with records."""
+        return self.of_images((*VALUED, *FLAGS, *OF_ANY, *FLAGS_OF_ANY))
 
     def has(self, name):
         return name in dict(self.options)
@@ -252,6 +256,8 @@ def parse(words):
         from commands.record import laying
 
         given.inside = laying.main
+        if "--recover" in names:
+            raise Refusal("--recover is for a device that is one file: of recorded files the program recovers and judges")
     number("--sectors", given.value("--sectors"), MOST_SECTORS)
     if not given.has("--bound"):
         given = without_bound(given, names)

@@ -73,6 +73,13 @@ class Call:
             raise Refused(f"{self}: {shown(self.word(at))[:40]} is no number")
         return number(found[0])
 
+    def moved_to(self):
+        """The place to which an lseek moved its descriptor. That of 32-bit programs answers it by a word."""
+        found = re.fullmatch(r"\[(\d{1,20})\]", self.word(2)) if self.name == "_llseek" else None
+        if self.name == "_llseek" and not found:
+            raise Refused(f"{self}: {shown(self.word(2))[:40]} is no place")
+        return int(found[1]) if found else self.result
+
     def word(self, at):
         if at >= len(self.words):
             raise Refused(f"{self}: it has too few words")

@@ -153,8 +153,8 @@ class Copying:
         if call.failed() or call.result is None:
             return
         given = call.word(3) if call.name in ("preadv2", "pwritev2") else "-1"
-        if call.name == "lseek":
-            opened.at, opened.moved = call.result, opened.moved + 1
+        if call.name in ("lseek", "_llseek"):
+            opened.at, opened.moved = call.moved_to(), opened.moved + 1
         elif call.name in (*READS, "write", "writev") or given == "-1" and call.name in ("preadv2", "pwritev2"):
             known = opened.at is not None and flight.moved == opened.moved and not (opened.append and "write" in call.name)
             opened.at, opened.moved = opened.at + call.result if known else None, opened.moved + 1

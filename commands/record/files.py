@@ -74,6 +74,8 @@ class Opened:
     direct: bool = False
     # how often that or `append` was changed
     turned: int = 0
+    # whether another call changed its name while it was opened for reading, so that it isn't known of which file it is
+    unsure: bool = False
 
 
 class Table(dict):
@@ -192,8 +194,10 @@ class Flight:
     kept: dict = field(default_factory=dict)
     # of a call that moves the folder of the process: what that was
     at: bytes | None = None
-    # the names of files that other calls opened for writing since it began; the file that its path named then
+    # the names of files that other calls opened for writing since it began, and what they opened for reading alone, by its name; the file
+    # that its path named then
     reopened: set = field(default_factory=set)
+    read: list = field(default_factory=list)
     named: object = None
     # how many changes of names there were, and the last version of them; nothing for the one that is the last now
     turn: int = 0

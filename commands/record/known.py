@@ -11,8 +11,8 @@ HARMLESS = set(
     "getcwd getdents getdents64 getpeername getsockname getsockopt getxattr inotify_add_watch ioprio_set kcmp lchown lgetxattr "
     "listen listxattr llistxattr lremovexattr lsetxattr lstat name_to_handle_at newfstatat pidfd_open pidfd_send_signal "
     "pipe pipe2 poll ppoll prctl pread64 preadv readahead readlink readlinkat recvfrom recvmmsg recvmsg removexattr select "
-    "pselect6 sendmmsg sendmsg sendto setxattr shutdown signalfd4 socket socketpair stat stat64 statfs statx sync_file_range "
-    "sync_file_range2 timerfd_settime umask utime utimensat utimes wait4 waitid accept accept4 epoll_create epoll_create1 "
+    "pselect6 sendmmsg sendmsg sendto setxattr shutdown signalfd4 socket socketpair stat stat64 statfs statx "
+    "timerfd_settime umask utime utimensat utimes wait4 waitid accept accept4 epoll_create epoll_create1 "
     "memfd_create timerfd_create inotify_init inotify_init1".split()
 )
 # Calls that may do it unseen, whichever descriptor they name.
@@ -39,6 +39,7 @@ OPENS = ("open", "openat", "openat2", "creat")
 WRITES = ("write", "writev", "pwrite64", "pwritev", "pwritev2")
 READS = ("read", "readv")
 SYNCS = ("fsync", "fdatasync", "sync", "syncfs")
+RANGES = ("sync_file_range", "sync_file_range2")
 # Calls that copy, and which of their words are the descriptor that is copied from, the place in it, and the same of what is copied to.
 COPIES = {
     "copy_file_range": (0, 1, 2, 3),
@@ -60,7 +61,7 @@ BROKEN = {"EIO", "EUCLEAN"}
 RWF = {"RWF_HIPRI", "RWF_NOWAIT", "RWF_DSYNC", "RWF_SYNC", "RWF_APPEND"}
 THROUGH = {"O_DSYNC", "O_SYNC", "__O_SYNC", "RWF_DSYNC", "RWF_SYNC"}
 # Calls on a descriptor that change a file or its place.
-MOVES = ("lseek", "ftruncate", "ftruncate64", "fallocate")
+MOVES = ("lseek", "_llseek", "ftruncate", "ftruncate64", "fallocate")
 # Errors of msync after which what it did is to count for nothing.
 NOT_DONE = {"ENOMEM", "EBUSY", "EINVAL"}
 # The calls that are followed, by what is done with them.
@@ -85,7 +86,8 @@ KINDS = {
     "mprotect": ("mprotect", "pkey_mprotect"),
     "mremap": ("mremap",),
     "msync": ("msync",),
-    "lseek": ("lseek",),
+    "range": RANGES,
+    "lseek": ("lseek", "_llseek"),
     "truncate": ("truncate", "truncate64", "ftruncate", "ftruncate64"),
     "fallocate": ("fallocate",),
     "unlink": ("unlink", "unlinkat"),

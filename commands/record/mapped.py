@@ -25,7 +25,7 @@ CHUNK = 1 << 20
 # The name of the call that stands for what was stored.
 STORE = "store"
 # Calls on a descriptor that change no byte of its file, and those that may write a file that isn't the one of their first descriptor.
-QUIET = {*READS, *SYNCS, "preadv2", "lseek", "msync"}
+QUIET = {*READS, *SYNCS, "preadv2", "lseek", "_llseek", "msync"}
 FOREIGN = f"writes to its descriptor {NUMBER}, where --mapped has strace's text, so strace doesn't see it; a setting with fewer open files; the guest"
 TOO_LARGE = f"the mapped files have more than {MOST >> 20} MiB, holes left out; a smaller map; --skip takes a file that recovery doesn't need; the guest"
 

@@ -188,8 +188,19 @@ class NamedTracing(Tracing):
             self.tree.remove(slot)
             self.changed(slot)
 
+    def note_read(self, call, name, opened, flight):
+        """As without names. Where another call changed the name, or that of a folder, at once, or does it then, it isn't known which file was
+        opened."""
+        slot, recent = self.slot(call, name), [it for it in self.tree.recent if it.turn > flight.turn and it.call is not call]
+        is_long = len(recent) == self.tree.recent.maxlen
+        opened.unsure = is_long or any(slot in it.slots or any(held and held[0] == FOLDER for held in it.before.values()) for it in recent)
+        for other in self.flights.values():
+            other.read.append((name, opened))
+
     def refuse_reopened(self, call, flight, *names):
         """Refuses a change of names where another call opened a file by one of them at once, to write it."""
+        for name, opened in flight.read:
+            opened.unsure |= any(it is not None and (name + b"/").startswith(it + b"/") for it in names)
         for name in names:
             if name in flight.reopened:
                 raise Refused(f"{call}: another call opened {shown(os.fsdecode(name))} at once, and which was first isn't known; another try may pass")
@@ -378,7 +389,8 @@ class NamedTracing(Tracing):
             if path == self.folder or path.startswith(self.prefix):
                 flight.sync = self.tree.begin_all()
         elif isinstance(flight.file, File):
-            flight.sync = self.tree.begin_file(flight.file, data=call.name == "fdatasync")
+            # (one of a file that isn't known counts for none)
+            flight.sync = None if flight.opened.unsure else self.tree.begin_file(flight.file, data=call.name == "fdatasync")
         else:
             name = b"" if path == self.folder else self.name(path)
             if name in self.folders:
@@ -392,8 +404,16 @@ class NamedTracing(Tracing):
     def end_synced(self, flight):
         self.tree.end_sync(flight.sync)
 
+    def end_range(self, call, process, flight):
+        """As without names; and what stands before the part may not be written back yet."""
+        super().end_range(call, process, flight)
+        file = process.table.get(call.number(0), (None, False))[0]
+        if file is not None and isinstance(file.file, File) and not call.failed():
+            self.tree.write_out(file.file, call.number(2 if call.name == "sync_file_range2" else 1) // SECTOR)
+
     def add_sync(self, found, file, sectors):
         """As without names. The size is durable up to the end of these sectors, and the names with it."""
+        self.tree.write_out(file, sectors[0])
         begun = self.tree.begin_range(file, sectors, min(SECTOR * sectors[-1] + SECTOR, file.size))
         if found is None:
             return begun

@@ -39,6 +39,8 @@ Which entries a call makes, a write below being a write entry that is in flight 
   a flush. Else FUA writes of what it makes durable, and after these a write of what came later. By `ext4` and `xfs` fsync has the names
   durable up to the last change of the file's own, by `btrfs` the file's own, and fdatasync hasn't. By `strict` and `btrfs` a sync
   of a file that has no name is nothing. A sync of a part has the first size durable that reaches its end, and the names older than that.
+- by `ordered` where a part of a file is written back by itself, by a write with O_DSYNC, msync or sync_file_range: of the new blocks before it
+  writes of zeros, and then of their bytes.
 - by `strict` and `btrfs` a sync of a folder into which a file was renamed from another: of the rename the new name is durable, and that
   the old one is gone is a change by itself from then on.
 
@@ -401,7 +403,7 @@ class Tree:
         self.others, self.above = {}, {}
         # by tables in which names are by themselves: of each folder that was made the set, and the bit of the change
         self.made = {}
-        # the calls of which some sizes between aren't tried
+        # the calls of which some sizes between aren't tried, by their ids
         self.skipping = {}
         # which permissions files and folders had last, by pairs of a kind and a number
         self.modes = {}
@@ -677,7 +679,19 @@ class Tree:
         self.sized(file, sizes)
         self.show_blocks(file, first, len(sectors) // SECTOR)
         if through:
+            self.write_out(file, own[0])
             self.end_sync(self.begin_range(file, own, start + len(data)))
+
+    def write_out(self, file, first):
+        """A part of a file, from a sector on, is written back by itself. Where blocks are given late, what stands before it may have none yet, and
+        shows zeros with the size that the part gives the file."""
+        room, until = file.rooms[-1], first * SECTOR // BLOCK * (BLOCK // SECTOR)
+        bare = {number for number in room.laid if number < until} if self.rules.filled and self.shown(file) else ()
+        content = {number: bytes(file.content[SECTOR * number :][:SECTOR]) for number in bare}
+        for found in ({number: bytes(SECTOR) for number in bare}, content) if bare else ():
+            for _, number, data in runs({room: found}):
+                self.put(file, number, data)
+        room.laid.difference_update(bare)
 
     def write_blocks(self, file, first, sectors):
         """Sectors are written where blocks are used again: of new blocks all, and what these held before comes first. Returns the first
@@ -722,7 +736,7 @@ class Tree:
         """The ends of blocks that lie after one place and before another; of many some."""
         found = range(up(first + 1, BLOCK), last, BLOCK)
         if len(found) > MOST_BETWEEN:
-            self.skipping[self.disk.entries.call] = None
+            self.skipping[id(self.disk.entries.call)] = self.disk.entries.call
         return found[:: -(-len(found) // MOST_BETWEEN) or 1]
 
     def sized(self, file, sizes):

@@ -9,7 +9,7 @@ import re
 from commands.record.calls import HEX, NAMED, Refused, shown, unhexed
 from commands.record.disk import FLUSH, FUA, MARK
 from commands.record.files import File
-from commands.record.known import COPIES, OPENS, SYNCS, WRITES
+from commands.record.known import COPIES, OPENS, RANGES, SYNCS, WRITES
 
 # What of the flags of an open says nothing to a reader.
 UNTOLD = {"O_CLOEXEC", "O_LARGEFILE", "O_NOCTTY", "O_NONBLOCK", "O_NOFOLLOW", "O_DIRECTORY"}
@@ -73,6 +73,9 @@ def of_bytes(tracing, call):
         return f"{form}({of_descriptor(tracing, call)}, {call.result} bytes at {call.place})"
     if form == "fallocate":
         return f"fallocate({of_descriptor(tracing, call)}, {call.word(1)}, {call.word(3)} bytes at {call.word(2)})"
+    if call.name in RANGES:
+        start, length = (call.word(it + (call.name != RANGES[0])) for it in (1, 2))
+        return f"{call.name}({of_descriptor(tracing, call)}, {length} bytes at {start})"
     what = of_descriptor(tracing, call) if form.startswith("f") else named(tracing, tracing.path(call, None, 0))
     return f"{form}({what}, {call.word(1)})"
 
@@ -95,7 +98,7 @@ def told(tracing, call):
             return of_copy(tracing, call)
         if form in ("rename", "link", "unlink", "rmdir", "mkdir"):
             return of_names(tracing, call)
-        if call.name in WRITES or form in ("truncate", "ftruncate", "fallocate"):
+        if call.name in WRITES or call.name in RANGES or form in ("truncate", "ftruncate", "fallocate"):
             return of_bytes(tracing, call)
     except Refused:
         pass

@@ -26,7 +26,7 @@ from commands.record.files import Another, Other, skips, skips_below
 from commands.record.layout import trace_log
 from commands.record.mapped import Mapped
 from commands.record.named import NamedTracing, beginning
-from commands.record.orders import FILE, FOLDER, TABLES
+from commands.record.orders import FILE, FOLDER, MOST_BETWEEN, TABLES
 from commands.record.told import entries_text, owners
 from commands.record.tracing import Tracing
 from commands.shared.recording import NAME, Recording
@@ -321,6 +321,16 @@ AGAIN_NOTE = (
 )
 
 
+def notes_of_sizes(tracing):
+    """What a reader should know of the sizes that files may have between two."""
+    calls = list(tracing.tree.skipping.values()) if isinstance(tracing, NamedTracing) else []
+    if not calls:
+        return []
+    more = f", and {len(calls) - 3} more" if len(calls) > 3 else ""
+    names = ", ".join(f"calls:{it.line} {it.name}" for it in calls[:3])
+    return [f"a gap or reserved room of more than {MOST_BETWEEN} blocks ({names}{more}): of the sizes between, {MOST_BETWEEN} are tried"]
+
+
 def notes_of(tracing, before):
     """What a reader should know of a recording: what was left out of it."""
     left_out = [] if isinstance(tracing, NamedTracing) else tracing.files.values()
@@ -329,6 +339,7 @@ def notes_of(tracing, before):
     notes = [*tracing.notes, *([AGAIN_NOTE] if isinstance(tracing, NamedTracing) and tracing.tree.again else [])]
     for files, what in ((made, "is taken to be there from the start"), (grown, "is taken to have its largest size from the start")):
         notes += [f"{shown(os.fsdecode(it.name))} {what}" for it in files]
+    notes += notes_of_sizes(tracing)
     return notes + [f"{shown(os.fsdecode(path))} isn't recorded: {call}" for path, call in tracing.written_outside.items()]
 
 

@@ -294,7 +294,7 @@ class Tracing(Copying):
         self.numbers.over(call, flight)
         if self.is_change(call) and self.may_change(call, flight or Flight()):
             self.unfinished = self.unfinished or call
-        if call.name in (*WRITES, *MOVES, *COPIES, "ioctl") and flight and flight.file is not None and call.name not in ("lseek",):
+        if call.name in (*WRITES, *MOVES, *COPIES, "ioctl") and flight and flight.file is not None and call.name not in ("lseek", "_llseek"):
             raise Refused(f"{call}: the process ended within the call, so what it wrote isn't known")
         if call.name in UNSEEN:
             raise Refused(f"{call}: {UNSEEN[call.name]}")
@@ -401,6 +401,11 @@ class Tracing(Copying):
             self.resize(call, file, 0, Flight(grown=file.grown, changes=len(file.changed), copies=len(file.copied), version=flight.version, cuts=flight.cuts, kept=flight.kept))
         opened = Opened(file, "O_APPEND" in flags, bool(flags & THROUGH), writable, direct=bool(flags & DIRECT))
         process.table.put(call.result, opened, closes)
+        if not writable:
+            self.note_read(call, name, opened, flight)
+
+    def note_read(self, call, name, opened, flight):
+        """A file was opened for reading alone."""
 
     def make(self, call, name, _flight):
         """A file is made."""
@@ -676,8 +681,8 @@ class Tracing(Copying):
         """Moves the place of an opened file."""
         if flight.opened is None or call.failed() or call.result is None or flight.opened.file is MARKS:
             return
-        if flight.opened.at != call.result:
-            flight.opened.at = call.result
+        if flight.opened.at != call.moved_to():
+            flight.opened.at = call.moved_to()
             flight.opened.moved += 1
 
     def resize(self, call, file, size, flight):
@@ -802,6 +807,11 @@ class Tracing(Copying):
         if call.failed():
             raise Refused(f"{call}: a sync that fails leaves nothing that is known")
         self.end_synced(flight)
+
+    def end_range(self, call, process, _flight):
+        """A part of a file is written back by sync_file_range, which makes nothing durable."""
+        if self.mentioned in call.text:
+            self.agree_at_end(call, process)
 
     def end_synced(self, flight):
         """A sync has ended."""

@@ -6,13 +6,15 @@
 NAME is one of DESIGNS, all without one. Of each the text of `--again` is made. Then each image of each cut of at most N parts (4) is served, so
 that it is seen what the program does to just that image. Of that log each second image is made a plain file, without the server, and the
 program run on it; where a second cut has more than --most choices (32), as many are picked by chance. It has to end as the text says. It wants
-FUSE, strace, e2fsck, and the built program, which CRASHBPF names where it is another. It is no part of the gate.
+FUSE, strace, e2fsck, SQLite of Python, and the built program, which CRASHBPF names where it is another. It is no part of the gate.
 """
 import argparse
+import io
 import itertools
 import os
 import random
 import re
+import shutil
 import subprocess
 import sys
 import tempfile
@@ -26,16 +28,49 @@ import rooms
 
 rooms.enter()
 
-from commands.each.second_images import SecondImages, SeenImages
-from commands.each.second_log import SecondLog
+from commands.each.second_images import LaidImage, SecondImages, SeenImages
+from commands.each.second_log import NAME, SecondLog
 from commands.each.served_log import text_of
 from commands.each.served_mount import Mount
 from commands.each.served_server import ENDS, TOLD, answered, received, sent
 from commands.each.spot import Cases, fates_of_case
 from commands.each.step import is_last_cut
+from commands.record import named_layout
+from commands.shared import recording
 from notation import TOP
 
 EACH, RECORD, REPLAY = TOP / "commands/each/crashbpf-each", TOP / "commands/record/crashbpf-record", TOP / "examples/recovery/replay.py"
+FILES = TOP / "commands/record/crashbpf-files"
+# A database of SQLite: `write MODE` makes three commits, and `check MODE` asks for those that were acknowledged. In DELETE mode the last one may
+# be rolled back, since its unlink isn't synced.
+SQLITE = """\
+import os, sqlite3, sys
+act, mode = sys.argv[1:]
+def mark(name):
+    open(os.environ["RECORDING"] + "/marks", "a").write(f"0 {name}\\n")
+def write():
+    it = sqlite3.connect(os.environ["FILES"] + "/db", isolation_level=None)
+    for words in (f"PRAGMA journal_mode={mode}", "PRAGMA synchronous=FULL", "CREATE TABLE t (n, x)"):
+        it.execute(words)
+    mark("made")
+    for number in (1, 2, 3):
+        it.execute("INSERT INTO t VALUES (?, hex(zeroblob(500)))", (number,))
+        mark(f"commit-{number}")
+    os._exit(0)
+def check(marks):
+    if not os.path.exists("db"):
+        return marks > 1
+    it = sqlite3.connect("db", isolation_level=None)
+    try:
+        if it.execute("PRAGMA integrity_check").fetchall() != [("ok",)]:
+            return 1
+        return len(it.execute("SELECT n FROM t").fetchall()) < marks - 2 if marks > 1 else 0
+    except sqlite3.Error:
+        return 3 if marks > 1 else 0
+    finally:
+        it.close()
+sys.exit(write() if act == "write" else check(int(os.environ["CRASH_MARKS"])))
+"""
 SECOND = re.compile(
     r"cut (?P<cut>\d+) choice (?P<choice>\S+) then cut (?P<then>\d+) choice (?P<choice2>\S+) marks \d+ case \d+ (?P<ending>.+?)"
     r" kept (?P<kept>\S+) then (?P<kept2>\S+)(?: among (?P<among>\S+) then (?P<among2>\S+))? free \d+ then \d+ sync \S+"
@@ -44,17 +79,39 @@ RUNNERS = 4
 
 
 class Design(NamedTuple):
-    """A log and a program: how the log is made in a folder, its name, the number of its sectors, the first cut, and the words of the program."""
+    """A log and a program: how the log is made in a folder, its name, the number of its sectors, the first cut, and the words of the program;
+    the folder of the recording, where its files have names."""
 
     make: object
     log: str
     sectors: int
     first: int
     program: tuple
+    folder: str = ""
 
 
 def recorded(folder):
     subprocess.run([RECORD, "made", "--", REPLAY, "write"], cwd=folder, check=True, capture_output=True)
+
+
+def of_sqlite(mode):
+    """Returns what records SQLite in a mode."""
+
+    def make(folder):
+        Path(folder, "sqlite.py").write_text(SQLITE)
+        words = [RECORD, "--files", "ext4", "--skip", "db-shm", "made", "--", "python3", f"{folder}/sqlite.py", "write", mode]
+        subprocess.run(words, cwd=folder, check=True, capture_output=True)
+
+    return Design(make, "made/writes.log", 0, 0, ("python3", "../sqlite.py", "check", mode), "made")
+
+
+def named_replay(*words):
+    """Returns the store of replay.py with names and sizes."""
+
+    def make(folder):
+        subprocess.run([RECORD, "--files", "ext4", "made", "--", REPLAY, "write"], cwd=folder, check=True, capture_output=True)
+
+    return Design(make, "made/writes.log", 0, 0, (str(REPLAY), "check", "store", *words), "made")
 
 
 def traced(name):
@@ -65,16 +122,19 @@ def traced(name):
 DESIGNS = {
     "replay": Design(recorded, "made/writes.log", 48, 0, (str(REPLAY), "check", "{}")),
     "replay-sync": Design(recorded, "made/writes.log", 48, 0, (str(REPLAY), "check", "{}", "sync")),
+    "replay-named": named_replay(),
+    "sqlite-delete": of_sqlite("DELETE"),
+    "sqlite-wal": of_sqlite("WAL"),
     "ext4": Design(traced("right"), "right.log", 4096, 6, (str(TOP / "examples/recovery/ext4"), "{}")),
     "e2fsck": Design(traced("right"), "right.log", 4096, 6, ("sh", "-c", 'e2fsck -fy "$0" >/dev/null 2>&1; e2fsck -fn "$0"', "{}")),
 }
 
 
-def ended(program, path, marks):
-    """What a program ends in on a file."""
+def ended(program, path, marks, folder=None):
+    """What a program ends in on a file, or in a folder."""
     words = [str(path) if it == "{}" else it for it in program]
-    surroundings = {**os.environ, "CRASH_MARKS": str(marks), "CRASH_IMAGE": str(path), "E2FSCK_TIME": "1000000000"}
-    return f"answer {subprocess.run(words, env=surroundings, stdin=subprocess.DEVNULL, capture_output=True).returncode} codes -"
+    surroundings = {**os.environ, "CRASH_MARKS": str(marks), "CRASH_IMAGE": str(path), "CRASH_SERVED": os.path.dirname(path), "E2FSCK_TIME": "1000000000"}
+    return f"answer {subprocess.run(words, env=surroundings, cwd=folder, stdin=subprocess.DEVNULL, capture_output=True).returncode} codes -"
 
 
 class Text:
@@ -99,17 +159,25 @@ class Trial:
     def __init__(self, design, room, given):
         self.design, self.room, self.given, self.chance, self.runs = design, room, given, random.Random(given.seed), 0
         design.make(room)
-        words = [EACH, design.log, "--sectors", str(design.sectors), "--from", str(design.first), "--by", "write", "--bound", "any", "--again", "--", *design.program]
+        self.sectors, self.base, self.skipped, asked = design.sectors, None, (), [design.log, "--sectors", str(design.sectors)]
+        if design.folder:
+            known = recording.read(f"{room}/{design.folder}")
+            self.sectors, self.base, self.skipped, asked = known.sectors, known.base and known.path(known.base), known.skipped, [design.folder]
+            self.program = [it.replace("../", f"{room}/") for it in design.program]
+            self.files = [str(FILES), known.path(known.map), "{}", "--", *self.program]
+        else:
+            self.program = self.files = design.program
+        words = [EACH, *asked, "--from", str(design.first), "--by", "write", "--bound", "any", "--again", "--", *self.program]
         done = subprocess.run(words, cwd=room, capture_output=True, text=True, env={**os.environ, "E2FSCK_TIME": "1000000000"})
         print(done.stdout.splitlines()[-1] if done.stdout else done.stderr, flush=True)
         self.text = Text(done.stdout)
-        self.images = SeenImages(Path(room, design.log), None, design.sectors, True)
+        self.images = SeenImages(Path(room, design.log), self.base, self.sectors, True)
 
     def differs(self):
         """Yields what ends otherwise than the text says."""
         if not self.text.is_whole:
             yield "the text isn't complete"
-        mount = Mount(self.room, self.images, 1, notes=())
+        mount = Mount(self.room, self.images, 1, notes=self.skipped)
         try:
             for cut in range(self.design.first, len(self.images.entries) + 1):
                 parts = self.images.at_risk(cut)
@@ -124,7 +192,7 @@ class Trial:
         channel = mount.channels[0]
         sent(channel, TOLD.pack(0, cut) + text_of(choice).encode())
         received(channel)
-        ending = ended(self.design.program, f"{mount.path}/00/image", self.images.marks[cut])
+        ending = ended(self.files, f"{mount.path}/00/image", self.images.marks[cut])
         sent(channel, TOLD.pack(0, ENDS))
         return ending, answered(received(channel))[2]
 
@@ -136,7 +204,9 @@ class Trial:
             yield f"cut {cut} choice {text_of(choice)} ends in {ending}, and the text has {said}"
         if not ending.startswith("answer 0 "):
             return
-        log = SecondLog(content)
+        log = SecondLog(content[NAME:], self.images.image_of(cut, choice))
+        if log.why:
+            yield f"cut {cut} choice {text_of(choice)} isn't explored: {log.why}"
         images = SecondImages(self.images, cut, log, "")
         tasks = [(number, fates) for number in range(len(log.entries) + 1) if log.entries and log.is_last_cut(number) for fates in self.choices(images, number)]
         with ThreadPoolExecutor(RUNNERS) as pool:
@@ -162,11 +232,23 @@ class Trial:
         turn, (number, fates) = numbered
         image = images.image_of(cut + number, {**choice, **fates})
         path = Path(self.room, f"plain.{turn}")
+        if images.view is not None:
+            return self.in_folder(LaidImage(image), path, self.images.marks[cut])
         path.write_bytes(b"".join(map(image.sector, range(images.sectors))))
         try:
-            return ended(self.design.program, path, self.images.marks[cut])
+            return ended(self.program, path, self.images.marks[cut])
         finally:
             path.unlink()
+
+    def in_folder(self, image, path, marks):
+        """What the program ends in on the files of an image, laid out in a folder."""
+        path.mkdir()
+        content = b"".join(map(image.sector, range(image.sectors)))
+        try:
+            named_layout.Image(io.BytesIO(content), image.laid.found).lay_out(path)
+            return ended(self.program, path, marks, path)
+        finally:
+            shutil.rmtree(path)
 
 
 def main():

@@ -81,6 +81,10 @@ def script(name, packages, folder, words="", base="", options="", varies=False, 
     return Row(name, packages, ("sh", at / "program.sh", *words.split()), f"sh {at / 'check.sh'}", tuple(options.split()), made, bound, varies)
 
 
+def is_store(row):
+    return row.check.startswith(str(KV))
+
+
 def seeded(row, seed):
     """Returns the row of a store with another seed."""
 
@@ -176,7 +180,7 @@ def asked(row, keep, options_more):
     with tempfile.TemporaryDirectory(prefix="crashbpf-found.") as room:
         out = Path(keep or room, f"{row.name}.json")
         bound = ("--bound", row.bound) if row.bound else ()
-        test = LOADED if row.check.startswith(str(KV)) else TEST
+        test = LOADED if is_store(row) else TEST
         words = [test, *options_more, *bound, "--no-lines", "--json", out, *options(row, room), "--check", row.check, "--", *row.program]
         out.unlink(missing_ok=True)
         done = subprocess.run(words, env=surroundings(room), cwd=TOP, stdin=subprocess.DEVNULL, capture_output=True, text=True, errors="replace", timeout=SECONDS)
@@ -327,7 +331,7 @@ def main():
     rows = [it for it in ROWS if is_asked(it.name, given.names)]
     if not given.seeds:
         return make_rows(rows, keep, more, given.store) > 0
-    for row in rows:
+    for row in filter(is_store, rows):
         try_seeds(row, given.seeds, keep, more)
     return 0
 

@@ -13,8 +13,8 @@ crashbpf-record --guest. The guest has this machine's programs, so they are thos
 
 Without ROW these are the rows of which a case fails by examples/found/found.json. A crash is seldom where it hurts, so calls that write,
 sync or change names take longer here, by strace. Meanwhile bytes are written out, as a kernel may do at any time: sync_file_range asks for
-it here, and a clock of the guest there. Of some rows the bytes wait as long as they do by default, and commits come each second in place of
-each fifth. Which rows these are, and which calls take longer, stands in PACES.
+it here, and a clock of the guest there. Of some rows the bytes wait as long as they do by default. Commits come each second, or each
+fifth as by default. Which rows these are, and which calls take longer, stands in PACES.
 
 A line for each row has how many images were judged, how many differ, and with which status the check ends how often. Once an image
 of a row fails, or 400 are right, the others are left out, but for --all. With --store found.json has what was seen. The status is 1 where no image of a row fails.
@@ -60,16 +60,22 @@ ROW_SECONDS = 1500
 
 @dataclass(frozen=True)
 class Pace:
-    """How a row is run: how long each of some calls takes, in milliseconds; whether only those on this file do; and whether the
-    kernel writes bytes out at once, or leaves them to the commits."""
+    """How a row is run: how long each of some calls takes, in milliseconds; whether only those on this file do; whether the kernel writes
+    bytes out at once, or leaves them to the commits; whose bytes these are, here, by their files' names; and the seconds between commits, of
+    which the default is 5."""
 
     slow: int = 400
     calls: str = CALLS
     file: str = ""
     is_late: bool = False
+    written: str = "*"
+    each: int = 1
 
 
 PACES = {
+    # (the log is overwritten before the database is synced)
+    "kyoto-nommap": Pace(written="*.wal", each=5),
+    "sqlite-delete-normal": Pace(each=5),
     "git": Pace(1200, "rename,renameat,link,linkat", is_late=True),
     "git-all": Pace(0),
     "dpkg-unsafe": Pace(0, is_late=True),
@@ -111,7 +117,7 @@ def lines_of(row, top, writes_out):
     """Returns the lines of a row in the script. `writes_out` are those by which bytes are written out soon, or wait for a commit."""
     files = f"{top}/files/{row.name}"
     return [
-        f"mount -o remount,commit={1 if pace(row).is_late else 5} {top} || exit 1",
+        f"mount -o remount,commit={pace(row).each} {top} || exit 1",
         *writes_out(row, files),
         f"sync -f {top} && mark {row.name}:begin",
         f"FILES={files} timeout {ROW_SECONDS} {shlex.join(map(str, words_of(row, files)))} || echo '{row.name}: status' $?",
@@ -128,7 +134,7 @@ def in_guest(row, files):
 
 def here(row, files):
     """The lines by which bytes are written out soon on this machine."""
-    return [] if pace(row).is_late else [f"{shlex.join([sys.executable, str(WRITER), files])} & writer=$!"]
+    return [] if pace(row).is_late else [f"{shlex.join([sys.executable, str(WRITER), files, pace(row).written])} & writer=$!"]
 
 
 def laid(rows, base):

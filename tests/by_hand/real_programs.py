@@ -12,8 +12,8 @@ A commit is `lost` where fewer are there than marks before the cut. The images a
 has to count as many. Equal images with as many marks are judged once. One image of each row is judged by crashbpf-files too,
 which has to say the same.
 
-With `--every` each row that is no guest's is judged by `crashbpf-each --bound any --stop-at-failing` in place of that: how often the program
-was run, and the last line of the text. With NAME only rows whose name has it are made; KERNEL may be empty then.
+With `--every` each row that is no guest's is judged by `crashbpf-each --stop-at-failing` in place of that, by one runner: how often the program
+was run, how many seconds of the processor that took in all, and the last line of the text. With NAME only rows whose name has it are made; KERNEL may be empty then.
 
 It wants strace, sqlite3, liblmdb-dev, libleveldb-dev, a C compiler, and the built program, which CRASHBPF names where it is another;
 with KERNEL what `guest` wants, and e2fsprogs.
@@ -25,6 +25,7 @@ import hashlib
 import io
 import os
 import re
+import resource
 import shutil
 import subprocess
 import sys
@@ -350,10 +351,17 @@ def every_loss(out, row):
     first = next((at for at, it in enumerate(entries) if it.text == b"begin"), 0)
     before = sum(bool(it.flags & MARK) and not it.text.startswith(b"commit-") for it in entries)
     words = [EACH, "-j", "1", "--bound", "any", "--stop-at-failing", out, "--from", str(first), "--", "/usr/bin/python3", Path(__file__).resolve(), "--found", row.found.__name__, str(before)]
+    begun = taken()
     with tempfile.TemporaryDirectory() as room:
         done = subprocess.run(words, cwd=room, capture_output=True, text=True, env={**os.environ, "CRASHBPF": str(PROGRAM)}, stdin=subprocess.DEVNULL)
     ran_often = re.search(r"was run (\d+) times", done.stderr)
-    print(f"| {row.name} | {ran_often[1] if ran_often else done.stderr.strip()} | {(done.stdout.splitlines() or [''])[-1]} |", flush=True)
+    print(f"| {row.name} | {ran_often[1] if ran_often else done.stderr.strip()} | {taken() - begun:.1f} s | {(done.stdout.splitlines() or [''])[-1]} |", flush=True)
+
+
+def taken():
+    """The seconds of the processor that all programs took that were run here."""
+    it = resource.getrusage(resource.RUSAGE_CHILDREN)
+    return it.ru_utime + it.ru_stime
 
 
 def found_here(name, before):

@@ -126,6 +126,57 @@ def test_replay(folder):
     return found + differs(f"cured: {printed} {said}", (status, printed.endswith(" complete\n")), (0, True))
 
 
+# A file that is replaced by way of a journal. Recovery makes the new file, renames it and removes the journal, and syncs as it is told.
+REPLACED = """\
+import os, sys
+act, syncs = sys.argv[1], sys.argv[2:]
+def sync(path):
+    if not syncs or path in syncs:
+        file = os.open(path, os.O_RDONLY)
+        os.fsync(file)
+        os.close(file)
+def put(path, content):
+    with open(path, "wb") as file:
+        file.write(content)
+    sync(path)
+def replay():
+    if os.path.exists("journal") and len(open("journal", "rb").read()) == 1000:
+        put("new", open("journal", "rb").read())
+        os.rename("new", "data")
+        sync(".")
+        os.unlink("journal")
+if act == "write":
+    os.chdir(os.environ["FILES"])
+    put("journal", bytes([1]) * 1000)
+    sync(".")
+    with open(os.environ["RECORDING"] + "/marks", "a") as marks:
+        marks.write("0 commit\\n")
+    replay()
+    sys.exit()
+syncs = syncs or ["nothing"]
+replay()
+found = open("data", "rb").read() if os.path.exists("data") else bytes(1000)
+sys.exit(found not in [bytes([it]) * 1000 for it in range(int(os.environ["CRASH_MARKS"]), 2)])
+"""
+
+
+def test_names(folder):
+    """Of recorded files what recovery makes, renames and removes is a second log too, and each sync that it lacks is found."""
+    if not shutil.which("strace"):
+        print("not run: files that are recorded, which needs strace")
+        return []
+    Path(folder, "replaced.py").write_text(REPLACED)
+    program = ["python3", f"{folder}/replaced.py"]
+    done = subprocess.run([RECORD, "--files", "ext4", "made", "--", *program, "write"], cwd=folder, capture_output=True, text=True)
+    found = differs(f"the recording: {done.stderr}", done.returncode, 0)
+    for words, wanted in ((["new", "."], 0), (["."], 1), (["new"], 0)):
+        usual = ["made", "--bound", "any", "--again"]
+        status, printed, said = each(folder, program=[*program, "check", *words], usual=usual)
+        found += differs(f"with the syncs {words}: {printed[-600:]} {said}", (status, " unexplored 0 " in printed), (wanted, True))
+        found += differs("the first level", " failing 0 " in next(it for it in printed.splitlines() if it.startswith("cuts ")), True)
+    return found + differs("what is left", left(folder), [])
+
+
 def test_recover(folder):
     """Of a command that recovers it is cut, and of the check after it nothing is."""
     put(folder, "import os, sys\nfile = os.open(sys.argv[1], os.O_RDWR)\nfound = os.pread(file, 1, 4608)[0]\nos.pwrite(file, bytes(512), 4608)\nos.fsync(file)\nsys.exit(found == 7)\n", SMALL)
@@ -180,7 +231,7 @@ def test_refused(_folder):
 BEGUN = "import os, sys\nfile = os.open(sys.argv[1], os.O_RDWR)\nfirst = os.pread(file, 1, 4095)[0] != 9\n"
 HOSTILE = {
     "recovery that never ends": ("if first: os.pwrite(file, bytes([9]), 4095)\nelse:\n while True: os.pwrite(file, b'1', 0)", ["--timeout", "1", "--stop-at-failing", "--from", "8"], " out of time kept "),
-    "a million syncs": ("os.pwrite(file, bytes([9]), 4095)\nfor it in range(10 ** 6 if first else 1): os.fsync(file)", ["--timeout", "100", "--from", "8"], " written 1 unexplored 0 cuts 2 cases 3 failing 0 "),
+    "a hundred thousand syncs": ("os.pwrite(file, bytes([9]), 4095)\nfor it in range(10 ** 5 if first else 1): os.fsync(file)", ["--timeout", "100", "--from", "8"], " written 1 unexplored 0 cuts 2 cases 3 failing 0 "),
     "ten thousand writes": ("os.pwrite(file, bytes([9]), 4095)\nfor it in range(10 ** 4 if first else 1): os.pwrite(file, b'1', 0); os.fsync(file)", ["--from", "8"], "made more than 4096 writes"),
     "beyond the end": ("os.pwrite(file, bytes([9]), 5120)", ["--from", "8"], "wrote beyond the end of its image"),
     "another size": ("os.ftruncate(file, 4096); os.ftruncate(file, 5120)", ["--from", "8"], "changed the size of its image"),
@@ -200,7 +251,7 @@ def hostile(name):
         status, printed, said = each(folder, "-j", "2", *words, usual=USUAL)
         found = differs(f"what is said, status {status}: {printed[-400:]} {said[-300:]}", wanted in printed + said, True)
         is_clean = status == 0
-        found += differs("whether it is clean", is_clean, name == "a million syncs")
+        found += differs("whether it is clean", is_clean, name == "a hundred thousand syncs")
         return found + differs("what is left", left(folder), [])
 
     return check
@@ -211,6 +262,7 @@ ROWS = {
     "options": test_options,
     "programs by chance": test_random,
     "a replay": test_replay,
+    "files with names": test_names,
     "a command that recovers": test_recover,
     "a program that only looks": test_looks,
     "a run that is resumed": test_resumed,

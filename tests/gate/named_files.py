@@ -88,6 +88,7 @@ TOP_FOLDER = "openat(AT_FDCWD</elsewhere>, '/r/files', O_RDONLY|O_DIRECTORY) = 9
 IN = "mkdir('/r/files/in', 0777) = 0\n"
 WRITE = "write(3<a>, 'A*512', 512) = 512\n"
 THREAD = "clone(child_stack=0x7f, flags=CLONE_VM|CLONE_FILES|CLONE_THREAD) = 101\n"
+READ = "openat(AT_FDCWD</elsewhere>, '/r/files/a', O_RDONLY <unfinished ...>\n"
 TWO_AT_ONCE = THREAD + "openat(AT_FDCWD</elsewhere>, '/r/files/b', O_RDWR|O_CREAT, 0644 <unfinished ...>\n101 " + OPEN + "<... openat resumed>) = 4<b>\n101 +++ exited with 0 +++\n"
 SWAPPED = "renameat2(AT_FDCWD</r/files>, 'a', AT_FDCWD</r/files>, 'b', RENAME_EXCHANGE) = 0\n"
 SYNCED = OPEN + WRITE + TOP_FOLDER + "fsync(9</r/files>) = 0\nfsync(3<a>) = 0\n"
@@ -166,6 +167,9 @@ ROWS = [
     # (another file may be gone that had the name before, unless it was synced itself and that has names durable)
     ("fsync of a file whose name another had", OPEN + "rename('/r/files/a', '/r/files/c') = 0\n" + OPEN.replace("= 3", "= 5") + "fsync(5<a>) = 0", *[[*MADE, "names c=0", "names a=1 c=0", "flush"]] * 2, [*MADE, "names c=0", "names a=1 c=0", "names a=1", "names a=1 c=0"]),
     ("fsync of a file whose name another had that was synced", OPEN + "fsync(3<a>) = 0\nunlink('/r/files/a') = 0\n" + OPEN.replace("= 3", "= 5") + "fsync(5<a>) = 0", *[[*MADE, "flush", "names", "names a=1", "flush"]] * 2, [*MADE, "names", "names a=1"], None, [*MADE, "flush", "names", "names a=1", "flush"]),
+    # (it isn't known of which file the descriptor is)
+    ("fsync by a descriptor that was opened at once with a rename", OPEN + B + THREAD + READ + "101 rename('/r/files/b', '/r/files/a') = 0\n<... openat resumed>) = 5<a>\nfsync(5<a>) = 0\n101 +++ exited with 0 +++", *[[*MADE, "names a=0 b=1", "names a=1"]] * 2, [*MADE, "names b=1", "names a=0 b=1", "names a=1"]),
+    ("fsync by a descriptor that was opened within a rename", OPEN + B + THREAD + "101 rename('/r/files/b', '/r/files/a' <unfinished ...>\n" + READ.replace(" <unfinished ...>", ") = 5<a>") + "101 <... rename resumed>) = 0\nfsync(5<a>) = 0\n101 +++ exited with 0 +++", *[[*MADE, "names a=0 b=1", "names a=1"]] * 2, [*MADE, "names b=1", "names a=0 b=1", "names a=1"]),
     ("fsync of a file in a new folder", IN + OPEN.replace("files/a", "files/in/a").replace("<a>", "<in/a>") + "rename('/r/files/in', '/r/files/out') = 0\nfsync(3<out/a>) = 0", *[["names in=/1", "names 1/a=0 in=/1", "names 1/a=0 out=/1", "fua names 1/a=0 in=/1"]] * 2, ["names in=/1", "names 1/a=0", "names out=/1"], None, ["names in=/1", "names 1/a=0", "names out=/1", "fua names 1/a=0", "fua names in=/1", "names out=/1"]),
 ]
 
@@ -450,7 +454,9 @@ def model_of(steps, table, looked=None, unit=SECTOR):
         elif what in ("write", "hole"):
             model.write(*words)
         elif what == "through":
-            model.synced(model.seen(words[0], model.write(*words), data=True, until=words[1] + len(words[2])))
+            model.through(*words)
+        elif what == "part":
+            model.write_out(*words)
         elif what == "resize":
             model.resize(*words)
         elif what == "allocate":
@@ -520,6 +526,8 @@ PLANS = {
     "a part is synced within the durable size": [("base", A, 600), ("folder", D), ("write", 0, 512, b"x" * 500), ("through", 0, 0, b"y" * 10), ("mark",)],
     "a part is synced in the middle of what grew": [("base", A, 100), ("folder", D), ("write", 0, 100, b"x" * 5000), ("make", (0, b"e")), ("through", 0, 4000, b"y" * 10), ("mark",)],
     "a part is synced past a size that was given at once": [("base", A, 100), ("resize", 0, 700), ("folder", D), ("through", 0, 0, b"y" * 10), ("mark",), ("write", 0, 700, b"x" * 100), ("through", 0, 0, b"y" * 10), ("mark",)],
+    "a part is written back, and what stands before it isn't": [("base", A, 100), ("write", 0, 4096, b"x" * 4600), ("part", 0, 8192), ("mark",), ("through", 0, 8700, b"y" * 10), ("mark",), ("sync", 0), ("mark",)],
+    "a part is synced, and what stands before it isn't": [("make", A), ("write", 0, 0, b"x" * 4200), ("through", 0, 4200, b"y" * 10), ("mark",), ("resize", 0, 4100), ("mark",)],
     "a gap": [("base", A, 100), ("write", 0, 4200, b"x" * 100), ("mark",), ("write", 0, 0, b"y" * 10), ("through", 0, 100, b"y" * 10), ("mark",)],
     "growth that is taken back": [("base", A, 0), ("folder", D), ("write", 0, 0, b"x" * 100), ("resize", 0, 0), ("sync data", 0), ("mark",), ("sync", 0), ("mark",)],
     "growth that is taken back in part": [("base", A, 100), ("write", 0, 100, b"x" * 5000), ("folder", D), ("resize", 0, 4096), ("sync data", 0), ("mark",), ("make", (0, b"e")), ("write", 0, 4096, b"y" * 10), ("sync data", 0), ("mark",)],

@@ -42,6 +42,8 @@ COMMITS = Run([it for number in range(1, 7) for it in (W(number, 1, number), W(0
 WORDS, USUAL = ["disk.log", "--sectors", "4", "--bound", "any"], ["disk.log", "--sectors", "4"]
 OF_COMMITS = ["disk.log", "--sectors", "8", "--bound", "any"]
 RECORDS = "crashbpf-each.known"
+# Another user.
+NOBODY = 65534
 # How many rows are tried side by side.
 AT_A_TIME = 3
 
@@ -234,6 +236,60 @@ def test_unserved(folder):
     return found
 
 
+# What runs a program as another user, with a device that each user may open; with a word before it without fusermount3.
+AS_USER = """\
+mknod -m 666 fuse c 10 229 && mount --bind fuse /dev/fuse && rm fuse || exit 1
+[ "$1" = with ] || mount --bind /dev/null "$(command -v fusermount3)" || exit 1
+shift
+exec "$@"
+"""
+
+
+# What stands in place of crashbpf: it exports the same images always, or ends in another way.
+SAME_AGAIN = """\
+#!/bin/sh
+[ "$1" = export ] || exec crashbpf "$@"
+[ -e text ] || crashbpf "$@" >text
+cat text
+"""
+ENDS_EARLY = """\
+#!/bin/sh
+[ "$1" = export ] || exec crashbpf "$@"
+crashbpf "$@" | head -c 20
+exit 7
+"""
+
+
+def test_asked(folder):
+    """Where crashbpf wants what is known, or its text is cut off, it is refused."""
+    put(folder)
+    found = []
+    for text, wanted in ((SAME_AGAIN, "wants images that records tell"), (ENDS_EARLY, "what crashbpf export printed is cut off")):
+        Path(folder, "other").write_text(text)
+        Path(folder, "other").chmod(0o755)
+        done = subprocess.run([EACH, *WORDS, "--", "python3", "judge.py", "{}"], cwd=folder, capture_output=True, text=True, stdin=subprocess.DEVNULL, env={**os.environ, "CRASHBPF": "./other"})
+        found += differs(f"what is said: {done.stderr}", (done.returncode, done.stdout, wanted in done.stderr), (2, "", True))
+        Path(folder, RECORDS).unlink(missing_ok=True)
+    return found
+
+
+def test_users(folder):
+    """Without root the mount is made by fusermount3, and without that in a user namespace."""
+    if os.getuid() != 0 or not shutil.which("fusermount3") or subprocess.run(["test", "-r", EACH], user=NOBODY, group=NOBODY, extra_groups=[]).returncode:
+        print("not run: mounts of another user, which need root, fusermount3, and scripts that such a user may read")
+        return []
+    put(folder)
+    os.chmod(folder, 0o777)
+    runs, found = Path(folder, "runs"), []
+    runs.mkdir()
+    runs.chmod(0o777)
+    for way in ("with", "without"):
+        words = ["unshare", "-m", "sh", "-c", AS_USER, "sh", way, "setpriv", f"--reuid={NOBODY}", f"--regid={NOBODY}", "--clear-groups"]
+        done = subprocess.run([*words, EACH, *WORDS, "--", "python3", "judge.py", "{}"], cwd=folder, capture_output=True, text=True, stdin=subprocess.DEVNULL, env={**os.environ, "TMPDIR": str(runs)})
+        found += differs(f"{way} fusermount3: {done.stderr}", (done.returncode, done.stdout), (1, expected(SMALL, ANY, sum_in(done.stdout))))
+    return found + differs("what is left", left(folder), [])
+
+
 def test_bounds(folder):
     """Without a bound it is every loss, but with an option of images, which is said; and --runs ends the search of all cases."""
     put(folder)
@@ -388,6 +444,8 @@ ROWS = {
     "where there is no FUSE": test_unserved,
     "options": test_options,
     "bounds": test_bounds,
+    "other users": test_users,
+    "what is asked of crashbpf": test_asked,
     "a server that is killed": test_killed,
     **{name: hostile(name) for name in HOSTILE},
     "a disk that is full": test_full,

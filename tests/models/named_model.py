@@ -257,6 +257,23 @@ class Model:
         self.crash()
         return own
 
+    def through(self, number, start, data):
+        """Bytes are written, and are durable then."""
+        own = self.write(number, start, data)
+        self.write_out(number, start)
+        self.synced(self.seen(number, own, data=True, until=start + len(data)))
+
+    def write_out(self, number, start):
+        """A part of a file is written back by itself: by `ordered` new blocks before it that aren't durable show zeros, or their bytes."""
+        file, time = self.files[number], len(self.files[number].sectors) - 1
+        needs = [it for (when, _), its in zip(file.sizes, file.needs) if when == time for it in its.items()]
+        for at, version in needs if self.table == "ordered" else ():
+            it = file.sector(at)
+            if it.sure < version and at < start // BLOCK * self.each:
+                for content in (bytes(self.unit), it.versions[-1]):
+                    file.put(at, content)
+        self.crash()
+
     def sized(self, file, size, needs):
         file.sizes.append(size)
         file.needs.append(needs)

@@ -135,6 +135,7 @@ CALLS = [
     ("sync", "all is durable", "sync() = 0", "flush"),
     ("syncfs", "all is durable", "syncfs(3<a>) = 0", "flush"),
     ("syncfs, of another file system", "nothing here", "syncfs(5</other/y>) = 0", ""),
+    ("_llseek", "nothing but the place", "_llseek(3<a>, 600, [600], SEEK_SET) = 0\nwrite(3<a>, 'A*512', 512) = 512", "bytes a 1-2; size a 1112"),
     ("sync_file_range", "nothing is durable", "sync_file_range(3<a>, 0, 512, SYNC_FILE_RANGE_WAIT_BEFORE|SYNC_FILE_RANGE_WRITE|SYNC_FILE_RANGE_WAIT_AFTER) = 0", ""),
     ("msync, without a mapping", "nothing", "msync(0x700000, 4096, MS_SYNC) = 0", ""),
     ("close", "nothing", "close(3<a>) = 0", ""),

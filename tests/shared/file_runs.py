@@ -24,7 +24,7 @@ def plan_of(chance):
         steps.append(("base", (0, b"a"), size))
         names[0, b"a"] = ("file", 0)
         sizes.append(size)
-    kinds = "mmwwwwwthrruclsssffSbeddDxk" if chance.random() < 0.7 else "mmrrrrulDDDDsSk"
+    kinds = "mmwwwwwthrruclsssffSbeddDxkp" if chance.random() < 0.7 else "mmrrrrulDDDDsSk"
     for _ in range(chance.randint(2, 9)):
         kind = chance.choice(kinds)
         files = [it for it, held in names.items() if held[0] == "file"]
@@ -84,6 +84,8 @@ def plan_of(chance):
             flying = {it: count for it, count in flying.items() if it[0] != steps[-1][1]}
         elif kind == "f" and sizes:
             steps.append(("sync data", chance.randrange(len(sizes))))
+        elif kind == "p" and sizes:
+            steps.append(("part", chance.randrange(len(sizes)), chance.choice((0, 512, 4096))))
         elif kind == "S":
             steps.append(("sync folder", chance.choice(folders)))
         elif kind == "x" and chance.random() < 0.5:
@@ -328,6 +330,9 @@ class Texts:
         else:
             self.call(self.chance.choice((f"link({quoted(self.path(slot))}, {quoted(self.path(to))}) = 0", f"linkat({self.in_folder(slot)}, {self.in_folder(to)}, 0) = 0")))
         self.names[to] = self.names[slot]
+
+    def part(self, number, start):
+        self.call(f"sync_file_range({self.some(number)}, {start}, 512, SYNC_FILE_RANGE_WRITE) = 0")
 
     def sync(self, number):
         self.call(f"fsync({self.some(number)}) = 0")
