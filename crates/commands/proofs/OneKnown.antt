@@ -280,7 +280,7 @@ of_records law a value plain rs qs fs _ say h told.no_search_memory = refl
 of_text : FoundIsOne → (a : KnownAsked) (value plain : LogValue) (head : Option HeadValue) (fs : List KnownAt) (f : KnownRunFault) → FindsKnown a value plain head fs → RefusesOf a value plain f
     → IsOfMemory (records_refusal f).code
 of_text law a value plain head fs _ h (told.for_text f refused) = absurd (refused.none head (map ran_of h.runs) h.read.is)
-of_text law a value plain head fs f h (told.for_records f other runs read why) =
+of_text law a value plain head fs _ h (told.for_records f other runs read why) =
     let only = h.read.only other (map ran_of runs) read.is in
     of_records law a value plain h.runs runs fs f (say_same a plain h.runs runs (sym only.1)) h.finds why
 of_text law a value plain head fs _ h told.no_memory = refl
@@ -290,7 +290,7 @@ known_or_refusal : Below → FoundIsOne → (a : KnownAsked) (value : LogValue) 
     → ((g : KnownRunFault) → RefusesOf a value source.reads.read g → IsOfMemory (records_refusal g).code) → RefusesKnown a f → IsOfMemory (records_refusal f).code
 known_or_refusal below law a value _ short source rest (told.too_long long) = absurd (omega (arith, short, long))
 known_or_refusal below law a value _ short source rest (told.for_source r few why) = of_source below a.text a.settings value r source why
-known_or_refusal below law a value f short source rest (told.for_rest f other there few why) =
+known_or_refusal below law a value _ short source rest (told.for_rest f other there few why) =
     let same = same_log below.texts a.text a.settings other value there source in
     let plain = same_plain below.texts a.text a.settings other value there source in
     let by_value = subst (λ (v : LogValue). RefusesOf a v there.reads.read f) same why in

@@ -58,7 +58,7 @@ pub record AreNone (fs : List KnownAt) : Type 0 where
 zero_is_clean : (fs : List KnownAt) → 0 ≡ status_of (totals_of fs) → AreNone fs
 zero_is_clean fs is = by ((totals_of fs).failing == 0) (is_whole (totals_of fs)) refl refl is
   where
-    by : (a b : Bool) → ((totals_of fs).failing == 0) ≡ a → is_whole (totals_of fs) ≡ b → 0 ≡ (if not a then 1 else if b then 0 else 3) → AreNone fs
+    by : (a b : Bool) → ((totals_of fs).failing == 0) ≡ a → is_whole (totals_of fs) ≡ b → ◌≡◌ {A = ℕ} 0 (if not a then 1 else if b then 0 else 3) → AreNone fs
     by true true none whole status =
         let t = totals_of fs in
         let parts = both_true (is_told t) ((t.torn == 0) && (t.lost == 0)) whole in
@@ -73,7 +73,7 @@ pub record IsClean (f : KnownAt) : Type 0 where
   pub failing : length f.failing.items ≡ 0
   pub complete : is_complete f ≡ true
 
-not_stopped : (b : Bool) → (if b then 1 else 0) ≡ 0 → b ≡ false
+not_stopped : (b : Bool) → ◌≡◌ {A = ℕ} (if b then 1 else 0) 0 → b ≡ false
 not_stopped true none = absurd (omega (arith, none))
 not_stopped false none = refl
 
