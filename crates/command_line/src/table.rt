@@ -322,6 +322,7 @@ const STOP_AT_FAILING: Item = Item {
     id: "stop-at-failing",
     option: Some("stop-at-failing"),
     help: "With --known, end the search of each cut at its first\nfailing case",
+    excludes: &["programs"],
     needs: &["known"],
     ..FLAG
 };
@@ -331,6 +332,7 @@ const CASES: Item = Item {
     id: "cases",
     option: Some("cases"),
     help: "With --known, end the search of each cut after N cases,\n1 to 16777216 [default: all]",
+    excludes: &["programs"],
     needs: &["known"],
     ..NUMBER
 };
@@ -415,14 +417,28 @@ const KNOWN_OF_EXPORT: Item = Item {
 
 /// How many parts may be torn, beside records.
 const TORN_OF_EXPORT: Item = Item {
+    excludes: &["images"],
     needs: &["known"],
     ..TORN
 };
 
 /// How many parts may depart, beside records.
 const AT_MOST_OF_EXPORT: Item = Item {
+    excludes: &["images"],
     needs: &["known"],
     ..AT_MOST
+};
+
+/// Ends the search of a cut at its first failing case, beside no range of images.
+const STOP_OF_EXPORT: Item = Item {
+    excludes: &["images"],
+    ..STOP_AT_FAILING
+};
+
+/// Ends the search of a cut after some cases, beside no range of images.
+const CASES_OF_EXPORT: Item = Item {
+    excludes: &["images"],
+    ..CASES
 };
 
 /// The cut of an image.
@@ -687,8 +703,8 @@ Exit status: 0, or 2 for a refusal.",
         TORN_OF_EXPORT,
         AT_MOST_OF_EXPORT,
         KNOWN_OF_EXPORT,
-        STOP_AT_FAILING,
-        CASES,
+        STOP_OF_EXPORT,
+        CASES_OF_EXPORT,
     ],
 };
 

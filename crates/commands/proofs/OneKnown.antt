@@ -32,7 +32,6 @@ use Rattle.request.specs.declared.settings.Settings.{Settings}
 use Rattle.request.specs.Inputs.{head_given}
 use Rattle.request.specs.Source.{Recording, HasImages}
 use Rattle.known_runs.specs.declared.asked.KnownRunFault.{KnownRunFault}
-use Rattle.known_runs.specs.declared.totals.KnownTotals.{KnownTotals}
 use Rattle.known_runs.specs.Asked.{KnownAsked, asked_losses, asked_cuts}
 use Rattle.known_runs.specs.Number.{source_of}
 use Rattle.known_runs.specs.Totals.{count_stopped, totals_of, totals_text, status_of}

@@ -20,7 +20,6 @@ use Rattle.request.specs.declared.known.KnownWords.{KnownWords}
 use Rattle.request.specs.declared.settings.KnownTelling.{KnownTelling}
 use Rattle.request.specs.declared.settings.KnownTelling.TheVariants as telling
 use Rattle.request.specs.Known.{known_asked}
-use Rattle.known_runs.specs.declared.totals.KnownTotals.{KnownTotals}
 use Rattle.known_runs.specs.Asked.{KnownAsked, asked_losses, asked_cuts}
 use Rattle.known_runs.specs.Told.{TellsKnown, records_of}
 use Rattle.known_runs.specs.Totals.{count_stopped, is_told, is_whole, status_of, totals_of}
@@ -49,18 +48,19 @@ both_true true b is = (refl, is)
 both_true false b is = absurd (false≢true is)
 
 -- with status 0 nothing fails, and nothing is open, left out or pending
-pub record AreNone (t : KnownTotals) : Type 0 where
-  pub failing : t.failing ≡ 0
-  pub torn : t.torn ≡ 0
-  pub lost : t.lost ≡ 0
-  pub untold : t.untold ≡ 0
-  pub stopped : t.stopped ≡ 0
+pub record AreNone (fs : List KnownAt) : Type 0 where
+  pub failing : (totals_of fs).failing ≡ 0
+  pub torn : (totals_of fs).torn ≡ 0
+  pub lost : (totals_of fs).lost ≡ 0
+  pub untold : (totals_of fs).untold ≡ 0
+  pub stopped : (totals_of fs).stopped ≡ 0
 
-zero_is_clean : (t : KnownTotals) → 0 ≡ status_of t → AreNone t
-zero_is_clean t is = by (t.failing == 0) (is_whole t) refl refl is
+zero_is_clean : (fs : List KnownAt) → 0 ≡ status_of (totals_of fs) → AreNone fs
+zero_is_clean fs is = by ((totals_of fs).failing == 0) (is_whole (totals_of fs)) refl refl is
   where
-    by : (a b : Bool) → (t.failing == 0) ≡ a → is_whole t ≡ b → 0 ≡ (if not a then 1 else if b then 0 else 3) → AreNone t
+    by : (a b : Bool) → ((totals_of fs).failing == 0) ≡ a → is_whole (totals_of fs) ≡ b → 0 ≡ (if not a then 1 else if b then 0 else 3) → AreNone fs
     by true true none whole status =
+        let t = totals_of fs in
         let parts = both_true (is_told t) ((t.torn == 0) && (t.lost == 0)) whole in
         let told = both_true (t.untold == 0) (t.stopped == 0) parts.0 in
         let left = both_true (t.torn == 0) (t.lost == 0) parts.1 in
@@ -80,7 +80,7 @@ not_stopped false none = refl
 complete_by : (opened torn lost : ℕ) (stopped : Bool) → opened ≡ 0 → stopped ≡ false → torn ≡ 0 → lost ≡ 0 → ((opened == 0) && (not stopped && ((torn == 0) && (lost == 0)))) ≡ true
 complete_by opened torn lost stopped a b c d = λ i. (a i == 0) && (not (b i) && ((c i == 0) && (d i == 0)))
 
-clean_at : (fs : List KnownAt) (i : ℕ) (f : KnownAt) → AreNone (totals_of fs) → slice_get fs i ≡ Some f → IsClean f
+clean_at : (fs : List KnownAt) (i : ℕ) (f : KnownAt) → AreNone fs → slice_get fs i ≡ Some f → IsClean f
 unfolding totals_of
 clean_at fs i f none there = record {
   failing = none_of_sum (λ (g : KnownAt). length g.failing.items) fs i f (none_in_word _ none.failing) there;
@@ -112,7 +112,7 @@ tell_truth : FoundFail → CompleteHasAll → (a : KnownAsked) (bytes : List ℕ
 tell_truth fail all a bytes status h truth true_of = record {
   failing = λ i k n at c choice within own there its inside. fail asked (cut_in f k) records a.stops at truth n c choice within true_of (known i k at own there) its inside;
   complete = λ i k at choice within own there whole possible failing. all asked (cut_in f k) records a.stops at truth choice within true_of (known i k at own there) whole possible failing;
-  clean = λ zero_is i k choice within own possible. clean (zero_is_clean (totals_of h.tells.found) (sym zero_is ∙ h.tells.is)) i k choice within own possible;
+  clean = λ zero_is i k choice within own possible. clean (zero_is_clean h.tells.found (sym zero_is ∙ h.tells.is)) i k choice within own possible;
 }
   where
     f : Found
@@ -127,7 +127,7 @@ tell_truth fail all a bytes status h truth true_of = record {
     known : (i k : ℕ) (at : KnownAt) → slice_get (asked_cuts a f.value) i ≡ Some k → slice_get f.found i ≡ Some at → IsKnownAt asked (cut_in f k) records a.stops at
     known i k at own there = h.tells.finds.finds.are.each i k at own there
 
-    clean : AreNone (totals_of h.tells.found) → (i k : ℕ) (choice : Choice) → k ≤ length f.value.entries → slice_get (asked_cuts a f.value) i ≡ Some k → IsChoice a.settings.tears choice
+    clean : AreNone h.tells.found → (i k : ℕ) (choice : Choice) → k ≤ length f.value.entries → slice_get (asked_cuts a f.value) i ≡ Some k → IsChoice a.settings.tears choice
         → fails (truth_at truth (cut_in f k) choice) ≡ false
     clean none i k choice within own possible =
         let it = found_there (asked_cuts a f.value) f.found i k h.tells.finds.finds.are.count own in

@@ -1,5 +1,5 @@
 -- What is told of a log, and why nothing is.
-use Rattle.std.proofs.Common.{ℕ, ◌≡◌, ◌<◌, ◌≤◌, ◌^◌, ◌⊎◌, inl, inr, List, length, map, All, Option, refl, sym, subst, ap, ◌∙◌, arith}
+use Rattle.std.proofs.Common.{ℕ, true, ◌≡◌, ◌<◌, ◌≤◌, ◌^◌, ◌⊎◌, inl, inr, List, length, map, All, Option, refl, sym, subst, ap, ◌∙◌, arith}
 use Rattle.std.proofs.lemmas.Option.{slice_get-get_or}
 use Rattle.base.specs.declared.refusal.Refusal.{Refusal}
 use Rattle.base.specs.Refusals.{memory_refusal}
@@ -31,6 +31,7 @@ use Rattle.known_runs.specs.Asked.{KnownAsked, asked_losses, asked_cuts}
 use Rattle.known_runs.specs.Number.{source_of}
 use Rattle.known_runs.specs.Searched.{StopsFor, RefusesSearch, no_memory, too_many, RefusesText, no_text, no_text_memory}
 use Rattle.known_runs.specs.Told as told
+use Rattle.known_runs.specs.Wanted.{WantsOf, TellsWanted}
 
 -- the refusal of a text, as it was read of a log
 pub text_refused : (a : KnownAsked) (plain : LogValue) (s : Source) (f : KnownFault) → s ≡ source_of a plain → (f.cause ≡ cause.Memory) ⊎ IsRefused s a.records f → RefusesText a plain (told.text_fault f)
@@ -83,13 +84,50 @@ found_within asked log way cuts records stops found n are within k d lt =
 pub same_log : TextOfOneLog → (r : Recording) (s : Settings) (one other : LogValue) → IsRecorded r s one → IsRecorded r s other → one ≡ other
 same_log one_log r s one other is it = one_log r.text one other is.of_log it.of_log (is.device ∙ sym it.device) (is.initial ∙ sym it.initial)
 
-pub source_in : (r : Recording) (s : Settings) (value : LogValue) (images : ℕ) → IsLogOf r s value → images ≡ length (images_of s value) → images ≤ most_images s.extent → has_extent s.extent images ≡ true
-    → HasImages r s value
-source_in r s value images reads count few within = record {
-  reads = reads;
-  few = subst (λ (n : ℕ). n ≤ most_images s.extent) count few;
-  within = ap (λ (n : ℕ). has_extent s.extent n) (sym count) ∙ within;
+pub tells_known : (a : KnownAsked) (value plain : LogValue) (images : ℕ) (bytes : List ℕ) (status : ℕ) → TextOfOneLog → length a.records ≤ 2 ^ 30 → IsLogOf a.text a.settings value
+    → IsRecorded a.text a.settings plain → images ≡ length (images_of a.settings value) → images ≤ most_images a.settings.extent → has_extent a.settings.extent images ≡ true
+    → told.TellsOf a value plain bytes status → told.TellsKnown a bytes status
+tells_known a value plain images bytes status one_log short reads recorded count few within tells = record {
+  short = short;
+  value = value;
+  source = record {
+    reads = reads;
+    few = subst (λ (n : ℕ). n ≤ most_images a.settings.extent) count few;
+    within = ap (λ (n : ℕ). has_extent a.settings.extent n) (sym count) ∙ within;
+  };
+  tells = subst (λ (p : LogValue). told.TellsOf a value p bytes status) (same_log one_log a.text a.settings plain reads.read recorded reads.recorded) tells;
 }
+
+pub wants_known : (a : KnownAsked) (value plain : LogValue) (images : ℕ) (bytes : List ℕ) → TextOfOneLog → length a.records ≤ 2 ^ 30 → IsLogOf a.text a.settings value
+    → IsRecorded a.text a.settings plain → images ≡ length (images_of a.settings value) → images ≤ most_images a.settings.extent → has_extent a.settings.extent images ≡ true
+    → WantsOf a value plain bytes → TellsWanted a bytes
+wants_known a value plain images bytes one_log short reads recorded count few within wants = record {
+  short = short;
+  value = value;
+  source = record {
+    reads = reads;
+    few = subst (λ (n : ℕ). n ≤ most_images a.settings.extent) count few;
+    within = ap (λ (n : ℕ). has_extent a.settings.extent n) (sym count) ∙ within;
+  };
+  wants = subst (λ (p : LogValue). WantsOf a value p bytes) (same_log one_log a.text a.settings plain reads.read recorded reads.recorded) wants;
+}
+
+pub refuses_known : (a : KnownAsked) (value plain : LogValue) (images : ℕ) (f : KnownRunFault) → TextOfOneLog → length a.records ≤ 2 ^ 30 → (reads : IsLogOf a.text a.settings value)
+    → IsRecorded a.text a.settings plain → images ≡ length (images_of a.settings value) → images ≤ most_images a.settings.extent → has_extent a.settings.extent images ≡ true
+    → told.RefusesOf a value plain f → told.RefusesKnown a f
+refuses_known a value plain images f one_log short reads recorded count few within why =
+    told.for_rest f value
+    (record {
+      reads = reads;
+      few = subst (λ (n : ℕ). n ≤ most_images a.settings.extent) count few;
+      within = ap (λ (n : ℕ). has_extent a.settings.extent n) (sym count) ∙ within;
+    })
+    short (subst (λ (p : LogValue). told.RefusesOf a value p f) (same_log one_log a.text a.settings plain reads.read recorded reads.recorded) why)
+
+-- the records, as they are made
+pub those_records : (a : KnownAsked) (plain : LogValue) (runs : List KnownRun) (way : By) (records : RecordsValue) → way ≡ a.settings.by → records ≡ record { log = plain; way = way; runs = runs }
+    → records ≡ told.records_of a plain runs
+those_records a plain runs way records by is = is ∙ (λ i. record { log = plain; way = by i; runs = runs })
 
 pub of_search : (a : KnownAsked) (value plain : LogValue) (runs : List KnownRun) (records : RecordsValue) (r : Refusal) → records ≡ told.records_of a plain runs → told.NoneContradicts records
     → RefusesSearch a value records r → told.RefusesBy a value plain runs (fault.Refused r)

@@ -52,6 +52,7 @@ fn found_of<'t>(
     requires plan { plan.now ≡ plan_of question.now.options.now log.now }
     ensures inputs { IfOk result (λ f. f.inputs ≡ (source_of (asked_of question.now) plain.now).inputs) }
     ensures found { IfOk result (λ f. FindsKnown (asked_of question.now) log.now plain.now (option_map head_said f.head) f.found.items) }
+    ensures within { IfOk result (λ f. All (λ found. found.cut ≤ length log.now.entries) f.found.items) }
     ensures refused { IfErr result (RefusesOf (asked_of question.now) log.now plain.now) }
 {
     let file = question.recording.log();

@@ -1,6 +1,6 @@
 //! What records tell of a log.
 
-ghost use Rattle.std.specs.Prelude.{◌≡◌, ◌≤◌, All, IfOk, IfErr};
+ghost use Rattle.std.specs.Prelude.{◌≡◌, ◌≤◌, All, IfOk, IfErr, length};
 ghost use Rattle.losses.specs.FoundCases.{most_cases};
 ghost use Rattle.known.specs.Records.{IsRun};
 ghost use Rattle.known.specs.Found.{AreKnown, cases_in};
@@ -63,6 +63,7 @@ fn search_by(
     requires plan { plan.now ≡ plan_of question.now.options.now log.now }
     ensures found { IfOk result (λ found. AreKnown (asked_losses (asked_of question.now)) log.now question.now.options.now.by (asked_cuts (asked_of question.now) log.now) records.now question.now.stops found.items) }
     ensures few { IfOk result (λ found. cases_in found.items ≤ most_cases) }
+    ensures within { IfOk result (λ found. All (λ f. f.cut ≤ length log.now.entries) found.items) }
     ensures refused { IfErr result (RefusesSearch (asked_of question.now) log.now records.now) }
 {
     let (options, cuts) = (question.options, question.options.cuts());
@@ -97,6 +98,7 @@ pub(crate) fn find_by(
     requires plan { plan.now ≡ plan_of question.now.options.now log.now }
     requires runs { All (IsRun plain.now question.now.options.now.by) runs.now }
     ensures found { IfOk result (λ found. FindsBy (asked_of question.now) log.now plain.now runs.now found.items) }
+    ensures within { IfOk result (λ found. All (λ f. f.cut ≤ length log.now.entries) found.items) }
     ensures refused { IfErr result (RefusesBy (asked_of question.now) log.now plain.now runs.now) }
 {
     let Ok(records) = KnownRecords::new(alloc, plain, question.options.by(), runs) else {
