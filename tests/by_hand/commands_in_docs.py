@@ -68,6 +68,7 @@ NOT_RUN = {
     r"tests/real_programs\.py": ("it is a test itself, which records databases", []),
     r"lay_out_each": ("it needs /dev/fuse", FUSE[1:]),
     r"--bound any .*-- (e2fsck|examples/recovery/ext4)": ("it needs /dev/fuse and e2fsck", [*FUSE[1:], "e2fsck"]),
+    r"recovery/replay": ("it needs strace and /dev/fuse", ["strace", *FUSE[1:]]),
     r"recovery/ext4": ("it needs e2fsck", ["e2fsck"]),
     r"recovery/lmdb": ("it needs strace and Debian's python3-lmdb", ["strace", "import lmdb"]),
     r"saving/|loose": ("it needs strace", ["strace"]),
