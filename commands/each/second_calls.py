@@ -136,11 +136,13 @@ class Laid:
         joined = None if TABLES[table].one else Replayed(table, None, first).go(calls).tree.ties()
         replayed = Replayed(table, joined, first).go(calls)
         laid = named_layout.Laid(replayed.tree)
-        self.first, self.found, self.sectors, self.base = {}, named_layout.read_map(laid.map_text()), laid.sectors, laid.image()
+        self.first, self.found, self.sectors, self.base = {}, named_layout.read_map(laid.map_text()), laid.sectors, bytearray(laid.image())
         for inside, file in replayed.old.items():
             self.share(*first.room(inside), laid.firsts[file.rooms[0]], (0, inside) in replayed.changed)
         self.entries = [step for it in laid.entries() for step in self.steps(it, laid.firsts)]
-        self.view = hashlib.sha256(repr((laid.map_text(), sorted(self.first.items()))).encode() + self.base).hexdigest()
+        for it in self.first:
+            self.base[SECTOR * it : SECTOR * (it + 1)] = bytes(SECTOR)
+        self.view = hashlib.sha256(repr((laid.map_text(), sorted(self.first.items()), self.entries)).encode() + self.base).hexdigest()
 
     def share(self, size, first, at, is_changed):
         """Has the sectors of a file stand for those of the first device; of a file that changes all that are whole."""
@@ -154,7 +156,7 @@ class Laid:
     def initial(self, number):
         """Returns what a sector of its own holds before the second log; one that isn't there nothing."""
         at = SECTOR * (number - OWN_SECTORS)
-        return self.base[at : at + SECTOR]
+        return bytes(self.base[at : at + SECTOR])
 
     def steps(self, entry, firsts):
         """Yields the entries of the second log that an entry of the recording becomes."""
@@ -230,6 +232,9 @@ class CalledFolder(Folder):
         return file
 
     def new_folder(self, name, mode):
+        """Returns a folder that the program makes here."""
+        if self.is_skipped(name):
+            return super().new_folder(name, mode)
         number = self.looks.number()
         return CalledFolder(self.looks, mode, number, (1, number), os.path.join(self.path, name), self.skipped)
 

@@ -7,9 +7,10 @@ import re
 
 from commands.each.second_calls import OWN_SECTORS
 from commands.each.served_log import SECTOR, LogImage, LogImages, fates_of, kept, text_of
+from commands.shared.faults import Refusal
 
-# A choice of both logs: that of the first, the second cut, its choice, and the name of the second log.
-SECOND = re.compile(r"(\S+) then cut (\d+) choice (\S+) of (\S+)", re.A)
+# A choice of both logs: that of the first, the second cut, its choice, and the name of the second log, with what stands for its device.
+SECOND = re.compile(r"(\S+) then cut (\d+) choice (\S+) of (\S+) (\S+)", re.A)
 
 
 class SeenImages(LogImages):
@@ -103,7 +104,7 @@ class SecondImages:
     def said(self, number, fates):
         """Returns the first cut of an image, and the choices of both logs as they are told to who judges it."""
         own, after = self.halves(fates)
-        return self.cut, f"{text_of(own)} then cut {number - self.cut} choice {text_of(after)} of {self.name}"
+        return self.cut, f"{text_of(own)} then cut {number - self.cut} choice {text_of(after)} of {self.name} {self.view or '-'}"
 
     def number_of(self, number, whole):
         """Returns a number of the image of a cut in which nothing is lost, by that of the image that the first crash leaves so."""
@@ -151,4 +152,6 @@ def image_said(first, cut, text, logs):
     fates = dict(fates_of(found[1]))
     fates.update({(cut + entry, place): fate for (entry, place), fate in fates_of(found[3])})
     images = SecondImages(first, cut, logs[found[4]], found[4])
+    if found[5] != (images.view or "-"):
+        raise Refusal("a second log isn't the same on all images of its case: this is a bug of crashbpf-each")
     return images.image_of(cut + int(found[2]), fates)

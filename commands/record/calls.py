@@ -22,6 +22,9 @@ ENDED = re.compile(r"\+\+\+ (?:exited with \d+|killed by \w+(?: \(core dumped\))
 SUPERSEDED = re.compile(r"\+\+\+ superseded by execve in pid (\d{1,10}) \+\+\+")
 TOLD = re.compile(r"--- .* ---|\[ Process PID=\d+ runs in \w+ mode\. \]")
 UNFINISHED = " <unfinished ...>"
+# A call that strace couldn't look at any more, since its process was being ended. Linux doesn't make such a call (ptrace_report_syscall of
+# include/linux/ptrace.h, and __seccomp_filter of kernel/seccomp.c).
+UNTOLD = f"???({UNFINISHED}"
 # A string, the path of a descriptor, a remark, a bracket, a comma, and what stands between these.
 TOKEN = re.compile(rf'"(?:{HEX}|{KEPT})"(?:\.\.\.)?|<{HEX}>(?:\(deleted\))?|/\*.*?\*/|[()\[\]{{}}]|,|[^"<>/()\[\]{{}},]+|[<>/]')
 RESULT = re.compile(rf"\) += (0x[0-9a-f]{{1,16}}|-?\d{{1,20}}|\?)(?:<({HEX})>(\(deleted\))?)?(?: ([A-Z]\w*) \(.*\))?((?: .*)?)", re.S)
@@ -276,13 +279,19 @@ def happened(stream, wanted, among=()):
 
     Only calls with the names of `wanted` are read, the others have no words. Lines are left out as `lines_of` says. A call that nothing came between begins and ends
     at its line."""
-    begun = {}
+    begun, untold = {}, set()
     for line, text, kept in lines_of(stream, among):
         head = HEAD.fullmatch(text)
         if not head:
             raise Refused(f"calls:{line}: no line of strace: {shown(text)}")
         process, text = int(head[1]), head[2]
+        if process in untold and not ENDED.fullmatch(text):
+            raise Refused(f"calls:{line}: process {process} goes on after a call that strace didn't see: {shown(text)}")
+        if text == UNTOLD and process not in begun:
+            untold.add(process)
+            continue
         if text.startswith("+++"):
+            untold.discard(process)
             superseded = SUPERSEDED.fullmatch(text)
             if superseded:
                 other = int(superseded[1])
@@ -326,6 +335,8 @@ def happened(stream, wanted, among=()):
             yield "end", call
     if begun:
         raise Refused(f"{next(iter(begun.values()))}: the text ends within this call")
+    if untold:
+        raise Refused(f"calls: the text ends before process {min(untold)} does")
 
 
 @dataclass(frozen=True)

@@ -69,7 +69,7 @@ def is_large(sectors, entries, units, length):
     counts = (("entries", entries, trace_log.ENTRIES), ("sectors written", units, most.units), ("bytes", length, most.length))
     for what, value, limit in counts:
         if value > limit:
-            raise Refused(f"the log has {value} {what}, and a log has at most {limit}, with --large too: record less")
+            raise Refused(f"the log has {value} {what}, and a log has at most {limit}, with --large too: record less, or in parts, each with the `files` of the one before as --base")
     return most is trace_log.LARGE
 
 

@@ -205,13 +205,13 @@ class Laid:
 
     def lay_room(self, file, room, at):
         """Lays the bytes of a file out. Returns the first sector after them."""
-        sectors = up(room.length, SECTOR) // SECTOR
-        if sectors and at % ALIGNED + room.sectors + 1 > ALIGNED:
+        sectors = up(max(room.length, room.hidden), SECTOR) // SECTOR
+        if sectors and at % ALIGNED + room.room + 1 > ALIGNED:
             at = up(at, ALIGNED)
         self.firsts[room] = at if sectors else 0
         self.rooms.append(Room(self.firsts[file.place], self.chains.found[file.place].passed, self.firsts[room], sectors, file.name))
         self.lay(self.firsts[room], room.initial)
-        return at + room.sectors + 1 if sectors else at
+        return at + room.room + 1 if sectors else at
 
     def lay_names(self, names, at):
         """Gives the names of a set their places, and lays its first copy out. Returns the first sector after it."""

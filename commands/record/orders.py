@@ -30,8 +30,8 @@ Which entries a call makes, a write below being a write entry that is in flight 
 - fallocate to a larger size: the same, and before it one at each multiple of 4,096 bytes that it reserves.
 - ftruncate, truncate, O_TRUNC to a smaller size: zeros are written to the rest of the last block that is kept. Then a write of
   the sector of the size, by which the bytes lie in other sectors from now on. These hold at first what was durable of the part
-  that is kept. What is in flight of that part is written there, too. By `writeback`, `strict` and `btrfs` they hold all of the last
-  block, and the zeros are written there as well.
+  that is kept. What is in flight of that part is written there, too. By all tables but `ext4` and `ordered` they hold all of the last
+  block, where there was more than zeros, and the zeros are written there as well.
 - a write to a block that the file had before it got shorter: where the old size may still be there, the bytes are written to where
   that size shows them, too.
 - fallocate that makes a hole, or zeros: a write of the bytes.
@@ -85,7 +85,7 @@ TABLES = {
     "ext4": Rules(own=True),
     "ordered": Rules(filled=True),
     "writeback": Rules(again=True, uncut=True),
-    "xfs": Rules(own=True, quiet=True),
+    "xfs": Rules(own=True, quiet=True, uncut=True),
     "btrfs": Rules(one=False, own=True, uncut=True),
     "strict": Rules(one=False, uncut=True),
 }
@@ -123,6 +123,8 @@ class Bytes:
     # how many sectors lie in blocks that it has from the room before; and of how many bytes it has a whole number
     shared: int = 0
     unit: int = SECTOR
+    # up to where bytes are written that no size shows, unless the file gets longer
+    hidden: int = 0
     # where blocks are used again: the blocks of the disk that it has, by their numbers; those that may be none yet; those that are
     # reserved, and show zeros
     blocks: dict = field(default_factory=dict)
@@ -132,6 +134,11 @@ class Bytes:
     @property
     def sectors(self):
         return up(self.length, self.unit) // SECTOR
+
+    @property
+    def room(self):
+        """How many sectors it takes on the device."""
+        return up(max(self.length, self.hidden), self.unit) // SECTOR
 
 
 @dataclass(eq=False)
@@ -774,36 +781,46 @@ class Tree:
         if self.again:
             self.again.freed(file, up(size, BLOCK) // BLOCK)
         old, until = file.rooms[-1], up(size, BLOCK)
-        initial, later = self.kept(old, size)
-        if not self.rules.uncut:
-            self.put_zeros(file, size, old.sectors)
+        whole = self.rules.uncut and self.has_more(old, size)
+        initial, later = self.kept(old, size, whole)
+        self.put_zeros(file, size, old.sectors)
         file.changed.append((size // SECTOR, -(-file.size // SECTOR)))
         file.content[size:] = bytes(len(file.content) - size)
         file.size, file.grown, file.blocks = size, file.grown + 1, size
-        length = until if self.rules.uncut else size
-        file.rooms.append(Bytes(len(file.rooms), initial, length, shared=until // SECTOR, unit=old.unit))
+        file.rooms.append(Bytes(len(file.rooms), initial, size, shared=until // SECTOR, unit=old.unit, hidden=until if whole else 0))
         if self.again:
             self.again.moved(file)
         if self.shown(file):
             for turn in sorted(later):
                 one_by_one = ((None, *it) for it in later[turn])
-                for _, number, content in runs({None: dict(later[turn])}) if self.disk.pages else one_by_one:
+                for _, number, content in runs({None: dict(later[turn])}) if self.disk.pages or turn[0] else one_by_one:
                     self.disk.write(file.rooms[-1], number, content, True)
-        if self.rules.uncut:
-            self.put_zeros(file, size, old.sectors)
+        if whole and self.shown(file):
+            start = size // old.unit * old.unit
+            self.disk.write(file.rooms[-1], start // SECTOR, bytes(file.content[start:size]).ljust(until - start, b"\0"))
 
-    def kept(self, old, size):
-        """What the sectors of a room hold that a file keeps where it gets shorter: what is durable, and what comes then, by its turn. Where the
-        zeros after the new end may be lost that is the whole of each version, and then what is kept of those before the last."""
+    def last_sectors(self, room, size):
+        """Of a room that gets a smaller size: the sectors of the last block that it keeps, from this size on, with their versions; by pages all."""
+        found, first = self.disk.sectors.get(room, {}), size // room.unit * room.unit // SECTOR
+        return {number: self.versions(room, found.get(number), number) for number in range(first, up(size, BLOCK) // SECTOR)}
+
+    def has_more(self, room, size):
+        """Whether the last block that a room keeps, of a smaller size, may hold more than zeros after it."""
+        return any(it[max(size - SECTOR * number, 0) :].strip(b"\0") for number, these in self.last_sectors(room, size).items() for it in these)
+
+    def kept(self, old, size, whole):
+        """What the sectors of a room hold that a file keeps where it gets shorter: what is durable, and what comes then, by its turn. With `whole`
+        that is all of each version of the last block, and then what is kept of those before the last."""
         initial, later, found = b"", {}, self.disk.sectors.get(old, {})
-        for number in range(up(size, BLOCK if self.rules.uncut else SECTOR) // SECTOR):
-            whole = self.rules.uncut and number >= size // SECTOR
+        last = self.last_sectors(old, size) if whole else {}
+        for number in range(max([up(size, SECTOR) // SECTOR, *(it + 1 for it in last)])):
             versions = self.versions(old, found.get(number), number)
             cut = [it[: max(size - SECTOR * number, 0)].ljust(SECTOR, b"\0") for it in versions]
-            first, *since = versions if whole else cut
+            first, *since = last.get(number, cut)
             turns = [-1, *self.disk.turns_of(old, number, len(since))]
             initial += first.ljust(SECTOR, b"\0")
-            for turn, content in [*(((0, turn), it) for turn, it in zip(turns[1:], since)), *(((1, turn), it) for turn, it in zip(turns, cut[: -1 if whole else 0]))]:
+            again = zip(turns, cut[:-1]) if number in last else ()
+            for turn, content in [*(((0, it), content) for it, content in zip(turns[1:], since)), *(((1, it), content) for it, content in again)]:
                 later.setdefault(turn, []).append((number, content))
         return initial, later
 

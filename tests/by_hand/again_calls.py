@@ -220,7 +220,7 @@ class Trial:
             image = SecondImages(self.images, 0, log, name).image_of(len(log.entries), {})
             if log.laid is None:
                 return "the log has no device"
-            again, _content = self.served(mount, f"- then cut {len(log.entries)} choice - of {name}", snapshot)
+            again, _content = self.served(mount, f"- then cut {len(log.entries)} choice - of {name} {log.view}", snapshot)
         finally:
             mount.end()
         with tempfile.TemporaryDirectory() as folder:

@@ -312,8 +312,8 @@ rm -f /mnt/fill && sync && fallocate -l $((4096 * (free - %d))) /mnt/fill || exi
 def guest_script(kind, base):
     """The script of the guest: all programs, one after the other, each in its folder."""
     it = KINDS[kind]
-    # (a file system is to write soon what it has: bytes after some 50 ms, and xfs its log after a second)
-    lines = ["echo 5 >/proc/sys/vm/dirty_writeback_centisecs", "echo 5 >/proc/sys/vm/dirty_expire_centisecs"]
+    # (a file system is to write soon what it has: bytes after some 50 ms, unless parts are to be written alone, and xfs its log after a second)
+    lines = ["echo 5 >/proc/sys/vm/dirty_writeback_centisecs", "echo 5 >/proc/sys/vm/dirty_expire_centisecs"] if it.runs != "parts" else []
     lines += ["[ ! -e /proc/sys/fs/xfs ] || echo 100 >/proc/sys/fs/xfs/xfssyncd_centisecs"]
     lines += slow_lines(kind, base) if it.slow else []
     lines += [f"mount -o {it.mount} $DEVICE /mnt || exit 1", "cat /proc/fs/ext4/*/options >/dev/console 2>/dev/null"]

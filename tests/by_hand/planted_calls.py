@@ -37,10 +37,10 @@ PLANTS = [
     ("O_APPEND isn't seen", "tracing.py", 'append = opened.append or "RWF_APPEND" in flags', 'append = "RWF_APPEND" in flags'),
     ("an exchange is a rename", "named.py", 'exchange = "RENAME_EXCHANGE" in flags', "exchange = False"),
     ("creat keeps the size", "tracing.py", '{"O_WRONLY", "O_CREAT", "O_TRUNC"} if', '{"O_WRONLY", "O_CREAT"} if'),
-    ("lseek isn't followed", "tracing.py", "            flight.opened.at = call.result\n", "            pass\n"),
+    ("lseek isn't followed", "tracing.py", "            flight.opened.at = call.moved_to()\n", "            pass\n"),
     ("a sync covers what came while it was in flight", "named.py", "        self.tree.end_sync(flight.sync)", "        self.tree.end_sync(self.tree.begin_file(flight.file) if isinstance(flight.file, File) else flight.sync)"),
     ("fsync of a folder is nothing", "named.py", "            if name in self.folders:\n                flight.sync", "            if name in ():\n                flight.sync"),
-    ("fallocate isn't longer", "tracing.py", "            if start + length > file.size:\n                self.resize", "            if False:\n                self.resize"),
+    ("fallocate isn't longer", "tracing.py", "            if start + length > file.size:\n                self.allocate", "            if False:\n                self.allocate"),
     ("room that is reserved isn't noted", "named.py", "call.number(2), call.number(2) + call.number(3))", "0, 0)"),
     ("linkat takes the link for the file", "named.py", 'if call.name == "linkat" and "AT_SYMLINK_FOLLOW" in call.word(4):', "if False:"),
 ]

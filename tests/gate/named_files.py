@@ -100,7 +100,7 @@ REST = ["fua names a=0", "flush", "names", "bytes 0", "flush", "flush"]
 
 def by_cut(cut, uncut):
     """Entries by tables that have zeros after the end of a file that gets shorter, and by those by which these may be lost."""
-    return cut, uncut, None, cut
+    return cut, uncut, None, cut, None, uncut
 
 
 # The name, the text, the entries by `ordered`, `writeback`, `strict`, `ext4` and `btrfs`, or by all of them where they are the same; what
@@ -118,9 +118,9 @@ ROWS = [
     ("a write over what is there", AGAIN + WRITE, ["bytes 0"], {b"a": b"x" * 600}),
     ("a write far after the end", OPEN + "pwrite64(3<a>, 'A*512', 512, 8192) = 512\npwrite64(3<a>, 'A*512', 512, 0) = 512", [*MADE, "fua bytes 16", "size 0 4096", "size 0 8192", "size 0 8704", "bytes 0"], [*MADE, "bytes 16", "size 0 4096", "size 0 8192", "size 0 8704", "bytes 0"]),
     ("ftruncate makes it longer", OPEN + "ftruncate(3<a>, 5000) = 0\n" + WRITE, [*MADE, "size 0 5000", "bytes 0"]),
-    ("ftruncate makes it shorter", AGAIN + "ftruncate(3<a>, 100) = 0\n", *by_cut(["bytes 0", "bytes 1", "size 0 100 room 1"], ["bytes 0", "bytes 0", "bytes 1", "bytes 1", "size 0 100 room 1"]), {b"a": b"x" * 600}),
-    ("shorter, with a write in flight", AGAIN + WRITE + "ftruncate(3<a>, 100) = 0\n", *by_cut(["bytes 0", "bytes 0", "bytes 1", "bytes 0", "size 0 100 room 1"], ["bytes 0", "bytes 0", "bytes 0", "bytes 0", "bytes 0", "bytes 1", "bytes 1", "size 0 100 room 1"]), {b"a": b"x" * 600}),
-    ("shorter, and written after that", AGAIN + "ftruncate(3<a>, 100) = 0\n" + WRITE, *by_cut(["bytes 0", "bytes 1", "size 0 100 room 1", "bytes 0", "bytes 0", "size 0 512 room 1"], ["bytes 0", "bytes 0", "bytes 1", "bytes 1", "size 0 100 room 1", "bytes 0", "bytes 0", "size 0 512 room 1"]), {b"a": b"x" * 600}),
+    ("ftruncate makes it shorter", AGAIN + "ftruncate(3<a>, 100) = 0\n", *by_cut(["bytes 0", "bytes 1", "size 0 100 room 1"], ["bytes 0", "bytes 1", "bytes 0-7", "size 0 100 room 1"]), {b"a": b"x" * 600}),
+    ("shorter, with a write in flight", AGAIN + WRITE + "ftruncate(3<a>, 100) = 0\n", *by_cut(["bytes 0", "bytes 0", "bytes 1", "bytes 0", "size 0 100 room 1"], ["bytes 0", "bytes 0", "bytes 1", "bytes 0", "bytes 0", "bytes 0-7", "size 0 100 room 1"]), {b"a": b"x" * 600}),
+    ("shorter, and written after that", AGAIN + "ftruncate(3<a>, 100) = 0\n" + WRITE, *by_cut(["bytes 0", "bytes 1", "size 0 100 room 1", "bytes 0", "bytes 0", "size 0 512 room 1"], ["bytes 0", "bytes 1", "bytes 0-7", "size 0 100 room 1", "bytes 0", "bytes 0", "size 0 512 room 1"]), {b"a": b"x" * 600}),
     ("truncate by the name", AGAIN + "truncate('/r/files/a', 0) = 0\n" + WRITE, ["size 0 0 room 1", "fua bytes 0", "size 0 512 room 1"], ["size 0 0 room 1", "bytes 0", "size 0 512 room 1"], {b"a": b"x" * 600}),
     ("O_TRUNC", AGAIN.replace("O_RDWR", "O_RDWR|O_TRUNC"), ["size 0 0 room 1"], {b"a": b"x" * 600}),
     ("fallocate", OPEN + "fallocate(3<a>, 0, 0, 8192) = 0\n" + WRITE, [*MADE, "size 0 4096", "size 0 8192", "bytes 0"]),

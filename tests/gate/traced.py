@@ -93,6 +93,7 @@ FOLLOWED = [
      [("w", "db", 0, A), ("w", "db", 1, B), ("fua", "db", 0, A)]),
     ("a sector that is written again in a sync", OPEN + "clone(child_stack=0x7f, flags=CLONE_VM|CLONE_FILES|CLONE_THREAD) = 101\npwrite64(3<db>, 'A*512', 512, 0) = 512\nfsync(3<db> <unfinished ...>\n101 pwrite64(3<db>, 'B*512', 512, 0) = 512\n<... fsync resumed>) = 0\n101 +++ exited with 0 +++",
      [("w", "db", 0, A), ("w", "db", 0, B), ("fua", "db", 0, A), ("w", "db", 0, B)]),
+    ("a call that strace didn't see, since its thread was being ended", OPEN + THREAD + "write(3<db>, 'A*512', 512) = 512\n101 ???( <unfinished ...>\n" + GONE, [("w", "db", 0, A)]),
     ("a sync that never ended", OPEN + "pwrite64(3<db>, 'A*512', 512, 0) = 512\nfsync(3<db> <unfinished ...>", [("w", "db", 0, A)]),
     ("a sync of another file", OPEN + WAL + "write(3<db>, 'A*512', 512) = 512\nwrite(4<wal>, 'B*512', 512) = 512\nfsync(4<wal>) = 0\nfdatasync(3<db>) = 0", [("w", "db", 0, A), ("w", "wal", 0, B), ("fua", "wal", 0, B), ("f",)]),
     ("runs of sectors", OPEN + WAL + "write(4<wal>, 'C*512', 512) = 512\npwrite64(3<db>, 'A*512', 512, 0) = 512\npwrite64(3<db>, 'B*512', 512, 512) = 512\npwrite64(3<db>, 'C*512', 512, 2048) = 512\nfsync(3<db>) = 0",
@@ -182,6 +183,9 @@ REFUSED = [
     ("a copy to the marks", MARKED + "sendfile(5</r/marks>, 3<db>, [0] => [5], 5) = 5", "calls:4: .*a copy to there isn't followed"),
     ("a copy of more than there is", OPEN + WAL + "copy_file_range(3<db>, NULL, 4<wal>, NULL, 512, 0) = 512", "calls:3: .*it copied more than db has"),
     ("a copy that fails badly", OPEN + WAL + "copy_file_range(3<db>, NULL, 4<wal>, NULL, 512, 0) = -1 EIO (Input/output error)", "calls:3: .*what it wrote isn't known"),
+    ("a thread that goes on after a call that strace didn't see", OPEN + THREAD + "101 ???( <unfinished ...>\n101 write(3<db>, 'A*512', 512) = 512\n" + GONE, "calls:4: process 101 goes on after a call that strace didn't see"),
+    ("a text that ends after a call that strace didn't see", OPEN + THREAD + "101 ???( <unfinished ...>", "calls: the text ends before process 101 does"),
+    ("a call that strace didn't see within another", OPEN + THREAD + "101 write(3<db>, 'A*512', 512 <unfinished ...>\n101 ???( <unfinished ...>\n" + GONE, "calls:4: no line of strace"),
     ("a copy that never ended", OPEN + WAL + "copy_file_range(3<db>, NULL, 4<wal>, NULL, 512, 0 <unfinished ...>", "calls:3: .*ended within the call"),
     ("a reflink that never ended", OPEN + WAL + "ioctl(4<wal>, BTRFS_IOC_CLONE or FICLONE, 3 <unfinished ...>", "calls:3: .*ended within the call"),
     ("a write of what is copied", FULL + THREAD + "copy_file_range(3<db>, [0], 4<wal>, [0], 512, 0 <unfinished ...>\n101 pwrite64(3<db>, 'B*9', 9, 9) = 9\n<... copy_file_range resumed>) = 512\n101 +++ exited with 0 +++", "calls:5: .*wrote at once what it copied"),
@@ -459,10 +463,10 @@ def log_fault():
     return None if good else "the log has other bytes"
 
 
-def run_files(folder, *words, path=None):
-    """Runs crashbpf-files, with a folder in front of the path. Returns its status, and what it printed."""
-    surroundings = {**os.environ, "PATH": f"{path}:{os.environ['PATH']}"} if path else None
-    done = subprocess.run([sys.executable, RECORD / "crashbpf-files", *words], capture_output=True, text=True, cwd=folder, env=surroundings)
+def run_files(folder, *words, **surroundings):
+    """Runs crashbpf-files, in surroundings of its own. Returns its status, and what it printed."""
+    command, surroundings = [sys.executable, RECORD / "crashbpf-files", *words], {**os.environ, **surroundings}
+    done = subprocess.run(command, capture_output=True, text=True, cwd=folder, env=surroundings)
     return done.returncode, done.stdout, done.stderr
 
 
@@ -533,6 +537,9 @@ def system_faults():
         wanted = (0, ".:\ndb\nin\nlink\n\n./in:\na b\n700\nBBBdb\n5000\n", "")
         found += [] if done == wanted else [f"crashbpf-files of ext4: {done}"]
         found += [] if image.read_bytes() == before and before.count(b"A" * 4096) else ["crashbpf-files of ext4: the image is another one, or had no journal to replay"]
+        own = Path(shutil.copy(image, Path(folder, "image")))
+        done = run_files(folder, text, own, "--", "sh", "-c", show, CRASH_SERVED=folder)
+        found += [] if done == wanted and own.read_bytes() != before else [f"crashbpf-files of an ext4 that is served: {done}, or it was copied"]
         image.write_bytes(bytes(len(before)))
         status, printed, said = run_files(folder, text, image, "--", "true")
         found += [] if (status, printed) == (2, "") and re.fullmatch(rf"crashbpf-files: {re.escape(str(image))}: e2fsck ends with status 8: .*\n", said) else [f"crashbpf-files of no ext4: {status}, {said}"]
@@ -596,7 +603,7 @@ def machine_faults():
         for does, (status, printed, said) in MACHINES.items():
             (room / "machine").write_text(does) if does else (room / "machine").unlink()
             said = f"crashbpf-files: {said}\n".replace("IMAGE", str(image)).replace("ROOM", str(room)) if said else ""
-            done = run_files(folder, text, image, "--", "sh", "-c", SHOW, path=bin_)
+            done = run_files(folder, text, image, "--", "sh", "-c", SHOW, PATH=f"{bin_}:{os.environ['PATH']}")
             found += [] if done == (status, printed, said) else [f"crashbpf-files by a machine that {does or 'is gone'}: {done}"]
     return found
 

@@ -16,7 +16,7 @@ TEXT = (b"bytes of another file, which isn't recorded\n" * BLOCK)[:BLOCK]
 # Tables by which a name is by itself, and those by which fsync of a file has names durable.
 APART, OWN = ("btrfs", "strict"), ("ext4", "xfs", "btrfs")
 # Tables by which what was cut off from a file's last block is there again where the file gets longer, until zeros arrive there.
-UNCUT = ("writeback", "btrfs", "strict")
+UNCUT = ("writeback", "xfs", "btrfs", "strict")
 
 
 def chosen_of(kept, size, looked, unit=SECTOR):

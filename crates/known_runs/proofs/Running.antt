@@ -46,8 +46,8 @@ is_run log way line r is = record {
   device = subst (λ (xs : List ℕ). All (λ s. s < log.sectors) xs) (sym is.sectors.all) (all_looked log.sectors is.sectors.ranges is.sectors.are);
 }
 
-heads_same : (a b : RanValue) (as bs : List RanValue) → ◌≡◌ {A = List RanValue} (a ∷ as) (b ∷ bs) → (a ≡ b) × (as ≡ bs)
-heads_same a b as bs same = (cc, cc)
+heads_same : (a b : RanValue) (rest others : List RanValue) → ◌≡◌ {A = List RanValue} (a ∷ rest) (b ∷ others) → (a ≡ b) × (rest ≡ others)
+heads_same a b rest others same = (cc, cc)
 
 are_good : (s : Source) (pieces : List Piece) (runs : List KnownRun) → AreGood s pieces → map ran_of runs ≡ runs_of pieces → All (IsRun s.log s.way) runs
 are_good s [] [] good same = All-nil (IsRun s.log s.way)

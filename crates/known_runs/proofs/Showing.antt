@@ -113,18 +113,18 @@ unfolding first_same
 none_found e i n none past = sym (none_is (λ j. is_same (view_at e i) (view_at e j)) 0 i (λ k low high. none k (omega (arith, high, past))))
 
 -- the records of a new image
-pub records_told : (shown image : ViewValue) (numbers out a b new line : List ℕ) (own : List ℕ) → shown.log ≡ image.log
+pub records_told : (shown image : ViewValue) (numbers out a new line own : List ℕ) (count : ℕ) → count ≡ length numbers → shown.log ≡ image.log
     → numbers ≡ filter (differs (sectors_of shown) (sectors_of image)) (range_with_len 0 shown.log.sectors)
-    → own ≡ line ++ (codes " new " ++ decimal (length numbers) ++ codes "\n") → a ≡ out ++ own
+    → own ≡ line ++ (codes " new " ++ decimal count ++ codes "\n") → a ≡ out ++ own
     → new ≡ a ++ flat_map record_text (map (with_content (sectors_of image)) numbers)
     → new ≡ out ++ (line ++ new_text (changed_sectors (sectors_of shown) (sectors_of image)))
 unfolding changed_below
-records_told shown image numbers out a b new line own log these head first more =
+records_told shown image numbers out a new line own count counted log these head first more =
     let size : shown.log.sectors ≡ length (sectors_of image) = ap (λ (l : LogValue). l.sectors) log ∙ sym (length_view image) in
     let told : map (with_content (sectors_of image)) numbers ≡ changed_sectors (sectors_of shown) (sectors_of image) =
     ap (map (with_content (sectors_of image))) these ∙ ap (λ n. map (with_content (sectors_of image)) (filter (differs (sectors_of shown) (sectors_of image)) (range_with_len 0 n))) size in
-    let many : length numbers ≡ length (changed_sectors (sectors_of shown) (sectors_of image)) =
-    sym (length-map numbers (with_content (sectors_of image))) ∙ ap (λ (xs : List ChangedValue). length xs) told in
+    let many : count ≡ length (changed_sectors (sectors_of shown) (sectors_of image)) =
+    counted ∙ sym (length-map numbers (with_content (sectors_of image))) ∙ ap (λ (xs : List ChangedValue). length xs) told in
     let cs : List ChangedValue = changed_sectors (sectors_of shown) (sectors_of image) in
     let mid : List ℕ = codes " new " ++ decimal (length cs) ++ codes "\n" in
     more ∙ (λ i. (first ∙ ap (λ xs. out ++ xs) head) i ++ flat_map record_text (told i))

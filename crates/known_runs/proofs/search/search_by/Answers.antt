@@ -17,7 +17,7 @@ returns-clause-refused c =
     (c.as_slice.ensures.value ∙ c.in-Ok.ensures.value ∙ ap (λ (cuts : Cuts). case_cuts q.losses.at_most cuts c.args.log.now.entries) c.cuts-cuts.ensures) c.in-Err.ensures.refused
     c.refusal_of.ensures
 
-pub returns-in-Ok-clause-within : goal.returns-in-Ok-clause-within
-returns-in-Ok-clause-within c =
+pub returns-in-Ok-find_known-clause-within : goal.returns-in-Ok-find_known-clause-within
+returns-in-Ok-find_known-clause-within c =
     found_within _ c.args.log.now _ c.as_slice.result.now c.args.records.now c.args.question.now.stops c.in-Ok-find_known.found.items _ c.in-Ok-find_known.ensures.found
     (subst (λ (cuts : List ℕ). All (λ cut. cut ≤ length c.args.log.now.entries) cuts) (sym c.as_slice.ensures.value) c.in-Ok.ensures.within)
