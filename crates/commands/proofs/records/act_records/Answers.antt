@@ -43,7 +43,7 @@ returns-in-Ok-clause-answers c =
       based = held.based;
       told =
           subst (λ (a : KnownAsked). TellsRecords c.args.known.telling a c.in-Ok.acted.bytes.items c.in-Ok.acted.status)
-          (c.question_of.ensures ∙ ap (λ (k : KnownSearch). search_asked recording c.in_ok-recording.records.now k c.in_ok-options.options) (sym c.in_ok-search.ensures.0)) c.in-Ok.ensures.told;
+          (c.question_of-question.ensures ∙ ap (λ (k : KnownSearch). search_asked recording c.in_ok-recording.records.now k c.in_ok-options.options) (sym c.in_ok-search.ensures.0)) c.in-Ok.ensures.told;
     }
 
 pub returns-in-Err-clause-refused : goal.returns-in-Err-clause-refused
@@ -54,7 +54,7 @@ returns-in-Err-clause-refused c =
     let held = c.in_ok-recording.ensures in
     let refused =
     subst (λ (a : KnownAsked). RefusesKnown a c.in-Err.fault)
-    (c.question_of.ensures ∙ ap (λ (k : KnownSearch). search_asked recording records k options) (sym c.in_ok-search.ensures.0)) c.in-Err.ensures.refused in
+    (c.question_of-question.ensures ∙ ap (λ (k : KnownSearch). search_asked recording records k options) (sym c.in_ok-search.ensures.0)) c.in-Err.ensures.refused in
     for_settings options c.records_refusal_of.result c.in_ok-options.ensures
     (subst (λ (r : Refusal). RefusesRecords c.args.known (held_by c.args.files.now) options r) (sym c.records_refusal_of.ensures)
     (for_records (records_refusal c.in-Err.fault) c.in_ok-search.ensures.1
