@@ -9,9 +9,9 @@ _crashbpf() {
     *\ help\ *) words='explore why cure page images export image show log import verify check asm list join help' ;;
     *\ explore\ --cuts) words='all flush mark' ;;
     *\ explore\ --by) words='sector write' ;;
-    *\ explore\ --base) : ;;
-    *\ explore\ --sectors|*\ explore\ --flush|*\ explore\ --from|*\ explore\ --to|*\ explore\ --bound|*\ explore\ --workers|*\ explore\ --cache|*\ explore\ --checked|*\ explore\ --torn|*\ explore\ --at-most|*\ explore\ --images) return ;;
-    *\ explore\ *) [[ $word != -* ]] || words='--sectors --large --flush --base --cuts --from --to --bound --tears --by --workers --cache --checked --guards --progress --torn --at-most --first --inputs --images -h --help' ;;
+    *\ explore\ --base|*\ explore\ --known) : ;;
+    *\ explore\ --sectors|*\ explore\ --flush|*\ explore\ --from|*\ explore\ --to|*\ explore\ --bound|*\ explore\ --workers|*\ explore\ --cache|*\ explore\ --checked|*\ explore\ --torn|*\ explore\ --at-most|*\ explore\ --cases|*\ explore\ --images) return ;;
+    *\ explore\ *) [[ $word != -* ]] || words='--sectors --large --flush --base --cuts --from --to --bound --tears --by --workers --cache --checked --guards --progress --torn --at-most --known --stop-at-failing --cases --first --inputs --images -h --help' ;;
     *\ why\ --cuts) words='all flush mark' ;;
     *\ why\ --by) words='sector write' ;;
     *\ why\ --base|*\ why\ --report) : ;;
@@ -34,9 +34,9 @@ _crashbpf() {
     *\ images\ *) [[ $word != -* ]] || words='--sectors --large --flush --base --cuts --from --to --bound --tears --by --images --at-most --parts -h --help' ;;
     *\ export\ --cuts) words='all flush mark' ;;
     *\ export\ --by) words='sector write' ;;
-    *\ export\ --base) : ;;
-    *\ export\ --sectors|*\ export\ --flush|*\ export\ --from|*\ export\ --to|*\ export\ --bound|*\ export\ --images) return ;;
-    *\ export\ *) [[ $word != -* ]] || words='--sectors --large --flush --base --cuts --from --to --bound --tears --by --images -h --help' ;;
+    *\ export\ --base|*\ export\ --known) : ;;
+    *\ export\ --sectors|*\ export\ --flush|*\ export\ --from|*\ export\ --to|*\ export\ --bound|*\ export\ --images|*\ export\ --torn|*\ export\ --at-most|*\ export\ --cases) return ;;
+    *\ export\ *) [[ $word != -* ]] || words='--sectors --large --flush --base --cuts --from --to --bound --tears --by --images --torn --at-most --known --stop-at-failing --cases -h --help' ;;
     *\ image\ --cuts) words='all flush mark' ;;
     *\ image\ --by) words='sector write' ;;
     *\ image\ --base) : ;;
