@@ -21,10 +21,20 @@ class Again:
     """What a step of the second level is made of. For the rounds it is the records too."""
 
     def __init__(self, step):
-        self.step, self.given, self.known = step, step.given, step.known
-        self.asked, self.logs, self.firsts, self.searched = asked_of(step.given), SecondLogs(), None, None
+        self.known, self.logs, self.unlogged = step.known, SecondLogs(), {}
+        self.take(step)
+
+    def take(self, step):
+        """Takes the step of the first level, which wants nothing."""
+        self.step, self.given, self.asked, self.firsts, self.searched = step, step.given, asked_of(step.given), None, None
         self.cases = [(it, number, case) for it in step.searched.searches for number, case in enumerate(it.found.leaves) if case.record.is_good()]
-        self.unlogged = {}
+
+    def asking(self, changes):
+        """Asks with other options from here on, of both levels."""
+        step = self.step.asking(changes)
+        step.searched.search()
+        self.take(step)
+        return self
 
     # What the rounds ask
 

@@ -186,7 +186,7 @@ def answer(given, step, rounds, path):
     if given.again:
         again = Again(step)
         rounds.go_on(again)
-        return Answer(*again.text(), step.given)
+        return Answer(*again.text(), again.given)
     return Answer(*step.text(), step.given)
 
 

@@ -101,6 +101,18 @@ def test_options(folder):
     return found + text_differs(folder, torn, STEPS[0], ("--tears", "--by", "write", "--torn", "2"), Losses(torn=2))
 
 
+def test_runs(folder):
+    """Where more is wanted than --runs says, each search ends at its first failing case from there on, on the second level too."""
+    put(folder, script(STEPS[0]), SMALL)
+    for most in (1, 9, 1000):
+        status, printed, said = each(folder, "--runs", str(most), usual=USUAL)
+        wanted = expected(SMALL, STEPS[0], Losses(at_failing=most < 1000), printed)
+        found = differs(f"the text with --runs {most}: {said}", (status, printed), (again_model.status(wanted), wanted))
+        if found:
+            return found
+    return []
+
+
 def test_random(folder):
     """The text is that of the model, for programs by chance."""
     chance, found = random.Random(7), []
@@ -260,6 +272,7 @@ def hostile(name):
 ROWS = {
     "texts": test_texts,
     "options": test_options,
+    "a number of runs": test_runs,
     "programs by chance": test_random,
     "a replay": test_replay,
     "files with names": test_names,

@@ -36,6 +36,8 @@ def try_all(words, rows, at_a_time=1):
         sys.exit(f"there is no program {program}: `rt run` in crates/crashbpf builds it")
     passed = failed = 0
     with tempfile.TemporaryDirectory() as path:
+        # (rows of another user find it too)
+        os.chmod(path, 0o755)
         os.symlink(program, Path(path, "crashbpf"))
         os.environ["PATH"] = os.pathsep.join([path, os.environ["PATH"], "/usr/sbin", "/sbin"])
         os.environ.pop("CRASHBPF", None)
