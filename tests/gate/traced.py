@@ -472,7 +472,7 @@ def run_files(folder, *words, **surroundings):
 
 def files_faults():
     """What is wrong with crashbpf-files: the files of an image, its statuses, and what it refuses."""
-    found = []
+    found, before = [], set(os.listdir(tempfile.gettempdir()))
     with tempfile.TemporaryDirectory() as folder:
         image, text = Path(folder, "image"), Path(folder, "files.txt")
         image.write_bytes(A + B[:200] + bytes(SECTOR - 200) + bytes(SECTOR * 6) + C + bytes(SECTOR * 7))
@@ -492,7 +492,7 @@ def files_faults():
         for words, *wanted in rows:
             done = run_files(folder, *words)
             found += [] if list(done) == wanted else [f"crashbpf-files {words[2:]}: {done}"]
-        left = [it for it in os.listdir(tempfile.gettempdir()) if it.startswith("crashbpf-files.")]
+        left = [it for it in os.listdir(tempfile.gettempdir()) if it.startswith("crashbpf-files.") and it not in before]
     return found + [f"{it} is left" for it in left]
 
 
