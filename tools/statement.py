@@ -410,7 +410,7 @@ class Page:
             new = {it for it in found - before if isinstance(it, Definition)}
             own = {it for it in new if split(it.module)[0] not in plain_words.MACHINE}
             text += f"\n### {title}\n\n{about}\n\n| File | Says |\n|---|---|\n"
-            text += "".join(f"| {self.linked(file)} | {words} |\n" for file, words in lines.items())
+            text += "".join(f"| `crates/{file.replace('.', '/specs/')}.antt` | {words} |\n" for file, words in lines.items())
             text += f"\n{len(own)} definitions, the machine's aside.\n"
             files = {".".join(split(it.module)) for it in own}
             first = {".".join(split(it.module)) for it in before if isinstance(it, Definition)}
@@ -426,10 +426,6 @@ class Page:
             crate, file, name = root.split(".")
             return {self.sources.known[f"{crate}.specs.{file}"][name]}
         return self.sources.clause(*root)[2]
-
-    def linked(self, file):
-        crate, name = file.split(".")
-        return f"[{crate} {name}](../crates/{crate}/specs/{name}.antt)"
 
     def promises(self):
         """Returns the promises with their clauses, and takes the definitions to which these lead."""
