@@ -56,7 +56,7 @@
 //!
 //! # Example
 //!
-//! ```
+//! ```text
 //! use known_text::read_known;
 //!
 //! match read_known(alloc, bytes, &log, By::Sector, inputs) {

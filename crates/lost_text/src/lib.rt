@@ -35,7 +35,7 @@
 //!
 //! # Example
 //!
-//! ```
+//! ```text
 //! use cases::Cut;
 //! use epochs::By;
 //! use lost_text::lost_said;
