@@ -116,7 +116,7 @@ class Noted:
             self.count()
 
     def count(self):
-        """Counts an entry, of which there may be so many."""
+        """Counts an entry, and gives up where there are too many entries or bytes."""
         self.entries += 1
         if self.entries > MOST_ENTRIES or len(self.content) + self.size > MOST_BYTES:
             self.give_up(f"the program made more than {MOST_ENTRIES} writes and syncs of its image, or wrote more than {MOST_BYTES} bytes")

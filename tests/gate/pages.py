@@ -24,8 +24,8 @@ rooms.enter()
 import kit
 import take_kept
 
-# The libraries whose example may be text: those of laws alone, and some whose page has no code yet.
-TEXT_WILL_DO = ("machine", "soundness", "run_jobs", "cases", "lost_text", "known", "known_text", "known_runs")
+# The libraries whose example may be text.
+TEXT_WILL_DO = ("machine", "soundness", "run_jobs", "cases")
 # The names that an example may use without a `let`, with their types.
 GIVEN = {
     "rt": "&R",

@@ -137,7 +137,7 @@ impl<'x> HeldFiles<'x> {
         Ok(Recording::of(log, initial))
     }
 
-    /// The same log, and what the second file holds that stands in place of programs: a report, or records.
+    /// The same log, and the second file's bytes: a report, or records of a program of the user's.
     pub(crate) fn given(&self) -> Result<(Recording<'x>, &'x [u8]), Refusal>
         ensures { MatchResult result (λ held. HoldsGiven (held_by self.now) held.0 held.1.now) (RefusesGiven (held_by self.now) (λ text given r. ⊥)) }
     {

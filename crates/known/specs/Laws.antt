@@ -21,9 +21,9 @@ use Rattle.known.specs.Records.{RecordsValue, image_of_run, tells}
 use Rattle.known.specs.Leaves.{is_told, told_of, open_of, is_complete}
 use Rattle.known.specs.Found.{Reached, IsKnownAt, AreKnown}
 
--- The premise, of a record, where `truth` is how the program ends after so many marks on an image: each image of a log after as many marks
--- as the record's that agrees with the record's image on the sectors at which the program looked ends as the record says. The log is
--- that of the records, or one with flushes that were added to it.
+-- The premise, of a record, where `truth` is how the program ends on an image, by how many marks came before: each image of a log after
+-- as many marks as the record's that agrees with the record's image on the sectors at which the program looked ends as the record says.
+-- The log is that of the records, or one with flushes that were added to it.
 abbrev pub TellsTruth : RecordsValue → LogValue → By → (ℕ → List (List ℕ) → Ending) → KnownRun → Type 0
 TellsTruth records log way truth r = (k : ℕ) (choice : Choice) → k ≤ length log.entries → marks_at log.entries k ≡ r.marks
     → HaveSame (image_of_run records.log records.way r) (image_at log way k choice) r.looked.items → truth r.marks (image_at log way k choice) ≡ ending_of r.end

@@ -29,7 +29,7 @@ open_of leaves = filter (λ (leaf : LeafValue). is_open leaf.ending) leaves
 abbrev pub is_told_failing : LeafValue → Bool
 is_told_failing leaf = is_told leaf && fails leaf.ending
 
--- the search of a cut ends after these leaves: after the first told one that fails, and after so many, where that is asked
+-- the search of a cut ends after these leaves: after the first told one that fails, or when there are as many as asked
 abbrev pub has_stopped : Stops → List LeafValue → Bool
 has_stopped stops leaves = (stops.at_failing && list_any is_told_failing leaves) || option_map_or (λ n. nat_le n (length leaves)) stops.cases false
 

@@ -61,7 +61,7 @@ abbrev pub told_looks : Option KnownRun → List ℕ
 told_looks None = []
 told_looks (Some r) = r.looked.items
 
--- Records as a program, after so many marks. On a device that none of them tells it ends open, and it looks at no sector.
+-- Records as a program, by how many marks came before. On a device that none of them tells it ends open, and it looks at no sector.
 abbrev pub program_of : RecordsValue → ℕ → Program
 program_of v marks = record {
   ending = λ device. told_ending (first_telling v.log v.way marks device v.runs);

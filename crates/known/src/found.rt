@@ -11,7 +11,7 @@ use crate::run::RunEnd;
 pub struct Stops {
     /// Right after the first told leaf that fails.
     pub at_failing: bool,
-    /// Right after so many told leaves and open cases.
+    /// Right after this many told leaves and open cases.
     pub cases: Option<u32>,
 }
 
@@ -51,7 +51,7 @@ pub struct KnownAt {
     pub stopped: bool,
 }
 
-/// Whether the search of a cut is to end after so many leaves, of which so many are told and fail.
+/// Whether the search of a cut is to end, by how many leaves it came to, and how many of them are told and fail.
 pub(crate) fn stops_after(stops: Stops, count: usize, failures: usize) -> bool
     ensures { result ≡ ((stops.at_failing && nat_lt 0 failures) || option_map_or (λ n. nat_le n count) stops.cases false) }
 {

@@ -42,7 +42,7 @@ impl<'x> Model for KnownJudge<'x> {
 }
 
 impl<'x> KnownJudge<'x> {
-    /// A judge that was told of no leaf, after so many marks.
+    /// A judge that was told of no leaf yet, by how many marks came before the cut.
     pub(crate) fn new(alloc: Global, records: &'x KnownRecords<'x>, marks: u32) -> KnownJudge<'x>
         ensures records { result.records ≡ records.now }
         ensures marks { result.marks ≡ marks }

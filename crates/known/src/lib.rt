@@ -28,8 +28,8 @@
 //!
 //! - `find_known` answers, for each cut in order (`IsKnownAt`, `specs/Found.antt`): of the leaves to which the search came, in the order of
 //!   the tree, the told ones that fail, by their numbers among the told ones; how many are told; the open ones; how many cases were left
-//!   out; and whether cases are pending. The search ends where there are no more cases, or right after the first told leaf that fails, or
-//!   after so many leaves, where that is asked, and not before (`has_stopped`, `GoesOn`).
+//!   out; and whether cases are pending. The search ends where there are no more cases, or where that is asked: right after the first
+//!   told leaf that fails, or after a number of leaves (`has_stopped`, `GoesOn`). It doesn't end before.
 //! - It refuses where memory is wanting, or where there are more than 16,777,216 told leaves and open cases, and names the cut with which
 //!   there are (`AreTooMany`).
 //! - What is found at a cut is one (`found_is_one`, `specs/Once.antt`): the same cases, by whatever sets, and the same counts.
@@ -47,11 +47,19 @@
 //!
 //! # Example
 //!
-//! ```text
-//! let records = KnownRecords::new(alloc, &log, By::Sector, runs)?;
+//! Before a program ran there are no records, and the representative of each first case is open:
+//!
+//! ```
+//! use epochs::By;
+//! use known::{KnownRecords, Stops, find_known};
+//! use losses::found::Losses;
+//!
+//! let records = KnownRecords::new(alloc, &log, By::Sector, &[])?;
+//! let asked = Losses { tears: true, torn: 1, lost: None };
 //! let stops = Stops { at_failing: false, cases: None };
-//! let found = find_known(alloc, &plan, &log, By::Sector, cuts, &records, asked, stops)?;
-//! // found[i].failing: the told leaves of cuts[i] on which the program fails; found[i].open_cases: what is wanted
+//! let found = find_known(alloc, &plan, &log, By::Sector, &[2], &records, asked, stops)?;
+//! let wanted = found[0].open_cases.len(); // 1
+//! let failing = found[0].failing.len(); // 0
 //! ```
 #![tactic(auto)]
 

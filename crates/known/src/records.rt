@@ -113,7 +113,7 @@ fn are_there<D: Device>(device: &D, sectors: &[Looked]) -> bool
     true
 }
 
-/// Whether a record tells a device after so many marks.
+/// Whether a record tells a device, by how many marks came before.
 fn tells<D: Device>(kept: &KeptRun, marks: u32, device: &D) -> bool
     ensures { result ≡ kept_tells marks (D.content device.now) (kept_value kept.now) }
 {
@@ -201,7 +201,7 @@ impl<'x> KnownRecords<'x> {
         }
     }
 
-    /// Whether a record stands at a place that tells an image after so many marks.
+    /// Whether a record stands at a place that tells an image, by how many marks came before.
     fn tells_at<D: Device>(&self, marks: u32, device: &D, place: usize) -> bool
         ensures { result ≡ tells_at self.now marks (D.content device.now) place }
     {
@@ -212,7 +212,7 @@ impl<'x> KnownRecords<'x> {
         }
     }
 
-    /// Where the first record stands that tells an image after so many marks. Where none does, no record stands there.
+    /// Where the first record stands that tells an image, by how many marks came before. Where none does, no record stands there.
     pub(crate) fn first_telling<D: Device>(&self, marks: u32, device: &D) -> usize
         ensures { slice_get self.now.runs result ≡ first_telling self.now.log self.now.way marks (D.content device.now) self.now.runs }
     {

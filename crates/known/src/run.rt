@@ -16,7 +16,8 @@ pub enum RunEnd {
     OutOfTime,
 }
 
-/// What is known of a program: how it ended on the image of a cut and a choice, after so many marks, and at which sectors it looked.
+/// What is known of a program: how it ended on the image of a cut and a choice, before which there were some marks, and at which
+/// sectors it looked.
 #[derive(Drop)]
 pub struct KnownRun {
     /// The cut.

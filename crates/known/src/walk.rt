@@ -38,7 +38,7 @@ fn go_on(
     Ok(())
 }
 
-/// What records tell of a cut after so many marks, if the search comes to no more than `left` leaves.
+/// What records tell of a cut, before which there are `marks` marks, if the search comes to no more than `left` leaves.
 fn known_at(
     alloc: Global,
     log: &Log<'_>,

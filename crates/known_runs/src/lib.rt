@@ -54,12 +54,22 @@
 //!
 //! # Example
 //!
-//! ```text
-//! let question = KnownQuestion { recording: &recording, records: bytes, losses, stops, options: &options };
-//! match tell_known(alloc, &question) {
-//!     Ok(told) => print(told.bytes, told.status),
-//!     Err(fault) => refuse(fault),
-//! }
+//! ```
+//! use known::Stops;
+//! use known_runs::{KnownQuestion, tell_known};
+//! use request::{AnyLosses, CaseTelling};
+//!
+//! let question = KnownQuestion {
+//!     recording: &recording,
+//!     records: bytes,
+//!     losses: AnyLosses { torn: 0, at_most: None, telling: CaseTelling::Cases },
+//!     stops: Stops { at_failing: true, cases: None },
+//!     options: &options,
+//! };
+//! let status = match tell_known(alloc, &question) {
+//!     Ok(told) => told.status, // told.bytes: the text
+//!     Err(_fault) => 2,
+//! };
 //! ```
 #![tactic(auto)]
 

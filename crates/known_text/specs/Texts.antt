@@ -17,7 +17,7 @@ pub record Source : Type 0 where
   pub way : By
   pub inputs : ℕ
 
--- at most so many records
+-- the most records of a text
 abbrev pub most_records : ℕ
 most_records = 1048576
 

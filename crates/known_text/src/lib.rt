@@ -56,13 +56,14 @@
 //!
 //! # Example
 //!
-//! ```text
+//! ```
+//! use epochs::By;
 //! use known_text::read_known;
 //!
-//! match read_known(alloc, bytes, &log, By::Sector, inputs) {
-//!     Ok(known) => known.runs,
-//!     Err(fault) => return refused_at(fault.line),
-//! }
+//! let refused_at = match read_known(alloc, bytes, &log, By::Sector, 1970076140817820677) {
+//!     Ok(_known) => None, // _known.runs: the records
+//!     Err(fault) => Some(fault.line),
+//! };
 //! ```
 #![tactic(auto)]
 

@@ -35,16 +35,16 @@
 //!
 //! # Example
 //!
-//! ```text
+//! ```
 //! use cases::Cut;
 //! use epochs::By;
 //! use lost_text::lost_said;
 //!
 //! let at = Cut::new(alloc, &log, By::Sector, 2)?;
-//! match lost_said(alloc, &at, By::Sector, true, "1.0:drop")? {
-//!     Some(lost) => lost.sets,    // whole of part 0, and the drop of part 1
-//!     None => Vec::new(alloc),    // no choice there is printed so
-//! }
+//! let sets = match lost_said(alloc, &at, By::Sector, true, "1.0:drop")? {
+//!     Some(lost) => lost.sets, // whole of part 0, and the drop of part 1
+//!     None => Vec::new(alloc), // no choice there is printed so
+//! };
 //! ```
 #![tactic(auto)]
 
