@@ -1,5 +1,6 @@
 -- Lemmas of records.
 pub mod Telling
+pub mod Counting
 pub mod Meeting
 pub mod Going
 pub mod Reaching

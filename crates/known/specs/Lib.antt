@@ -1,6 +1,7 @@
 -- Records of a program of the user's, in place of checkers.
 pub mod Ends
 pub mod Records
+pub mod Linked
 pub mod Contradictions
 pub mod Leaves
 pub mod Found

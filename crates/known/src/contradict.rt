@@ -1,11 +1,11 @@
 //! Records that contradict each other.
 
-ghost use Rattle.std.specs.Prelude.{◌≡◌, not, option_map};
+ghost use Rattle.std.specs.Prelude.{◌≡◌, true, false, not, option_map};
 ghost use Rattle.std.specs.List.{list_any, list_all};
 ghost use Rattle.known.specs.Records.{kept_value};
 ghost use Rattle.known.specs.Contradictions.{clashes, kept_contradict, options_contradict, IsFirstAgainst, IsFirstOfAll};
 
-use crate::records::{KeptRun, KnownRecords, Looked};
+use crate::records::{KeptRun, KnownRecords, Looked, common_from};
 use crate::run::is_same_end;
 
 /// Two records that contradict each other, by their places.
@@ -47,8 +47,29 @@ fn are_alike(sectors: &[Looked], others: &[Looked]) -> bool
     true
 }
 
+/// Whether two lists have another sector of one number at a place.
+fn differ_at(sectors: &[Looked], others: &[Looked], place: usize) -> bool
+    ensures { result ≡ true → list_all (λ k. not (list_any (clashes k) others.now)) sectors.now ≡ false }
+{
+    if place < sectors.len() && place < others.len() {
+        is_other(&sectors[place], &others[place])
+    } else {
+        false
+    }
+}
+
+/// The same as `are_alike`. It looks at one place first, where two records mostly differ.
+fn are_alike_past(sectors: &[Looked], others: &[Looked], place: usize) -> bool
+    ensures { result ≡ list_all (λ k. not (list_any (clashes k) others.now)) sectors.now }
+{
+    if differ_at(sectors, others, place) {
+        return false;
+    }
+    are_alike(sectors, others)
+}
+
 /// Whether two records contradict each other.
-fn is_contrary(one: &KeptRun, other: &KeptRun) -> bool
+fn is_contrary(one: &KeptRun, other: &KeptRun, place: usize) -> bool
     ensures { result ≡ kept_contradict (kept_value one.now) (kept_value other.now) }
 {
     if one.marks != other.marks {
@@ -57,18 +78,39 @@ fn is_contrary(one: &KeptRun, other: &KeptRun) -> bool
     if is_same_end(one.end, other.end) {
         return false;
     }
-    are_alike(one.sectors.as_slice(), other.sectors.as_slice())
+    are_alike_past(one.sectors.as_slice(), other.sectors.as_slice(), place)
+}
+
+/// How many sectors two records have in common, from the first one on, where `before` is that of the record before the first one. No
+/// contract says so, and who asks has to look.
+fn common_with(one: &KeptRun, other: &KeptRun, before: usize) -> usize {
+    if before < one.shared {
+        before
+    } else {
+        common_from(one.sectors.as_slice(), other.sectors.as_slice(), one.shared)
+    }
+}
+
+/// The same of two records that may be there.
+pub(crate) fn common_after(one: Option<&KeptRun>, other: Option<&KeptRun>, before: usize) -> usize {
+    match one {
+        None => 0,
+        Some(one) => match other {
+            None => 0,
+            Some(other) => common_with(one, other, before),
+        },
+    }
 }
 
 /// Whether two records are there that contradict each other.
-pub(crate) fn are_contrary(one: Option<&KeptRun>, other: Option<&KeptRun>) -> bool
+pub(crate) fn are_contrary(one: Option<&KeptRun>, other: Option<&KeptRun>, place: usize) -> bool
     ensures { result ≡ options_contradict (option_map (λ k. k.now) one.entry) (option_map (λ k. k.now) other.entry) }
 {
     match one {
         None => false,
         Some(one) => match other {
             None => false,
-            Some(other) => is_contrary(one, other),
+            Some(other) => is_contrary(one, other, place),
         },
     }
 }
@@ -77,8 +119,10 @@ pub(crate) fn are_contrary(one: Option<&KeptRun>, other: Option<&KeptRun>) -> bo
 fn first_against(records: &KnownRecords<'_>, later: usize) -> Option<usize>
     ensures { IsFirstAgainst records.now later result }
 {
+    let mut common = 0;
     for earlier in 0..later {
-        if records.contradict_at(earlier, later) {
+        common = records.common_at(earlier, later, common);
+        if records.contradict_at(earlier, later, common) {
             return Some(earlier);
         }
     }

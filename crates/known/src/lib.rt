@@ -24,6 +24,16 @@
 //! | `is_failing(end)`, `is_same_end(one, other)` | whether a run failed, and whether two ended alike |
 //! | `found_is_one()`, `each_is_in_one()`, `told_end_so()`, `none_tells_open()`, `found_fail()`, `complete_has_all()`, `last_cuts_have_all()`, `rounds_end()` | laws |
 //!
+//! # How it searches
+//!
+//! Of each record the bytes of its sectors are kept, and in how many of them, from the first one on, it begins as the record before it.
+//! To tell an image, the records are tried in turn. For each it is known how many of its sectors are on the image, up to the first that
+//! isn't. Where a record begins as the one before it past the sector that wasn't there, it isn't there in this one either, and none of
+//! its sectors is looked at. Else the search goes on after what they have in common. Records of one round stand in the order of the search,
+//! so most of them have much in common with the one before.
+//!
+//! Two records are compared alike: at the first place at which their lists differ first, where most have another sector of one number.
+//!
 //! # What is proved
 //!
 //! - `find_known` answers, for each cut in order (`IsKnownAt`, `specs/Found.antt`): of the leaves to which the search came, in the order of

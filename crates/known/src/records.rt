@@ -1,12 +1,13 @@
 //! Records with the bytes of the sectors at which the program looked.
 
-ghost use Rattle.std.specs.Prelude.{◌≡◌, ◌<◌, true, length, map, slice_get, option_map, All, IfOk};
-ghost use Rattle.std.specs.List.{list_all};
+ghost use Rattle.std.specs.Prelude.{◌≡◌, ◌<◌, ◌≤◌, ◌==◌, ◌&&◌, ◌++◌, ◌∷◌, ℕ, List, [], true, length, map, take, slice_get, option_map, All, IfOk, OnOk};
 ghost use Rattle.cases.specs.AtCut.{parts_of, case_of, image_of};
 ghost use Rattle.known.specs.Contradictions.{contradict_at};
-ghost use Rattle.known.specs.Records.{IsRun, is_there, tells_at, first_telling, looked_at, sectors_of_run, kept_value, kept_of_run, kept_tells, told_looks};
+ghost use Rattle.known.specs.declared.records.Looked.{Looked as Sector};
+ghost use Rattle.known.specs.Records.{IsRun, is_there, tells_at, first_telling, looked_at, sectors_of_run, kept_value, kept_of_run, told_looks};
+ghost use Rattle.known.specs.Linked.{same_looked, sectors_before, AreLinked, count_there, there_at, there_before};
 
-use crate::contradict::are_contrary;
+use crate::contradict::{are_contrary, common_after};
 use crate::run::{KnownRun, RunEnd};
 use cases::Cut;
 use epochs::By;
@@ -29,6 +30,8 @@ pub(crate) struct KeptRun {
     pub(crate) end: RunEnd,
     /// In the order of the first looks.
     pub(crate) sectors: Vec<Looked>,
+    /// How many of them, from the first one on, are those of the record before it.
+    pub(crate) shared: usize,
 }
 
 /// A sector of the image of a case's representative.
@@ -70,7 +73,62 @@ fn kept_run(alloc: Global, log: &Log<'_>, way: By, run: &KnownRun) -> Result<Kep
         marks: run.marks,
         end: run.end,
         sectors,
+        shared: 0,
     })
+}
+
+/// Whether two sectors have one number and the same bytes.
+#[tactic(auto, using(lanes::proofs::CallerLemmas::same_test))]
+fn is_same(one: &Looked, other: &Looked) -> bool
+    ensures { result ≡ same_looked one.now other.now }
+{
+    one.number == other.number && lanes::same(&one.bytes, &other.bytes)
+}
+
+/// How many sectors two lists have in common, from the first one on, where the first `from` are known to be so.
+pub(crate) fn common_from(one: &[Looked], other: &[Looked], from: usize) -> usize
+    ensures { take from one.now ≡ take from other.now → take result one.now ≡ take result other.now }
+{
+    let mut place = from;
+    while place < one.len() {
+        if place >= other.len() {
+            return place;
+        }
+        if !is_same(&one[place], &other[place]) {
+            return place;
+        }
+        place += 1;
+    }
+    place
+}
+
+/// How many sectors of a record are those of the last one of some records.
+fn shared_of(kept: &[KeptRun], sectors: &[Looked]) -> usize
+    ensures { take result sectors.now ≡ take result (sectors_before kept.now (length kept.now)) }
+{
+    let count = kept.len();
+    if count == 0 {
+        return 0;
+    }
+    let place = count - 1;
+    let last = &kept[place];
+    let others = last.sectors.as_slice();
+    common_from(sectors, others, 0)
+}
+
+/// Appends what is kept of a record.
+fn put_kept(kept: &mut Vec<KeptRun>, one: KeptRun) -> Result<(), AllocError>
+    requires { AreLinked kept.old.items }
+    ensures linked { OnOk result (AreLinked kept.new.items) }
+    ensures put { OnOk result (map kept_value kept.new.items ≡ map kept_value kept.old.items ++ kept_value one ∷ []) }
+{
+    let before = kept.as_slice();
+    let sectors = one.sectors.as_slice();
+    let shared = shared_of(before, sectors);
+    let mut one = one;
+    one.shared = shared;
+    kept.push(one)?;
+    Ok(())
 }
 
 /// What is kept of each record.
@@ -81,11 +139,13 @@ fn kept_runs(
     runs: &[KnownRun],
 ) -> Result<Vec<KeptRun>, AllocError>
     requires { All (IsRun log.now way) runs.now }
-    ensures { IfOk result (λ kept. map kept_value kept.items ≡ map (kept_of_run log.now way) runs.now) }
+    ensures those { IfOk result (λ kept. map kept_value kept.items ≡ map (kept_of_run log.now way) runs.now) }
+    ensures linked { IfOk result (λ kept. AreLinked kept.items) }
 {
     let mut kept = Vec::new(alloc);
     for run in runs {
-        kept.push(kept_run(alloc, log, way, run)?)?;
+        let one = kept_run(alloc, log, way, run)?;
+        put_kept(&mut kept, one)?;
     }
     Ok(kept)
 }
@@ -101,27 +161,35 @@ fn is_there<D: Device>(device: &D, looked: &Looked) -> bool
     }
 }
 
-/// Whether a device has the bytes of each of some sectors.
-fn are_there<D: Device>(device: &D, sectors: &[Looked]) -> bool
-    ensures { result ≡ list_all (is_there (D.content device.now)) sectors.now }
+/// How many of some sectors are on a device, up to the first that isn't, where the first `from` are known to be there.
+fn there_from<D: Device>(device: &D, sectors: &[Looked], from: usize) -> usize
+    ensures { from ≤ count_there (D.content device.now) sectors.now → result ≡ count_there (D.content device.now) sectors.now }
 {
-    for looked in sectors {
-        if !is_there(device, looked) {
-            return false;
+    for place in from..sectors.len() {
+        if !is_there(device, &sectors[place]) {
+            return place;
         }
     }
-    true
+    sectors.len()
 }
 
-/// Whether a record tells a device, by how many marks came before.
-fn tells<D: Device>(kept: &KeptRun, marks: u32, device: &D) -> bool
-    ensures { result ≡ kept_tells marks (D.content device.now) (kept_value kept.now) }
+/// How many sectors of a record are on a device, up to the first that isn't, where `before` is that of the record before it.
+fn there_after<D: Device>(device: &D, kept: &KeptRun, before: usize) -> usize
+    ensures { (others : List Sector) → before ≡ count_there (D.content device.now) others → take kept.now.shared kept.now.sectors.items ≡ take kept.now.shared others
+        → result ≡ count_there (D.content device.now) kept.now.sectors.items }
 {
-    if kept.marks == marks {
-        are_there(device, kept.sectors.as_slice())
+    if before < kept.shared {
+        before
     } else {
-        false
+        there_from(device, kept.sectors.as_slice(), kept.shared)
     }
+}
+
+/// Whether a record tells a device, by how many marks came before, of which `there` sectors are on it, up to the first that isn't.
+fn tells(kept: &KeptRun, marks: u32, there: usize) -> bool
+    ensures { result ≡ ((kept.now.marks == marks) && (there == length kept.now.sectors.items)) }
+{
+    kept.marks == marks && there == kept.sectors.len()
 }
 
 /// What is kept of the record at a place, if one stands there.
@@ -145,12 +213,13 @@ pub struct KnownRecords<'x> {
 
 impl<'x> Model for KnownRecords<'x> {
     ghost use Rattle.known.specs.Records.{RecordsValue, AreRecords};
+    ghost use Rattle.known.specs.Linked.{AreLinked};
 
     ghost Value = { RecordsValue };
 
     ghost view = { λ r. record { log = r.log.now; way = r.way; runs = r.runs.now } };
 
-    ghost invariant = { λ r. AreRecords (record { log = r.log.now; way = r.way; runs = r.runs.now }) r.kept.items };
+    ghost invariant = { λ r. AreRecords (record { log = r.log.now; way = r.way; runs = r.runs.now }) r.kept.items × AreLinked r.kept.items };
 }
 
 impl<'x> KnownRecords<'x> {
@@ -201,13 +270,25 @@ impl<'x> KnownRecords<'x> {
         }
     }
 
-    /// Whether a record stands at a place that tells an image, by how many marks came before.
-    fn tells_at<D: Device>(&self, marks: u32, device: &D, place: usize) -> bool
-        ensures { result ≡ tells_at self.now marks (D.content device.now) place }
+    /// How many sectors of the record at a place are on a device, up to the first that isn't, where `before` is that of the record before it.
+    fn there_at<D: Device>(&self, device: &D, place: usize, before: usize) -> usize
+        requires { before ≡ there_before self.now (D.content device.now) place }
+        ensures { result ≡ there_at self.now (D.content device.now) place }
     {
         let all = self.kept.as_slice();
         match kept_at(all, place) {
-            Some(kept) => tells(kept, marks, device),
+            Some(kept) => there_after(device, kept, before),
+            None => 0,
+        }
+    }
+
+    /// Whether a record stands at a place that tells an image, by how many marks came before, of which `there` sectors are on it.
+    fn tells_at(&self, marks: u32, place: usize, there: usize) -> bool
+        ensures { (device : List (List ℕ)) → there ≡ there_at self.now device place → result ≡ tells_at self.now marks device place }
+    {
+        let all = self.kept.as_slice();
+        match kept_at(all, place) {
+            Some(kept) => tells(kept, marks, there),
             None => false,
         }
     }
@@ -217,21 +298,30 @@ impl<'x> KnownRecords<'x> {
         ensures { slice_get self.now.runs result ≡ first_telling self.now.log self.now.way marks (D.content device.now) self.now.runs }
     {
         let runs = self.runs();
+        let mut there = 0;
         for place in 0..runs.len() {
-            if self.tells_at(marks, device, place) {
+            there = self.there_at(device, place, there);
+            if self.tells_at(marks, place, there) {
                 return place;
             }
         }
         runs.len()
     }
 
-    /// Whether records stand at two places that contradict each other.
-    pub(crate) fn contradict_at(&self, earlier: usize, later: usize) -> bool
+    /// How many sectors two records have in common, where `before` is that of the record before the first one. No contract says so, and who
+    /// asks has to look.
+    pub(crate) fn common_at(&self, earlier: usize, later: usize, before: usize) -> usize {
+        let all = self.kept.as_slice();
+        common_after(kept_at(all, earlier), kept_at(all, later), before)
+    }
+
+    /// Whether records stand at two places that contradict each other. It begins to look for a difference at a sector.
+    pub(crate) fn contradict_at(&self, earlier: usize, later: usize, sector: usize) -> bool
         ensures { result ≡ contradict_at self.now earlier later }
     {
         let all = self.kept.as_slice();
         let one = kept_at(all, earlier);
         let other = kept_at(all, later);
-        are_contrary(one, other)
+        are_contrary(one, other, sector)
     }
 }

@@ -10,4 +10,4 @@ returns c =
     let first = c.kept_at-one.ensures ∙ ap (λ (ks : List KeptRun). slice_get ks c.args.earlier) c.as_slice-all.ensures.value in
     let second = c.kept_at-other.ensures ∙ ap (λ (ks : List KeptRun). slice_get ks c.args.later) c.as_slice-all.ensures.value in
     subst (λ (v : RecordsValue). c.are_contrary.result ≡ contradict_at v c.args.earlier c.args.later) c.self.view_is
-    (contradict_kept _ c.self.inside.kept.items c.args.earlier c.args.later _ c.self.invariant (c.are_contrary.ensures ∙ (λ i. options_contradict (first i) (second i))))
+    (contradict_kept _ c.self.inside.kept.items c.args.earlier c.args.later _ c.self.invariant.0 (c.are_contrary.ensures ∙ (λ i. options_contradict (first i) (second i))))
