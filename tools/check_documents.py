@@ -391,7 +391,7 @@ def too_long(text):
 
 def other_kit(top, text):
     """Returns the kits that README.md names and `crashbpf --version` doesn't, each with the number of its line."""
-    kit = re.search(r"proved with (rattle-kit-[^)]*)\)", (top / "crates/command_line/src/words.rt").read_text())[1]
+    kit = re.search(r"\((rattle-kit-[^)]*)\)", (top / "crates/command_line/src/words.rt").read_text())[1]
     for number, line in enumerate(text.splitlines(), 1):
         yield from ((number, f"{it} isn't {kit}, the kit of the program") for it in re.findall(r"`(rattle-kit-[^`]*)`", line) if it != kit)
 

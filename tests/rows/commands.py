@@ -61,7 +61,7 @@ COMMANDS = [
     refused("list names no program", "list p", {"p": code("ff00000000000000")}, "refused 22 at 0"),
 ]
 
-VERSION = [Row("version", "--version", {}, "crashbpf 0.1.0 (proved with rattle-kit-13f logic dac8208d650f15bf)\n")]
+VERSION = [Row("version", "--version", {}, "crashbpf 0.1.0 (rattle-kit-13f logic dac8208d650f15bf)\n")]
 
 # Help is asked for: status 0, something on standard output that isn't compared.
 HELP = [

@@ -38,8 +38,8 @@ impl Model for Words {
     ghost view = { λ w. record { request = w.request; files = map string_bytes w.files.items; base = option_map string_bytes w.base; choice = string_bytes w.choice; progress = w.progress; is_sized = w.is_sized } };
 }
 
-/// The version of the program, and the kit that it is proved with.
-const VERSION: &str = "0.1.0 (proved with rattle-kit-13f logic dac8208d650f15bf)";
+/// The version of the program, and the kit that it is written for. A build doesn't know whether it was proved.
+const VERSION: &str = "0.1.0 (rattle-kit-13f logic dac8208d650f15bf)";
 
 /// What the program is for.
 const ABOUT: &str =
