@@ -62,6 +62,8 @@ def findings(top):
 
 
 def main(words):
+    if words and words[0].startswith("-"):
+        sys.exit(__doc__)
     found = list(findings(Path(words[0]).resolve() if words else Path(__file__).resolve().parent.parent))
     print("\n".join(found), end="\n" if found else "")
     return 1 if found else 0

@@ -469,6 +469,8 @@ def main():
     words = sys.argv[1:]
     is_long = words[:1] == ["--long"]
     words = words[is_long:]
+    if words and words[0].startswith("-"):
+        sys.exit(__doc__)
     top = Path(words[0] if words else Path(__file__).parent.parent).resolve()
     if is_long:
         print_long(top)

@@ -28,8 +28,6 @@ sys.dont_write_bytecode = True
 FOLDERS = ("commands", "examples", "tests", "tools", "bench")
 # The most statements of a plain function, and the most lines that change Python's path.
 STATEMENTS, PATHS = 3, 6
-# How many functions that aren't plain may lack a docstring. The number only falls.
-LACKING = 1
 LINTER = "pyflakes3"
 # What pyflakes finds that counts. Later versions find more kinds.
 KINDS = re.compile(r"imported but unused|undefined name|assigned to but never used|redefinition of unused|missing placeholders|syntax")
@@ -90,7 +88,7 @@ class Count:
     def findings(self):
         """Yields what is against the rules."""
         yield from self.broken
-        yield from self.lacking if len(self.lacking) > LACKING else ()
+        yield from self.lacking
         if len(self.changes) > PATHS:
             yield from (f"{it}: Python's path is changed here too, and at most {PATHS} lines of all scripts do it" for it in self.changes)
 
@@ -100,6 +98,8 @@ class Count:
 
 
 def main(words):
+    if words and words[0].startswith("-"):
+        sys.exit(__doc__)
     top = Path(words[0] if words else Path(__file__).parent.parent).resolve()
     paths, count = scripts(top), Count()
     for path in paths:

@@ -133,4 +133,7 @@ def page(program):
 
 
 if __name__ == "__main__":
-    sys.stdout.write(page(sys.argv[1] if len(sys.argv) > 1 else str(PROGRAM)))
+    program = sys.argv[1] if len(sys.argv) > 1 else str(PROGRAM)
+    if program.startswith("-"):
+        sys.exit(__doc__)
+    sys.stdout.write(page(program))

@@ -169,6 +169,8 @@ def main(words):
                 failed = True
                 print(it)
         return failed
+    if words and words[0].startswith("-"):
+        sys.exit(__doc__)
     top = Path(words[0]).resolve() if words else TOP
     found = list(findings(top, (top / PAGE).read_text()))
     for it in found:

@@ -583,6 +583,7 @@ def listed_in(file):
 
 
 def options_in(words):
+    """Returns what the words ask for: the folders of edits, how many lanes, the names, and the file that lists edits."""
     parts, lanes, named, listed = ["wrong"], None, [], None
     words = iter(words)
     for word in words:
