@@ -66,7 +66,7 @@ class Machine:
     def helpless(self, it, number):
         """A failure against which no sync helps."""
         fact = it.first()
-        moved = it.moved and {"behind": call_of(it.moved.behind, self.where), "stay": it.moved.stay, "missing": [head(one) for one in it.moved.sites]}
+        moved = it.moved and {"after": call_of(it.moved.after, self.where), "stay": it.moved.stay, "missing": [head(one) for one in it.moved.sites]}
         return {"why": it.kind, "after": call_of(it.log.call(fact.need), self.where), "cases": it.cases, "moved": moved,
                 "lost": [call_of(it.log.call(one), self.where) for one in fact.numbers()], "check": self.shown(it, number)}
 

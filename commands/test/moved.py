@@ -1,6 +1,6 @@
-"""Where no sync helps since calls are in a wrong order: whether it is right with a call moved behind a later one.
+"""Where no sync helps since calls are in a wrong order: whether it is right with a call moved after a later one.
 
-The recording is followed anew with the line of the call behind that of another. What a call does to bytes and names stays the same where it
+The recording is followed anew with the line of the call after that of another. What a call does to bytes and names stays the same where it
 tells its place, as pwrite and rename do, and where it is moved past calls of its own process alone; the others aren't tried. Whether the program
 reads in between what the call changes isn't known. All calls of a site are moved at once, each as far.
 """
@@ -10,23 +10,23 @@ from commands.record.calls import Refused
 from commands.test.facts import Facts
 from commands.test.sites import Sites
 
-# Calls that tell themselves where they write; which of those behind are tried, at most.
+# Calls that tell themselves where they write; how many later calls are tried, at most.
 MOVABLE = {"pwrite64", "pwritev", "pwritev2", "rename", "renameat", "renameat2", "link", "linkat", "unlink", "unlinkat", "rmdir"}
 MOST = 6
 
 
 @dataclass
 class Moved:
-    """A move that was tried: behind which call, for the first of those that are moved; how many cases stay against which no sync helps; and
+    """A move that was tried: after which call, for the first of those that are moved; how many cases stay against which no sync helps; and
     the log with the syncs that are missing then."""
 
-    behind: object
+    after: object
     stay: int
     sites: list
 
 
 def later(log, call):
-    """The calls behind which one can be moved: those of the same process that changed or synced something, up to the next mark."""
+    """The calls after which one can be moved: those of the same process that changed or synced something, up to the next mark."""
     found = {}
     calls = [*(it.call for it in log.entries if it.call is not None), *(it.call for it in log.tracing.synced)]
     for it in sorted(calls, key=lambda one: one.line):
@@ -38,7 +38,7 @@ def later(log, call):
 
 
 def reordered(lines, moves):
-    """Lines of strace in which some stand behind others, or nothing where that is past a line of another process, or past another move. Moves
+    """Lines of strace in which some stand after others, or nothing where that is past a line of another process, or past another move. Moves
     are pairs of numbers from 1 on."""
     found, moves = list(lines), sorted(moves)
     if any(one[1] >= other[0] for one, other in zip(moves, moves[1:])):
@@ -67,16 +67,16 @@ class Moves:
         calls = self.calls(log, helpless)
         if not calls or any(it.name not in MOVABLE or it.ended != it.line for it in calls) or log.tracing.mapped is not None:
             return None
-        behind, tried = [later(log, it) for it in calls], []
+        after, tried = [later(log, it) for it in calls], []
         with open(self.source.calls, "rb") as file:
             lines = file.read().splitlines(keepends=True)
-        for turn in range(min([MOST, *map(len, behind)])):
-            moves = [(call.line, it[turn].line) for call, it in zip(calls, behind)]
+        for turn in range(min([MOST, *map(len, after)])):
+            moves = [(call.line, it[turn].line) for call, it in zip(calls, after)]
             found = self.explained(reordered(lines, moves))
             if found is not None:
                 sites, stay = found
                 # (what fails more than before is no reason to move anything)
-                tried.append(Moved(behind[0][turn], sum(it.cases for it in stay), sites))
+                tried.append(Moved(after[0][turn], sum(it.cases for it in stay), sites))
         best = min(tried, key=lambda it: (it.stay, len(it.sites)), default=None)
         return best if best is not None and best.stay < total else None
 

@@ -123,7 +123,7 @@ class Text:
     def lines_of_move(self, moved):
         """What became of a move of the call."""
         stays = f"in {many(moved.stay, 'case')}" if moved.stay else "in none"
-        yield from self.placed(f"   Tried: moved behind {moved.behind.told}, no sync helps {stays}.", moved.behind)
+        yield from self.placed(f"   Tried: moved after {moved.after.told}, no sync helps {stays}.", moved.after)
         for site in moved.sites:
             yield from wrapped(f"It lacks {head(site)} then.")
         yield "   That holds where the program doesn't read in between what the call changes."

@@ -325,9 +325,9 @@ def names_move(folder):
     Path(folder, "first.py").write_text(COUNTS_FIRST)
     Path(folder, "counts.sh").write_text(COUNTS)
     done, answer, found = run(folder, ["--check", "sh counts.sh"], [sys.executable, "first.py"])
-    told = [(it["why"], it["after"]["text"], it["moved"]["behind"]["text"], it["moved"]["stay"], it["moved"]["missing"]) for it in answer["helpless"]]
+    told = [(it["why"], it["after"]["text"], it["moved"]["after"]["text"], it["moved"]["stay"], it["moved"]["missing"]) for it in answer["helpless"]]
     wanted = ("nothing lost", 'pwrite("index", 1 bytes at 0)', 'fsync("log")', 0, ['fsync of "index" before each mark, 2 times'])
-    text = 'Tried: moved behind fsync("log"), no sync helps in none.'
+    text = 'Tried: moved after fsync("log"), no sync helps in none.'
     return found + differs("what is moved", told, [wanted]) + ([] if text in " ".join(done.stdout.split()) else [f"it says {done.stdout}"])
 
 
