@@ -1,5 +1,5 @@
 -- What records tell of every cut that was asked for: its images are those of a cut at which cases were looked for.
-use Rattle.std.proofs.Common.{ℕ, zero, suc, ◌≡◌, ◌+◌, ◌-◌, ◌<◌, ◌≤◌, ◌==◌, ◌&&◌, min, nat_le, Bool, true, false, if◌then◌else◌, List, [], ◌∷◌, length, filter, slice_get, Option, None, Some, is_none, unwrap_or, refl, sym, ◌∙◌, ap, arith, inl, inr}
+use Rattle.std.proofs.Common.{ℕ, zero, suc, ◌≡◌, ◌+◌, ◌-◌, ◌<◌, ◌≤◌, ◌&&◌, min, nat_le, Bool, true, false, if◌then◌else◌, List, ◌∷◌, length, filter, slice_get, Option, None, Some, unwrap_or, refl, sym, ◌∙◌, ap, arith, inl, inr}
 use Rattle.std.specs.List.{range_with_len}
 use Rattle.std.proofs.lemmas.Bool.Decides.{eqb_tells, nat_tests}
 use Rattle.logfmt.specs.Bounds.{LogValue, IsLog}
@@ -10,8 +10,8 @@ use Rattle.epochs.specs.Cuts.{is_of_kind, is_after_first, is_before_last, is_wan
 use Rattle.epochs.specs.Units.{marks_at}
 use Rattle.machine.specs.Outcome.{Ending, fails}
 use Rattle.cases.specs.Choices.{Choice, image_at}
-use Rattle.cases.specs.Laws.{IsChoice, IsOfCut, LastCutsHaveAll}
-use Rattle.case_runs.specs.Cuts.{is_all, is_explored, explored_cuts, are_last_enough, first_wanted, last_wanted, case_cuts}
+use Rattle.cases.specs.Laws.{IsChoice, LastCutsHaveAll}
+use Rattle.case_runs.specs.Cuts.{is_explored, explored_cuts, are_last_enough, first_wanted, last_wanted, case_cuts}
 use Rattle.known.specs.declared.found.KnownAt.{KnownAt}
 use Rattle.known.specs.Found.{AreKnown}
 use Rattle.known.specs.Laws.{CompleteHasAll, IsInFailing, IsInFailingOf, truth_at}
@@ -57,6 +57,10 @@ record IsSearched (at_most : Option ℕ) (wanted : Cuts) (log : LogValue) (way :
   pub image : image_at log way last other ≡ image_at log way cut choice
   pub marks : marks_at log.entries last ≡ marks_at log.entries cut
 
+-- what stands in one of two lists that are the same
+placed : (cuts others : List ℕ) (i k : ℕ) → cuts ≡ others → slice_get others i ≡ Some k → slice_get cuts i ≡ Some k
+placed cuts others i k same there = ap (λ (cs : List ℕ). slice_get cs i) same ∙ there
+
 searched : LastCutsHaveAll → (at_most : Option ℕ) (wanted : Cuts) (log : LogValue) (way : By) (tears : Bool) (cut : ℕ) (choice : Choice) → IsLog log
     → cut ≤ length log.entries → is_wanted wanted log.entries cut ≡ true → IsChoice tears choice → IsSearched at_most wanted log way tears cut choice
 unfolding case_cuts
@@ -89,11 +93,11 @@ searched all at_most wanted log way tears cut choice is_log within is possible =
         let to = found.1.within in
         let from = found.1.from in
         let at = kept_there (is_explored es (last_wanted wanted n)) (first_wanted wanted n) (last_wanted wanted n + 1 - first_wanted wanted n) found.0
-            (omega (arith, low, from)) (omega (arith, to, low, from)) found.1.is_last in
+        (omega (arith, low, from)) (omega (arith, to, low, from)) found.1.is_last in
         record {
           place = at.0;
           last = found.0;
-          there = ap (λ (cs : List ℕ). slice_get cs at.0) (cuts_are true enough) ∙ at.1;
+          there = placed (case_cuts at_most wanted es) explored at.0 found.0 (cuts_are true enough) at.1;
           within = omega (arith, to);
           other = found.1.other;
           possible = found.1.possible;
@@ -105,7 +109,7 @@ searched all at_most wanted log way tears cut choice is_log within is possible =
         record {
           place = at.0;
           last = cut;
-          there = ap (λ (cs : List ℕ). slice_get cs at.0) (cuts_are false each) ∙ at.1;
+          there = placed (case_cuts at_most wanted es) (cuts_of wanted es) at.0 cut (cuts_are false each) at.1;
           within = within;
           other = choice;
           possible = possible;

@@ -1,5 +1,5 @@
 -- What the totals of a text of records say: of its status, and of its last word.
-use Rattle.std.proofs.Common.{ℕ, zero, suc, ◌≡◌, ◌+◌, ◌<◌, ◌≤◌, ◌==◌, ◌%◌, ◌^◌, ◌&&◌, not, Bool, true, false, if◌then◌else◌, List, [], ◌∷◌, ◌++◌, length, min, sum_by, slice_get, Option, None, Some, codes, refl, sym, ◌∙◌, ap, subst, arith, append_assoc}
+use Rattle.std.proofs.Common.{ℕ, zero, suc, ◌≡◌, ◌+◌, ◌<◌, ◌==◌, ◌%◌, ◌^◌, ◌&&◌, not, Bool, true, false, if◌then◌else◌, List, [], ◌∷◌, ◌++◌, length, sum_by, slice_get, Option, None, Some, codes, refl, sym, ◌∙◌, ap, subst, arith, append_assoc}
 use Rattle.std.specs.Fmt.{decimal}
 use Rattle.std.proofs.lemmas.Bool.{false≢true}
 use Rattle.std.proofs.lemmas.Bool.Decides.{nat_tests}
@@ -23,7 +23,7 @@ zero_of n is = grind (arith, nat_tests, is)
 -- WHERE NOTHING IS LEFT
 
 -- each of what is counted is nothing where all of it is
-pub none_of_sum : (count : KnownAt → ℕ) (fs : List KnownAt) (i : ℕ) (f : KnownAt) → sum_by count fs ≡ 0 → slice_get fs i ≡ Some f → count f ≡ 0
+none_of_sum : (count : KnownAt → ℕ) (fs : List KnownAt) (i : ℕ) (f : KnownAt) → sum_by count fs ≡ 0 → slice_get fs i ≡ Some f → count f ≡ 0
 none_of_sum count [] i f none there = absurd (let bad : ◌≡◌ {A = Option KnownAt} None (Some f) = there in cc)
 none_of_sum count (g ∷ fs) zero f none there =
     let both : Some g ≡ Some f = there in
@@ -42,7 +42,7 @@ sum_of_none count (g ∷ fs) none =
     let rest : sum_by count fs ≡ 0 = sum_of_none count fs (λ i f there. none (suc i) f there) in
     omega (arith, all, own, rest)
 
-pub none_in_word : (n : ℕ) → in_word n ≡ 0 → n ≡ 0
+none_in_word : (n : ℕ) → in_word n ≡ 0 → n ≡ 0
 none_in_word n none = omega (arith, none)
 
 nothing_in_word : (n : ℕ) → n ≡ 0 → in_word n ≡ 0
@@ -239,7 +239,7 @@ says_word before bytes all cuts fs is = record {
     every true true true one other is it ends = (whole true true one other refl refl, is)
     every true true false one other is it ends =
         absurd (let same = same_before bytes ((it.front ++ it.digit ∷ []) ++ codes " of these cut") (ends.0 ++ codes " complet") 115 101
-            (ends_so bytes (it.front ++ it.digit ∷ []) (codes " of these cut") 115 it.is) (ends_so bytes ends.0 (codes " complet") 101 ends.1) in omega (arith, same))
+        (ends_so bytes (it.front ++ it.digit ∷ []) (codes " of these cut") 115 it.is) (ends_so bytes ends.0 (codes " complet") 101 ends.1) in omega (arith, same))
     every true false each one other is it ends = absurd (no_digit it ends.0 (codes " complet") 101 (omega arith) ends.1)
     every false none each one other is it ends = absurd (no_digit it ends.0 (codes " complet") 101 (omega arith) ends.1)
 

@@ -1,5 +1,5 @@
 -- What the text of `explore --known` says of a program, where its records are true.
-use Rattle.std.proofs.Common.{ℕ, ◌≡◌, ◌+◌, ◌<◌, ◌≤◌, ◌^◌, ◌&&◌, ◌||◌, not, Bool, true, false, List, [], ◌∷◌, ◌++◌, length, slice_get, Option, None, Some, is_some, refl, sym, ◌∙◌, ap, subst, arith, append_assoc}
+use Rattle.std.proofs.Common.{ℕ, ◌≡◌, ◌+◌, ◌≤◌, ◌&&◌, ◌||◌, not, Bool, true, false, List, [], ◌∷◌, ◌++◌, length, slice_get, Option, None, Some, is_some, refl, sym, ◌∙◌, subst, arith, append_assoc}
 use Rattle.std.specs.List.{flat_map}
 use Rattle.std.proofs.lemmas.Bool.{false≢true}
 use Rattle.logfmt.specs.Bounds.{LogValue}
@@ -7,7 +7,7 @@ use Rattle.logfmt.specs.declared.entry.Entry.{Entry}
 use Rattle.epochs.specs.declared.cuts.Cuts.{Cuts}
 use Rattle.epochs.specs.declared.cuts.CutKind.{CutKind}
 use Rattle.epochs.specs.declared.cuts.CutKind.TheVariants as kind
-use Rattle.epochs.specs.Cuts.{is_of_kind, is_after_first, is_before_last, is_wanted}
+use Rattle.epochs.specs.Cuts.{is_of_kind, is_after_first, is_before_last}
 use Rattle.machine.specs.Outcome.{Ending, fails}
 use Rattle.cases.specs.Choices.{Choice}
 use Rattle.cases.specs.Laws.{IsChoice, LastCutsHaveAll}
@@ -21,9 +21,7 @@ use Rattle.known.specs.Found.{IsKnownAt}
 use Rattle.known.specs.Laws.{FoundFail, CompleteHasAll, IsInFailingOf, truth_at}
 use Rattle.known_text.specs.Texts.{HeadValue}
 use Rattle.request.proofs.Logs.{bounds_of}
-use Rattle.request.specs.declared.command.OptionWords.{OptionWords}
 use Rattle.request.specs.declared.command.Request.TheVariants as request
-use Rattle.request.specs.declared.known.KnownWords.{KnownWords}
 use Rattle.request.specs.declared.settings.KnownTelling.{KnownTelling}
 use Rattle.request.specs.declared.settings.KnownTelling.TheVariants as telling
 use Rattle.request.specs.declared.settings.Settings.{Settings}
@@ -34,8 +32,8 @@ use Rattle.known_runs.specs.Number.{source_of}
 use Rattle.known_runs.specs.Text.{cut_lines, opening_lines, program_text, known_bytes}
 use Rattle.known_runs.specs.Told.{TellsKnown, records_of}
 use Rattle.known_runs.specs.Totals.{totals_of, totals_text}
-use Rattle.commands.specs.Acting.{Files, recording, search_asked, AnswersRecords, TellsRecords, Answers}
-use Rattle.commands.specs.Records.{Found, IsTextOf, TrueOf, TellTruth, IsAskedCut, IsComplete, TellEvery, SaysComplete, RecordsTellTruth, cut_in}
+use Rattle.commands.specs.Acting.{recording, search_asked, TellsRecords}
+use Rattle.commands.specs.Records.{Found, TrueOf, TellTruth, IsAskedCut, IsComplete, TellEvery, SaysComplete, RecordsTellTruth, cut_in}
 use Rattle.commands.proofs.RecordsEvery.{every_is_told}
 use Rattle.commands.proofs.RecordsTotals.{AreClean, SaysWord, complete_at, found_there, none_failing, says_word, whole_of, zero_is_clean}
 
@@ -77,8 +75,8 @@ tell_truth fail all a bytes status h truth true_of = record {
     clean none i k choice within own possible =
         let it = found_there (asked_cuts a f.value) f.found i k h.tells.finds.finds.are.count own in
         unless (fails (truth_at truth (cut_in f k) choice)) (λ failing.
-          let inside = all asked (cut_in f k) records a.stops it.0 truth choice within true_of (known i k it.0 own it.1) (complete_at f.found none.whole i it.0 it.1) possible failing in
-          none_there it.0.failing.items inside.number inside.own (none_failing f.found none i it.0 it.1) inside.there)
+        let inside = all asked (cut_in f k) records a.stops it.0 truth choice within true_of (known i k it.0 own it.1) (complete_at f.found none.whole i it.0 it.1) possible failing in
+        none_there it.0.failing.items inside.number inside.own (none_failing f.found none i it.0 it.1) inside.there)
 
 tell_every : CompleteHasAll → LastCutsHaveAll → (a : KnownAsked) (bytes : List ℕ) (status : ℕ) (h : TellsKnown a bytes status) (truth : ℕ → List (List ℕ) → Ending)
     → TrueOf (found_in a bytes status h) truth → TellEvery (found_in a bytes status h) status truth
@@ -98,8 +96,8 @@ tell_every has_all last a bytes status h truth true_of = record {
     clean : AreClean h.tells.found → (k : ℕ) (choice : Choice) → IsAskedCut f k → IsChoice a.settings.tears choice → fails (truth_at truth (cut_in f k) choice) ≡ false
     clean none k choice is possible =
         unless (fails (truth_at truth (cut_in f k) choice)) (λ failing.
-          let it = every (complete_at f.found none.whole) k choice is possible failing in
-          none_there it.at_last.failing.items it.in_leaf.number it.in_leaf.own (none_failing f.found none it.place it.at_last it.there) it.in_leaf.there)
+        let it = every (complete_at f.found none.whole) k choice is possible failing in
+        none_there it.at_last.failing.items it.in_leaf.number it.in_leaf.own (none_failing f.found none it.place it.at_last it.there) it.in_leaf.there)
 
 -- WHAT THE END OF THE TEXT SAYS
 
@@ -145,7 +143,7 @@ says_complete a bytes status h = record {
     word =
         subst (λ (c : Cuts). SaysWord bytes (are_all_cuts c) h.tells.found) (cuts_given a.settings h.value)
         (says_word (before_totals inputs given (asked_losses a) h.tells.head h.value h.tells.found) bytes (are_all_cuts given.cuts) (length h.tells.found) h.tells.found
-          (h.tells.text ∙ ends_in_totals inputs given (asked_losses a) h.tells.head h.value h.tells.found))
+        (h.tells.text ∙ ends_in_totals inputs given (asked_losses a) h.tells.head h.value h.tells.found))
 
 told_cases : (t : KnownTelling) (a : KnownAsked) (bytes : List ℕ) (status : ℕ) → t ≡ telling.Cases → TellsRecords t a bytes status → TellsKnown a bytes status
 told_cases t a bytes status is h = subst (λ (x : KnownTelling). TellsRecords x a bytes status) is h

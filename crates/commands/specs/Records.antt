@@ -22,7 +22,6 @@ use Rattle.request.specs.declared.command.OptionWords.{OptionWords}
 use Rattle.request.specs.declared.command.Request.TheVariants as request
 use Rattle.request.specs.declared.known.KnownWords.{KnownWords}
 use Rattle.request.specs.declared.settings.KnownTelling.TheVariants as telling
-use Rattle.request.specs.declared.settings.Settings.{Settings}
 use Rattle.known_runs.specs.Asked.{KnownAsked, asked_losses, asked_cuts}
 use Rattle.known_runs.specs.Number.{source_of}
 use Rattle.known_runs.specs.Text.{known_bytes}
