@@ -19,6 +19,8 @@ pub mod OneJoin
 pub mod OneCasesJoin
 pub mod OneRetold
 pub mod OneKnown
+pub mod RecordsTotals
+pub mod RecordsEvery
 pub mod RecordsTrue
 pub mod LinesOfRun
 pub mod OneAnswer

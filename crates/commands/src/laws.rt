@@ -14,6 +14,7 @@ ghost use Rattle.commands.specs.Parts.{JoinIsExplore, JoinedPartsAreRun, PartsOf
 
 use bpf_isa::laws::{no_fault_in_spelled, one_program};
 use case_runs::{finding_is_one, first_is_one};
+use cases::last_cuts_have_all;
 use choices::list_is_set;
 use inspect::looks::cut_parts_are_run;
 use known::{complete_has_all, found_fail, found_is_one};
@@ -200,11 +201,14 @@ pub fn reports_are_bounded()
 {}
 
 /// What `explore` prints of records is the text of what is found by them. Where each record is true of a program, so is what is told of
-/// it: it fails on each image of a failing case, and at a cut of which nothing is open, left out or pending on no other; with status 0
-/// on no image of the cuts that were searched.
+/// it: it fails on each image of a failing case, and at a cut of which nothing is open, left out or pending on no other. The text ends in
+/// ` complete` or ` of these cuts` exactly where that holds of each cut that was searched. Then each image of any cut that was asked for
+/// on which the program fails is one of a failing case, and with ` complete` every cut of the log was asked for. With status 0 it fails on
+/// no image of any cut that was asked for.
 pub fn records_tell_truth()
     ensures { RecordsTellTruth }
 {
     found_fail();
     complete_has_all();
+    last_cuts_have_all();
 }

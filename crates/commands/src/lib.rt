@@ -62,7 +62,9 @@
 //!
 //! `explore --known` prints exactly the text of what is found by records, and `export --known` the images that these leave open. Where the
 //! records are true of a program, so is what the text says of it: it fails on each image of a failing case, and at a cut of which nothing is open,
-//! left out or pending on no other; with status 0 on none (`records_tell_truth`, `specs/Records.antt`).
+//! left out or pending on no other. The text ends in ` complete` or ` of these cuts` exactly where that holds of each cut that was searched. Then
+//! each image of any cut that was asked for on which the program fails is one of a failing case, and with ` complete` every cut was asked for.
+//! With status 0 it fails on no image of any cut that was asked for (`records_tell_truth`, `specs/Records.antt`).
 //!
 //! Of a report that `explore` printed `why --report` prints what `why` prints of its programs, and it isn't refused as no report up to
 //! 1 GiB (`why_of_report_is_why`); so does `page --report` (`page_of_report_is_page`). The failing lines of a report have no more bytes
