@@ -72,16 +72,16 @@ def kv(name, packages, adapter, commits, skipped=(), varies=False):
 
 def git(command, setting=""):
     """Returns the row of a command of git, after a commit that is durable. From 300 runs on each cut ends at its first failing case."""
-    name = f"again/git-{command}{'-all' * bool(setting)}"
+    name = f"again:git-{command}{'-all' * bool(setting)}"
     script = ("sh", FOUND / "git/recover.sh", command)
     return Row(name, "git", ("sh", FOUND / "git/synced.sh"), script, (), ("--cuts", "mark", "--runs", "300"), ("sh", FOUND / "git/base.sh", *setting.split()), True)
 
 
 ROWS = [
-    Row("again/e2fsck", "e2fsprogs"),
-    Row("again/sqlite-delete", "libsqlite3-0", varies=True),
-    Row("again/sqlite-wal", "libsqlite3-0", varies=True),
-    kv("again/leveldb", "libleveldb1d python3-plyvel", "leveldb:sync", 2, ["LOG*", "LOCK"], varies=True),
+    Row("again:e2fsck", "e2fsprogs"),
+    Row("again:sqlite-delete", "libsqlite3-0", varies=True),
+    Row("again:sqlite-wal", "libsqlite3-0", varies=True),
+    kv("again:leveldb", "libleveldb1d python3-plyvel", "leveldb:sync", 2, ["LOG*", "LOCK"], varies=True),
     git("fsck"),
     git("repack"),
     git("gc"),
@@ -100,7 +100,7 @@ def of_design(design, room):
 def recorded(row, room):
     """Records a row in a folder. Returns the words of crashbpf-each for it, and those of the program that judges."""
     if not row.program:
-        return of_design(DESIGNS[row.name.removeprefix("again/")], room)
+        return of_design(DESIGNS[row.name.removeprefix("again:")], room)
     base = Path(room, "base/files")
     base.mkdir(parents=True)
     subprocess.run(row.base, cwd=base, env={**surroundings(str(room)), "FILES": str(base)}, check=True, capture_output=True)
@@ -195,7 +195,7 @@ def is_made(row, keep, runners, is_stored):
         print(f"{row.name}: can't be run here, there is no {', '.join(lacking)}", flush=True)
         return False
     with tempfile.TemporaryDirectory(prefix="crashbpf-found.") as room:
-        at = Path(keep, row.name.replace("/", "-")) if keep else Path(room)
+        at = Path(keep, row.name.replace(":", "-")) if keep else Path(room)
         at.mkdir(exist_ok=True)
         found = asked(row, at, runners)
     if isinstance(found, str):
@@ -214,7 +214,7 @@ def is_made(row, keep, runners, is_stored):
 def document():
     """Yields what docs/FOUND.md has otherwise than what is stored."""
     known = stored_rows()
-    rows = {it[0].strip("`"): it for it in map(cells, DOCUMENT.read_text().splitlines()) if it[0].startswith("`again/")}
+    rows = {it[0].strip("`"): it for it in map(cells, DOCUMENT.read_text().splitlines()) if it[0].startswith("`again:")}
     yield from (f"{name}: no row in {DOCUMENT.name}" for name in known if name not in rows)
     yield from (f"{name}: not in {STORED.name}" for name in rows if name not in known)
     for name in sorted(known.keys() & rows.keys()):

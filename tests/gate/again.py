@@ -274,6 +274,8 @@ def test_named_hostile(folder):
         seconds = "3" if "out of time" in wanted else "100"
         status, printed, said = each(folder, "--timeout", seconds, program=("python3", f"{folder}/judge.py"), usual=usual)
         found += differs(f"what is said of {text}, status {status}: {printed[-400:]} {said[-300:]}", (wanted in printed + said, status == 0), (True, False))
+        # (a run that is refused leaves them)
+        Path(folder, RECORDS).unlink(missing_ok=True)
     return found + differs("what is left", left(folder), [])
 
 
