@@ -30,6 +30,7 @@ def parse(about):
     made.add_argument("--commits", type=int, default=4)
     made.add_argument("--made", type=int, default=0)
     made.add_argument("--prefix", action="store_true")
+    made.add_argument("--opened", action="store_true")
     return made.parse_args()
 
 

@@ -13,10 +13,8 @@ import inspect
 import os
 import random
 import shutil
-import signal
 import subprocess
 import sys
-import time
 from pathlib import Path
 
 sys.dont_write_bytecode = True
@@ -31,7 +29,7 @@ from cases_model import ANY, Losses
 from notation import TOP, D, F, M, S, W
 from parts_model import WideRun
 from served import AT_A_TIME, RECORDS, each, is_served, left, put, refused, started, sum_in
-from shells import differs, try_all
+from shells import differs, kill_at, try_all
 
 REPLAY, RECORD = TOP / "examples/recovery/replay.py", TOP / "commands/record/crashbpf-record"
 # The device of a program of the model, and what runs one.
@@ -213,13 +211,7 @@ def test_looks(folder):
 def test_resumed(folder):
     """A run that is killed goes on with the records of its first level."""
     put(folder, script(STEPS[0]).replace("sys.exit(", "import time; time.sleep(0.3); sys.exit("), SMALL)
-    running = started(folder, "-j", "1", usual=USUAL)
-    deadline = time.monotonic() + 60
-    while not (Path(folder, RECORDS).exists() and Path(folder, RECORDS).read_text().count("\nran ") > 2) and time.monotonic() < deadline:
-        time.sleep(0.05)
-    os.kill(running.pid, signal.SIGKILL)
-    running.communicate()
-    time.sleep(1)
+    kill_at(started(folder, "-j", "1", usual=USUAL), Path(folder, RECORDS), "ran ", 3)
     _status, printed, said = each(folder, "--resume", usual=USUAL[:-1])
     found = differs(f"without --again: {said}", (printed, "isn't gone on with" in said), ("", True))
     _status, printed, said = each(folder, "--resume", usual=USUAL)
@@ -242,9 +234,10 @@ def test_refused(_folder):
 # A hostile program, the options beside it, and a part of what is printed on either output. `first` says whether its image is the first one.
 BEGUN = "import os, sys\nfile = os.open(sys.argv[1], os.O_RDWR)\nfirst = os.pread(file, 1, 4095)[0] != 9\n"
 HOSTILE = {
-    "recovery that never ends": ("if first: os.pwrite(file, bytes([9]), 4095)\nelse:\n while True: os.pwrite(file, b'1', 0)", ["--timeout", "1", "--stop-at-failing", "--from", "8"], " out of time kept "),
+    "recovery that never ends": ("import time\nif first: os.pwrite(file, bytes([9]), 4095)\nelse:\n while True: os.pwrite(file, b'1', 0); time.sleep(0.01)", ["--timeout", "3", "--stop-at-failing", "--from", "8"], " out of time kept "),
     "a hundred thousand syncs": ("os.pwrite(file, bytes([9]), 4095)\nfor it in range(10 ** 5 if first else 1): os.fsync(file)", ["--timeout", "100", "--from", "8"], " written 1 unexplored 0 cuts 2 cases 3 failing 0 "),
     "ten thousand writes": ("os.pwrite(file, bytes([9]), 4095)\nfor it in range(10 ** 4 if first else 1): os.pwrite(file, b'1', 0); os.fsync(file)", ["--from", "8"], "made more than 4096 writes"),
+    "twenty times the device": ("for it in range(20 * first): os.pwrite(file, bytes([9]) * 5120, 0)", ["--from", "8"], " written 1 unexplored 0 "),
     "beyond the end": ("os.pwrite(file, bytes([9]), 5120)", ["--from", "8"], "wrote beyond the end of its image"),
     "another size": ("os.ftruncate(file, 4096); os.ftruncate(file, 5120)", ["--from", "8"], "changed the size of its image"),
     "the image is gone": ("os.unlink(sys.argv[1])", ["--from", "8"], "renamed or removed its image"),
@@ -252,6 +245,38 @@ HOSTILE = {
     "a mapping": ("import mmap\nmmap.mmap(file, 4096)[0] = 7", ["--from", "8"], "by a shared mapping"),
     "killed when it comes again": ("os.pwrite(file, bytes([9]), 4095)\nif not first: os.kill(os.getpid(), 11)", ["--from", "8"], " signal 11 kept "),
 }
+# Those that come to an end all the same, where each loss is told.
+ENDING = ("a hundred thousand syncs", "twenty times the device")
+# The same of recorded files with names, of which one is `data`. Their program is run in the folder of these, and writes `more` at first.
+NAMED = "import os, sys\nfirst = not os.path.exists('more')\nopen('more', 'wb').write(b'1')\n"
+NAMED_HOSTILE = (
+    ("for it in range(70): open('more', 'wb').write(bytes(1 << 20))", "or wrote more than 67108864 bytes"),
+    ("file = os.open('data', os.O_RDWR)\nfor it in range(5000): os.fsync(file)", "made more than 4096 writes"),
+    ("import mmap\nmmap.mmap(os.open('data', os.O_RDWR), 1)[0] = 7", "stored to a file by a shared mapping"),
+    ("os.pwrite(os.open(os.environ['CRASH_IMAGE'], os.O_RDWR), b'1', 0)", "wrote to its image beside the files of it"),
+    ("open(os.environ['CRASH_IMAGE'], 'rb').read(1)", "looks at its image beside the files of it"),
+    ("if first: os.mkfifo('pipe')", "made something that is no file, folder or link"),
+    ("if first: os.rename('data', '../data')", "renamed something into the files of its image, or out of them"),
+    ("import time\nwhile not first: open('more', 'wb').write(b'1'); time.sleep(0.01)", " out of time kept "),
+)
+
+
+def test_named_hostile(folder):
+    """Of recorded files each program that can't be followed is told, and none is clean."""
+    if not shutil.which("strace"):
+        print("not run: hostile recoveries of files that are recorded, which need strace")
+        return []
+    done = subprocess.run([RECORD, "--files", "ext4", "made", "--", "sh", "-c", 'echo 1 >"$FILES/data"; sync "$FILES/data"'], cwd=folder, capture_output=True, text=True)
+    found = differs(f"the recording: {done.stderr}", done.returncode, 0)
+    usual = ["made", "--bound", "any", "--again", "--from", "4", "--stop-at-failing"]
+    for text, wanted in NAMED_HOSTILE:
+        Path(folder, "judge.py").write_text(NAMED + text + "\n")
+        seconds = "3" if "out of time" in wanted else "100"
+        status, printed, said = each(folder, "--timeout", seconds, program=("python3", f"{folder}/judge.py"), usual=usual)
+        found += differs(f"what is said of {text}, status {status}: {printed[-400:]} {said[-300:]}", (wanted in printed + said, status == 0), (True, False))
+        # (a run that is refused leaves them)
+        Path(folder, RECORDS).unlink(missing_ok=True)
+    return found + differs("what is left", left(folder), [])
 
 
 def hostile(name):
@@ -263,7 +288,7 @@ def hostile(name):
         status, printed, said = each(folder, "-j", "2", *words, usual=USUAL)
         found = differs(f"what is said, status {status}: {printed[-400:]} {said[-300:]}", wanted in printed + said, True)
         is_clean = status == 0
-        found += differs("whether it is clean", is_clean, name == "a hundred thousand syncs")
+        found += differs("whether it is clean", is_clean, name in ENDING)
         return found + differs("what is left", left(folder), [])
 
     return check
@@ -280,6 +305,7 @@ ROWS = {
     "a program that only looks": test_looks,
     "a run that is resumed": test_resumed,
     "what is refused": test_refused,
+    "files with names, hostile": test_named_hostile,
     **{name: hostile(name) for name in HOSTILE},
 }
 

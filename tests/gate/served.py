@@ -32,7 +32,7 @@ from commands.shared.faults import Refusal
 from known_model import Ended
 from model import Checker, Run
 from notation import TOP, D, F, M, W, log
-from shells import differs, try_all
+from shells import differs, kill_at, try_all, wait_for_lines
 
 EACH = TOP / "commands/each/crashbpf-each"
 MACHINES, RECOVERY = TOP / "examples/many_machines", TOP / "examples/recovery"
@@ -157,13 +157,7 @@ def test_texts(folder):
 def test_resumed(folder):
     """A run that is killed goes on with its records, and not with another program."""
     put(folder, JUDGE.replace("import os, sys", "import os, sys, time; time.sleep(0.4)"))
-    running = started(folder, "-j", "1")
-    deadline = time.monotonic() + 60
-    while not (Path(folder, RECORDS).exists() and Path(folder, RECORDS).read_text().count("\nran ") > 2) and time.monotonic() < deadline:
-        time.sleep(0.05)
-    os.kill(running.pid, signal.SIGKILL)
-    running.communicate()
-    time.sleep(2)
+    kill_at(started(folder, "-j", "1"), Path(folder, RECORDS), "ran ", 3)
     found = differs("what is left of it", left(folder), [])
     with Path(folder, RECORDS).open("a") as file:
         file.write("ran cut 3 cho")
@@ -182,9 +176,7 @@ def test_killed(folder):
     """A run ends with a line where its server is killed, or its mount is taken away, and leaves nothing."""
     put(folder, JUDGE.replace("import os, sys", "import os, sys, time; time.sleep(0.4)"))
     running = started(folder, "-j", "2")
-    deadline = time.monotonic() + 60
-    while not (Path(folder, RECORDS).exists() and "\nran " in Path(folder, RECORDS).read_text()) and time.monotonic() < deadline:
-        time.sleep(0.05)
+    wait_for_lines(Path(folder, RECORDS), "ran ", 1)
     children = [int(it) for it in Path(f"/proc/{running.pid}/task/{running.pid}/children").read_text().split()]
     os.kill(min(children), signal.SIGKILL)
     _printed, said = running.communicate(timeout=60)
@@ -335,9 +327,8 @@ def test_parts(folder):
     done = sh(f'"$1"/lay_out_each run 3 {" ".join(WORDS)} -j 1 -- python3 judge.py {{}}')
     found = differs(f"the status of lay_out_each: {done.stderr}", done.returncode, 0)
     running = [subprocess.Popen([f"{folder}/run/run_part", f"{folder}/run", str(it)], env=surroundings, stderr=subprocess.PIPE) for it in (1, 2, 3)]
-    kept, deadline = Path(folder, "run/kept.1/known"), time.monotonic() + 120
-    while not (kept.exists() and "\nran " in kept.read_text()) and time.monotonic() < deadline:
-        time.sleep(0.05)
+    kept = Path(folder, "run/kept.1/known")
+    wait_for_lines(kept, "ran ", 1, 120)
     children = Path(f"/proc/{running[0].pid}/task/{running[0].pid}/children").read_text().split()
     os.kill(int(children[0]), signal.SIGKILL)
     found += differs("the statuses", [it.wait() for it in running], [2, 0, 0])

@@ -4,6 +4,7 @@ import signal
 import subprocess
 import sys
 import tempfile
+import time
 from concurrent.futures import ThreadPoolExecutor
 from pathlib import Path
 
@@ -17,6 +18,23 @@ def sh(folder, text, *words):
 
 def differs(what, found, wanted):
     return [] if found == wanted else [f"{what} is {found!r}, and {wanted!r} is right"]
+
+
+def wait_for_lines(path, beginning, count, seconds=60):
+    """Waits until a file has as many lines with a beginning, but no longer than so many seconds."""
+    deadline = time.monotonic() + seconds
+    while time.monotonic() < deadline:
+        if path.exists() and sum(it.startswith(beginning) for it in path.read_text().splitlines()) >= count:
+            break
+        time.sleep(0.05)
+
+
+def kill_at(running, path, beginning, count):
+    """Kills a process as soon as a file has as many lines with a beginning, and waits for what it started to end."""
+    wait_for_lines(path, beginning, count)
+    os.kill(running.pid, signal.SIGKILL)
+    running.communicate()
+    time.sleep(2)
 
 
 def tried(row):
