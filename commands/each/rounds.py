@@ -1,7 +1,9 @@
 """Every loss of any number: rounds of what is wanted, judged on served images, until nothing is wanted any more."""
 import contextlib
 import functools
+import itertools
 import os
+import re
 import sys
 from collections import deque
 from typing import NamedTuple
@@ -27,6 +29,8 @@ SECONDS = 0.25
 # Each image of as many is run again.
 AGAIN = 16
 KILLED = 9
+# The end of a text of cases where none was left out, and no cut stopped; some may be open.
+ALL_JUDGED = re.compile(rb" torn beyond 0 lost beyond 0 open \d+ stopped 0( complete| of these cuts)?\n\Z")
 
 
 class Job(NamedTuple):
@@ -166,12 +170,31 @@ class Answer(NamedTuple):
     given: object
 
 
+def stretches(cuts, own):
+    """Returns the stretches of rising cuts that are all own ones: the first and the last cut of each."""
+    found = [list(some) for is_own, some in itertools.groupby(cuts, own.__contains__) if is_own]
+    return [(it[0], it[-1]) for it in found]
+
+
+def is_all_looked_at(step, text, own):
+    """Whether a search that wants nothing, and came to a text, left out nothing at some of the cuts. What is still open there is wanted of
+    another part."""
+    if ALL_JUDGED.search(text):
+        return True
+    cuts = sorted(cut for cut, _risk in product.risks(step.program, step.given))
+    texts = (step.asking({"--from": str(first), "--to": str(last)}).text()[1] for first, last in stretches(cuts, own))
+    return all(ALL_JUDGED.search(it) for it in texts)
+
+
 def judged_part(step, rounds, path):
-    """Judges a part. Its text are its records, and its status is 1 where something fails of what is known."""
+    """Judges a part. Its text are its records. Its status is 1 where something fails of what is known, else 3 where something at its cuts
+    wasn't looked at."""
     step = rounds.go(step)
-    status, _text, _said = step.text()
+    status, text, _said = step.text()
+    if status != 1:
+        status = 0 if is_all_looked_at(step, text, rounds.cuts) else 3
     with open(path, "rb") as file:
-        return Answer(int(status == 1), file.read(), [], step.given)
+        return Answer(status, file.read(), [], step.given)
 
 
 def answer(given, step, rounds, path):

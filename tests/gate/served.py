@@ -69,6 +69,8 @@ def byte(sector):
 header = byte(0)
 sys.exit(header != 0 and (byte(header) != header or len(sys.argv) > 2 and header == 4))
 """
+# It looks at the header and the sector that this names, and never fails.
+GOOD_HEADER = COMMITTED.replace("sys.exit(", "sys.exit(0 * (").rstrip() + ")\n"
 # The same judge as JUDGE, as one that stays; with a word it does something else at its fourth image.
 STAYS = """\
 import os, sys
@@ -353,6 +355,24 @@ def test_parts(folder):
     return found + differs("the records of each part", all(records), True)
 
 
+def test_part_statuses(folder):
+    """The status of a part is 1 where something fails, else 3 where something at its cuts wasn't looked at, else 0; so is that of all parts
+    put together."""
+    put(folder, GOOD_HEADER, COMMITS)
+    few = [*OF_COMMITS, "--flush", "1,2,8"]
+    of = lambda part, *words: each(folder, *words, "--part", part, usual=few)[0]
+    # (of the cuts 1, 2, 8 and 12 these parts have 8, 12, and the first two, at each of which one part may be lost)
+    found = differs("the statuses where --cases stops", [of(part, "--cases", "2") for part in ("1/3", "2/3", "3/3")], [3, 3, 0])
+    # (of the cuts 0 to 4 the first part has the last one, the only one at which two parts may be lost)
+    found += differs("where more is lost than --at-most", [of(part, "--at-most", "1", "--to", "4") for part in ("1/3", "3/3")], [3, 0])
+    found += differs("of a part that is judged to the end", of("1/3"), 0)
+    text = f'"$1"/lay_out_each run 2 {" ".join(few)} --cases 2 -- python3 judge.py {{}} && run/run_part run 1 && run/run_part run 2 && exec "$1"/join_each run'
+    done = subprocess.run(["sh", "-c", text, "sh", MACHINES], cwd=folder, env={**os.environ, "EACH": str(EACH)}, capture_output=True, text=True)
+    found += differs(f"of parts that are put together: {done.stderr}", done.returncode, 3)
+    put(folder, COMMITTED, COMMITS)
+    return found + differs("where something fails", of("1/3", "--cases", "2"), 1)
+
+
 def test_stays(folder):
     """A program that stays comes to the same text, also where it ends in between, and what isn't an answer is refused."""
     put(folder, STAYS)
@@ -440,6 +460,7 @@ ROWS = {
     "a run that is resumed": test_resumed,
     "a cure": test_cured,
     "parts": test_parts,
+    "statuses of parts": test_part_statuses,
     "a program that stays": test_stays,
     "where there is no FUSE": test_unserved,
     "options": test_options,
