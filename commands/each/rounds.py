@@ -1,9 +1,7 @@
 """Every loss of any number: rounds of what is wanted, judged on served images, until nothing is wanted any more."""
 import contextlib
 import functools
-import itertools
 import os
-import re
 import sys
 from collections import deque
 from typing import NamedTuple
@@ -29,8 +27,6 @@ SECONDS = 0.25
 # Each image of as many is run again.
 AGAIN = 16
 KILLED = 9
-# The end of a text of cases where none was left out, and no cut stopped; some may be open.
-ALL_JUDGED = re.compile(rb" torn beyond 0 lost beyond 0 open \d+ stopped 0( complete| of these cuts)?\n\Z")
 
 
 class Job(NamedTuple):
@@ -62,10 +58,10 @@ def first_number(folder):
 
 
 class Rounds:
-    """The rounds of a run. `runs` counts how often the program was run, `judged` the images. With `cuts` those of other cuts aren't judged."""
+    """The rounds of a run. `runs` counts how often the program was run, `judged` the images."""
 
-    def __init__(self, given, records, crew, marks, cuts=None):
-        self.records, self.crew, self.marks, self.cuts, self.most = records, crew, marks, cuts, given.runs
+    def __init__(self, given, records, crew, marks):
+        self.records, self.crew, self.marks, self.most = records, crew, marks, given.runs
         self.is_told = None
         self.round = self.runs = self.judged = self.failing = self.left = 0
         self.jobs, self.at, self.alone, self.first = deque(), {}, deque(), first_number(given.keep)
@@ -73,7 +69,7 @@ class Rounds:
     def go(self, step):
         """Judges until a step wants nothing, and returns that step. Where more is wanted than --runs says, one that ends each cut at its first
         failing case goes on."""
-        while wanted := [it for it in step.wanted() if self.cuts is None or it.cut in self.cuts]:
+        while wanted := step.wanted():
             stops = step.given.has("--stop-at-failing")
             if not stops and self.most is not None and self.records.known.count + len(wanted) > self.most:
                 step = step.asking({"--stop-at-failing": True})
@@ -151,14 +147,11 @@ class Rounds:
             self.records.add(job.image, verdict, looked, log)
 
 
-def share(risks, part, parts):
-    """Returns the cuts of a part: of the cuts, the most at risk first, each goes to the part that has the least so far."""
-    loads, own = [0] * parts, set()
-    for cut, risk in sorted(risks, key=lambda it: (-it[1], it[0])):
-        least = loads.index(min(loads))
-        loads[least] += risk + 1
-        own |= {cut} if least == part - 1 else set()
-    return own
+def of_part(program, given):
+    """Returns the words for the cuts of a part, or none where there are more parts than cuts."""
+    part, parts = given.part
+    ranges = product.parts(program, given, parts)
+    return given.asking(dict(zip(("--from", "--to"), ranges[part - 1]))) if part <= len(ranges) else None
 
 
 class Answer(NamedTuple):
@@ -170,29 +163,10 @@ class Answer(NamedTuple):
     given: object
 
 
-def stretches(cuts, own):
-    """Returns the stretches of rising cuts that are all own ones: the first and the last cut of each."""
-    found = [list(some) for is_own, some in itertools.groupby(cuts, own.__contains__) if is_own]
-    return [(it[0], it[-1]) for it in found]
-
-
-def is_all_looked_at(step, text, own):
-    """Whether a search that wants nothing, and came to a text, left out nothing at some of the cuts. What is still open there is wanted of
-    another part."""
-    if ALL_JUDGED.search(text):
-        return True
-    cuts = sorted(cut for cut, _risk in product.risks(step.program, step.given))
-    texts = (step.asking({"--from": str(first), "--to": str(last)}).text()[1] for first, last in stretches(cuts, own))
-    return all(ALL_JUDGED.search(it) for it in texts)
-
-
 def judged_part(step, rounds, path):
-    """Judges a part. Its text are its records. Its status is 1 where something fails of what is known, else 3 where something at its cuts
-    wasn't looked at."""
-    step = rounds.go(step)
-    status, text, _said = step.text()
-    if status != 1:
-        status = 0 if is_all_looked_at(step, text, rounds.cuts) else 3
+    """Judges a part. Its text are its records, and its status is that of the text of its cuts."""
+    given = of_part(step.program, step.given)
+    status = 0 if given is None else rounds.go(step.of(given)).text()[0]
     with open(path, "rb") as file:
         return Answer(status, file.read(), [], step.given)
 
@@ -220,10 +194,9 @@ def judged_any(given, program, folder, say, test_unchanged):
     known = Known(images_of(given), head_of(product.inputs(program, given, folder), given))
     # (a second level goes on with the cases of the first, so there the search of both is that of a script)
     step = Step(program, given, folder, known) if given.again else AskedStep(program, given, known, path)
-    cuts = share(product.risks(program, given), *given.part) if given.part else None
     records, done = Records(path, known, given.resume), False
     try:
-        with served_rounds(given, records, marks, folder, cuts) as rounds:
+        with served_rounds(given, records, marks, folder) as rounds:
             found = answer(given, step, rounds, path)
         if given.spot:
             compare(found.given, program, Cases(found.text.decode()), marks, folder)
@@ -244,14 +217,14 @@ def judged_any(given, program, folder, say, test_unchanged):
 
 
 @contextlib.contextmanager
-def served_rounds(given, records, marks, folder, cuts):
+def served_rounds(given, records, marks, folder):
     """Gives rounds on a mount of their own, which is gone afterwards."""
     mount = Mount(folder, records.known.images, given.runners, notes=given.skipped if given.again else None)
     try:
         crew = Crew(folder, given, functools.partial(ServedRunner, mount=mount))
         try:
             mount.handed_over()
-            yield Rounds(given, records, crew, marks, cuts)
+            yield Rounds(given, records, crew, marks)
         finally:
             crew.end()
     finally:

@@ -9,6 +9,7 @@ import shutil
 import signal
 import struct
 import sys
+import traceback
 from contextlib import suppress
 from functools import partial
 from pathlib import Path
@@ -124,6 +125,13 @@ class FileRunner(Runner):
         self.image.copy(path)
 
 
+def tell_refusal(channel, text):
+    """Tells the words of a refusal in place of an answer."""
+    said = text.encode(errors="replace")[:4096]
+    with suppress(OSError):
+        channel.sendall(ANSWER.pack(True, 0, 0, False, len(said)) + said)
+
+
 def serve(folder, given, channel, make):
     """Is a runner in a folder of its own, until the other side is closed. Returns to nobody. `make` makes it of these three."""
     for it in (signal.SIGINT, signal.SIGTERM, signal.SIGHUP, signal.SIGQUIT):
@@ -136,11 +144,10 @@ def serve(folder, given, channel, make):
     except (Gone, BrokenPipeError, ConnectionError):
         pass
     except (Refusal, OSError) as error:
-        said = str(error).encode(errors="replace")[:4096]
-        try:
-            channel.sendall(ANSWER.pack(True, 0, 0, False, len(said)) + said)
-        except OSError:
-            pass
+        tell_refusal(channel, str(error))
+    except Exception as error:
+        traceback.print_exc()
+        tell_refusal(channel, f"a runner ended by an error that isn't expected: {error!r}")
     finally:
         if runner is not None:
             with suppress(Refusal, OSError):

@@ -60,7 +60,7 @@ def start_inside(act, surroundings, output, nothing):
     process = os.fork()
     if process:
         return process
-    status = 1
+    status = 2
     try:
         os.setsid()
         for place, file in enumerate((nothing, output, output)):

@@ -361,16 +361,16 @@ def test_part_statuses(folder):
     put(folder, GOOD_HEADER, COMMITS)
     few = [*OF_COMMITS, "--flush", "1,2,8"]
     of = lambda part, *words: each(folder, *words, "--part", part, usual=few)[0]
-    # (of the cuts 1, 2, 8 and 12 these parts have 8, 12, and the first two, at each of which one part may be lost)
-    found = differs("the statuses where --cases stops", [of(part, "--cases", "2") for part in ("1/3", "2/3", "3/3")], [3, 3, 0])
-    # (of the cuts 0 to 4 the first part has the last one, the only one at which two parts may be lost)
-    found += differs("where more is lost than --at-most", [of(part, "--at-most", "1", "--to", "4") for part in ("1/3", "3/3")], [3, 0])
-    found += differs("of a part that is judged to the end", of("1/3"), 0)
+    # (these parts have the cuts 1 and 2, at each of which one part may be lost; 8; and 12)
+    found = differs("the statuses where --cases stops", [of(part, "--cases", "2") for part in ("1/3", "2/3", "3/3")], [0, 3, 3])
+    found += differs("where more is lost than --at-most", [of("1/1", "--at-most", "1", "--to", last) for last in ("3", "6")], [0, 3])
+    found += differs("of a part that is judged to the end", of("2/3"), 0)
+    found += differs("of more parts than cuts", of("5/5"), 0)
     text = f'"$1"/lay_out_each run 2 {" ".join(few)} --cases 2 -- python3 judge.py {{}} && run/run_part run 1 && run/run_part run 2 && exec "$1"/join_each run'
     done = subprocess.run(["sh", "-c", text, "sh", MACHINES], cwd=folder, env={**os.environ, "EACH": str(EACH)}, capture_output=True, text=True)
-    found += differs(f"of parts that are put together: {done.stderr}", done.returncode, 3)
+    found += differs(f"of parts that are put together: {done.stderr}", (done.returncode, "was run 0 times" in done.stderr), (3, True))
     put(folder, COMMITTED, COMMITS)
-    return found + differs("where something fails", of("1/3", "--cases", "2"), 1)
+    return found + differs("where something fails", [of(part, "--cases", "2") for part in ("1/3", "2/3")], [0, 1])
 
 
 def test_stays(folder):
