@@ -373,6 +373,31 @@ def test_part_statuses(folder):
     return found + differs("where something fails", [of(part, "--cases", "2") for part in ("1/3", "2/3")], [0, 1])
 
 
+# Counts its runs in a file, which is no part of an image, and answers by their number; it looks at no sector.
+COUNTS = """\
+with open("turns", "a") as file:
+    turn = file.tell()
+    file.write("x")
+raise SystemExit({})
+"""
+
+
+def test_compared(folder):
+    """In a run of few images too the first one that fails and the last one that doesn't are run again, and another answer is refused."""
+    found = []
+    for answers, first, then in (("turn == 1", "answer 1 codes -", "answer 0 codes -"), ("turn > 2", "answer 0 codes -", "answer 1 codes -")):
+        put(folder, COUNTS.format(answers))
+        status, printed, said = each(folder, "-j", "1")
+        found += differs(f"what is said of {answers}: {said}", (status, printed, f"image: {first}, then {then}, at cut" in said), (2, "", True))
+        found += differs("how often it was run", Path(folder, "turns").stat().st_size in (4, 5), True)
+        Path(folder, "turns").unlink()
+        Path(folder, RECORDS).unlink()
+    put(folder, COUNTS.format("0"))
+    status, printed, said = each(folder, "-j", "1")
+    says = "the program was run 3 times, on 3 images, in 1 rounds, and on 1 of them once more at the end" in said
+    return found + differs(f"what is said of one that doesn't fail: {said}", (status, says), (0, True))
+
+
 def test_stays(folder):
     """A program that stays comes to the same text, also where it ends in between, and what isn't an answer is refused."""
     put(folder, STAYS)
@@ -461,6 +486,7 @@ ROWS = {
     "a cure": test_cured,
     "parts": test_parts,
     "statuses of parts": test_part_statuses,
+    "images that are run again": test_compared,
     "a program that stays": test_stays,
     "where there is no FUSE": test_unserved,
     "options": test_options,
