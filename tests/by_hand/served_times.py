@@ -2,10 +2,10 @@
 """Times runs of a program on a folder that is served beside the same on one that is laid out. By hand.
 
     python3 tests/by_hand/served_times.py RECORDING COMMAND [TURNS]
-    python3 tests/by_hand/served_times.py --examples [TURNS]
+    python3 tests/by_hand/served_times.py --examples [TURNS [NAME ..]]
 
 RECORDING is a folder of crashbpf-record, and COMMAND is one for sh that is run in the folder with the files of its last image. With --examples
-these are recorded and judged: SQLite, LMDB and LevelDB by examples/kv, and commits of git by `git fsck`. Both ways are run by turns, TURNS
+these are recorded and judged, or those that begin with a NAME: SQLite, LMDB and LevelDB by examples/kv, and commits of git by `git fsck`. Both ways are run by turns, TURNS
 times, 15 where that isn't given. Prints the least and the middle of the milliseconds of each way by the clock, and the mean of those of the
 processor, in which the server's are counted too; and how many times that of the other a served run takes, by each. Where the machine does
 other work beside only the processor's time says something. It takes as root or as a user what crashbpf-each takes; the examples want strace,
@@ -139,8 +139,10 @@ def main(words):
         timed(words[0], words[1], int(words[2]) if len(words) > 2 else 15)
         return 0
     for name, (program, judge) in EXAMPLES.items():
+        if len(words) > 2 and not name.startswith(tuple(words[2:])):
+            continue
         with tempfile.TemporaryDirectory() as room:
-            done = subprocess.run([RECORDER, "--files", "ext4", f"{room}/it", "--", *program], capture_output=True, text=True, stdin=subprocess.DEVNULL)
+            done = subprocess.run([RECORDER, "--files", "ext4", "--skip", "*-shm", "--skip", "lock.mdb", f"{room}/it", "--", *program], capture_output=True, text=True, stdin=subprocess.DEVNULL)
             if done.returncode:
                 print(f"{name}: it isn't recorded: {done.stderr}")
                 return 1

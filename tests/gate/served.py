@@ -10,6 +10,7 @@ is no FUSE, that is all that is tested: that it is refused with what is missing.
 Prints a line for each row that failed, and last `N passed, M failed`. It takes some 75 seconds of the processor, three rows at a time.
 """
 import os
+import re
 import shutil
 import signal
 import subprocess
@@ -88,6 +89,23 @@ def check(path, marks):
         exec(sys.argv[1])
     return found % 3 if marks < 2 else found % 2
 stay.judge(check)
+"""
+# Judges as COMMITTED does, and says in a file how often it was started. Without the module it says that it makes copies, and makes none.
+STARTED = """\
+import os, sys
+import stay
+with open("starts", "a") as file:
+    file.write("x")
+def check(path, marks):
+    file = os.open(path, os.O_RDONLY)
+    byte = lambda sector: os.pread(file, 1, 512 * sector)[0]
+    found = byte(0) != 0 and byte(byte(0)) != byte(0)
+    os.close(file)
+    return int(found)
+if len(sys.argv) == 1:
+    stay.judge(check)
+for line in ["\\n", *sys.stdin]:
+    print(f"copy {sys.argv[1]}" if line == "\\n" else check(*line.split()), flush=True)
 """
 
 
@@ -419,6 +437,24 @@ def test_stays(folder):
     return found + differs("what is left", left(folder), [])
 
 
+def test_copies(folder):
+    """A program that makes copies is started once, and once more for each image that is run again at the end. One that says so wrongly is
+    started for each image that is run again."""
+    put(folder, STARTED, COMMITS)
+    shutil.copy(RECOVERY / "stay.py", folder)
+    found, texts = [], []
+    for words in ([], ["1"], [str(os.getpid())]):
+        status, printed, said = each(folder, "--stay", "-j", "1", program=["python3", "judge.py", *words], usual=OF_COMMITS)
+        note = re.search(r"run (\d+) times, on (\d+) images, in \d+ rounds, and on (\d+) of them once more", said)
+        runs, images, compared = (int(note[it]) for it in (1, 2, 3)) if note else (0, 0, 0)
+        starts = Path(folder, "starts")
+        found += differs(f"how often it was started, with {words}: {said}", starts.stat().st_size, 1 + compared + (runs - images if words else 0))
+        found += differs("how often images were run again", (runs - images > 0, compared), (True, 2))
+        starts.unlink()
+        texts.append(lines_of(printed, "cut"))
+    return found + differs("the texts", texts[1:], texts[:1] * 2)
+
+
 # A hostile program, the options beside it, and a part of what is printed on either output.
 HOSTILE = {
     "endless reads": ("import sys\nwhile True: open(sys.argv[1], 'rb').read()", ["--timeout", "1", "--stop-at-failing"], " out of time choice - "),
@@ -488,6 +524,7 @@ ROWS = {
     "statuses of parts": test_part_statuses,
     "images that are run again": test_compared,
     "a program that stays": test_stays,
+    "copies of one": test_copies,
     "where there is no FUSE": test_unserved,
     "options": test_options,
     "bounds": test_bounds,
