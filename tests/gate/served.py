@@ -39,7 +39,7 @@ EACH = TOP / "commands/each/crashbpf-each"
 MACHINES, RECOVERY = TOP / "examples/many_machines", TOP / "examples/recovery"
 SMALL = Run([W(0, 2, 1), W(2, 1, 2), F, W(1, 2, 3), M("one"), W(3, 1, 4), W(0, 1, 5), F, M("two"), D(0, 2)])
 # Commits, each of a sector and a header that names it, without the flushes that they need.
-COMMITS = Run([it for number in range(1, 7) for it in (W(number, 1, number), W(0, 1, number))], sectors=8)
+COMMITS, MORE_COMMITS = (Run([it for number in range(1, last + 1) for it in (W(number, 1, number), W(0, 1, number))], sectors=sectors) for last, sectors in ((6, 8), (12, 16)))
 WORDS, USUAL = ["disk.log", "--sectors", "4", "--bound", "any"], ["disk.log", "--sectors", "4"]
 OF_COMMITS = ["disk.log", "--sectors", "8", "--bound", "any"]
 RECORDS = "crashbpf-each.known"
@@ -92,7 +92,7 @@ stay.judge(check)
 """
 # Judges as COMMITTED does, and says in a file how often it was started. Without the module it says that it makes copies, and makes none.
 STARTED = """\
-import os, sys
+import itertools, os, sys
 import stay
 with open("starts", "a") as file:
     file.write("x")
@@ -104,7 +104,7 @@ def check(path, marks):
     return int(found)
 if len(sys.argv) == 1:
     stay.judge(check)
-for line in ["\\n", *sys.stdin]:
+for line in itertools.chain(["\\n"], sys.stdin):
     print(f"copy {sys.argv[1]}" if line == "\\n" else check(*line.split()), flush=True)
 """
 
@@ -440,11 +440,11 @@ def test_stays(folder):
 def test_copies(folder):
     """A program that makes copies is started once, and once more for each image that is run again at the end. One that says so wrongly is
     started for each image that is run again."""
-    put(folder, STARTED, COMMITS)
+    put(folder, STARTED, MORE_COMMITS)
     shutil.copy(RECOVERY / "stay.py", folder)
     found, texts = [], []
     for words in ([], ["1"], [str(os.getpid())]):
-        status, printed, said = each(folder, "--stay", "-j", "1", program=["python3", "judge.py", *words], usual=OF_COMMITS)
+        status, printed, said = each(folder, "--stay", "-j", "1", program=["python3", "judge.py", *words], usual=["disk.log", "--sectors", "16", "--bound", "any"])
         note = re.search(r"run (\d+) times, on (\d+) images, in \d+ rounds, and on (\d+) of them once more", said)
         runs, images, compared = (int(note[it]) for it in (1, 2, 3)) if note else (0, 0, 0)
         starts = Path(folder, "starts")
