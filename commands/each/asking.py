@@ -14,7 +14,11 @@ class AskedStep:
 
     def asking(self, changes):
         """Returns the step with other options."""
-        return AskedStep(self.program, self.given.asking(changes), self.known, self.path)
+        return self.of(self.given.asking(changes))
+
+    def of(self, given):
+        """Returns the step of other words, of the same log."""
+        return AskedStep(self.program, given, self.known, self.path)
 
     def words(self):
         return [*self.given.of_search(), "--known", self.path]

@@ -7,7 +7,7 @@ import socket
 import tempfile
 import time
 
-from commands.each.runner import ANSWER, TOLD, FileRunner, serve
+from commands.each.runner import ANSWER, FIRST, TOLD, FileRunner, serve
 from commands.each.stream import RECORD
 from commands.shared.ends import SIGNALS
 from commands.shared.faults import Refusal
@@ -34,14 +34,14 @@ class Seat:
         self.process, self.channel, self.image = process, channel, None
         self.records = {}
 
-    def tell(self, image, mark, is_again=False):
-        """Gives it an image to judge, maybe again."""
+    def tell(self, image, mark, turn=FIRST):
+        """Gives it an image to judge."""
         records = b"".join(self.records.values())
         self.records.clear()
         sizes = len(image.choice), len(mark), len(records)
         self.image = image.number
         try:
-            self.channel.sendall(TOLD.pack(image.number, image.cut, image.marks, is_again, *sizes) + image.choice + mark + records)
+            self.channel.sendall(TOLD.pack(image.number, image.cut, image.marks, turn, *sizes) + image.choice + mark + records)
         except OSError:
             # (it says why in its answer, or is gone)
             pass

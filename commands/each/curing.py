@@ -120,6 +120,7 @@ class Cure:
         """Makes all rounds. Returns the status of the log as it is, the text of the cure, and the notes beside its last text."""
         flushes, status, found = self.found_flushes()
         flushes = self.pruned(flushes, found)
+        self.rounds.compare()
         _status, found = self.every_loss("last", flushes)
         lines = [TITLE, *found.lines[1:HEAD], *self.told]
         lines += [f"no flush cures {line}" for _cut, line in sorted(found.helpless.items())]

@@ -15,6 +15,7 @@ PART = re.compile(r"part 0\.\.[01] of (0|[1-9]\d*) inputs (\d+)", re.A)
 MARK = re.compile(rb'entry \d+ .*\bmark\b.* text "(.*)"')
 PROMISES = ("note: marks that promise ", "note: a write before each of them ")
 RISK = re.compile(r"cut (\d+) epoch \d+ marks \d+ at risk (\d+) in flight \d+", re.A)
+PART_OF_CUTS = re.compile(r"part --from (\d+) --to (\d+)", re.A)
 NO_IMAGE = "refused 13 at 17"
 # On which options the images hang of which records are.
 OF_RECORDS = ("--sectors", "--base", "--by", "--large")
@@ -118,13 +119,23 @@ def marks(program, given):
     return [it[1] for it in map(MARK.fullmatch, printed.split(b"\n")) if it], notes
 
 
-def risks(program, given):
-    """Returns each cut at which cases are looked for, with the number of parts at risk there."""
+def laid_out(program, given, *more):
+    """Returns the lines that tell how a run with any number of losses is laid out."""
     words = given.of_images([it for it in (*VALUED, *FLAGS, "--at-most") if it != "--bound"])
-    status, printed, said = asked(program, ["images", *words, "--bound", "any"])
+    status, printed, said = asked(program, ["images", *words, "--bound", "any", *more])
     if status != 0:
         raise Refusal(first_line(said))
-    return [(int(it[1]), int(it[2])) for it in map(RISK.fullmatch, printed.decode().splitlines()) if it]
+    return printed.decode().splitlines()
+
+
+def risks(program, given):
+    """Returns each cut at which cases are looked for, with the number of parts at risk there."""
+    return [(int(it[1]), int(it[2])) for it in map(RISK.fullmatch, laid_out(program, given)) if it]
+
+
+def parts(program, given, count):
+    """Returns the first and the last cut of each part of a run that is laid out in as many, or in fewer where it has fewer cuts."""
+    return [(it[1], it[2]) for it in map(PART_OF_CUTS.fullmatch, laid_out(program, given, "--parts", str(count))) if it]
 
 
 def beyond(program, given):

@@ -14,6 +14,7 @@ from commands.each.curing import Cure
 from commands.each.progress import Progress
 from commands.each.known import Known
 from commands.each.records import Records, head_of, record
+from commands.each.runner import ALONE, COMPARED, FIRST, STARTED
 from commands.each.served_mount import Mount
 from commands.each.served_runner import ServedRunner
 from commands.each.spot import Cases, compare
@@ -30,10 +31,10 @@ KILLED = 9
 
 
 class Job(NamedTuple):
-    """An image to run: for the first time, or again; then what it came to before, or None where that doesn't count."""
+    """An image to run, in which turn; and what it came to before, or None where it wasn't run or that doesn't count."""
 
     image: Image
-    is_again: bool = False
+    turn: int = FIRST
     verdict: Verdict | None = None
     looked: str = ""
 
@@ -58,37 +59,52 @@ def first_number(folder):
 
 
 class Rounds:
-    """The rounds of a run. `runs` counts how often the program was run, `judged` the images. With `cuts` those of other cuts aren't judged."""
+    """The rounds of a run. `runs` counts how often the program was run, `judged` the images."""
 
-    def __init__(self, given, records, crew, marks, cuts=None):
-        self.records, self.crew, self.marks, self.cuts, self.most = records, crew, marks, cuts, given.runs
+    def __init__(self, given, records, crew, marks):
+        self.records, self.crew, self.marks, self.most = records, crew, marks, given.runs
         self.is_told = None
-        self.round = self.runs = self.judged = self.failing = self.left = 0
+        self.round = self.runs = self.judged = self.failing = self.left = self.compared = 0
         self.jobs, self.at, self.alone, self.first = deque(), {}, deque(), first_number(given.keep)
+        # The first image that failed and the last one that didn't, by whether they are good, each with what it came to.
+        self.ends = {}
 
     def go(self, step):
         """Judges until a step wants nothing, and returns that step. Where more is wanted than --runs says, one that ends each cut at its first
         failing case goes on."""
-        while wanted := [it for it in step.wanted() if self.cuts is None or it.cut in self.cuts]:
+        while wanted := step.wanted():
             stops = step.given.has("--stop-at-failing")
             if not stops and self.most is not None and self.records.known.count + len(wanted) > self.most:
                 step = step.asking({"--stop-at-failing": True})
                 continue
             self.round, self.is_told, before = self.round + 1, step.is_told, self.judged
-            self.judge(wanted, stops)
+            self.judge(map(Job, wanted), len(wanted), stops)
             if self.judged == before:
                 raise Refusal("crashbpf wants images that records tell: this is a bug of crashbpf-each")
         return step
 
+    def compare(self):
+        """Runs the first image that failed and the last one that didn't once more, of those since this was done last. Returns whether one of
+        them is a second record."""
+        jobs, before, self.ends = list(self.ends.values()), self.records.known.count, {}
+        self.judge(jobs, len(jobs), False)
+        self.compared += len(jobs)
+        return self.records.known.count != before
+
+    def go_to_end(self, step):
+        """Judges until a step wants nothing, and compares. Returns that step."""
+        step = self.go(step)
+        return self.go(step) if self.compare() else step
+
     def go_on(self, again):
         """Judges what a second crash leaves, until nothing is wanted. What is found stands in other records."""
         self.records = again
-        self.go(again)
+        self.go_to_end(again)
 
-    def judge(self, wanted, stops):
-        """Judges the images of a round, as many at a time as there are runners, and in the end by itself what was doubtful."""
-        progress, before = Progress(len(wanted)), self.judged
-        self.jobs.extend(Job(it) for it in wanted)
+    def judge(self, jobs, count, stops):
+        """Does the jobs of a round, as many at a time as there are runners, and in the end by itself what was doubtful."""
+        progress, before = Progress(count), self.judged
+        self.jobs.extend(jobs)
         try:
             while self.jobs or self.at or self.alone:
                 self.hand_out()
@@ -101,7 +117,7 @@ class Rounds:
         """Gives jobs to idle runners, but for images that a record tells by now; one that is doubtful only where all are idle."""
         while self.jobs and (seat := self.crew.idle()) is not None:
             job = self.jobs.popleft()
-            if job.is_again or not self.is_told(job.image):
+            if job.turn != FIRST or not self.is_told(job.image):
                 self.tell(seat, job)
         if not self.at and self.alone:
             self.tell(self.crew.idle(), self.alone.popleft())
@@ -112,7 +128,7 @@ class Rounds:
             raise Refusal(f"image {job.image.number} has more marks than the log")
         number, self.runs = self.first + self.runs, self.runs + 1
         self.at[number] = job
-        seat.tell(job.image._replace(number=number), self.marks[job.image.marks - 1] if job.image.marks else b"", job.is_again)
+        seat.tell(job.image._replace(number=number), self.marks[job.image.marks - 1] if job.image.marks else b"", job.turn)
 
     def hear(self, stops):
         """Waits for verdicts, but not for long."""
@@ -124,13 +140,13 @@ class Rounds:
 
     def pass_over(self, failing):
         """Leaves out what comes after a failing image at its cut: it isn't wanted any more."""
-        self.jobs = deque(it for it in self.jobs if it.is_again or it.image.cut != failing.cut or it.image.number < failing.number)
+        self.jobs = deque(it for it in self.jobs if it.turn != FIRST or it.image.cut != failing.cut or it.image.number < failing.number)
 
     def settle(self, job, seen, stops):
         """Records a verdict, or compares it with the one before."""
         verdict, looked, log = seen
-        if is_doubtful(verdict) and not job.is_again:
-            self.alone.append(job._replace(is_again=True))
+        if is_doubtful(verdict) and job.turn == FIRST:
+            self.alone.append(job._replace(turn=ALONE))
         elif job.verdict is None:
             self.records.add(job.image, verdict, looked, log)
             self.judged += 1
@@ -138,7 +154,9 @@ class Rounds:
             if not verdict.is_good() and stops:
                 self.pass_over(job.image)
             if self.judged % AGAIN == 0:
-                self.jobs.append(job._replace(is_again=True, verdict=verdict, looked=looked))
+                self.jobs.append(job._replace(turn=COMPARED, verdict=verdict, looked=looked))
+            if verdict.is_good() or not is_doubtful(verdict) and False not in self.ends:
+                self.ends[verdict.is_good()] = job._replace(turn=STARTED, verdict=verdict, looked=looked)
         elif verdict != job.verdict:
             self.records.write(f"{record(job.image, verdict, looked)}\n")
             where = f"cut {job.image.cut} choice {job.image.choice.decode().partition(' of ')[0]}"
@@ -147,14 +165,11 @@ class Rounds:
             self.records.add(job.image, verdict, looked, log)
 
 
-def share(risks, part, parts):
-    """Returns the cuts of a part: of the cuts, the most at risk first, each goes to the part that has the least so far."""
-    loads, own = [0] * parts, set()
-    for cut, risk in sorted(risks, key=lambda it: (-it[1], it[0])):
-        least = loads.index(min(loads))
-        loads[least] += risk + 1
-        own |= {cut} if least == part - 1 else set()
-    return own
+def of_part(program, given):
+    """Returns the words for the cuts of a part, or none where there are more parts than cuts."""
+    part, parts = given.part
+    ranges = product.parts(program, given, parts)
+    return given.asking(dict(zip(("--from", "--to"), ranges[part - 1]))) if part <= len(ranges) else None
 
 
 class Answer(NamedTuple):
@@ -167,11 +182,11 @@ class Answer(NamedTuple):
 
 
 def judged_part(step, rounds, path):
-    """Judges a part. Its text are its records, and its status is 1 where something fails of what is known."""
-    step = rounds.go(step)
-    status, _text, _said = step.text()
+    """Judges a part. Its text are its records, and its status is that of the text of its cuts."""
+    given = of_part(step.program, step.given)
+    status = 0 if given is None else rounds.go_to_end(step.of(given)).text()[0]
     with open(path, "rb") as file:
-        return Answer(int(status == 1), file.read(), [], step.given)
+        return Answer(status, file.read(), [], step.given)
 
 
 def answer(given, step, rounds, path):
@@ -182,7 +197,7 @@ def answer(given, step, rounds, path):
         return Answer(status, text, said, cure.step.given)
     if given.part:
         return judged_part(step, rounds, path)
-    step = rounds.go(step)
+    step = rounds.go_to_end(step)
     if given.again:
         again = Again(step)
         rounds.go_on(again)
@@ -197,10 +212,9 @@ def judged_any(given, program, folder, say, test_unchanged):
     known = Known(images_of(given), head_of(product.inputs(program, given, folder), given))
     # (a second level goes on with the cases of the first, so there the search of both is that of a script)
     step = Step(program, given, folder, known) if given.again else AskedStep(program, given, known, path)
-    cuts = share(product.risks(program, given), *given.part) if given.part else None
     records, done = Records(path, known, given.resume), False
     try:
-        with served_rounds(given, records, marks, folder, cuts) as rounds:
+        with served_rounds(given, records, marks, folder) as rounds:
             found = answer(given, step, rounds, path)
         if given.spot:
             compare(found.given, program, Cases(found.text.decode()), marks, folder)
@@ -212,7 +226,8 @@ def judged_any(given, program, folder, say, test_unchanged):
         records.end(bool(given.keep) or not done and known.count > 0)
     for note in [*notes, *found.said]:
         say(note)
-    say(f"note: the program was run {rounds.runs} times, on {rounds.judged} images, in {rounds.round} rounds")
+    compared = f", and on {rounds.compared} of them once more at the end" if rounds.compared else ""
+    say(f"note: the program was run {rounds.runs - rounds.compared} times, on {rounds.judged} images, in {rounds.round} rounds{compared}")
     if given.spot:
         say("note: as plain files {} choices by the seed {} end as their cases do".format(*given.spot))
     if rounds.left:
@@ -221,14 +236,14 @@ def judged_any(given, program, folder, say, test_unchanged):
 
 
 @contextlib.contextmanager
-def served_rounds(given, records, marks, folder, cuts):
+def served_rounds(given, records, marks, folder):
     """Gives rounds on a mount of their own, which is gone afterwards."""
     mount = Mount(folder, records.known.images, given.runners, notes=given.skipped if given.again else None)
     try:
         crew = Crew(folder, given, functools.partial(ServedRunner, mount=mount))
         try:
             mount.handed_over()
-            yield Rounds(given, records, crew, marks, cuts)
+            yield Rounds(given, records, crew, marks)
         finally:
             crew.end()
     finally:

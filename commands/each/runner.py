@@ -9,6 +9,7 @@ import shutil
 import signal
 import struct
 import sys
+import traceback
 from contextlib import suppress
 from functools import partial
 from pathlib import Path
@@ -18,9 +19,11 @@ from commands.each.image_file import ImageFile
 from commands.shared.faults import Refusal
 from commands.shared.program import Gone, adopt, run, tidy
 
-# Of an image its number, cut and marks, whether it is run again, the lengths of the choice and of the mark's text, and the number of bytes
-# of records.
-TOLD = struct.Struct("<QQQ?IIQ")
+# Of an image its number, cut and marks, the turn, the lengths of the choice and of the mark's text, and the number of bytes of records.
+TOLD = struct.Struct("<QQQBIIQ")
+# The turn of an image: it is run for the first time; again alone, since what it came to doesn't count; or again, to be compared, by a program
+# that judged no image before, which in the last case was started for it.
+FIRST, ALONE, COMPARED, STARTED = range(4)
 # Whether it is a refusal, the kind and the number of the verdict, whether processes were left, and the length of what is said.
 ANSWER = struct.Struct("<?BQ?I")
 SAYS_MORE = b"\n[crashbpf-each: %d bytes more were printed]\n"
@@ -35,13 +38,12 @@ def exactly(file, size):
 
 
 class Told(NamedTuple):
-    """An image to judge: its number, its cut and marks, whether it is run again, its choice, the text of the last mark, and the records of
-    what it changes."""
+    """An image to judge: its number, its cut and marks, its turn, its choice, the text of the last mark, and the records of what it changes."""
 
     number: int
     cut: int
     marks: int
-    is_again: bool
+    turn: int
     choice: bytes
     mark: bytes
     records: bytes
@@ -61,8 +63,8 @@ class Runner:
     def go(self):
         """Judges images as they are told, until nobody tells one more."""
         while True:
-            number, cut, marks, is_again, *sizes = TOLD.unpack(exactly(self.asked, TOLD.size))
-            it = Told(number, cut, marks, is_again, *(exactly(self.asked, size) for size in sizes))
+            number, cut, marks, turn, *sizes = TOLD.unpack(exactly(self.asked, TOLD.size))
+            it = Told(number, cut, marks, turn, *(exactly(self.asked, size) for size in sizes))
             ended, said = self.judge(it)
             self.channel.sendall(ANSWER.pack(False, *ended.verdict, ended.left, len(said)) + said)
 
@@ -124,6 +126,13 @@ class FileRunner(Runner):
         self.image.copy(path)
 
 
+def tell_refusal(channel, text):
+    """Tells the words of a refusal in place of an answer."""
+    said = text.encode(errors="replace")[:4096]
+    with suppress(OSError):
+        channel.sendall(ANSWER.pack(True, 0, 0, False, len(said)) + said)
+
+
 def serve(folder, given, channel, make):
     """Is a runner in a folder of its own, until the other side is closed. Returns to nobody. `make` makes it of these three."""
     for it in (signal.SIGINT, signal.SIGTERM, signal.SIGHUP, signal.SIGQUIT):
@@ -136,11 +145,10 @@ def serve(folder, given, channel, make):
     except (Gone, BrokenPipeError, ConnectionError):
         pass
     except (Refusal, OSError) as error:
-        said = str(error).encode(errors="replace")[:4096]
-        try:
-            channel.sendall(ANSWER.pack(True, 0, 0, False, len(said)) + said)
-        except OSError:
-            pass
+        tell_refusal(channel, str(error))
+    except Exception as error:
+        traceback.print_exc()
+        tell_refusal(channel, f"a runner ended by an error that isn't expected: {error!r}")
     finally:
         if runner is not None:
             with suppress(Refusal, OSError):

@@ -67,7 +67,7 @@ class LogImages:
 
     def __init__(self, path, base, sectors, by_write, flushes=()):
         self.bytes, self.base, self.sectors, self.by_write = mapped(path), mapped(base), sectors, by_write
-        self.entries, self.blocks = [], {}
+        self.entries, self.blocks, self.known_covers = [], {}, {}
         self.flushes, self.marks = [0], [0]
         (count,) = NUMBER_OF_ENTRIES.unpack_from(self.bytes)
         at = SECTOR
@@ -88,7 +88,11 @@ class LogImages:
 
     def covers(self, number):
         """Whether an entry of the log covers a sector."""
-        return any(sector <= number < sector + count for sector, count, _flags, _data in map(self.entries.__getitem__, self.blocks.get(number // BLOCK, ())))
+        found = self.known_covers.get(number)
+        if found is None:
+            entries = map(self.entries.__getitem__, self.blocks.get(number // BLOCK, ()))
+            found = self.known_covers[number] = any(sector <= number < sector + count for sector, count, _flags, _data in entries)
+        return found
 
     def counts(self, number):
         """Whether a look at a sector counts: no choice changes another one."""

@@ -3,7 +3,7 @@ import os
 import shutil
 
 from commands.each.records import ranges
-from commands.each.runner import Runner
+from commands.each.runner import ALONE, COMPARED, FIRST, Runner
 from commands.each.served_server import ENDS, KEPT, RECOVERED, TOLD, answered, received, sent
 from commands.each.stayed import Stayed
 from commands.shared.faults import Refusal
@@ -82,22 +82,22 @@ class ServedRunner(Runner):
         return ended, *self.asked_of_server(ENDS)
 
     def judged(self, it):
-        """Lets the program judge an image. One that stays is started anew for an image that is run again; and where it ended in place of an
-        answer, after other images, only what a new one comes to counts."""
+        """Lets the program judge an image. Of one that stays an image that is run again is judged by a process that judged none before; and
+        where it ended in place of an answer, after other images, only what a new one comes to counts."""
         if self.stayed is None:
             return self.ran(it)
-        if it.is_again:
-            self.stayed.end()
-        was_fresh = self.stayed.process is None
+        if it.turn != FIRST:
+            self.stayed.begin_anew(it.turn == COMPARED)
+        was_new = self.stayed.is_new
         found = self.ran(it)
-        if self.stayed.process is None and not was_fresh:
+        if self.stayed.process is None and not was_new:
             found = self.ran(it)
         return found
 
     def judge(self, it):
-        """Judges an image, and keeps it where it fails and that is asked for."""
+        """Judges an image, and keeps it where it fails and that is asked for, but for one that is run again to be compared."""
         ended, looked, log = self.judged(it)
-        if self.given.keep and not ended.verdict.is_good():
+        if self.given.keep and it.turn in (FIRST, ALONE) and not ended.verdict.is_good():
             self.asked_of_server(it.cut, it.choice + (KEPT.encode() if self.given.again else b""))
             self.keep(it.number, ended)
             self.asked_of_server(ENDS)

@@ -1,4 +1,4 @@
-"""How a command ends that comes to no answer: the signals that end it, and the line that says why."""
+"""How a command ends that comes to no answer: the signals and the errors that end it, and the line that says why."""
 import os
 import signal
 import sys
@@ -34,3 +34,14 @@ def say(name, text):
     with suppress(OSError):
         os.write(2, f"{name}: {line}\n".encode(errors="backslashreplace"))
     return 2
+
+
+def say_unexpected(name):
+    """Has an error that nothing expects end this program with 2: a line below the traceback says that there is no answer. By itself Python
+    ends with 1, which says that something fails."""
+
+    def end(kind, error, trace):
+        sys.__excepthook__(kind, error, trace)
+        sys.exit(say(name, f"it ends without an answer, by an error that isn't expected: {kind.__name__}: {error}"))
+
+    sys.excepthook = end

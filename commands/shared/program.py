@@ -60,7 +60,7 @@ def start_inside(act, surroundings, output, nothing):
     process = os.fork()
     if process:
         return process
-    status = 1
+    status = 2
     try:
         os.setsid()
         for place, file in enumerate((nothing, output, output)):
@@ -129,19 +129,23 @@ def watch(process, said, hang_up, seconds):
         os.close(ends)
 
 
+def parent_of(process):
+    """Returns the parent of a process, or None where there is no such process."""
+    try:
+        with open(f"/proc/{process}/stat", "rb") as file:
+            return int(file.read().rpartition(b")")[2].split()[1])
+    except (OSError, IndexError):
+        return None
+
+
 def children():
     """Returns the processes of which this one is the parent."""
-    found, own = [], str(os.getpid())
-    for name in os.listdir("/proc"):
-        if name.isdigit():
-            try:
-                with open(f"/proc/{name}/stat", "rb") as file:
-                    fields = file.read().rpartition(b")")[2].split()
-            except OSError:
-                continue
-            if fields and fields[1].decode() == own:
-                found.append(int(name))
-    return found
+    try:
+        # (not each kernel has this list, which is that of a process without threads)
+        with open("/proc/thread-self/children", "rb") as file:
+            return [int(it) for it in file.read().split()]
+    except OSError:
+        return [int(it) for it in os.listdir("/proc") if it.isdigit() and parent_of(it) == os.getpid()]
 
 
 def end_all(process):

@@ -2,15 +2,19 @@
 """Times runs of a program on a folder that is served beside the same on one that is laid out. By hand.
 
     python3 tests/by_hand/served_times.py RECORDING COMMAND [TURNS]
+    python3 tests/by_hand/served_times.py --examples [TURNS [NAME ..]]
 
-RECORDING is a folder of crashbpf-record, and COMMAND is one for sh that is run in the folder with the files of its last image. Both ways are
-run by turns, TURNS times, 15 where that isn't given. Prints the least and the middle of the milliseconds of each way by the clock, and the
-mean of those of the processor, in which the server's are counted too; and how many times that of the other a served run takes, by each. Where
-the machine does other work beside only the processor's time says something. It takes as root or as a user what crashbpf-each takes.
+RECORDING is a folder of crashbpf-record, and COMMAND is one for sh that is run in the folder with the files of its last image. With --examples
+these are recorded and judged, or those that begin with a NAME: SQLite, LMDB and LevelDB by examples/kv, and commits of git by `git fsck`. Both ways are run by turns, TURNS
+times, 15 where that isn't given. Prints the least and the middle of the milliseconds of each way by the clock, and the mean of those of the
+processor, in which the server's are counted too; and how many times that of the other a served run takes, by each. Where the machine does
+other work beside only the processor's time says something. It takes as root or as a user what crashbpf-each takes; the examples want strace,
+python3-lmdb, python3-plyvel and git.
 """
 import os
 import resource
 import statistics
+import subprocess
 import sys
 import tempfile
 import time
@@ -27,6 +31,20 @@ from commands.each.served_mount import Mount
 from commands.each.served_server import ENDS, TOLD, received, sent
 from commands.record import laying
 from commands.shared import recording
+from notation import TOP
+
+KV, RECORDER = TOP / "examples/kv", TOP / "commands/record/crashbpf-record"
+# Commits of git, which has nothing of the user's settings.
+COMMITS = """\
+cd $FILES && git init -q . && git config user.name it && git config user.email it@it && git config core.fsync all
+for it in 1 2 3; do echo $it >text && git add text && git commit -qm $it && mark saved-$it || exit 1; done
+"""
+STORES = {"SQLite, DELETE": "sqlite:DELETE,FULL", "SQLite, WAL": "sqlite:WAL,FULL", "LMDB": "lmdb", "LevelDB": "leveldb:sync"}
+# Of each example the program that is recorded, and what judges its files.
+EXAMPLES = {
+    **{name: ([KV / "workload", of], f"{KV}/check {of}") for name, of in STORES.items()},
+    "git": (["sh", "-c", COMMITS], "git fsck --full"),
+}
 
 
 def run(words, surroundings):
@@ -77,24 +95,32 @@ def served(mount, cut, words):
     return status
 
 
-def main(words):
-    """Runs both ways by turns."""
-    it = recording.read(words[0])
+def whole(images, base, path):
+    """Writes the image of the end of a log, where nothing is lost, as a file."""
+    image = images.image_of(len(images.entries), {})
+    path.write_bytes(base)
+    with path.open("r+b") as file:
+        file.truncate(512 * images.sectors)
+        for sector in (at for block in images.blocks for at in range(BLOCK * block, min(BLOCK * block + BLOCK, images.sectors))):
+            file.seek(512 * sector)
+            file.write(image.sector(sector))
+
+
+def timed(folder, command, turns):
+    """Runs a command on the files of a recording both ways, by turns. Prints what they take."""
+    it = recording.read(folder)
     images = LogImages(it.log(), it.path(it.base) if it.base else None, it.sectors, True)
-    cut, judge = len(images.entries), [it.path(it.map), "--", "sh", "-c", words[1]]
+    # (a check that compares marks has those of the last image)
+    os.environ["CRASH_MARKS"] = str(images.marks[-1])
+    cut, judge = len(images.entries), [it.path(it.map), "--", "sh", "-c", command]
     with tempfile.TemporaryDirectory() as room:
-        plain, whole = Path(room, "image"), images.image_of(cut, {})
-        plain.write_bytes(Path(it.path(it.base)).read_bytes() if it.base else b"")
-        with plain.open("r+b") as file:
-            file.truncate(512 * it.sectors)
-            for sector in (at for block in images.blocks for at in range(BLOCK * block, min(BLOCK * block + BLOCK, it.sectors))):
-                file.seek(512 * sector)
-                file.write(whole.sector(sector))
+        plain = Path(room, "image")
+        whole(images, Path(it.path(it.base)).read_bytes() if it.base else b"", plain)
         mount = Mount(room, images, 1)
         plainly, by_server = Times(lambda: run([judge[0], str(plain), *judge[1:]], {})), Times(lambda: served(mount, cut, judge))
         ways = {"laid out": plainly, "served": by_server}
         try:
-            statuses, before, turns = [it.act() for it in ways.values()], of_server(mount.process), int(words[2]) if len(words) > 2 else 15
+            statuses, before = [it.act() for it in ways.values()], of_server(mount.process)
             for _ in range(turns):
                 for way in ways.values():
                     way.turn()
@@ -104,7 +130,24 @@ def main(words):
     for name, of in ways.items():
         print(f"{name}: clock {min(of.clock):.1f} / {statistics.median(of.clock):.1f} ms, processor {of.processor / turns:.1f} ms")
     times = min(by_server.clock) / min(plainly.clock), by_server.processor / plainly.processor
-    print("statuses {} and {}; a served one takes {:.2f} times the other by the clock, and {:.2f} by the processor".format(*statuses, *times))
+    print("statuses {} and {}; a served one takes {:.2f} times the other by the clock, and {:.2f} by the processor".format(*statuses, *times), flush=True)
+
+
+def main(words):
+    """Times what the words name."""
+    if words[0] != "--examples":
+        timed(words[0], words[1], int(words[2]) if len(words) > 2 else 15)
+        return 0
+    for name, (program, judge) in EXAMPLES.items():
+        if len(words) > 2 and not name.startswith(tuple(words[2:])):
+            continue
+        with tempfile.TemporaryDirectory() as room:
+            done = subprocess.run([RECORDER, "--files", "ext4", "--skip", "*-shm", "--skip", "lock.mdb", f"{room}/it", "--", *program], capture_output=True, text=True, stdin=subprocess.DEVNULL)
+            if done.returncode:
+                print(f"{name}: it isn't recorded: {done.stderr}")
+                return 1
+            print(name, judge.replace(f"{TOP}/", ""), sep=": ")
+            timed(f"{room}/it", judge, int(words[1]) if len(words) > 1 else 15)
     return 0
 
 

@@ -1,5 +1,6 @@
 #!/usr/bin/env python3
-"""Tests commands/test/crashbpf-test: which sync it names, before which call, and that the program is right with it.
+"""Tests commands/test/crashbpf-test: which sync it names, before which call, and that the program is right with it. A row is of all commands
+that are scripts: in what they end by an error that isn't expected.
 
     python3 tests/gate/command.py [PROGRAM]
 
@@ -479,10 +480,39 @@ def agrees(folder):
     return [f"{len(wrong)} of {total} images differ, as {wrong[0]}"] if wrong else []
 
 
+# Of each command the file of its function main, and a module that it imports.
+OF_COMMANDS = {
+    "each/crashbpf-each": ("each/crashbpf-each", "each/product.py"),
+    "test/crashbpf-test": ("test/crashbpf-test", "test/page.py"),
+    "record/crashbpf-record": ("record/crashbpf-record", "record/device.py"),
+    "record/crashbpf-files": ("record/laying.py", "record/laying.py"),
+    "cc/crashbpf-cc": ("cc/crashbpf-cc", "cc/against.py"),
+}
+
+
+def ends_unexpected(folder):
+    """What is wrong where a command has an error that nothing expects, as it is imported or as it runs: the status is 2, and the last line
+    says so."""
+    found = []
+    for command, (has_main, imported) in OF_COMMANDS.items():
+        for file, planted in ((has_main, r"^def main\(.*\):\n(    \"\"\".*\n)?"), (imported, r"^import os\n")):
+            copy, name = Path(folder, "commands"), Path(command).name
+            shutil.copytree(TOP / "commands", copy)
+            text, count = re.subn(planted, lambda it: f"{it[0]}{'    ' * it[0].startswith('def')}{{}}['planted']\n", (copy / file).read_text(), flags=re.M)
+            (copy / file).write_text(text)
+            done = subprocess.run([copy / command, "a", "b"], cwd=folder, capture_output=True, text=True, stdin=subprocess.DEVNULL)
+            last = f"{name}: it ends without an answer, by an error that isn't expected: KeyError: 'planted'"
+            says = "Traceback (most" in done.stderr, done.stderr.endswith(f"\n{last}\n")
+            found += differs(f"the end of {name} with an error in {file}: {done.stderr}", (count, done.returncode, done.stdout, *says), (1, 2, "", True, True))
+            shutil.rmtree(copy)
+    return found
+
+
 def rows():
     """Yields the name of each row and what looks at it."""
+    yield "errors that aren't expected", ends_unexpected
     if not shutil.which("strace"):
-        print("not run: all rows, since there is no strace")
+        print("not run: all other rows, since there is no strace")
         return
     yield "the example that saves settings", names_saving
     yield "a program in Python", names_python

@@ -10,6 +10,7 @@ is no FUSE, that is all that is tested: that it is refused with what is missing.
 Prints a line for each row that failed, and last `N passed, M failed`. It takes some 75 seconds of the processor, three rows at a time.
 """
 import os
+import re
 import shutil
 import signal
 import subprocess
@@ -38,7 +39,7 @@ EACH = TOP / "commands/each/crashbpf-each"
 MACHINES, RECOVERY = TOP / "examples/many_machines", TOP / "examples/recovery"
 SMALL = Run([W(0, 2, 1), W(2, 1, 2), F, W(1, 2, 3), M("one"), W(3, 1, 4), W(0, 1, 5), F, M("two"), D(0, 2)])
 # Commits, each of a sector and a header that names it, without the flushes that they need.
-COMMITS = Run([it for number in range(1, 7) for it in (W(number, 1, number), W(0, 1, number))], sectors=8)
+COMMITS, MORE_COMMITS = (Run([it for number in range(1, last + 1) for it in (W(number, 1, number), W(0, 1, number))], sectors=sectors) for last, sectors in ((6, 8), (12, 16)))
 WORDS, USUAL = ["disk.log", "--sectors", "4", "--bound", "any"], ["disk.log", "--sectors", "4"]
 OF_COMMITS = ["disk.log", "--sectors", "8", "--bound", "any"]
 RECORDS = "crashbpf-each.known"
@@ -69,6 +70,8 @@ def byte(sector):
 header = byte(0)
 sys.exit(header != 0 and (byte(header) != header or len(sys.argv) > 2 and header == 4))
 """
+# It looks at the header and the sector that this names, and never fails.
+GOOD_HEADER = COMMITTED.replace("sys.exit(", "sys.exit(0 * (").rstrip() + ")\n"
 # The same judge as JUDGE, as one that stays; with a word it does something else at its fourth image.
 STAYS = """\
 import os, sys
@@ -86,6 +89,23 @@ def check(path, marks):
         exec(sys.argv[1])
     return found % 3 if marks < 2 else found % 2
 stay.judge(check)
+"""
+# Judges as COMMITTED does, and says in a file how often it was started. Without the module it says that it makes copies, and makes none.
+STARTED = """\
+import itertools, os, sys
+import stay
+with open("starts", "a") as file:
+    file.write("x")
+def check(path, marks):
+    file = os.open(path, os.O_RDONLY)
+    byte = lambda sector: os.pread(file, 1, 512 * sector)[0]
+    found = byte(0) != 0 and byte(byte(0)) != byte(0)
+    os.close(file)
+    return int(found)
+if len(sys.argv) == 1:
+    stay.judge(check)
+for line in itertools.chain(["\\n"], sys.stdin):
+    print(f"copy {sys.argv[1]}" if line == "\\n" else check(*line.split()), flush=True)
 """
 
 
@@ -344,6 +364,49 @@ def test_parts(folder):
     return found + differs("the records of each part", all(records), True)
 
 
+def test_part_statuses(folder):
+    """The status of a part is 1 where something fails, else 3 where something at its cuts wasn't looked at, else 0; so is that of all parts
+    put together."""
+    put(folder, GOOD_HEADER, COMMITS)
+    few = [*OF_COMMITS, "--flush", "1,2,8"]
+    of = lambda part, *words: each(folder, *words, "--part", part, usual=few)[0]
+    # (these parts have the cuts 1 and 2, at each of which one part may be lost; 8; and 12)
+    found = differs("the statuses where --cases stops", [of(part, "--cases", "2") for part in ("1/3", "2/3", "3/3")], [0, 3, 3])
+    found += differs("where more is lost than --at-most", [of("1/1", "--at-most", "1", "--to", last) for last in ("3", "6")], [0, 3])
+    found += differs("of a part that is judged to the end", of("2/3"), 0)
+    found += differs("of more parts than cuts", of("5/5"), 0)
+    text = f'"$1"/lay_out_each run 2 {" ".join(few)} --cases 2 -- python3 judge.py {{}} && run/run_part run 1 && run/run_part run 2 && exec "$1"/join_each run'
+    done = subprocess.run(["sh", "-c", text, "sh", MACHINES], cwd=folder, env={**os.environ, "EACH": str(EACH)}, capture_output=True, text=True)
+    found += differs(f"of parts that are put together: {done.stderr}", (done.returncode, "was run 0 times" in done.stderr), (3, True))
+    put(folder, COMMITTED, COMMITS)
+    return found + differs("where something fails", [of(part, "--cases", "2") for part in ("1/3", "2/3")], [0, 1])
+
+
+# Counts its runs in a file, which is no part of an image, and answers by their number; it looks at no sector.
+COUNTS = """\
+with open("turns", "a") as file:
+    turn = file.tell()
+    file.write("x")
+raise SystemExit({})
+"""
+
+
+def test_compared(folder):
+    """In a run of few images too the first one that fails and the last one that doesn't are run again, and another answer is refused."""
+    found = []
+    for answers, first, then in (("turn == 1", "answer 1 codes -", "answer 0 codes -"), ("turn > 2", "answer 0 codes -", "answer 1 codes -")):
+        put(folder, COUNTS.format(answers))
+        status, printed, said = each(folder, "-j", "1")
+        found += differs(f"what is said of {answers}: {said}", (status, printed, f"image: {first}, then {then}, at cut" in said), (2, "", True))
+        found += differs("how often it was run", Path(folder, "turns").stat().st_size in (4, 5), True)
+        Path(folder, "turns").unlink()
+        Path(folder, RECORDS).unlink()
+    put(folder, COUNTS.format("0"))
+    status, printed, said = each(folder, "-j", "1")
+    says = "the program was run 3 times, on 3 images, in 1 rounds, and on 1 of them once more at the end" in said
+    return found + differs(f"what is said of one that doesn't fail: {said}", (status, says), (0, True))
+
+
 def test_stays(folder):
     """A program that stays comes to the same text, also where it ends in between, and what isn't an answer is refused."""
     put(folder, STAYS)
@@ -363,6 +426,24 @@ def test_stays(folder):
     status, printed, said = each(folder, "--stay", "-j", "1", "--tears", program=["python3", "judge.py"])
     found += differs(f"one that counts its images: {printed} {said}", (status, "ends otherwise" in said), (2, True))
     return found + differs("what is left", left(folder), [])
+
+
+def test_copies(folder):
+    """A program that makes copies is started once, and once more for each image that is run again at the end. One that says so wrongly is
+    started for each image that is run again."""
+    put(folder, STARTED, MORE_COMMITS)
+    shutil.copy(RECOVERY / "stay.py", folder)
+    found, texts = [], []
+    for words in ([], ["1"], [str(os.getpid())]):
+        status, printed, said = each(folder, "--stay", "-j", "1", program=["python3", "judge.py", *words], usual=["disk.log", "--sectors", "16", "--bound", "any"])
+        note = re.search(r"run (\d+) times, on (\d+) images, in \d+ rounds, and on (\d+) of them once more", said)
+        runs, images, compared = (int(note[it]) for it in (1, 2, 3)) if note else (0, 0, 0)
+        starts = Path(folder, "starts")
+        found += differs(f"how often it was started, with {words}: {said}", starts.stat().st_size, 1 + compared + (runs - images if words else 0))
+        found += differs("how often images were run again", (runs - images > 0, compared), (True, 2))
+        starts.unlink()
+        texts.append(lines_of(printed, "cut"))
+    return found + differs("the texts", texts[1:], texts[:1] * 2)
 
 
 # A hostile program, the options beside it, and a part of what is printed on either output.
@@ -431,7 +512,10 @@ ROWS = {
     "a run that is resumed": test_resumed,
     "a cure": test_cured,
     "parts": test_parts,
+    "statuses of parts": test_part_statuses,
+    "images that are run again": test_compared,
     "a program that stays": test_stays,
+    "copies of one": test_copies,
     "where there is no FUSE": test_unserved,
     "options": test_options,
     "bounds": test_bounds,
