@@ -6,13 +6,13 @@ from commands.record.calls import MAKES
 
 # Calls that write no file, make no descriptor of one, and change no name.
 HARMLESS = set(
-    "access alarm arch_prctl chown connect epoll_ctl eventfd2 execveat exit exit_group faccessat faccessat2 fadvise64 "
-    "fchown fchownat fgetxattr flistxattr flock fremovexattr fsetxattr fstat fstat64 fstatfs futimesat "
-    "getcwd getdents getdents64 getpeername getsockname getsockopt getxattr inotify_add_watch ioprio_set kcmp lchown lgetxattr "
-    "listen listxattr llistxattr lremovexattr lsetxattr lstat name_to_handle_at newfstatat pidfd_open pidfd_send_signal "
-    "pipe pipe2 poll ppoll prctl pread64 preadv readahead readlink readlinkat recvfrom recvmmsg recvmsg removexattr select "
-    "pselect6 sendmmsg sendmsg sendto setxattr shutdown signalfd4 socket socketpair stat stat64 statfs statx "
-    "timerfd_settime umask utime utimensat utimes wait4 waitid accept accept4 epoll_create epoll_create1 "
+    "access alarm arch_prctl connect epoll_ctl eventfd2 execveat exit exit_group faccessat faccessat2 fadvise64 "
+    "fgetxattr flistxattr flock fstat fstat64 fstatfs "
+    "getcwd getdents getdents64 getpeername getsockname getsockopt getxattr inotify_add_watch ioprio_set kcmp lgetxattr "
+    "listen listxattr llistxattr lstat name_to_handle_at newfstatat pidfd_open pidfd_send_signal "
+    "pipe pipe2 poll ppoll prctl pread64 preadv readahead readlink readlinkat recvfrom recvmmsg recvmsg select "
+    "pselect6 sendmmsg sendmsg sendto shutdown signalfd4 socket socketpair stat stat64 statfs statx "
+    "timerfd_settime umask wait4 waitid accept accept4 epoll_create epoll_create1 "
     "memfd_create timerfd_create inotify_init inotify_init1".split()
 )
 # Calls that may do it unseen, whichever descriptor they name.
@@ -33,8 +33,8 @@ UNSEEN = {
     "swapon": "it may write a file unseen",
 }
 MADE_APART = {"CLONE_UNTRACED": "strace doesn't follow it", "CLONE_NEWNS": "paths mean something else after it"}
-# What may be asked of a recorded file by ioctl; FIOCLEX and FIONCLEX besides.
-ASKED = {"TCGETS", "FIONREAD", "FIGETBSZ", "FS_IOC_GETFLAGS", "FS_IOC_FSGETXATTR", "FS_IOC_FIEMAP", "FS_IOC_GETVERSION"}
+# What may be asked of a recorded file by ioctl, and what changes nothing of it; FIOCLEX and FIONCLEX besides.
+ASKED = {"TCGETS", "FIONREAD", "FIONBIO", "FIGETBSZ", "FS_IOC_GETFLAGS", "FS_IOC_FSGETXATTR", "FS_IOC_FIEMAP", "FS_IOC_GETVERSION"}
 OPENS = ("open", "openat", "openat2", "creat")
 WRITES = ("write", "writev", "pwrite64", "pwritev", "pwritev2")
 READS = ("read", "readv")
@@ -62,6 +62,16 @@ RWF = {"RWF_HIPRI", "RWF_NOWAIT", "RWF_DSYNC", "RWF_SYNC", "RWF_APPEND"}
 THROUGH = {"O_DSYNC", "O_SYNC", "__O_SYNC", "RWF_DSYNC", "RWF_SYNC"}
 # Calls on a descriptor that change a file or its place.
 MOVES = ("lseek", "_llseek", "ftruncate", "ftruncate64", "fallocate")
+# What a file has besides its bytes, and the calls that change it.
+PERMISSIONS = "permissions"
+BESIDE = {
+    PERMISSIONS: ("chmod", "fchmod", "fchmodat", "fchmodat2"),
+    "owners": ("chown", "fchown", "lchown", "fchownat"),
+    "times": ("utime", "utimes", "futimesat", "utimensat"),
+    "attributes": ("setxattr", "lsetxattr", "fsetxattr", "removexattr", "lremovexattr", "fremovexattr"),
+}
+# Those that change a symbolic link itself, where their flags don't say it.
+OF_LINKS = ("lchown", "lsetxattr", "lremovexattr")
 # Errors of msync after which what it did is to count for nothing.
 NOT_DONE = {"ENOMEM", "EBUSY", "EINVAL"}
 # The calls that are followed, by what is done with them.
@@ -97,7 +107,7 @@ KINDS = {
     "mkdir": ("mkdir", "mkdirat"),
     "mknod": ("mknod", "mknodat"),
     "bind": ("bind",),
-    "mode": ("chmod", "fchmod", "fchmodat", "fchmodat2"),
+    "beside": tuple(name for names in BESIDE.values() for name in names),
 }
 # Those of these that change names or sizes.
 CHANGES = {name for kind in ("open", "truncate", "fallocate", "unlink", "rmdir", "rename", "link", "mkdir", "mknod", "bind") for name in KINDS[kind]}

@@ -8,6 +8,7 @@ import os
 from commands.record.calls import NAMED, Refused, shown, unhexed
 from commands.record.disk import SECTOR
 from commands.record.files import MARKS, Another, File, Other, skips_below
+from commands.record.known import BESIDE, OF_LINKS, PERMISSIONS
 from commands.record.orders import FILE, FOLDER, OTHER, Past, Tree
 from commands.record.outside import ADVICE, Unknown
 from commands.record.tracing import Tracing
@@ -43,8 +44,8 @@ class NamedTracing(Tracing):
         super().__init__(folder, {}, skipped, tree.disk, made, at, marks, begun)
         self.tree, self.known_folders, self.known_others, self.brought, self.moves = tree, set(), set(), [], []
         self.handled["rmdir"] = self.end_unlink
-        # by the names of what they are of, the calls that changed permissions
-        self.modes = {}
+        # what was changed besides bytes: by what that is, and by the names of what they are of, the calls that did it
+        self.noted = {}
         self.refresh()
 
     # What is known of names
@@ -266,7 +267,7 @@ class NamedTracing(Tracing):
     def follow(self, stream):
         """Follows all that happened. A file that came from outside by a rename has to be found where it came to."""
         super().follow(stream)
-        self.notes += self.note_modes()
+        self.notes += self.note_beside()
         for call, file, name, path in self.brought:
             # (a link from outside leaves the path that it had)
             is_written = name is None and path in self.written
@@ -318,30 +319,41 @@ class NamedTracing(Tracing):
         self.tree.make_other(slot, other)
         self.changed(slot)
 
-    def end_mode(self, call, _process, _flight):
-        """A file or a folder has other permissions."""
+    def end_beside(self, call, _process, _flight):
+        """A file or a folder has other permissions, owners, times or attributes."""
         if call.failed():
             return
-        if call.name == "fchmod":
-            found = NAMED.match(call.word(0))
-            path = unhexed(found[2]) if found and not found[3] else None
-        else:
+        what = next(it for it, names in BESIDE.items() if call.name in names)
+        name = self.changed_beside(call)
+        if name in self.files or name in self.folders or name == b"?":
+            self.noted.setdefault(what, {}).setdefault(name, call)
+
+    def changed_beside(self, call):
+        """The name of what such a call is of, `?` where it isn't known, and the empty one for $FILES."""
+        is_at = call.name in ("fchmodat", "fchmodat2", "fchownat", "futimesat", "utimensat") and call.word(1) != "NULL"
+        if is_at or not call.name.startswith("f") and call.name != "utimensat":
             try:
-                path = self.real_now(call, self.own_path(call, call.name if "at" in call.name else ""))
+                path = self.own_path(call, call.name if is_at else "")
+                path = path if call.name in OF_LINKS or "AT_SYMLINK_NOFOLLOW" in call.text else self.real_now(call, path)
             except Refused:
                 # (it is said of a path that isn't known, and changes nothing else)
-                path = self.prefix + b"?"
-        name = b"" if path == self.folder else self.name(path)
-        if name in self.files or name in self.folders or name == b"?":
-            self.modes.setdefault(name, call)
+                return b"?"
+        else:
+            found = NAMED.match(call.word(0))
+            path = unhexed(found[2]) if found and not found[3] else None
+        return b"" if path == self.folder else self.name(path)
 
-    def note_modes(self):
-        """What a reader should know of permissions that were changed."""
-        if not self.modes:
-            return []
-        names = ", ".join(f"{shown(os.fsdecode(name or b'.'))} by calls:{call.line}" for name, call in list(self.modes.items())[:3])
-        more = f", and {len(self.modes) - 3} more" if len(self.modes) > 3 else ""
-        return [f"permissions were changed ({names}{more}): each image has those of the end, so what a crash does to them isn't tested"]
+    def note_beside(self):
+        """What a reader should know of what was changed of files besides their bytes."""
+        return [self.beside_note(what, self.noted[what]) for what in BESIDE if what in self.noted]
+
+    @staticmethod
+    def beside_note(what, found):
+        """The note of one thing that was changed, by the names of what it was changed of."""
+        names = ", ".join(f"{shown(os.fsdecode(name or b'.'))} by calls:{call.line}" for name, call in list(found.items())[:3])
+        more = f", and {len(found) - 3} more" if len(found) > 3 else ""
+        has = "each image has those of the end" if what == PERMISSIONS else "no image has them"
+        return f"{what} were changed ({names}{more}): {has}, so what a crash does to them isn't tested"
 
     # Bytes and sizes
 

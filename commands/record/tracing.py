@@ -449,12 +449,20 @@ class Tracing(Copying):
             process.table.put(call.number(0), known, asked == "FIOCLEX")
         elif found and asked not in ASKED and (unhexed(found[2]) == self.folder or self.name(unhexed(found[2])) in self.folders):
             raise Refused(f"{call}: this ioctl of a folder isn't followed, and may change what is in it")
-        elif known is None or not isinstance(known.file, File) or asked in ASKED:
+        elif known is None or not isinstance(known.file, File):
+            # (a loop device writes the file that it is of, and its own path is another)
+            self.refuse_handed(call, asked)
+        elif asked in ASKED:
             return
         elif CLONES.search(asked):
             self.end_clone(call, flight)
         else:
             raise Refused(f"{call}: this ioctl isn't followed, and may write {shown(os.fsdecode(known.file.name))}")
+
+    def refuse_handed(self, call, asked):
+        """Refuses an ioctl of what isn't recorded that is given a recorded file, unless it is a reflink, which reads it alone."""
+        if any(self.mentioned in it for it in call.words[2:]) and not CLONES.search(asked):
+            self.refuse_unless_skipped(call)
 
     def end_close(self, call, process, flight):
         # (Linux closes it, whatever the error but EBADF; another thread may have opened something by this number since)
@@ -873,6 +881,8 @@ class Tracing(Copying):
 
     def note_removed(self, call, path):
         """A name outside has gone."""
+        if path == self.folder:
+            raise Refused(f"{call}: the folder of the recording is taken away, and each image has it; take away what is in it, and leave it there")
         self.outside(call, self.links.removed, path, call.name == "rmdir" or "AT_REMOVEDIR" in call.text)
 
     def note_renamed(self, call, paths):
@@ -962,5 +972,5 @@ class Tracing(Copying):
         """A name was made that is of no file and no folder: without names it doesn't count."""
         self.others[name] = other
 
-    def end_mode(self, _call, _process, _flight):
-        """A file has other permissions: without names these don't count."""
+    def end_beside(self, _call, _process, _flight):
+        """A file has other permissions, owners, times or attributes: without names these don't count."""

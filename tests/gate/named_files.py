@@ -327,11 +327,21 @@ def call_fault(call, text, wanted):
     return None if good else f"{call}: {found}"
 
 
-def permission_fault():
-    """What is wrong with the note of permissions that were changed."""
-    tracing = followed(strace(BEFORE + "fchmod(3<a>, 0600) = 0\nchmod('/elsewhere/a', 0600) = 0\nfchmodat(9</r/files>, 'in', 0700) = 0"), "ext4", FOUND, FOUND_FOLDERS)
-    wanted = "permissions were changed (a by calls:8, in by calls:10): each image has those of the end, so what a crash does to them isn't tested"
-    return None if tracing.notes == [wanted] else f"permissions: {tracing.notes}"
+# What stands of a file besides its bytes: the calls that change it, and the note of these.
+BESIDE = {
+    "fchmod(3<a>, 0600) = 0\nchmod('/elsewhere/a', 0600) = 0\nfchmodat(9</r/files>, 'in', 0700) = 0": "permissions were changed (a by calls:8, in by calls:10): each image has those of the end, so what a crash does to them isn't tested",
+    "fsetxattr(3<a>, 'user.x', 'A', 1, 0) = 0\nsetxattr('/r/files/b', 'user.x', 'A', 1, 0) = 0\nsetxattr('/r/files/b', 'user.x', 'A', 1, 0) = -1 ENOTSUP (Operation not supported)": "attributes were changed (a by calls:8, b by calls:9): no image has them, so what a crash does to them isn't tested",
+    "removexattr('/r/files/a', 'user.x') = 0": "attributes were changed (a by calls:8): no image has them, so what a crash does to them isn't tested",
+    "fchown(3<a>, 1, 1) = 0\nfchownat(9</r/files>, 'in', 1, 1, AT_SYMLINK_NOFOLLOW) = 0\nlchown('/elsewhere/a', 1, 1) = 0": "owners were changed (a by calls:8, in by calls:9): no image has them, so what a crash does to them isn't tested",
+    "utimensat(3<a>, NULL, NULL, 0) = 0\nutimensat(AT_FDCWD</r/files>, 'b', [UTIME_NOW, UTIME_OMIT], 0) = 0\nutimes('/r/files/in', NULL) = 0": "times were changed (a by calls:8, b by calls:9, in by calls:10): no image has them, so what a crash does to them isn't tested",
+    "symlink('a', '/r/files/c') = 0\nlsetxattr('/r/files/c', 'trusted.x', 'A', 1, 0) = 0\nutimensat(9</r/files>, 'c', NULL, AT_SYMLINK_NOFOLLOW) = 0": None,
+}
+
+
+def beside_fault(text, wanted):
+    """What is wrong with the note of what changed beside bytes."""
+    notes = followed(strace(BEFORE + text), "ext4", FOUND, FOUND_FOLDERS).notes
+    return None if notes == ([wanted] if wanted else []) else f"beside its bytes, {text}: {notes}"
 
 
 DIRECT = OPEN.replace("O_RDWR", "O_RDWR|O_DIRECT").replace("= 3", "= 4")
@@ -852,7 +862,7 @@ def main(words):
     rows += [comes_faults(), map_faults(), bytes_faults(seed, count), [it for it in [long_fault(), entries_fault(), kept_fault(), alone_fault()] if it]]
     rows += [[it for it in [at_once_fault(*row)] if it] for row in AT_ONCE]
     rows += [[it for it in [call_fault(call, text, wanted)] if it] for call, _, text, wanted in CALLS]
-    rows.append([it for it in [permission_fault()] if it])
+    rows += [[it for it in [beside_fault(*row)] if it] for row in BESIDE.items()]
     rows.append([it for turn in range(count) for it in run_faults(seed + turn)])
     rows += [by_pages_faults(*it) for it in BY_PAGES]
     rows += [pages_faults(*it, random.Random(seed)) for it in PLANS.items()]
