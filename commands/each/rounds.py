@@ -14,6 +14,7 @@ from commands.each.curing import Cure
 from commands.each.progress import Progress
 from commands.each.known import Known
 from commands.each.records import Records, head_of, record
+from commands.each.second_records import AgainRecords
 from commands.each.served_mount import Mount
 from commands.each.served_runner import ServedRunner
 from commands.each.spot import Cases, compare
@@ -184,7 +185,7 @@ def answer(given, step, rounds, path):
         return judged_part(step, rounds, path)
     step = rounds.go(step)
     if given.again:
-        again = Again(step)
+        again = Again(step, rounds.records.second)
         rounds.go_on(again)
         return Answer(*again.text(), again.given)
     return Answer(*step.text(), step.given)
@@ -198,7 +199,7 @@ def judged_any(given, program, folder, say, test_unchanged):
     # (a second level goes on with the cases of the first, so there the search of both is that of a script)
     step = Step(program, given, folder, known) if given.again else AskedStep(program, given, known, path)
     cuts = share(product.risks(program, given), *given.part) if given.part else None
-    records, done = Records(path, known, given.resume), False
+    records, done = AgainRecords(path, known, given.resume, given.skipped) if given.again else Records(path, known, given.resume), False
     try:
         with served_rounds(given, records, marks, folder, cuts) as rounds:
             found = answer(given, step, rounds, path)
@@ -223,7 +224,7 @@ def judged_any(given, program, folder, say, test_unchanged):
 @contextlib.contextmanager
 def served_rounds(given, records, marks, folder, cuts):
     """Gives rounds on a mount of their own, which is gone afterwards."""
-    mount = Mount(folder, records.known.images, given.runners, notes=given.skipped if given.again else None)
+    mount = Mount(folder, records.known.images, given.runners, logs=records.second.logs if given.again else None)
     try:
         crew = Crew(folder, given, functools.partial(ServedRunner, mount=mount))
         try:

@@ -94,7 +94,8 @@ def of_design(design, room):
     """Makes the log of a design in a folder. Returns the words of crashbpf-each for it."""
     design.make(room)
     log = [design.folder] if design.folder else [design.log, "--sectors", str(design.sectors)]
-    return [*log, "--from", str(design.first), "--by", "write", "--again"], [it.replace("../", f"{room}/") for it in design.program]
+    first = ["--from", str(design.first)] if design.first else []
+    return [*log, *first, "--by", "write", "--again"], [it.replace("../", f"{room}/") for it in design.program]
 
 
 def recorded(row, room):
