@@ -8,20 +8,19 @@ from commands.each.cases import Cut, Search
 from commands.each.known import Record, sectors_of
 from commands.each.second_images import SecondImages, image_said
 from commands.each.second_log import NAME, SecondLogs
+from commands.each.second_records import MOST_SECTORS
 from commands.each.step import Searched, asked_of
 from commands.each.stream import Image
 from commands.shared.faults import Refusal
 
-# Sectors have smaller numbers, those of devices of second logs too.
-MOST_SECTORS = 1 << 62
 LOOKS = "note: the program wrote to no image that it accepts, so there is nothing to cut: it has no second level"
 
 
 class Again:
-    """What a step of the second level is made of. For the rounds it is the records too."""
+    """What a step of the second level is made of. For the rounds it is the records too, which `second` has in a file."""
 
-    def __init__(self, step):
-        self.known, self.logs, self.unlogged = step.known, SecondLogs(), {}
+    def __init__(self, step, second):
+        self.known, self.second, self.logs, self.unlogged = step.known, second, SecondLogs(), {}
         self.take(step)
 
     def take(self, step):
@@ -39,8 +38,8 @@ class Again:
     # What the rounds ask
 
     def wanted(self):
-        """Returns the images that are wanted: those of which it isn't known yet what the program does to them, as after --resume, then those
-        that a second crash leaves."""
+        """Returns the images that are wanted: those of which it isn't known what the program does to them, as it may be after --resume, then
+        those that a second crash leaves."""
         if self.searched is None:
             wanted = self.images_without_log()
             if wanted:
@@ -59,15 +58,17 @@ class Again:
             if record.verdict != verdict:
                 raise Refusal(f"run again on one image the program ends otherwise, at cut {image.cut} choice {image.choice.decode()}")
             record.log = log
+            self.second.add_log(image, looked, log)
             return
+        self.second.add(image, verdict, looked)
         try:
             self.known.add(Record(self.known.count, verdict, sectors_of(looked, MOST_SECTORS)), self.image(image), image.marks)
         except Refusal:
             where = f"cut {image.cut} choice {image.choice.decode().partition(' of ')[0]}"
             raise Refusal(f"what was seen contradicts an earlier run, so the program looks at more than the image, at {where}") from None
 
-    def write(self, _line):
-        """(No file has the records of this level.)"""
+    def write(self, line):
+        self.second.write(line)
 
     def text(self):
         """Returns the status, the text, and the notes."""
@@ -94,6 +95,7 @@ class Again:
     def begin(self):
         """Begins the searches of all second logs."""
         self.unlogged, self.firsts = {}, [self.first(*it) for it in self.cases]
+        self.second.take(self.logs)
         self.searched = Searched([search for first in self.firsts if first.is_explored() for search in self.searches(first)], self.known)
 
     def first(self, search, number, case):

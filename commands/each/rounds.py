@@ -15,6 +15,7 @@ from commands.each.progress import Progress
 from commands.each.known import Known
 from commands.each.records import Records, head_of, record
 from commands.each.runner import ALONE, COMPARED, FIRST, STARTED
+from commands.each.second_records import AgainRecords
 from commands.each.served_mount import Mount
 from commands.each.served_runner import ServedRunner
 from commands.each.spot import Cases, compare
@@ -199,7 +200,7 @@ def answer(given, step, rounds, path):
         return judged_part(step, rounds, path)
     step = rounds.go_to_end(step)
     if given.again:
-        again = Again(step)
+        again = Again(step, rounds.records.second)
         rounds.go_on(again)
         return Answer(*again.text(), again.given)
     return Answer(*step.text(), step.given)
@@ -212,7 +213,7 @@ def judged_any(given, program, folder, say, test_unchanged):
     known = Known(images_of(given), head_of(product.inputs(program, given, folder), given))
     # (a second level goes on with the cases of the first, so there the search of both is that of a script)
     step = Step(program, given, folder, known) if given.again else AskedStep(program, given, known, path)
-    records, done = Records(path, known, given.resume), False
+    records, done = AgainRecords(path, known, given.resume, given.skipped) if given.again else Records(path, known, given.resume), False
     try:
         with served_rounds(given, records, marks, folder) as rounds:
             found = answer(given, step, rounds, path)
@@ -238,7 +239,7 @@ def judged_any(given, program, folder, say, test_unchanged):
 @contextlib.contextmanager
 def served_rounds(given, records, marks, folder):
     """Gives rounds on a mount of their own, which is gone afterwards."""
-    mount = Mount(folder, records.known.images, given.runners, notes=given.skipped if given.again else None)
+    mount = Mount(folder, records.known.images, given.runners, logs=records.second.logs if given.again else None)
     try:
         crew = Crew(folder, given, functools.partial(ServedRunner, mount=mount))
         try:

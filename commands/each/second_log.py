@@ -259,10 +259,11 @@ class SecondLog:
 
 
 class SecondLogs:
-    """The second logs that were noted, by their names, and the content of each; logs are made where they are asked for first."""
+    """The second logs that were noted, by their names, and the content of each; logs are made where they are asked for first. What has names
+    of `skipped` wasn't recorded, and isn't noted."""
 
-    def __init__(self):
-        self.found, self.made = {}, {}
+    def __init__(self, skipped=()):
+        self.skipped, self.found, self.made = skipped, {}, {}
 
     def keep(self, content, image):
         """Keeps a log of an image, and returns its name. One of calls hangs on the image too."""

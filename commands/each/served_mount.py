@@ -120,10 +120,10 @@ def missing():
 
 
 class Mount:
-    """The mount of a run, and its server. `channels` has one for each runner. With `notes`, the names that weren't recorded, what a
-    program does to its image is noted."""
+    """The mount of a run, and its server. `channels` has one for each runner. With `logs`, the second
+    logs that are known, what a program does to its image is noted."""
 
-    def __init__(self, folder, images, runners, is_direct=True, notes=None):
+    def __init__(self, folder, images, runners, is_direct=True, logs=None):
         self.path = os.path.join(folder, "mount")
         os.mkdir(self.path)
         try:
@@ -136,7 +136,7 @@ class Mount:
         signal.pthread_sigmask(signal.SIG_BLOCK, SIGNALS)
         self.process = os.fork()
         if self.process == 0:
-            self.be_server(device, images, theirs, is_direct, notes)
+            self.be_server(device, images, theirs, is_direct, logs)
         signal.pthread_sigmask(signal.SIG_UNBLOCK, SIGNALS)
         os.close(device)
         for it in theirs:
@@ -144,14 +144,14 @@ class Mount:
         if self.helped:
             self.helped[0].close()
 
-    def be_server(self, device, images, channels, is_direct, notes):
+    def be_server(self, device, images, channels, is_direct, logs):
         """Is the server, until the mount or all runners are gone. Returns to nobody."""
         for it in (signal.SIGINT, signal.SIGTERM, signal.SIGHUP, signal.SIGQUIT):
             signal.signal(it, signal.SIG_IGN)
         for it in self.channels:
             it.close()
         try:
-            serve(device, images, channels, is_direct, self.path, notes)
+            serve(device, images, channels, is_direct, self.path, logs)
         except BaseException as error:
             os.write(2, f"crashbpf-each: the server of images ends: {error!r}\n".encode(errors="replace"))
         finally:

@@ -13,7 +13,7 @@ import struct
 from commands.each import served_wire as wire
 from commands.each.second_calls import noted_rename
 from commands.each.second_images import LaidImage, image_said
-from commands.each.second_log import Noted, NotedImage, SecondLogs
+from commands.each.second_log import Noted, NotedImage
 from commands.each.served_folder import FILES, MAP, Folders
 from commands.each.served_tree import EXCHANGE, IMAGE, TIME, Fault, File, Folder, Hidden, LaidLooks, Link, Looks, Node, image_folder, rename
 
@@ -52,12 +52,12 @@ class Root:
 
 
 class Server:
-    """The mount: its nodes by their numbers, and what is open. With `notes`, the names that weren't recorded, what a program does to its
-    image is noted."""
+    """The mount: its nodes by their numbers, and what is open. With `logs`, the second logs that are known, what a program does to
+    its image is noted."""
 
-    def __init__(self, device, images, is_direct, path, notes=None):
+    def __init__(self, device, images, is_direct, path, logs=None):
         self.device, self.images, self.is_direct, self.path = device, images, is_direct, os.fsencode(path)
-        self.root, self.folders, self.logs = Root(), Folders(notes or ()), None if notes is None else SecondLogs()
+        self.root, self.folders, self.logs = Root(), Folders(logs.skipped if logs else ()), logs
         self.nodes, self.numbers, self.open, self.next, self.next_open = {ROOT: self.root}, {}, {}, ROOT, 0
         self.asked = {
             wire.LOOKUP: self.lookup,
@@ -431,9 +431,9 @@ def received(channel):
     return data[LENGTH.size :]
 
 
-def serve(device, images, channels, is_direct, path, notes=None):
+def serve(device, images, channels, is_direct, path, logs=None):
     """Answers requests and messages until the mount at a path is gone, or nobody is left who tells of runs."""
-    server, poller = Server(device, images, is_direct, path, notes), select.poll()
+    server, poller = Server(device, images, is_direct, path, logs), select.poll()
     poller.register(device, select.POLLIN)
     left = {it.fileno(): it for it in channels}
     for number in left:

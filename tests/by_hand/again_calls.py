@@ -26,7 +26,7 @@ import rooms
 rooms.enter()
 
 from commands.each.second_images import LaidImage, SecondImages, SeenImages
-from commands.each.second_log import NAME, SecondLog
+from commands.each.second_log import NAME, SecondLog, SecondLogs
 from commands.each.served_mount import Mount
 from commands.each.served_server import ENDS, TOLD, answered, received, sent
 from commands.record import layout, named_layout
@@ -210,7 +210,7 @@ class Trial:
 
     def differs(self):
         """Returns what is otherwise, or None."""
-        mount = Mount(self.room, self.images, 1, notes=self.skipped)
+        mount = Mount(self.room, self.images, 1, logs=SecondLogs(self.skipped))
         try:
             wanted, content = self.served(mount, "-", self.called)
             name, log = content[:NAME].decode(), SecondLog(content[NAME:], self.images.image(0, "-"))

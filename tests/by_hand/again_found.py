@@ -17,7 +17,6 @@ The status is 1 where one is otherwise.
 """
 import argparse
 import json
-import os
 import re
 import resource
 import subprocess
@@ -94,7 +93,8 @@ def of_design(design, room):
     """Makes the log of a design in a folder. Returns the words of crashbpf-each for it."""
     design.make(room)
     log = [design.folder] if design.folder else [design.log, "--sectors", str(design.sectors)]
-    return [*log, "--from", str(design.first), "--by", "write", "--again"], [it.replace("../", f"{room}/") for it in design.program]
+    first = ["--from", str(design.first)] if design.first else []
+    return [*log, *first, "--by", "write", "--again"], [it.replace("../", f"{room}/") for it in design.program]
 
 
 def recorded(row, room):

@@ -29,7 +29,7 @@ import rooms
 rooms.enter()
 
 from commands.each.second_images import LaidImage, SecondImages, SeenImages
-from commands.each.second_log import NAME, SecondLog
+from commands.each.second_log import NAME, SecondLog, SecondLogs
 from commands.each.served_log import text_of
 from commands.each.served_mount import Mount
 from commands.each.served_server import ENDS, TOLD, answered, received, sent
@@ -177,7 +177,7 @@ class Trial:
         """Yields what ends otherwise than the text says."""
         if not self.text.is_whole:
             yield "the text isn't complete"
-        mount = Mount(self.room, self.images, 1, notes=self.skipped)
+        mount = Mount(self.room, self.images, 1, logs=SecondLogs(self.skipped))
         try:
             for cut in range(self.design.first, len(self.images.entries) + 1):
                 parts = self.images.at_risk(cut)

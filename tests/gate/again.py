@@ -10,7 +10,6 @@ in a verdict or in a note, and leave nothing. Where images can't be served a lin
 Prints a line for each row that failed, and last `N passed, M failed`. It takes some 55 seconds of the processor, three rows at a time.
 """
 import inspect
-import os
 import random
 import shutil
 import subprocess
@@ -209,14 +208,31 @@ def test_looks(folder):
 
 
 def test_resumed(folder):
-    """A run that is killed goes on with the records of its first level."""
+    """A run that is killed, at the first level or at the second, goes on with the records of both, and no image is judged twice."""
     put(folder, script(STEPS[0]).replace("sys.exit(", "import time; time.sleep(0.3); sys.exit("), SMALL)
-    kill_at(started(folder, "-j", "1", usual=USUAL), Path(folder, RECORDS), "ran ", 3)
-    _status, printed, said = each(folder, "--resume", usual=USUAL[:-1])
+    usual, first, second = [*USUAL, "--keep", "kept"], Path(folder, "kept/known"), Path(folder, "kept/known.again")
+    kill_at(started(folder, "-j", "1", usual=usual), first, "ran ", 3)
+    _status, printed, said = each(folder, "--resume", usual=[it for it in usual if it != "--again"])
     found = differs(f"without --again: {said}", (printed, "isn't gone on with" in said), ("", True))
-    _status, printed, said = each(folder, "--resume", usual=USUAL)
+    kill_at(started(folder, "--resume", "-j", "1", usual=usual), second, "ran ", 3)
+    text = second.read_text()
+    for wrong, wanted in ((f"{text}ran cut 3\n", "is no record of this log"), (text.replace("inputs ", "inputs 1"), "is of another run")):
+        second.write_text(wrong)
+        _status, printed, said = each(folder, "--resume", usual=usual)
+        found += differs(f"with other records: {said}", (printed, wanted in said), ("", True))
+    second.write_text(text)
+    before = len(records(first, second))
+    second.write_text(f"{text}ran cut 3 cho")
+    _status, printed, said = each(folder, "--resume", usual=usual)
     found += differs(f"the text: {said}", printed, expected(SMALL, STEPS[0], ANY, printed))
-    return found + differs("what is left", (left(folder), Path(folder, RECORDS).exists()), ([], False))
+    after = records(first, second)
+    found += differs(f"what was judged anew, {len(after) - before}: {said}", f" times, on {len(after) - before} images, " in said, True)
+    return found + differs("what is left, and twice", (left(folder), len(after) - len(set(after))), ([], 0))
+
+
+def records(*paths):
+    """Returns the lines of files that tell an image."""
+    return [it for path in paths for it in path.read_text().splitlines() if it.startswith("ran ")]
 
 
 def test_refused(_folder):
@@ -275,7 +291,8 @@ def test_named_hostile(folder):
         status, printed, said = each(folder, "--timeout", seconds, program=("python3", f"{folder}/judge.py"), usual=usual)
         found += differs(f"what is said of {text}, status {status}: {printed[-400:]} {said[-300:]}", (wanted in printed + said, status == 0), (True, False))
         # (a run that is refused leaves them)
-        Path(folder, RECORDS).unlink(missing_ok=True)
+        for it in Path(folder).glob(f"{RECORDS}*"):
+            it.unlink()
     return found + differs("what is left", left(folder), [])
 
 
