@@ -327,7 +327,7 @@ class Run:
         with suppress(FileNotFoundError):
             os.unlink(image_path)
         file = ImageFile(image_path, self.kind.sectors, str(self.base), False)
-        with concurrent.futures.ThreadPoolExecutor(16) as pool:
+        with concurrent.futures.ThreadPoolExecutor(8) as pool:
             waiting = []
             for image in images(process.stdout, self.kind.sectors, total):
                 if image.same is not None:
@@ -336,7 +336,7 @@ class Run:
                 copy = f"/dev/shm/names_here.{os.getpid()}.{image.number}"
                 file.copy(copy)
                 waiting.append((image, pool.submit(self.mounted_files, copy)))
-                while len(waiting) > 24:
+                while len(waiting) > 12:
                     yield self.waited(*waiting.pop(0))
             while waiting:
                 yield self.waited(*waiting.pop(0))
