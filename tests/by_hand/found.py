@@ -120,6 +120,7 @@ ROWS = [
     kv("gdbm-nommap", "libgdbm6 libgdbm-dev", "gdbm:NOMMAP"),
     kv("tdb", "libtdb1 python3-tdb", "tdb", "--mapped", is_new=False),
     kv("tdb-nommap", "libtdb1 python3-tdb", "tdb:NOMMAP", is_new=False),
+    script("tdb-grow", "libtdb1 python3-tdb", "tdb"),
     kv("kyoto", "libkyotocabinet16v5 libkyotocabinet-dev", "kyoto", "--mapped", is_new=False),
     kv("kyoto-nommap", "libkyotocabinet16v5 libkyotocabinet-dev", "kyoto:NOMMAP", is_new=False),
     kv("tokyo", "libtokyocabinet9 libtokyocabinet-dev", "tokyo", "--mapped", is_new=False),

@@ -176,7 +176,7 @@ def recorded_here(folder, rows):
     top, script = folder / "mounted", folder / "rows.sh"
     for it in (top, Path(f"{top}.mark")):
         it.mkdir()
-    guest.lay_disk(folder, str(folder / "files"), SECTORS)
+    guest.lay_disk(folder, str(folder / "files"), guest.Guest("", "ext4", SECTORS))
     begin = HERE.replace("{top}", str(top)).replace("{mark}", str(TOP / "commands/record/mark"))
     script.write_text("\n".join([begin, *(line for row in rows for line in lines_of(row, top, here)), ""]))
     words = ["--fuse", "--sectors", str(SECTORS), "--base", folder / guest.BASE, folder / "recording", "--", "unshare", "-m", "sh", script]
