@@ -17,7 +17,6 @@ The status is 1 where one is otherwise.
 """
 import argparse
 import json
-import os
 import re
 import resource
 import subprocess

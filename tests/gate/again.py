@@ -10,7 +10,6 @@ in a verdict or in a note, and leave nothing. Where images can't be served a lin
 Prints a line for each row that failed, and last `N passed, M failed`. It takes some 55 seconds of the processor, three rows at a time.
 """
 import inspect
-import os
 import random
 import shutil
 import subprocess
