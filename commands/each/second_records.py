@@ -86,7 +86,7 @@ class SecondRecords(Journal):
 
     def second_image(self, it, logs):
         """Returns the image of a record, or None where there is none such."""
-        cut, (own, number, after, name, _view) = int(it["cut"]), SECOND.fullmatch(it["choice"]).groups()
+        cut, (own, number, after, name, _) = int(it["cut"]), SECOND.fullmatch(it["choice"]).groups()
         if self.first_image(cut, own, int(it["marks"])) is None or int(number) > len(logs[name].entries) or fates_of(after) is None:
             return None
         image = image_said(self.known.images, cut, it["choice"], logs)
