@@ -89,6 +89,15 @@ class Level:
         return None, None, []
 
 
+class Unkept:
+    """In place of the file of records of the second level: it keeps nothing."""
+
+    def take(self, *_words):
+        """Takes what is handed over."""
+
+    add = add_log = write = take
+
+
 def text_of(run, program, losses, room):
     """Returns the status, the text and the notes of the script, and how often the program was run."""
     given = words_of(run, losses, room)
@@ -105,7 +114,7 @@ def text_of(run, program, losses, room):
         known.add(record, known.images.image(image.cut, image.choice.decode()), image.marks)
 
     judged.rounds(step.searched, take)
-    again = Again(step)
+    again = Again(step, Unkept())
     judged.rounds(again, lambda image, verdict, looked, noted: again.add(image, verdict, known_model.ranges(looked), noted))
     return *again.text(), judged.runs
 
