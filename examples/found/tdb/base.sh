@@ -1,3 +1,2 @@
-# A tdb with small values, and then large ones.
-store=${0%/*}/store.py
-"$store" db.tdb a 1 && "$store" db.tdb a 105000
+# A tdb with a value, which was put without a transaction.
+"${0%/*}/store.py" db.tdb a alone

@@ -1,2 +1,2 @@
-# Overwrites all values.
-"${0%/*}/store.py" "$FILES/db.tdb" b 105000 && mark put
+# Overwrites the value, in a transaction.
+"${0%/*}/store.py" "$FILES/db.tdb" b && mark put

@@ -1,28 +1,24 @@
 #!/usr/bin/python3
-"""A tdb with some keys, which have one value: store.py FILE [BYTE SIZE]. It puts so many bytes to each of them, in one transaction, and
-without these words it prints of which bytes the values are."""
+"""A tdb with one key: store.py FILE [BYTE [alone]]. It gives the key a value of that byte, in a transaction or without one. Without these words
+it prints of which bytes the value is."""
 import os
 import sys
 
 import tdb
 
-KEYS = [b"key-%d" % it for it in range(4)]
+KEY, SIZE = b"key", 105_000
 
 
-def put(db, value):
-    """Gives all keys a value, in one transaction."""
-    db.transaction_start()
-    for key in KEYS:
-        db.store(key, value)
-    db.transaction_commit()
-
-
-def main(path, *words):
+def main(path, byte="", how=""):
     db = tdb.Tdb(path, 0, tdb.NOMMAP, os.O_RDWR | os.O_CREAT)
-    if words:
-        put(db, words[0].encode() * int(words[1]))
+    if not byte:
+        print(bytes(sorted(set(db.get(KEY)))).decode())
+    elif how:
+        db.store(KEY, byte.encode() * SIZE)
     else:
-        print(bytes(sorted(set(b"".join(map(db.get, KEYS))))).decode())
+        db.transaction_start()
+        db.store(KEY, byte.encode() * SIZE)
+        db.transaction_commit()
 
 
 if __name__ == "__main__":
