@@ -1,7 +1,7 @@
 #!/usr/bin/env python3
 """Joins what codes.py wrote of several runs with --to into one table: instructions a step, and how fast each run was beside DPDK.
 
-    python3 bench/codes_table.py TEXT .. > bench/CODES.md
+    python3 bench/codes_table.py TEXT .. > bench/out/codes.md
 
 The texts are of runs with --dpdk and --time. Instructions are those of the first.
 """
