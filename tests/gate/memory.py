@@ -102,7 +102,7 @@ ROWS = {
     "journal, image 17": (285, "72 . 72 11 72 11 72 ."),
     "journal/wrong, image 17 in words": (302, "72 . 72 11 72 11 72 ."),
     "pages/wrong, --cut 10 --choice 8:drop in words": (333, "72 . 72 11 72 11 72 ."),
-    "image: a tear without --tears": (290, "72 . 72 11 72 11 72 ."),
+    "image: a tear without --tears": (287, "72 . 72 11 72 11 72 ."),
     "why: two_slots/wrong": (489, "72 . 72 11 72 26.0 72 11 72 26.0 72 60.0 72 . 72 . 72 . 72 . 72 . 72 ."),
     "why: journal/wrong": (442, "72 . 72 11 72 26.0 72 11 72 26.0 72 60.0 72 . 72 ."),
     "why: journal, wrong, two lost or torn, by 4 workers": (None, MANY),
@@ -149,7 +149,7 @@ ROWS = {
     "joined in the midst: torn_over_torn --sectors 4 --cuts all --bound 1 --tears": (807, "72 . 72 66 72 66 ."),
     "joined in steps: torn_over_torn --sectors 4 --cuts all --bound 1 --tears": (1211, "72 66 ."),
     "cases joined, run 6 in 3 parts: pages/wrong, --bound any": (352, "72 . 72 66 72 66 ."),
-    "cases not joined: too many cases": (341, "72 . 72 66 72 66 ."),
+    "cases not joined: too many cases": (339, "72 . 72 66 72 66 ."),
 }
 
 # A run by sixteen workers, which all have blocks of images to judge: 3,213 images in 51 blocks.
