@@ -23,6 +23,14 @@ BACK = re.compile(rb"(?m)^(image \d+ cut \d+ program 0 )(stray at slot |out of s
 MOST_PARTS, MOST_BYTES = 4096, 1 << 30
 # How many lines stand before the failing ones.
 HEAD = 4
+REFUSED = re.compile(r"refused (6[1-4]) at (\d+)")
+# What is said of the file at which `join` refuses by a number.
+WHY = {
+    "61": "isn't the text of a part, as crashbpf-each --part prints it",
+    "62": "is a part of another run than the first file: the log, an option or a word of the program is another",
+    "63": "has the first images after some that are missing",
+    "64": "has images that the part before it has too",
+}
 
 
 def of_checker(line):
@@ -34,7 +42,7 @@ def of_checker(line):
 
 
 class Part:
-    """A text of a part: the number of its inputs, the line of its program, and the text as that of a checker, whose limit is `limit`."""
+    """A text of a part: the number of its inputs, the line of its program, and its lines as those of a checker, None where it is no part."""
 
     def __init__(self, text):
         *lines, end = text.split(b"\n")
@@ -46,6 +54,7 @@ class Part:
             self.lines = None if None in failing else [lines[:3], failing, lines[-1]]
 
     def text(self, limit):
+        """Returns the text of the part as that of a checker with this limit."""
         if self.lines is None:
             return b""
         head, failing, last = self.lines
@@ -94,7 +103,7 @@ def joined(paths):
         first, found = written(paths, folder)
         status, printed, said = product.asked(product.found(), ["join", *found])
         if status not in (0, 1):
-            raise Refusal(refusal(said, dict(zip(found, paths))))
+            raise Refusal(refusal(product.first_line(said), paths))
         sys.stdout.buffer.write(told_back(printed, first))
         sys.stdout.buffer.flush()
         return status
@@ -102,7 +111,10 @@ def joined(paths):
         shutil.rmtree(folder, ignore_errors=True)
 
 
-def refusal(said, names):
-    """Returns what `crashbpf join` said, with the names of the files as they were given."""
-    lines = " ".join(it.removeprefix("note: ") for it in said.decode(errors="replace").splitlines())
-    return re.sub("|".join(map(re.escape, names)), lambda it: names[it[0]], lines)
+def refusal(line, paths):
+    """Returns what is said where `join` refuses parts with this line, with the name of the file."""
+    it = REFUSED.fullmatch(line)
+    if not it:
+        return line
+    name = paths[int(it[2])] if int(it[2]) < len(paths) else "a file after all these"
+    return f"{line}: {name} {WHY[it[1]]}"
