@@ -28,7 +28,7 @@ from designs import DESIGNS
 from model import Run
 from notation import TOP, F, M, W, log
 from parts_model import PART_LINE, joined, layout
-from shells import differs, kill_at, sh, try_all
+from shells import differs, sh, try_all, wait_for_lines
 
 MACHINES = TOP / "examples/many_machines"
 LOGS = TOP / "examples"
@@ -345,10 +345,11 @@ def cases_in_parts(folder):
     return found
 
 
-# A program of yours: by two bytes of the image it accepts it, rejects it, is killed, or takes too long.
+# A program of yours: by two bytes of the image it accepts it, rejects it, is killed, or takes too long. Without the file `go` it goes no further
+# than the image without a byte.
 JUDGE_OWN = """\
-sleep 0.1
 first=$(od -A n -t u1 -N 1 "$1") last=$(od -A n -t u1 -j 1536 -N 1 "$1")
+[ $((first)) = 0 ] || [ -e go ] || exec sleep 60
 case $((first)).$CRASH_MARKS.$((last)) in 1.*) exit 201 ;; 2.0.*) kill -9 $$ ;; 3.*.7) sleep 60 ;; esac
 """
 OWN = Run([W(0, 1, 1), W(1, 1, 2), F, W(0, 1, 2), M("one"), W(2, 1, 4), F, W(0, 1, 3), W(3, 1, 7)], 4, bound=2)
@@ -360,6 +361,7 @@ def own_texts(folder, run, parts, options=""):
     failing images."""
     Path(folder, "disk.log").write_bytes(log(run.recorded))
     Path(folder, "judge").write_text(JUDGE_OWN)
+    Path(folder, "go").touch()
     of_all = sh(folder, f'"$EACH" disk.log {run.options()} {OF_OWN}')
     whole = sh(folder, f'"$EACH" disk.log {run.options()} {options} {OF_OWN}') if options else of_all
     lines = of_all.stdout.splitlines(keepends=True)
@@ -373,15 +375,27 @@ def own_texts(folder, run, parts, options=""):
     return whole, texts
 
 
-def judges_own_in_parts(folder, parts, options=""):
-    """What is wrong with the parts of a run of a program of yours with a bound, one of which is killed and taken up again, and with their join."""
-    whole, texts = own_texts(folder, OWN, parts, options)
-    done = sh(folder, f'"$1"/lay_out_each run {parts} disk.log {OWN.options()} {options} -j 1 {OF_OWN}', MACHINES)
+def kills_own_part(folder, part):
+    """What is wrong where a part of a program of yours is killed after its first image."""
+    Path(folder, "go").unlink()
+    running = subprocess.Popen(["run/run_part", "run", str(part)], cwd=folder, stderr=subprocess.PIPE, text=True)
+    state = Path(folder, f"run/kept.{part}/state")
+    wait_for_lines(state, "image ", 1)
+    os.kill(int(Path(f"/proc/{running.pid}/task/{running.pid}/children").read_text().split()[0]), signal.SIGKILL)
+    found = differs("a part that was killed", (running.wait(), Path(folder, f"run/text.{part}").exists()), (2, False))
+    Path(folder, "go").touch()
+    # (what the killed process started ends by itself)
+    time.sleep(2)
+    return found + differs("what is left of it", state.read_text().count("\nimage "), 1)
+
+
+def judges_own_in_parts(folder, run, parts, options="", killed=None):
+    """What is wrong with the parts of a run of a program of yours with a bound, one of which may be killed and taken up again, and with their
+    join."""
+    whole, texts = own_texts(folder, run, parts, options)
+    done = sh(folder, f'"$1"/lay_out_each run {parts} disk.log {run.options()} {options} -j 1 {OF_OWN}', MACHINES)
     found = differs(f"the status of lay_out_each: {done.stderr}", done.returncode, 0)
-    running = subprocess.Popen([EACH, "--part", f"1/{parts}", "--keep", "run/kept.1", "disk.log", *OWN.options().split(), *options.split(), "-j", "1", *OF_OWN.split()], cwd=folder, stderr=subprocess.PIPE, stdout=subprocess.PIPE)
-    state = Path(folder, "run/kept.1/state")
-    kill_at(running, state, "image ", 1)
-    found += differs("a part that was killed", (running.returncode, state.exists()), (-9, True))
+    found += kills_own_part(folder, killed) if killed else []
     none = sh(folder, '"$1"/join_each run', MACHINES)
     found += differs("the status where no part is judged", (none.returncode, none.stdout), (2, ""))
     found += differs("what is judged by processes", sh(folder, JUDGE, "run").returncode, 0)
@@ -434,9 +448,9 @@ def rows():
     yield "a run in parts", lambda folder: judges_in_parts(folder, Run(writes, 4, bound=2, tears=True), 16, "--workers 2")
     yield "the first failing image of a run in parts", lambda folder: judges_in_parts(folder, Run(writes, 4, bound=2), 5, "--first")
     yield "the cases of a run in parts", cases_in_parts
-    yield "a program of yours in parts", lambda folder: judges_own_in_parts(folder, 5)
-    yield "more parts than images", lambda folder: judges_own_in_parts(folder, 25)
-    yield "the first failing image of a program of yours in parts", lambda folder: judges_own_in_parts(folder, 4, "--first")
+    yield "a program of yours in parts", lambda folder: judges_own_in_parts(folder, OWN, 5, killed=1)
+    yield "more parts than images", lambda folder: judges_own_in_parts(folder, Run([W(0, 1, 1)], 4), 5)
+    yield "the first failing image of a program of yours in parts", lambda folder: judges_own_in_parts(folder, OWN, 4, "--first")
     yield "parts of a program of yours that aren't joined", refuses_other_parts
     yield "a part that is killed", lambda folder: kills_a_part(folder, Run(writes, 4, bound=2, tears=True))
     yield "runs that can't be laid out", lays_out_no_other
