@@ -399,8 +399,9 @@ def judges_own_in_parts(folder, run, parts, options="", killed=None):
     none = sh(folder, '"$1"/join_each run', MACHINES)
     found += differs("the status where no part is judged", (none.returncode, none.stdout), (2, ""))
     found += differs("what is judged by processes", sh(folder, JUDGE, "run").returncode, 0)
-    for number in range(1, parts + 1):
-        found += differs(f"the text of part {number}", Path(folder, f"run/text.{number}").read_text(), texts[number - 1] if number <= len(texts) else "")
+    judged = {it.name: it.read_text() for it in Path(folder, "run").glob("text.*")}
+    wanted = {f"text.{number}": text for number, text in enumerate([*texts, *[""] * (parts - len(texts))], 1)}
+    found += [f"{it} is {judged.get(it)!r}, and {wanted.get(it)!r} is right" for it in sorted(judged.keys() | wanted.keys()) if judged.get(it) != wanted.get(it)]
     joined_by = sh(folder, '"$1"/join_each run', MACHINES)
     return found + differs("the report", (joined_by.returncode, joined_by.stdout, joined_by.stderr), (whole.returncode, whole.stdout, ""))
 
