@@ -563,6 +563,17 @@ class Tracing(Copying):
             if self.mapped is None or not self.mapped.is_watched(it.file):
                 raise Refused(f"{call}: a shared mapping of a recorded file can be written unseen; {LOOKED_AT}")
 
+    def end_madvise(self, call, process, _flight):
+        """Refuses a hole that is made in a file by a mapping of it, where nobody looks at that. Linux makes one by a mapping for reading, too,
+        and where it says that a part of the range isn't mapped."""
+        if "MADV_REMOVE" not in call.text:
+            return
+        is_own = call.name == "madvise"
+        spaces = [process.space.within(call.number(0), call.number(1))] if is_own else [it.space.ranges for it in self.found.values()]
+        for it in (it for these in spaces for it in these):
+            if self.mapped is None or not self.mapped.is_watched(it.file):
+                raise Refused(f"{call}: a hole in a mapped file is made unseen; {LOOKED_AT}")
+
     def end_mremap(self, call, process, _flight):
         """Follows a mapping that gets another place or size."""
         if not call.failed() and call.result is not None:
