@@ -671,7 +671,8 @@ class Tracing(Copying):
 
     def mark(self, call, data, entries):
         """A text for the marks: lines of a number, which isn't looked at, and a name. It is a promise from where the call began on: what was
-        made durable since then stands after it. `entries` is how many entries the log had then."""
+        made durable since then stands after it. `entries` is how many entries the log had then; calls in flight that began later are told of one
+        more."""
         if not data.endswith(b"\n"):
             raise Refused(f"{call}: a mark is one whole line")
         for line in data[:-1].split(b"\n"):
@@ -681,6 +682,8 @@ class Tracing(Copying):
             if found[1]:
                 self.still(call, "a mark is made")
                 self.disk.mark(found[1], entries)
+                for other in self.flights.values():
+                    other.entries += other.entries > entries
                 entries += 1
 
     def end_read(self, call, process, flight):
