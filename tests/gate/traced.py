@@ -31,11 +31,11 @@ from strace_texts import FILES, HERE, MARKS, strace
 RECORD = TOP / "commands/record"
 from commands.record import disk
 from commands.record import guest
+from commands.record import known
 from commands.record import layout
 from commands.record import systems
 from commands.record import traced
 from commands.record.calls import Refused
-from commands.record.known import KINDS
 
 A, B, C = (bytes([it]) * SECTOR for it in b"ABC")
 KINDS = {disk.WRITE: "w", disk.FLUSH: "f", disk.FUA: "fua", disk.MARK: "m"}
@@ -644,7 +644,7 @@ def crossed_faults():
 
 def passed_faults():
     """Calls that are followed, and at which strace doesn't stop."""
-    return [f"{it} is followed, and strace doesn't stop there" for names in KINDS.values() for it in names if it in traced.PASSED]
+    return [f"{it} is followed, and strace doesn't stop there" for names in known.KINDS.values() for it in names if it in traced.PASSED]
 
 
 def main(words):
