@@ -204,6 +204,8 @@ class Flight:
     version: int | None = None
     # how many entries the log had
     entries: int = 0
+    # the first sync of another that has ended since it began, and had something durable
+    passed: object = None
     # the descriptors of its process when it began, and the numbers of these that it uses; by such numbers, the calls that used them since
     # it began, and those that gave them to something else
     table: Table | None = None

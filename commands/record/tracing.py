@@ -16,7 +16,7 @@ from commands.record.calls import NAMED, Refused, brief, child_of, happened, hex
 from commands.record import links
 from commands.record import outside
 from commands.record.copies import CLONES, Copying
-from commands.record.disk import PAGE as PAGES, SECTOR
+from commands.record.disk import FLUSH, FUA, PAGE as PAGES, SECTOR, WRITE
 from commands.record.files import MARKS, File, Flight, Maker, Opened, Other, Process, Range, Space, Table, flags_of, skips
 from commands.record.known import ASKED, BROKEN, CHANGES, COPIES, HARMLESS, KINDS, MADE_APART, MOVES, NOT_BEGUN, NOT_DONE, NOT_RESERVED, NOT_SYNCED, OPENS, READS, RWF
 from commands.record.known import SYNCS, THROUGH, UNSEEN, WRITES
@@ -59,6 +59,8 @@ class Tracing(Copying):
         self.mapped, self.pipes, self.numbers = None, Pipes(self), Numbers(self)
         # a change of names or sizes within which its process ended
         self.unfinished = None
+        # pairs of a call that changed something, and of a sync that ended while it was in flight
+        self.passed = []
         self.handled = {name: getattr(self, f"end_{it}") for it, names in KINDS.items() for name in names}
 
     # What is known of names
@@ -167,10 +169,12 @@ class Tracing(Copying):
             if kind == "begin":
                 self.begin(it)
             elif kind == "end":
-                count = len(self.disk.entries)
+                count, flight = len(self.disk.entries), self.flights.get(it.process) or Flight()
+                settles = flight.sync is not None and self.covers(flight.sync) or self.is_through(it, flight)
                 self.end(it)
                 if len(self.disk.entries) > count or it.name in SYNCS:
                     it.told = told(self, it)
+                    self.note_passed(it, flight, settles, {entry.kind for entry in self.disk.entries[count:] if entry.call is it})
             elif kind == "over":
                 self.over(it)
             elif kind == "moved":
@@ -185,6 +189,30 @@ class Tracing(Copying):
             raise Refused(f"calls: the text ends before process {min(self.found)} did")
         if self.mapped is not None:
             self.notes += self.mapped.finish().notes()
+        self.notes += self.notes_of_passed()
+
+    def note_passed(self, call, flight, settles, kinds):
+        """A call has made entries of these kinds. One that was in flight where a sync ended stands after it, and may have arrived before.
+        `settles` says whether it is a sync that had something to make durable, or a write that makes its bytes so."""
+        if WRITE in kinds and flight.sync is None and flight.passed is not None:
+            self.passed.append((call, flight.passed))
+        if settles and kinds & {FLUSH, FUA}:
+            for other in self.flights.values():
+                other.passed = other.passed or call
+
+    def is_through(self, call, flight):
+        """Whether a call is a write that makes its bytes durable."""
+        if call.name not in WRITES or flight.opened is None or call.failed() or call.result is None:
+            return False
+        return flight.opened.through or bool(self.write_flags(call) & THROUGH)
+
+    def notes_of_passed(self):
+        """What a reader should know of calls that were in flight where a sync ended."""
+        if not self.passed:
+            return []
+        names = ", ".join(f"calls:{call.line} {call.name} at calls:{sync.line} {sync.name}" for call, sync in self.passed[:3])
+        more = f", and {len(self.passed) - 3} more" if len(self.passed) > 3 else ""
+        return [f"calls were in flight where a sync ended ({names}{more}): that such a call has arrived, and what the sync was of is lost, isn't tested"]
 
     # Calls
 

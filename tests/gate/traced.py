@@ -31,11 +31,11 @@ from strace_texts import FILES, HERE, MARKS, strace
 RECORD = TOP / "commands/record"
 from commands.record import disk
 from commands.record import guest
+from commands.record import known
 from commands.record import layout
 from commands.record import systems
 from commands.record import traced
 from commands.record.calls import Refused
-from commands.record.known import KINDS
 
 A, B, C = (bytes([it]) * SECTOR for it in b"ABC")
 KINDS = {disk.WRITE: "w", disk.FLUSH: "f", disk.FUA: "fua", disk.MARK: "m"}
@@ -73,6 +73,7 @@ FOLLOWED = [
     ("over what stood there", OPEN + "pwrite64(3<db>, 'B*20', 20, 100) = 20", [("w", "db", 0, HALF)], {b"db": A}),
     ("less than was asked for", OPEN + "write(3<db>, 'A*1024', 1024) = 512\nwrite(3<db>, 'B*512', 512) = 512", [("w", "db", 0, A), ("w", "db", 1, B)]),
     ("vectors", OPEN + "writev(3<db>, [{iov_base='A*512', iov_len=512}, {iov_base='', iov_len=0}, {iov_base='B*512', iov_len=512}], 3) = 1024", [("w", "db", 0, A + B)]),
+    ("a write that fails with flags that nobody knows", OPEN + "pwritev2(3<db>, [{iov_base='A*512', iov_len=512}], 1, 0, 0x40 /* RWF_??? */) = -1 EOPNOTSUPP (Operation not supported)", []),
     ("a part of vectors", OPEN + "pwritev(3<db>, [{iov_base='A*512', iov_len=512}, {iov_base='B*512', iov_len=512}], 2, 512) = 512", [("w", "db", 1, A)]),
     ("pwritev2 at the place", OPEN + "pwritev2(3<db>, [{iov_base='A*512', iov_len=512}], 1, -1, 0) = 512\nwrite(3<db>, 'B*512', 512) = 512", [("w", "db", 0, A), ("w", "db", 1, B)]),
     ("pwritev2 through", OPEN + "pwritev2(3<db>, [{iov_base='A*512', iov_len=512}], 1, 0, RWF_DSYNC) = 512", [("w", "db", 0, A), ("fua", "db", 0, A)]),
@@ -623,15 +624,33 @@ def refusal_of(act, *words):
     return None
 
 
+def crossed_faults():
+    """What is wrong with the note of calls that were in flight where a sync of another one ended."""
+    start = OPEN + WAL + THREAD + "write(4<wal>, 'A*512', 512) = 512\n"
+    within, after = "101 pwrite64(3<db>, 'B*512', 512, 0 <unfinished ...>\n", "101 <... pwrite64 resumed>) = 512\n" + GONE
+    says = "calls were in flight where a sync ended (calls:5 pwrite64 at calls:6 {}): that such a call has arrived, and what the sync was of is lost, isn't tested"
+    through = "openat(AT_FDCWD</elsewhere>, 'x', O_RDWR|O_DSYNC) = 5<wal>\n"
+    rows = [
+        ("a write within which another thread syncs", start + within + "fsync(4<wal>) = 0\n" + after, [says.format("fsync")]),
+        ("a write that ends within a sync", start + "fsync(4<wal> <unfinished ...>\n" + within + after.replace(GONE, "") + "<... fsync resumed>) = 0\n" + GONE, []),
+        ("a sync that has nothing to do", start + "fsync(4<wal>) = 0\n" + within + "fsync(4<wal>) = 0\n" + after, []),
+        ("a write that fails", start + within + "fsync(4<wal>) = 0\n" + after.replace("= 512", "= -1 EAGAIN (Resource temporarily unavailable)"), []),
+        ("a sync within another", start + "101 fsync(4<wal> <unfinished ...>\nfdatasync(4<wal>) = 0\n101 <... fsync resumed>) = 0\n" + GONE, []),
+        ("a write through O_DSYNC within a write", start.replace(THREAD, through + THREAD) + within + "pwrite64(5<wal>, 'C*512', 512, 512) = 512\n" + after, [says.format("pwrite64").replace("calls:6", "calls:7").replace("calls:5", "calls:6")]),
+    ]
+    found = [(name, [it for it in followed(strace(text)).notes if "in flight" in it], wanted) for name, text, wanted in rows]
+    return [f"{name}: {notes}" for name, notes, wanted in found if notes != wanted]
+
+
 def passed_faults():
     """Calls that are followed, and at which strace doesn't stop."""
-    return [f"{it} is followed, and strace doesn't stop there" for names in KINDS.values() for it in names if it in traced.PASSED]
+    return [f"{it} is followed, and strace doesn't stop there" for names in known.KINDS.values() for it in names if it in traced.PASSED]
 
 
 def main(words):
     seed, count = (int(it) for it in (*words, *("1", "3000")[len(words) :]))
     found = [row_fault(*it) for it in FOLLOWED] + [refused_fault(*it) for it in REFUSED] + [log_fault()]
-    several = [passed_faults(), source_faults(), cut_faults(), damage_faults(seed, count // 2), map_faults(), files_faults(), system_faults(), machine_faults()]
+    several = [passed_faults(), crossed_faults(), source_faults(), cut_faults(), damage_faults(seed, count // 2), map_faults(), files_faults(), system_faults(), machine_faults()]
     several.append([it for it in (model_fault(seed + turn) for turn in range(count)) if it])
     wrong = [it for it in found if it] + [it for these in several for it in these]
     for line in wrong:
