@@ -34,11 +34,8 @@ class SecondRecords(Journal):
 
     def __init__(self, path, known, resume, skipped):
         super().__init__(path, resume)
-        self.known, self.logs, self.lines, head = known, SecondLogs(skipped), [], [TITLE, *known.head[1:]]
-        if resume:
-            self.go_on(head)
-        else:
-            self.write("".join(f"{it}\n" for it in head))
+        self.known, self.logs, self.lines = known, SecondLogs(skipped), []
+        self.begin([TITLE, *known.head[1:]], resume)
 
     def go_on(self, head):
         """Takes up the file, which has to be of this run. Its records of images wait until the second logs are known."""

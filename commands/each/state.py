@@ -78,6 +78,13 @@ class Journal:
         if not resume and os.fstat(self.file).st_size:
             raise Refusal(f"{path} is of a run that was stopped: --resume goes on with it, and without the file it begins anew")
 
+    def begin(self, head, resume):
+        """Writes the head of a new file, or takes up one that is there by the class's own `go_on`."""
+        if resume:
+            self.go_on(head)
+        else:
+            self.write("".join(f"{it}\n" for it in head))
+
     def whole_lines(self):
         """Returns the lines that have their end, and how many bytes these are. What stands after them was being written when a run was
         killed."""
@@ -103,11 +110,7 @@ class State(Journal):
     def __init__(self, path, known_by, resume):
         super().__init__(path, resume)
         self.verdicts = {}
-        head = [TITLE, *(f"{name} {value}" for name, value in known_by.items())]
-        if resume:
-            self.go_on(head)
-        else:
-            self.write("".join(f"{it}\n" for it in head))
+        self.begin([TITLE, *(f"{name} {value}" for name, value in known_by.items())], resume)
 
     def go_on(self, head):
         """Takes the verdicts of the file, which has to be of this run."""

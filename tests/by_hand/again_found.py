@@ -32,7 +32,7 @@ import rooms
 rooms.enter()
 
 from again_served import DESIGNS, EACH, RECORD
-from found import CHANCE, DOCUMENT, FOUND, KV, SEED, cells, is_asked, surroundings, version
+from found import CHANCE, FOUND, KV, SEED, differing, is_agreed, is_asked, made_folder, surroundings, version
 
 STORED = FOUND / "again.json"
 COUNTS = r"cuts (\d+) cases (\d+) failing (\d+) torn beyond \d+ lost beyond \d+ open (\d+) stopped (\d+)(.*)"
@@ -211,16 +211,6 @@ def is_made(row, keep, runners, is_stored):
     return True
 
 
-def document():
-    """Yields what docs/FOUND.md has otherwise than what is stored."""
-    known = stored_rows()
-    rows = {it[0].strip("`"): it for it in map(cells, DOCUMENT.read_text().splitlines()) if it[0].startswith("`again:")}
-    yield from (f"{name}: no row in {DOCUMENT.name}" for name in known if name not in rows)
-    yield from (f"{name}: not in {STORED.name}" for name in rows if name not in known)
-    for name in sorted(known.keys() & rows.keys()):
-        yield from (f"{name}: {it} isn't in its row" for it in [known[name]["version"], *figures(known[name])] if it not in rows[name])
-
-
 def main():
     reader = argparse.ArgumentParser(description=__doc__, formatter_class=argparse.RawDescriptionHelpFormatter)
     reader.add_argument("--store", action="store_true")
@@ -230,12 +220,8 @@ def main():
     reader.add_argument("names", nargs="*")
     given = reader.parse_args()
     if given.document:
-        found = list(document())
-        print("\n".join([*found, f"{len(found)} findings"]))
-        return 1 if found else 0
-    keep = given.keep and given.keep.resolve()
-    if keep:
-        keep.mkdir(exist_ok=True)
+        return 0 if is_agreed(differing(stored_rows(), STORED, r"`again:.*`", lambda it: [it["version"], *figures(it)])) else 1
+    keep = made_folder(given.keep)
     held = [is_made(it, keep, given.runners, given.store) for it in ROWS if is_asked(it.name, given.names)]
     return 0 if all(held) else 1
 

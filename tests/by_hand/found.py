@@ -263,17 +263,33 @@ def on_ext4(it):
     return f"not in {sum(one['images'] for one in found):,} images" if found else "not tried" if it["failing"] else "-"
 
 
-def document():
-    """Yields what docs/FOUND.md has otherwise than what is stored."""
-    known = stored_rows()
-    rows = {it[0].strip("`"): it for it in map(cells, DOCUMENT.read_text().splitlines()) if re.fullmatch(r"`[a-z0-9-]+`", it[0]) and len(it) > 4}
+def differing(known, stored, names, figures):
+    """Yields where the document differs from what is stored: its rows have names of that form, and have the `figures` of each."""
+    rows = {it[0].strip("`"): it for it in map(cells, DOCUMENT.read_text().splitlines()) if re.fullmatch(names, it[0]) and len(it) > 4}
     yield from (f"{name}: no row in {DOCUMENT.name}" for name in known if name not in rows)
-    yield from (f"{name}: not in {STORED.name}" for name in rows if name not in known)
+    yield from (f"{name}: not in {stored.name}" for name in rows if name not in known)
     for name in sorted(known.keys() & rows.keys()):
-        it = known[name]
-        cured = f"{it['cured'][0]:,} of {it['cured'][1]:,}" if it["cured"] else "not tried" if it["missing"] else "-"
-        figures = [it["version"], f"{it['failing']:,} of {it['cases']:,}", cured, on_ext4(it)]
-        yield from (f"{name}: {figure} isn't in its row" for figure in figures if figure not in rows[name])
+        yield from (f"{name}: {it} isn't in its row" for it in figures(known[name]) if it not in rows[name])
+
+
+def figures(it):
+    """Returns what the document's row has of what was found."""
+    cured = f"{it['cured'][0]:,} of {it['cured'][1]:,}" if it["cured"] else "not tried" if it["missing"] else "-"
+    return [it["version"], f"{it['failing']:,} of {it['cases']:,}", cured, on_ext4(it)]
+
+
+def is_agreed(differences):
+    """Prints where the document differs from what is stored, and returns whether it doesn't."""
+    found = list(differences)
+    print("\n".join([*found, f"{len(found)} findings"]))
+    return not found
+
+
+def made_folder(path):
+    """Returns the folder that is asked for, which is there now, or None where none is."""
+    if path:
+        path.mkdir(exist_ok=True)
+    return path and path.resolve()
 
 
 def is_asked(name, names):
@@ -322,12 +338,8 @@ def parse():
 def main():
     given = parse()
     if given.document:
-        found = list(document())
-        print("\n".join([*found, f"{len(found)} findings"]))
-        return 1 if found else 0
-    keep = given.keep and given.keep.resolve()
-    if keep:
-        keep.mkdir(exist_ok=True)
+        return 0 if is_agreed(differing(stored_rows(), STORED, r"`[a-z0-9-]+`", figures)) else 1
+    keep = made_folder(given.keep)
     more = ["-j", os.environ.get("FOUND_RUNNERS", "2"), *(["--no-cure"] if given.no_cure or given.seeds else [])]
     rows = [it for it in ROWS if is_asked(it.name, given.names)]
     if not given.seeds:

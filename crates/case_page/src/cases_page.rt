@@ -82,7 +82,7 @@ fn put_failing(out: &mut String, complete: bool, cuts: &[CutCount]) -> Result<()
     }
 }
 
-/// Appends what a program comes to, of these cuts.
+/// Appends at how many of these cuts a program fails.
 #[tactic(auto, unfolding(crate::specs::CasePage::judged_text))]
 fn put_judged(out: &mut String, complete: bool, cuts: &[CutCount]) -> Result<(), AllocError>
     ensures { OnOk result (string_bytes out.new ≡ string_bytes out.old ++ judged_text complete cuts.now) }
@@ -92,7 +92,7 @@ fn put_judged(out: &mut String, complete: bool, cuts: &[CutCount]) -> Result<(),
     put(out, PagePart::GoodClose)
 }
 
-/// Appends what a program comes to, or that nothing was judged.
+/// Appends at how many of these cuts a program fails, or that nothing was judged.
 fn put_verdict(out: &mut String, complete: bool, cuts: &[CutCount]) -> Result<(), AllocError>
     ensures { OnOk result (string_bytes out.new ≡ string_bytes out.old ++ verdict_text complete cuts.now) }
 {
@@ -116,7 +116,7 @@ fn lacking_of(number: usize, program: &CaseProgram) -> Lacking<'_>
     }
 }
 
-/// Appends what a program comes to, where no case was left out for it or some were, and what flushes would do.
+/// Appends at how many of its cuts a program fails, by whether cases were left out for it, and what flushes would do.
 #[tactic(auto, unfolding(crate::specs::CasePage::said_text))]
 fn put_said(
     out: &mut String,
@@ -133,7 +133,7 @@ fn put_said(
     put_advice(out, &lacking, program.uncured)
 }
 
-/// Appends the same, and the log with its cuts and the flushes that are missing.
+/// Appends what `put_said` does, and the log with its cuts and the flushes that are missing.
 #[tactic(auto, unfolding(crate::specs::CasePage::summary_text))]
 fn put_summary(
     alloc: Global,
@@ -242,7 +242,7 @@ fn put_counts(out: &mut String, torn: u64, lost: u64) -> Result<(), AllocError>
     put_number(out, lost)
 }
 
-/// Appends the same as a line, where some were.
+/// Appends a line with how many cases were left out, where some were.
 fn put_left(out: &mut String, torn: u64, lost: u64) -> Result<(), AllocError>
     ensures { OnOk result (string_bytes out.new ≡ string_bytes out.old ++ left_text torn lost) }
 {

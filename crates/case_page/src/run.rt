@@ -5,7 +5,7 @@ ghost use Rattle.std.specs.Prelude.{◌≡◌};
 use epochs::{By, Plan};
 use logfmt::Log;
 
-/// Of which log cases are, what departs as one, and whether parts may be torn.
+/// The run of which cases are: its log, what departs as one, and whether parts may be torn.
 #[derive(Clone, Copy)]
 pub(crate) struct CaseRun<'a> {
     pub(crate) plan: &'a Plan<'a>,

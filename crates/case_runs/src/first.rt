@@ -24,7 +24,7 @@ pub enum Sought {
 }
 
 /// The first failing case of some cuts of a log, with each of some checkers, by cut and then by checker: no case after it is looked for.
-/// Where none fails, what `find_failing` answers. The gate is told of each run and of each case.
+/// Where none fails, what `find_failing` answers. The gate is called at each run and at each case.
 ///
 /// # Errors
 ///

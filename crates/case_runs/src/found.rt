@@ -21,7 +21,7 @@ use std::thread::Threads;
 pub enum SearchFault {
     /// Memory was refused.
     Memory,
-    /// With the cases of this cut they were more than `MOST_CASES`.
+    /// With the cases of this cut there were more than `MOST_CASES`.
     TooMany(u32),
 }
 
@@ -47,7 +47,7 @@ impl<T: Drop> From<AllocFailed<T>> for SearchFault {
 
 /// The failing cases of some cuts of a log, with each of some checkers, by cut and then by checker, found by as many workers as are asked
 /// for. The caller is one of them, and each other one has a thread of its own, where one can be made. How many there are changes nothing of
-/// what is found. The gate is told of each run and of each case.
+/// what is found. The gate is called at each run and at each case.
 ///
 /// # Errors
 ///

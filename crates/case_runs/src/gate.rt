@@ -1,4 +1,4 @@
-//! Who is told how far a search for cases is.
+//! A gate, which learns how far a search for cases is.
 
 ghost use Rattle.std.specs.Prelude.{◌≡◌, map, length};
 ghost use Rattle.losses.specs.FoundCases.{failing_value};
@@ -10,16 +10,16 @@ use losses::found::CaseFindings;
 use std::alloc::AllocError;
 use std::marker::Model;
 
-/// Is told of each run of a checker and of each case, by each worker as it comes to it. It changes nothing of what is found.
+/// What workers call as they go, at each run of a checker and at each case. It changes nothing of what is found.
 pub trait CaseGate {
-    /// A checker is run on the image of a case.
+    /// Is called when a checker is run on the image of a case.
     fn run(&self);
 
-    /// A case is found.
+    /// Is called when a case is found.
     fn case(&self);
 }
 
-/// A checker as a judge, whose runs and leaves a gate is told of.
+/// A checker as a judge, with a gate that is called at its runs and leaves.
 #[derive(Drop)]
 pub(crate) struct Watched<'c, 'p, 'g, G> {
     judge: CaseJudge<'c, 'p>,
@@ -49,7 +49,7 @@ impl<'c, 'p, 'g, G: CaseGate> Watched<'c, 'p, 'g, G> {
         &self.judge
     }
 
-    /// What it was told of in a search.
+    /// Returns what a search found by this judge.
     pub(crate) fn into_findings(self, search: &Search<'_>) -> CaseFindings
         ensures cases { result.cases ≡ length self.entry.leaves }
         ensures torn { result.torn_beyond ≡ search.now.torn_beyond }

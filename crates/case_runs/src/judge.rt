@@ -20,12 +20,12 @@ use std::marker::Model;
 #[derive(Drop)]
 pub struct CaseJudge<'c, 'p> {
     checker: &'c Checker<'p>,
-    /// That of its program, if it has guards.
+    /// The memory of its program's runs, if it has guards.
     memory: RunMemory,
     context: Context,
     /// What its last run ended in.
     outcome: Outcome,
-    /// At which sectors it looked there.
+    /// The sectors at which it looked there.
     looked: Looked,
     /// The formed sectors of the last image.
     formed: Vec<Formed>,
@@ -57,7 +57,7 @@ impl<'c, 'p> Model for CaseJudge<'c, 'p> {
 }
 
 impl<'c, 'p> CaseJudge<'c, 'p> {
-    /// A judge that was told of no leaf. It takes memory where the checker has guards.
+    /// Returns a judge that has had no leaf. It takes memory where the checker has guards.
     ///
     /// # Errors
     ///
@@ -89,7 +89,7 @@ impl<'c, 'p> CaseJudge<'c, 'p> {
         })
     }
 
-    /// How many leaves it was told of.
+    /// Returns how many leaves it has had.
     pub fn cases(&self) -> usize
         ensures { result ≡ length self.now.leaves }
     {

@@ -30,7 +30,7 @@ pub fn found_cuts_are_wanted()
     ensures { FoundCutsAreWanted }
 {}
 
-/// At a cut with a checker one thing is found. Where a search stops on its way, there are as many cases as it told of.
+/// At a cut with a checker one thing is found. Where a search stops on its way, there are as many cases as it told the judge.
 pub fn finding_is_one()
     ensures { FindingIsOne }
 {

@@ -17,7 +17,7 @@
 //! | `case_cuts(alloc, plan, log, cuts, at_most)` | the cuts at which cases are looked for: the last ones of the range and its end, or with `at_most` or fewer than all cuts each that is wanted |
 //! | `find_failing(rt, alloc, gate, plan, log, way, cuts, checkers, asked, workers)` | at each cut, with each checker: the leaves that fail, each with its number among the leaves, what the checker ends in, and its sets; how many leaves there are; how many cases were left out |
 //! | `find_first(alloc, gate, plan, log, way, cuts, checkers, asked)` | the first leaf that fails, by cut, by checker and in the order of the tree; or what `find_failing` answers, where none does |
-//! | `CaseGate` | is told of each run of a checker and of each leaf, for the line of progress |
+//! | `CaseGate` | is called at each run of a checker and at each leaf, for the line of progress |
 //! | `CaseJudge::new(alloc, checker, context)` | a checker as a `Judge` of `cases`, for one cut |
 //! | `CaseImage` | the image of a case's representative, as a `Device` |
 //! | `checkers_tell()`, `losses_are_found()`, `found_cuts_are_wanted()`, `finding_is_one()`, `first_is_one()`, `their_images_fail()` | laws |

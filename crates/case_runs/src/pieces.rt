@@ -18,9 +18,9 @@ use std::alloc::{AllocError, Global};
 /// Where a search begins: at all choices of a cut, or at a case.
 #[derive(Drop)]
 pub(crate) struct Start {
-    /// At all choices; then it has no sets.
+    /// Whether it is at all choices; then it has no sets.
     pub(crate) whole: bool,
-    /// Of the case, a set for each part at risk.
+    /// The case, as a set for each part at risk.
     pub(crate) sets: Vec<u16>,
 }
 
@@ -45,7 +45,7 @@ pub(crate) struct Begun {
 /// What came of an open piece.
 #[derive(Drop)]
 pub(crate) struct SubtreeAnswer {
-    /// Which of the open pieces it is.
+    /// The place of the piece among the open ones.
     pub(crate) place: usize,
     pub(crate) cut: u32,
     pub(crate) program: usize,
@@ -64,7 +64,7 @@ pub(crate) struct Ran {
     pub(crate) left: Vec<Vec<u16>>,
 }
 
-/// All choices of a cut, which are still to be explored.
+/// Returns a start at all choices of a cut, which are still to be explored.
 pub(crate) fn all_choices(alloc: Global) -> Start
     ensures { result.whole ≡ true }
 {

@@ -149,7 +149,7 @@ fn gone_on(
     })
 }
 
-/// All that was begun, with the answers in their places.
+/// Returns all that was begun, with the answers in their places.
 fn all_gone_on(
     alloc: Global,
     work: &CaseWork<'_>,
@@ -218,7 +218,7 @@ fn put_beginnings(out: &mut Vec<Begun>, work: &CaseWork<'_>, cut: u32) -> Result
     Ok(())
 }
 
-/// All choices of a cut, as a piece.
+/// Returns all choices of a cut, as a piece.
 pub(crate) fn whole_piece(
     alloc: Global,
     work: &CaseWork<'_>,

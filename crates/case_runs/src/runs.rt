@@ -17,12 +17,12 @@ use helpers::Context;
 use interp::{Noted, Outcome};
 use std::alloc::AllocError;
 
-/// At which sectors a checker looked in its last run.
+/// The sectors at which a checker looked in its last run.
 #[derive(Drop)]
 pub(crate) struct Looked {
-    /// These, in the order of the first looks.
+    /// The sectors, in the order of the first looks.
     pub(crate) sectors: Vec<u32>,
-    /// All of the device, in place of these.
+    /// Whether it is taken to look at all of the device, in place of these.
     pub(crate) all: bool,
 }
 

@@ -191,7 +191,7 @@ impl WorkerAnswers {
         Ok(none)
     }
 
-    /// The same; no place where there is no such cut or no such checker.
+    /// Takes open pieces as `take_each` does. It answers no place where there is no such cut or no such checker.
     fn take_at<G: CaseGate>(
         &mut self,
         alloc: Global,

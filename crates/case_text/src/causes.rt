@@ -105,7 +105,7 @@ fn push_from(parts: &mut Vec<Part>, start: u32, part: Part) -> Result<(), AllocE
     Ok(())
 }
 
-/// Those of some parts that are of an entry from that one on.
+/// Returns the parts that are of an entry from `start` on.
 fn parts_from(alloc: Global, start: u32, parts: &[Part]) -> Result<Vec<Part>, AllocError>
     ensures { IfOk result (λ found. found.items ≡ parts_from start parts.now) }
 {
@@ -175,7 +175,7 @@ fn push_at(parts: &mut Vec<Part>, entry: u32, part: Part) -> Result<(), AllocErr
     Ok(())
 }
 
-/// Those of some parts that are of an entry.
+/// Returns the parts that are of one entry.
 fn parts_at(alloc: Global, entry: u32, parts: &[Part]) -> Result<Vec<Part>, AllocError>
     ensures { IfOk result (λ found. found.items ≡ parts_at entry parts.now) }
 {

@@ -122,7 +122,7 @@ fn take_case(
     keep_uncured(uncured, known, site, program, case, window)
 }
 
-/// Takes those of a program.
+/// Takes the failing cases of a program.
 fn take_program(
     failures: &mut Vec<Failure>,
     uncured: &mut Option<String>,
@@ -141,7 +141,7 @@ fn take_program(
     Ok(())
 }
 
-/// Those of each program.
+/// Takes the failing cases of each program.
 fn take_each(
     failures: &mut Vec<Failure>,
     uncured: &mut Option<String>,
@@ -166,7 +166,7 @@ fn take_each(
     Ok(())
 }
 
-/// Those of a cut.
+/// Takes the failing cases of a cut.
 fn take_cut(
     failures: &mut Vec<Failure>,
     uncured: &mut Option<String>,
@@ -188,7 +188,7 @@ fn take_cut(
     take_each(failures, uncured, known, &site, found.programs.as_slice())
 }
 
-/// Those of all cuts.
+/// Takes the failing cases of all cuts.
 fn take_cuts(
     failures: &mut Vec<Failure>,
     uncured: &mut Option<String>,
@@ -219,7 +219,7 @@ struct Gathered {
     uncured: Option<String>,
 }
 
-/// Those of these cuts.
+/// Returns the failing cases of these cuts as failures, and the line of the first that has no window.
 fn gather(
     alloc: Global,
     head: &Head,

@@ -29,9 +29,9 @@ pub struct KnownParts {
     pub(crate) lost: Vec<Departure>,
     /// The parts that are whole.
     pub(crate) kept: Vec<Part>,
-    /// Those of which more than one fate is possible, and not all.
+    /// The parts of which more than one fate is possible, and not all.
     pub(crate) mixed: Vec<MixedFates>,
-    /// How many may have any fate.
+    /// How many parts may have any fate.
     pub(crate) free: usize,
     /// The first entry of which a part isn't whole, whatever becomes of it.
     pub(crate) first_lost: Option<u32>,
@@ -102,7 +102,7 @@ fn last_with(last: Option<u32>, entry: u32, is: bool) -> Option<u32>
 }
 
 impl KnownParts {
-    /// Nothing, of no parts.
+    /// Returns what is known of no parts: nothing.
     pub fn new(alloc: Global) -> KnownParts {
         KnownParts {
             lost: Vec::new(alloc),

@@ -1,4 +1,4 @@
-//! What the cases of a run come to.
+//! The totals of the cases of a run, and their text.
 
 ghost use Rattle.std.specs.Prelude.{◌≡◌, ◌++◌, OnOk, string_bytes};
 ghost use Rattle.case_text.specs.Text.{count_cases, count_failing, count_torn_beyond, count_lost_beyond, fails_at, is_any_failing, is_each_cut, are_all_cuts, extent_words, complete_word, counts_text, beyond_text, found_text, totals_text};
@@ -18,7 +18,7 @@ struct Totals {
     lost_beyond: u64,
 }
 
-/// Those with what was found with one more program.
+/// Returns the totals with what was found with one more program.
 fn with_found(totals: Totals, found: &CaseFindings) -> Totals
     ensures { result ≡ with_found totals found.now }
 {
@@ -30,7 +30,7 @@ fn with_found(totals: Totals, found: &CaseFindings) -> Totals
     }
 }
 
-/// Those with what was found at one more cut.
+/// Returns the totals with what was found at one more cut.
 fn with_all(totals: Totals, found: &[CaseFindings]) -> Totals
     ensures { result ≡ with_all totals found.now }
 {
@@ -41,7 +41,7 @@ fn with_all(totals: Totals, found: &[CaseFindings]) -> Totals
     all
 }
 
-/// Those of all cuts.
+/// Returns the totals of all cuts.
 fn totals_of(found: &[CutFound]) -> Totals
     ensures cases { result.cases ≡ count_cases found.now }
     ensures failing { result.failing ≡ count_failing found.now }
@@ -81,7 +81,7 @@ fn put_extent(out: &mut String, all: bool) -> Result<(), AllocError>
     }
 }
 
-/// Appends whether all cuts of the log are told of, where no case was left out.
+/// Appends whether the text is of all cuts of the log, where no case was left out.
 ///
 /// # Errors
 ///

@@ -23,7 +23,7 @@ use losses::found::{CaseFindings, CutFound, FailingCase, Losses};
 use report::Head;
 use std::alloc::{AllocError, Global};
 
-/// Appends a cut, with a program that fails there in that many cases.
+/// Appends a cut, with a program and the number of cases in which it fails there.
 #[tactic(auto, unfolding(crate::specs::Why::cut_line))]
 fn put_cut_line(
     out: &mut String,
@@ -73,7 +73,7 @@ fn put_program(
     Ok(())
 }
 
-/// Those of each program.
+/// Appends why the cases of each program fail at a cut, and each of them as a failure.
 fn put_each(
     out: &mut String,
     failures: &mut Vec<Failure>,
@@ -91,7 +91,7 @@ fn put_each(
     Ok(())
 }
 
-/// Those of a cut.
+/// Appends why cases fail at a cut, and each of them as a failure.
 fn put_cut(
     out: &mut String,
     failures: &mut Vec<Failure>,
@@ -113,7 +113,7 @@ fn put_cut(
     put_each(out, failures, known, &site, found.programs.as_slice())
 }
 
-/// Those of all cuts.
+/// Appends why cases fail at all cuts, and each of them as a failure.
 fn put_cuts(
     out: &mut String,
     failures: &mut Vec<Failure>,

@@ -92,7 +92,7 @@ fn run_guarded_in<D: Device, const ROOM: usize>(
     }
 }
 
-/// Of each slot of an accepted program whether it is guarded.
+/// Returns for each slot of an accepted program whether it is guarded.
 #[tactic(auto, unfolding(crate::specs::Checker::guards_of))]
 fn guards_of(alloc: Global, verified: &Verified) -> Result<Vec<bool>, AllocError>
     ensures { IfOk result (λ guards. guards.items ≡ guards_of verified.now) }

@@ -43,7 +43,7 @@ fn memory_if(alloc: Global, wanted: bool) -> Result<RunMemory, AllocError>
 }
 
 impl RunMemory {
-    /// For runs of those checkers: memory is taken where one of them has guards.
+    /// Returns memory for runs of some checkers. Some is taken where one of them has guards.
     ///
     /// # Errors
     ///
@@ -54,7 +54,7 @@ impl RunMemory {
         memory_if(alloc, some_guards(checkers))
     }
 
-    /// For runs of one checker.
+    /// Returns memory for runs of one checker.
     ///
     /// # Errors
     ///

@@ -17,7 +17,7 @@ fn cut(text: &str) -> Option<(&str, &str)>
     text.split_once(',')
 }
 
-/// These flushes, and after them those of the list that a text is, at most `left`.
+/// Returns these flushes, and after them those of the list that a text is, at most `left`.
 fn read_on(found: &Flushes, left: u8, text: &str) -> Option<Flushes>
     requires { found.now.count + left ≤ 64 }
     ensures { MatchOption result (NoFlushList left text.now)

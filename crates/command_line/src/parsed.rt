@@ -218,7 +218,7 @@ fn flushes_of(word: Option<&str>) -> Option<Flushes>
     }
 }
 
-/// These flushes, and none of them where a word named no list of entries.
+/// Returns these flushes, and none where a word named no list of entries.
 fn or_no_flushes(flushes: Option<Flushes>) -> Flushes
     ensures { result ≡ unwrap_or flushes no_flushes }
 {
@@ -494,7 +494,7 @@ impl<'a> Parsed<'a> {
         self.any || self.torn.is_some() || self.at_most.is_some()
     }
 
-    /// What is asked of any number of losses, and what is to be told of the failing cases.
+    /// What is asked of any number of losses, and what is to be printed about the failing cases.
     fn losses(&self, telling: CaseTelling) -> LossWords
         ensures { result ≡ losses_named self.now telling }
     {
@@ -506,7 +506,7 @@ impl<'a> Parsed<'a> {
         }
     }
 
-    /// What is asked of a search by records, and what is to be told of what it finds.
+    /// What is asked of a search by records, and what is to be printed about what it finds.
     fn recorded(&self, telling: KnownTelling) -> KnownWords
         ensures { result ≡ recorded self.now telling }
     {
@@ -626,7 +626,7 @@ impl<'a> Parsed<'a> {
         }
     }
 
-    /// Which image is meant: by its cut and its choice, or else by its number.
+    /// Returns which image is meant: by its cut and its choice, or else by its number.
     fn which(&self) -> Which
         ensures { IsWhich self.now result }
     {

@@ -49,7 +49,7 @@ pub(crate) enum Shares {
     Nothing,
     /// The options that say which crash images of a log are meant, and the log.
     OfLog,
-    /// The same, and after it the options that say how programs are run.
+    /// What `OfLog` has, and after it the options that say how programs are run.
     OfRun,
 }
 
@@ -228,7 +228,7 @@ const GUARDS: Item = Item {
     ..FLAG
 };
 
-/// The same of a run, which excludes a limit of steps.
+/// Asks for the second kind of acceptance in a run, and excludes a limit of steps.
 const GUARDS_OF_RUN: Item = Item {
     excludes: &["checked"],
     ..GUARDS

@@ -57,7 +57,7 @@ Exit status: 0 where the command succeeded and no image fails, 1 where an image
 fails, 2 for a refusal (a line on standard error, as 'refused 12 at 3'), a fault
 of the command line, or a standard output that can't be written.";
 
-/// Which words are taken where a number stands mostly. Where one is, `clap` takes each word there.
+/// The words that are taken where mostly a number stands. Where one is, `clap` takes each word there.
 #[derive(Clone, Copy)]
 struct Taken {
     /// `any` after `--bound`.
@@ -260,7 +260,7 @@ fn with_command<'a>(
     command.subcommand(below?)
 }
 
-/// All commands.
+/// Returns all commands.
 fn commands<'a>(alloc: Global, taken: Taken) -> Result<Command<'a>, AllocError> {
     let command = Command::new(alloc, "crashbpf")
         .bin_name("crashbpf")?
@@ -315,7 +315,8 @@ fn stands_after(words: &[String], option: &str, wanted: &str, joined: &str) -> b
     false
 }
 
-/// Which words stand in the place of a number. Without them options take numbers alone, and `clap` says what is wrong with others.
+/// Returns which words stand in the place of a number. Without them options take numbers alone, and `clap` says what is wrong with
+/// others.
 fn taken_of(words: &[String]) -> Taken {
     Taken {
         any: stands_after(words, "--bound", "any", "--bound=any"),
@@ -460,7 +461,7 @@ impl Words {
         self.is_sized
     }
 
-    /// From here on a device of that many sectors is asked for, where it is to have the size of what it held before and that is known.
+    /// Asks for a device of `sectors` sectors from here on, where it is to have the size of what it held before and that is known.
     pub fn set_size(&mut self, sectors: Option<u64>)
         ensures { self.new ≡ sized_by self.old sectors }
     {

@@ -49,7 +49,7 @@ const CASES_LINE: &[u8] = b"crash cases 1\n";
 /// What is shown of a log, for which no program runs.
 #[derive(Clone, Copy)]
 pub(crate) enum LogLook {
-    /// How many crash images each cut has, and how the run is laid out in that many parts, where that is asked for.
+    /// How many crash images each cut has, and how the run is laid out in this many parts, where that is asked for.
     Images(Option<u64>),
     /// The bytes of its crash images.
     Export,
@@ -137,7 +137,7 @@ impl<'x> HeldFiles<'x> {
         Ok(Recording::of(log, initial))
     }
 
-    /// The same log, and the second file's bytes: a report, or records of a program of the user's.
+    /// The log as `recording` has it, and the second file's bytes: a report, or records of a program of the user's.
     pub(crate) fn given(&self) -> Result<(Recording<'x>, &'x [u8]), Refusal>
         ensures { MatchResult result (λ held. HoldsGiven (held_by self.now) held.0 held.1.now) (RefusesGiven (held_by self.now) (λ text given r. ⊥)) }
     {

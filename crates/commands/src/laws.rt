@@ -23,7 +23,7 @@ use losses::why::{all_stand, each_stands_once};
 use verifier::laws::one_verdict;
 use workers::lines_are_set;
 
-/// For given bytes of a log and of programs and given options there is at most one report.
+/// There is at most one report for given bytes of a log and of programs and given options.
 pub fn one_report()
     ensures { OneReport }
 {
@@ -118,8 +118,8 @@ pub fn parts_of_run_are_joined()
     one_verdict();
 }
 
-/// Of files with what `explore --images` prints for parts of a run, which have each of its images once, `join` prints what `explore`
-/// prints of the whole run, with the same status, and so does `join --part`.
+/// Given files with what `explore --images` prints for parts of a run, which have each of its images once, `join` prints what
+/// `explore` prints of the whole run, with the same status, and so does `join --part`.
 pub fn join_is_explore()
     ensures { JoinIsExplore }
 {
@@ -148,8 +148,8 @@ pub fn laid_out_ranges_are_parts()
     cut_parts_are_run();
 }
 
-/// Of files with what `explore --bound any` prints of ranges of cuts that follow one another, and that together have the cuts of a run,
-/// `join` prints what `explore --bound any` prints of the whole range, with the same status, and so does `join --part`.
+/// Given files with what `explore --bound any` prints of ranges of cuts that follow one another, and that together have the cuts of a
+/// run, `join` prints what `explore --bound any` prints of the whole range, with the same status, and so does `join --part`.
 pub fn join_is_explore_of_cases()
     ensures { JoinIsExploreOfCases }
 {
@@ -175,8 +175,8 @@ pub fn join_is_explore_of_cases_by_own()
     join_is_explore_of_cases();
 }
 
-/// Of the report that `explore` prints of a run `why --report` says what `why` says of its programs, with the same status; and no command
-/// refuses it as no report but where it has more than 1 GiB.
+/// Given the report that `explore` prints of a run, `why --report` says what `why` says of its programs, with the same status. No
+/// command refuses it as no report but where it has more than 1 GiB.
 pub fn why_of_report_is_why()
     ensures { WhyOfReportIsWhy }
 {
@@ -185,7 +185,8 @@ pub fn why_of_report_is_why()
     one_verdict();
 }
 
-/// Of the report that `explore` prints of a run `page --report` prints the page that `page` prints of its programs, with the same status.
+/// Given the report that `explore` prints of a run, `page --report` prints the page that `page` prints of its programs, with the same
+/// status.
 pub fn page_of_report_is_page()
     ensures { PageOfReportIsPage }
 {

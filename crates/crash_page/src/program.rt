@@ -21,12 +21,12 @@ use page_parts::{
 };
 use std::alloc::{AllocError, Global};
 
-/// On which images a program fails.
+/// The images on which a program fails.
 #[derive(Drop)]
 pub struct ProgramFailures<'a> {
     /// What the program is.
     pub judge: PageJudge<'a>,
-    /// On how many images it fails.
+    /// How many images it fails on.
     pub failing: usize,
     /// What it ends in on each of these images.
     pub outcomes: Vec<&'a str>,
@@ -61,7 +61,7 @@ fn put_failing(out: &mut String, failing: usize, cuts: &[CutCount]) -> Result<()
     }
 }
 
-/// Appends what a program comes to, of that many cuts.
+/// Appends at how many of the cuts a program fails.
 #[tactic(auto, unfolding(crate::specs::Page::judged_text))]
 fn put_judged(out: &mut String, failing: usize, cuts: &[CutCount]) -> Result<(), AllocError>
     ensures { OnOk result (string_bytes out.new ≡ string_bytes out.old ++ judged_text failing cuts.now) }
@@ -71,7 +71,7 @@ fn put_judged(out: &mut String, failing: usize, cuts: &[CutCount]) -> Result<(),
     put(out, PagePart::GoodClose)
 }
 
-/// Appends what a program comes to, or that nothing was judged.
+/// Appends at how many of the cuts a program fails, or that nothing was judged.
 fn put_verdict(out: &mut String, failing: usize, cuts: &[CutCount]) -> Result<(), AllocError>
     ensures { OnOk result (string_bytes out.new ≡ string_bytes out.old ++ verdict_text failing cuts.now) }
 {
@@ -82,7 +82,7 @@ fn put_verdict(out: &mut String, failing: usize, cuts: &[CutCount]) -> Result<()
     }
 }
 
-/// Appends a cut, where that many failing cuts may still be listed.
+/// Appends a cut, where there is still a line for it.
 fn put_listed(
     alloc: Global,
     out: &mut String,

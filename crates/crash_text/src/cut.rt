@@ -27,7 +27,7 @@ fn put_place(out: &mut String, part: Part) -> Result<(), AllocError>
     }
 }
 
-/// Appends what of a part of that many sectors arrived.
+/// Appends what arrived of a part of `count` sectors.
 fn put_arrived(out: &mut String, count: u32, fate: Fate) -> Result<(), AllocError>
     ensures { OnOk result (string_bytes out.new ≡ string_bytes out.old ++ arrived_text count fate) }
 {
@@ -110,7 +110,7 @@ fn put_volatile_part(out: &mut String, part: Part) -> Result<(), AllocError>
     out.push_str("\n")
 }
 
-/// How many of that many volatile parts are shown.
+/// Returns how many volatile parts are shown: 32 at most.
 fn shown_parts(parts: u32) -> u32
     ensures { ((parts < 32) × (result ≡ parts)) ⊎ ((32 ≤ parts) × (result ≡ 32)) }
 {

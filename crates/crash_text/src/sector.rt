@@ -26,7 +26,7 @@ fn count_at(left: &[u8; 512], right: &[u8; 512], place: usize) -> usize
     if differs(left, right, place) { 1 } else { 0 }
 }
 
-/// How many bytes differ, of that many from one on.
+/// Returns how many bytes differ, of `count` from `start` on.
 fn count_differences(left: &[u8; 512], right: &[u8; 512], start: usize, count: usize) -> usize
     requires { start + count ≤ 512 }
     ensures value { result ≡ length (differences left.now right.now start count) }

@@ -1,4 +1,4 @@
-//! Which images are asked for.
+//! The images that are asked for.
 
 ghost use Rattle.std.specs.Prelude.{◌≡◌, ◌+◌, ◌<◌, ◌≤◌, ◌^◌, length};
 ghost use Rattle.choices.specs.Choices.{ranked_choices};

@@ -75,7 +75,7 @@ fn put_sector(
     Ok(())
 }
 
-/// Puts that many sectors from one on into the list, of them those in which the images differ.
+/// Puts those of `count` sectors from `first` on into the list in which the images differ.
 fn put_sectors(
     numbers: &mut Vec<u32>,
     one: &ExportedImage<'_>,

@@ -2,7 +2,7 @@
 
 ghost use Rattle.export.specs.Laws.{ExportsAreImages};
 
-/// Who applies the records in their order has each image, to the byte.
+/// Whoever applies the records in their order has each image, to the byte.
 pub fn exports_are_images()
     ensures { ExportsAreImages }
 {}

@@ -1,8 +1,8 @@
 //! The crash images of a plan as a text, for programs that judge them outside: each image by what differs from the last that was
 //! new.
 //!
-//! Most crash images of a log have the bytes of another. So who wants all of them, to run a recovery on each, is told of each
-//! image that it is new, with the sectors in which it differs, or as which earlier one it is:
+//! Most crash images of a log have the bytes of another. Whoever runs a recovery on all of them needs each such image once. So the
+//! text says of each image that it is new, with the sectors in which it differs, or which earlier one it is the same as:
 //!
 //! ```text
 //! image 1 cut 1 epoch 0 marks 0 choice - new 1
@@ -29,7 +29,7 @@
 //!
 //! `export` writes its head and then `export_text` (`specs/Export.antt`), to the byte. Where memory is refused or the writer takes no more, the
 //! first bytes of it were written, and not all (`TakesPart`, `specs/Streaming.antt`): so the last line is then missing or cut. An
-//! image is told to be `same` exactly where an earlier one has the same bytes and as many marks before its cut, and the first of
+//! image is called `same` exactly where an earlier one has the same bytes and as many marks before its cut, and the first of
 //! these is named. Of a new one the records are exactly the sectors whose bytes differ from those of the last new image before
 //! it; the first begins at what the device held before entry 0.
 //!

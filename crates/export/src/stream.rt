@@ -7,7 +7,7 @@ use crate::writing::{Output, emit};
 use std::alloc::Global;
 use std::io::Write;
 
-/// From how many bytes on what waits is written.
+/// The number of waiting bytes from which on they are written.
 const PIECE: usize = 65536;
 
 /// Why a text isn't written whole.

@@ -6,7 +6,7 @@ ghost use Rattle.export.specs.Kept.{spread, weight, weight_at, sum_of, key_by};
 
 use crate::image::ExportedImage;
 
-/// By which numbers are spread, an odd one near 2^64 by the golden ratio.
+/// The factor by which numbers are spread: odd, and near 2^64 by the golden ratio.
 const FACTOR: u64 = 0x9e37_79b9_7f4a_7c15;
 
 /// How many bits of a sector's weight are left away, so that no sum wraps.

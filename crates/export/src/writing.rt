@@ -51,7 +51,7 @@ impl<W: Write> Output<W> {
         self.is_unread
     }
 
-    /// It is asked for no more.
+    /// Asks the writer no more.
     pub(crate) fn close(&mut self)
         ensures writer { self.new.writer ≡ self.old.writer }
         ensures closed { self.new.has_failed ≡ true }

@@ -23,7 +23,7 @@ pub fn part_is_read_alike()
     ensures { PartIsReadAlike }
 {}
 
-/// Of what a device held, whose size its file says, all is read, as it is for a device of that size.
+/// What a device held is read whole where its file says its size, as it is for a device of that size.
 pub fn base_is_read_alike()
     ensures { BaseIsReadAlike }
 {}
@@ -38,12 +38,12 @@ pub fn raw_is_refused_alike()
     ensures { RawIsRefusedAlike }
 {}
 
-/// Of a raw log that can be imported no more is read than its entries need.
+/// A raw log that can be imported is read no further than its entries need.
 pub fn no_more_is_read()
     ensures { NoMoreIsRead }
 {}
 
-/// Of no file more is read as a raw log than the limit: 192 MiB, with `--large` 1 GiB.
+/// No more of a file is read as a raw log than the limit: 192 MiB, with `--large` 1 GiB.
 pub fn read_raw_is_short()
     ensures { ReadRawIsShort }
 {}

@@ -28,7 +28,7 @@ pub(crate) struct RawReach {
 }
 
 impl RawReach {
-    /// That of a raw log that begins with these bytes.
+    /// Returns the reach of a raw log that begins with these bytes.
     pub(crate) fn of_super(raw: &[u8], limits: Limits) -> RawReach
         requires there { 512 ≤ length raw.now }
         ensures reach { (rest : List ℕ) → IsReach limits (raw.now ++ rest) result.size result.needed result.left }
@@ -54,7 +54,7 @@ impl RawReach {
         }
     }
 
-    /// That after the first entry that is left, of a raw log that was read as far as this one says.
+    /// Returns the reach after the first entry that is left, of a raw log that was read as far as this one says.
     pub(crate) fn beyond(self, raw: &[u8]) -> RawReach
         requires left { 0 < self.left }
         requires there { self.needed ≤ length raw.now }

@@ -47,7 +47,7 @@ pub(crate) struct ReadFile {
 /// The line with which the text of a part begins.
 const PART_LINE: &[u8] = b"crash part 1\n";
 
-/// With what the text of cases begins, as many bytes as that line has.
+/// The bytes with which the text of cases begins, as many as that line has.
 const CASES_WORD: &[u8] = b"crash cases 1";
 
 /// Reads on, up to `most` bytes; room is made once, where they are no more than `expected`.

@@ -12,7 +12,7 @@ pub trait FileSource {
     /// An open file.
     type File: Read + OpenFile + Drop;
 
-    /// That a file was opened by that name.
+    /// Says that a file was opened by a name.
     ghost named: { Self.File → List ℕ → Type 0 };
 
     /// Opens the file of that name, to read it.

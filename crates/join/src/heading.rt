@@ -70,7 +70,7 @@ pub(crate) fn are_programs_of_run(programs: &[ProgramHead]) -> bool
     }
 }
 
-/// Whether each number is that of an entry of a log with that many.
+/// Whether each number is that of an entry of a log with `count` entries.
 fn are_entries_of_run(count: u32, entries: &[u32]) -> bool
     ensures { result ≡ are_entries_of_run count entries.now }
 {
@@ -80,7 +80,7 @@ fn are_entries_of_run(count: u32, entries: &[u32]) -> bool
     }
 }
 
-/// Whether the cuts are as a run over a log with that many entries may have them.
+/// Whether the cuts are as a run over a log with `count` entries may have them.
 fn are_cuts_of_run(count: u32, cuts: &Cuts) -> bool
     ensures { result ≡ are_cuts_of_run count cuts.now }
 {

@@ -17,7 +17,7 @@ use std::marker::Model;
 /// A part of a run, as its text tells it.
 #[derive(Drop)]
 pub struct RunPart<'t> {
-    /// Which images of which run it is of.
+    /// The images of the run that it is of.
     pub(crate) span: Span,
     /// The lines of its options and its programs.
     pub(crate) head: &'t [u8],

@@ -1,4 +1,4 @@
-//! Which images of which run a text is of, read from its first two lines.
+//! The images of a run that a text is of, read from its first two lines.
 
 ghost use Rattle.std.specs.Prelude.{◌≡◌, ◌++◌, IfOk, MatchOption, string_bytes};
 ghost use Rattle.report.specs.Part.{span_text};

@@ -45,7 +45,7 @@ fn is_new(last: Option<LineMark>, image: u64) -> bool
 }
 
 impl Tally {
-    /// That of no line.
+    /// Returns the tally of no line.
     pub(crate) fn none() -> Tally
         ensures { result ≡ none_read }
     {
@@ -58,7 +58,7 @@ impl Tally {
         }
     }
 
-    /// That of one more line.
+    /// Returns the tally with one more line.
     pub(crate) fn more(self, span: Span, mark: LineMark) -> Tally
         requires lines { self.lines + 1 < 2 ^ 64 }
         requires images { self.images + 1 < 2 ^ 64 }

@@ -58,7 +58,7 @@ fn differ_at(sectors: &[Looked], others: &[Looked], place: usize) -> bool
     }
 }
 
-/// The same as `are_alike`. It looks at one place first, where two records mostly differ.
+/// Answers as `are_alike` does. It looks at one place first, where two records mostly differ.
 fn are_alike_past(sectors: &[Looked], others: &[Looked], place: usize) -> bool
     ensures { result ≡ list_all (λ k. not (list_any (clashes k) others.now)) sectors.now }
 {
@@ -91,7 +91,7 @@ fn common_with(one: &KeptRun, other: &KeptRun, before: usize) -> usize {
     }
 }
 
-/// The same of two records that may be there.
+/// Answers as `common_with` does for two records, and 0 where one isn't there.
 pub(crate) fn common_after(one: Option<&KeptRun>, other: Option<&KeptRun>, before: usize) -> usize {
     match one {
         None => 0,

@@ -9,9 +9,9 @@ use crate::run::RunEnd;
 /// Where the search of a cut is to end before it has gone through all cases.
 #[derive(Clone, Copy)]
 pub struct Stops {
-    /// Right after the first told leaf that fails.
+    /// Whether it is to end right after the first told leaf that fails.
     pub at_failing: bool,
-    /// Right after this many told leaves and open cases.
+    /// How many told leaves and open cases it is to end after.
     pub cases: Option<u32>,
 }
 
@@ -39,13 +39,13 @@ pub struct KnownAt {
     pub cut: u32,
     /// How many told leaves there are.
     pub told: usize,
-    /// Those that fail, in the order of the tree.
+    /// The told leaves that fail, in the order of the tree.
     pub failing: Vec<KnownFailing>,
     /// The open cases, in the order of the tree.
     pub open_cases: Vec<OpenCase>,
     /// How many cases were left out, since more parts are torn than is asked.
     pub torn_beyond: u64,
-    /// How many others were, since more are lost.
+    /// How many other cases were left out, since more parts are lost than is asked.
     pub lost_beyond: u64,
     /// Whether the search ended with cases to which it hadn't come.
     pub stopped: bool,

@@ -42,7 +42,7 @@ impl<'x> Model for KnownJudge<'x> {
 }
 
 impl<'x> KnownJudge<'x> {
-    /// A judge that was told of no leaf yet, by how many marks came before the cut.
+    /// Returns a judge that has had no leaf yet, with how many marks stand before the cut.
     pub(crate) fn new(alloc: Global, records: &'x KnownRecords<'x>, marks: u32) -> KnownJudge<'x>
         ensures records { result.records ≡ records.now }
         ensures marks { result.marks ≡ marks }
@@ -62,7 +62,7 @@ impl<'x> KnownJudge<'x> {
         }
     }
 
-    /// How many leaves it was told of.
+    /// Returns how many leaves it has had.
     pub(crate) fn count(&self) -> usize
         ensures { result ≡ length self.now.leaves }
     {
@@ -93,7 +93,7 @@ impl<'x> KnownJudge<'x> {
         told_count(self.met.all.len(), self.met.open_cases.len())
     }
 
-    /// What it was told of in the search of a cut, with how many cases that left out, and how many are pending.
+    /// Returns what the search of a cut found, with how many cases it left out, and how many are pending.
     pub(crate) fn into_found(self, cut: u32, torn: u64, lost: u64, pending: usize) -> KnownAt
         ensures is { (result.cut ≡ cut) × (result.torn_beyond ≡ torn) × (result.lost_beyond ≡ lost) × (result.stopped ≡ not (pending == 0)) }
         ensures told { result.told ≡ length (told_of self.entry.leaves) }

@@ -4,7 +4,7 @@ ghost use Rattle.known.specs.Once.{FoundIsOne};
 ghost use Rattle.known.specs.Laws.{EachIsInOne, ToldEndSo, NoneTellsOpen, FoundFail, CompleteHasAll, LastCutsHaveAll};
 ghost use Rattle.known.specs.Rounds.{RoundsEnd};
 
-/// What is found at a cut is one. Where a search comes to more than some leaves, more are found.
+/// What is found at a cut is one. Where a search reaches more than some leaves, more are found.
 pub fn found_is_one()
     ensures { FoundIsOne }
 {}
@@ -41,7 +41,8 @@ pub fn complete_has_all()
     cases::leaves_look_alike();
 }
 
-/// The same of every cut, where each last cut was searched and nothing is open, left out or pending at any cut that was.
+/// Where the records are true, each last cut was searched, and nothing is open, left out or pending at any searched cut, each image of
+/// any cut on which the program fails is one of a failing leaf that was found.
 pub fn last_cuts_have_all()
     ensures { LastCutsHaveAll }
 {

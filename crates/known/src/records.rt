@@ -28,7 +28,7 @@ pub(crate) struct Looked {
 pub(crate) struct KeptRun {
     pub(crate) marks: u32,
     pub(crate) end: RunEnd,
-    /// In the order of the first looks.
+    /// The sectors at which the program looked, in the order of the first looks.
     pub(crate) sectors: Vec<Looked>,
     /// How many of them, from the first one on, are those of the record before it.
     pub(crate) shared: usize,

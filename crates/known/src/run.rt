@@ -8,9 +8,9 @@ ghost use Rattle.known.specs.Ends.{ending_of, same_end};
 /// How a program ended on an image.
 #[derive(Clone, Copy)]
 pub enum RunEnd {
-    /// With an answer, 0 where it takes the image for a good one.
+    /// It ended with this answer: 0 where it takes the image for a good one.
     Answer(u8),
-    /// By a signal.
+    /// It was ended by this signal.
     Signal(u8),
     /// It was stopped when its time was over.
     OutOfTime,

@@ -35,7 +35,7 @@ impl<'a> Model for WantedImage<'a> {
     ghost invariant = { λ i. IsImage i.log.now i.cut i.tears i.sets.items i.departures.items };
 }
 
-/// Of each part, by its number, the set of what a case leaves it; all fates, where it has no set.
+/// Returns for each part, by its number, the set of what a case leaves it; all fates, where it has no set.
 fn full_sets(alloc: Global, sets: &[u16], tears: bool, count: usize) -> Result<Vec<u16>, AllocError>
     ensures long { IfOk result (λ full. length full.items ≡ count) }
     ensures same { IfOk result (λ full. AreFull tears sets.now full.items) }

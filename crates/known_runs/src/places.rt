@@ -1,4 +1,4 @@
-//! At which line of a text a record stands.
+//! The line of a text at which a record stands.
 
 ghost use Rattle.std.specs.Prelude.{◌≡◌, ◌==◌, ◌&&◌, ◌+◌, ◌<◌, ◌^◌, if◌then◌else◌};
 ghost use Rattle.known_runs.specs.Lines.{has_byte, begins_line, begins_record, record_line};

@@ -185,7 +185,7 @@ fn is_rising(sectors: &[u32]) -> bool
     true
 }
 
-/// The same sectors in the order of their numbers.
+/// Returns these sectors in the order of their numbers.
 #[tactic(auto, using(crate::proofs::Sectors::sorted_same, crate::proofs::Sectors::sorted_order))]
 fn sorted_of(alloc: Global, sectors: &[u32]) -> Result<Vec<u32>, AllocError>
     ensures same { IfOk result (λ sorted. IsPermutation sectors.now sorted.items) }

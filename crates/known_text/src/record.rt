@@ -97,7 +97,7 @@ fn are_of_log(entries: &[Entry], marks: &[u32], said: &RanSaid<'_>) -> bool
     has_marks(entries, marks, said.cut, said.marks) && is_end(said.end)
 }
 
-/// Of each part at risk at a cut the set of the one fate that becomes of it, by the words of a choice.
+/// Returns for each part at risk at a cut the set of the one fate that becomes of it, by the words of a choice.
 #[tactic(auto, using(crate::proofs::Recorded::no_sets, crate::proofs::Recorded::are_sets))]
 fn sets_said(
     alloc: Global,

@@ -1,4 +1,4 @@
-//! At which line of C each slot of a program comes, as `crashbpf-cc` writes it (docs/CHECKERS.md, CHECK.lines).
+//! The line of C from which each slot of a program comes, as `crashbpf-cc` writes it (docs/CHECKERS.md, CHECK.lines).
 
 ghost use Rattle.std.specs.Prelude.{◌≡◌, ◌<◌, ◌⊎◌, ◌++◌, ◌∷◌, [], None, length, bytes_eq, option_map, string_bytes, IfOk, MatchOption, OnOk};
 ghost use Rattle.std.specs.Char.{is_ascii_digit, is_ascii_graphic};

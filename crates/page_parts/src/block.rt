@@ -18,7 +18,7 @@ use logfmt::{Entry, Log};
 use losses::flushes::MissingFlush;
 use std::alloc::{AllocError, Global};
 
-/// From how many entries on a log is large.
+/// The number of entries from which on a log is large.
 pub const MOST_CELLS: usize = 1000;
 
 /// A block of entries or cuts: its first number, and the first after it.
@@ -102,7 +102,7 @@ fn count_one(block: Block, cut: &CutCount) -> usize
     if fails_within(block, cut) { 1 } else { 0 }
 }
 
-/// At how many cuts of a block images fail.
+/// Returns at how many cuts of a block images fail.
 fn count_within(block: Block, cuts: &[CutCount]) -> usize
     ensures value { result ≡ count_within block.from block.to cuts.now }
     ensures bound { result ≤ length cuts.now }

@@ -57,7 +57,7 @@ fn count_one(cut: &CutCount) -> usize
     if cut.failing == 0 { 0 } else { 1 }
 }
 
-/// At how many cuts something fails.
+/// Returns at how many cuts something fails.
 pub fn count_failing(cuts: &[CutCount]) -> usize
     ensures value { result ≡ count_fails cuts.now }
     ensures bound { result ≤ length cuts.now }

@@ -118,7 +118,7 @@ pub(crate) fn put_lacking(
     }
 }
 
-/// Appends what stands before the entry of that number, of that many that are named.
+/// Appends what stands before the entry of a number, of `count` entries that are named.
 fn put_between(out: &mut String, count: usize, number: usize) -> Result<(), AllocError>
     requires { number < count }
     ensures { OnOk result (string_bytes out.new ≡ string_bytes out.old ++ between_text count number) }
@@ -152,7 +152,7 @@ fn put_named(
     put(out, PagePart::NamedClose)
 }
 
-/// Appends the first of that many flushes.
+/// Appends the first of `count` flushes.
 #[tactic(auto, using(crate::proofs::Rows::named_more, crate::proofs::Rows::named_end))]
 fn put_names(
     out: &mut String,

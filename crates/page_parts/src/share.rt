@@ -1,4 +1,4 @@
-//! Which share of the images of a cut fails, with its colour, and the legend.
+//! The share of a cut's images that fails, with its colour, and the legend.
 
 ghost use Rattle.std.specs.Prelude.{◌≡◌, ◌≤◌, ◌++◌, OnOk, string_bytes};
 ghost use Rattle.page_parts.specs.Shares.{one_in, is_within, share_of, share_class, none_words, share_words, key_text, keys_open, legend_text};
@@ -7,7 +7,7 @@ use crate::counts::{JudgedKind, put_kind};
 use crate::pieces::{PagePart, put};
 use std::alloc::AllocError;
 
-/// Which share of the images of a cut fails: none, at most a hundredth, a tenth or half of them, more, or all.
+/// The share of a cut's images that fails: none, at most a hundredth, a tenth or half of them, more, or all.
 #[derive(Clone, Copy)]
 pub(crate) enum Share {
     No,
@@ -18,7 +18,7 @@ pub(crate) enum Share {
     All,
 }
 
-/// Of how many images at most one fails, in a share with a bound.
+/// Returns the number of images of which at most one fails, in a share with a bound.
 fn one_in(share: Share) -> u64
     ensures value { result ≡ one_in share }
     ensures some { 1 ≤ result }
@@ -31,14 +31,14 @@ fn one_in(share: Share) -> u64
     }
 }
 
-/// Whether that many images of a cut are within the bound of a share.
+/// Whether `failing` of a cut's `images` images are within the bound of a share.
 fn is_within(images: u64, failing: u64, share: Share) -> bool
     ensures { result ≡ is_within images failing share }
 {
     failing <= images / one_in(share)
 }
 
-/// Which share of the images of a cut that many failing ones are.
+/// Returns the share that `failing` of a cut's `images` images are.
 pub(crate) fn share_of(images: u64, failing: u64) -> Share
     ensures { result ≡ share_of images failing }
 {

@@ -23,7 +23,7 @@ pub struct OptionWords {
     pub unnamed: Option<OptionPlace>,
 }
 
-/// Which image is meant.
+/// The image that is meant.
 #[derive(Clone, Copy)]
 pub enum Which {
     /// The image of that number.

@@ -14,7 +14,7 @@ const MOST_WIDE: u64 = 9_223_372_036_854_775_807;
 pub enum Extent {
     /// All images, of a run that has at most 16,777,216.
     Whole,
-    /// Those that a command names, of a run that has fewer than 2^63.
+    /// The images that a command names, of a run that has fewer than 2^63.
     Wide,
     /// The images from one number to below another, of a run that has fewer than 2^63.
     Part { from: u64, to: u64 },

@@ -21,7 +21,7 @@ pub struct KnownWords {
     pub at_failing: bool,
     /// The number after `--cases`, where that stands there.
     pub cases: Option<u64>,
-    /// What is to be told of what was found.
+    /// What is to be printed about what was found.
     pub telling: KnownTelling,
 }
 
@@ -36,7 +36,8 @@ pub struct KnownSearch {
     pub cases: Option<u32>,
 }
 
-/// After how many cases the search of a cut ends, where that is asked: none where the number after `--cases` isn't 1 to 16,777,216.
+/// Returns after how many cases the search of a cut ends, where that is asked: none where the number after `--cases` isn't 1 to
+/// 16,777,216.
 fn count_of(number: Option<u64>) -> Option<Option<u32>>
     ensures { MatchOption result (is_count_asked number ≡ false) (λ most. (is_count_asked number ≡ true) × (most ≡ number)) }
 {

@@ -14,7 +14,7 @@ pub struct Settings {
     pub sectors: u64,
     /// How large the log and its device may be.
     pub limits: Limits,
-    /// Which cuts are wanted, and which flushes are added to the log.
+    /// The cuts that are wanted, and the flushes that are added to the log.
     pub cuts: Cuts,
     /// How many parts may depart.
     pub bound: u64,
@@ -65,7 +65,7 @@ pub enum Telling {
     Page,
 }
 
-/// What is to be told of the failing cases of any number of losses.
+/// What is to be printed about the failing cases of any number of losses.
 #[derive(Clone, Copy)]
 pub enum CaseTelling {
     /// Each of them.
@@ -76,7 +76,7 @@ pub enum CaseTelling {
     Page,
 }
 
-/// What is to be told of a report that is given in place of programs.
+/// What is to be printed about a report that is given in place of programs.
 #[derive(Clone, Copy)]
 pub enum Retelling {
     /// Why its programs fail.
@@ -87,7 +87,7 @@ pub enum Retelling {
     Places,
 }
 
-/// What is to be told of what records of a program tell.
+/// What is to be printed about what records of a program tell.
 #[derive(Clone, Copy)]
 pub enum KnownTelling {
     /// Each failing case.
@@ -123,9 +123,9 @@ pub enum OptionPlace {
     Epoch = 15,
     /// The number of marks that it is told.
     Marks = 16,
-    /// Which images of a run are meant.
+    /// The images of a run that are meant.
     Images = 17,
-    /// In how many parts a run is to be laid out.
+    /// The number of parts in which a run is to be laid out.
     Parts = 18,
     /// Guards beside a limit of steps.
     Guards = 19,

@@ -42,7 +42,7 @@ pub struct Trial {
     pub checked: Option<u64>,
     /// Whether the program is accepted with guards, and runs with them.
     pub guards: bool,
-    /// Of how many of the last steps a line is printed.
+    /// How many of the last steps are printed, a line for each.
     pub trace: u64,
 }
 

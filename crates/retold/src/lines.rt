@@ -8,7 +8,7 @@ use join::GivenLine;
 use report::lines::LineMark;
 use std::alloc::{AllocError, Global};
 
-/// Of which image and which program each line is.
+/// Returns of which image and which program each line is.
 pub(crate) fn marks_of(alloc: Global, lines: &[GivenLine<'_>]) -> Result<Vec<LineMark>, AllocError>
     ensures { IfOk result (λ marks. marks.items ≡ marks_told (map line_told lines.now)) }
 {

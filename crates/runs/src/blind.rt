@@ -25,7 +25,7 @@ use std::alloc::{AllocError, Global};
 /// The most sectors of a footprint that is kept.
 const ROOM: usize = 32;
 
-/// So many flushes and marks are few, however many cuts are wanted.
+/// The most flushes and marks that are taken for few, however many cuts are wanted.
 const MOST_CHANGES: u32 = 1024;
 
 /// How many sectors are kept of which it is known that no entry writes or discards them.

@@ -376,7 +376,7 @@ fn all_rounds<G: Gate + Sync, R: Threads + Wait + Sync>(
     Ok(hits)
 }
 
-/// Both, one after the other.
+/// Returns both texts, one after the other.
 fn join_texts(begin: Vec<u8>, rounds: &str) -> Result<Vec<u8>, Refusal>
     ensures bytes { IfOk result (λ bytes. bytes.items ≡ begin.items ++ rounds.now) }
     ensures refused { IfErr result (λ r. r ≡ memory_refusal) }

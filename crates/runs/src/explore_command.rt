@@ -78,7 +78,7 @@ pub struct RunAnswer {
 #[derive(Drop)]
 pub(crate) struct Told {
     pub(crate) explored: Explored,
-    /// Of each program whether it passes without looking at what the log writes; nothing where that isn't looked for.
+    /// Whether each program passes without looking at what the log writes; nothing where that isn't looked for.
     pub(crate) blind: ArrayVec<bool, 8>,
     /// How many cases were left out, where none that was judged fails.
     pub(crate) left_out: Option<LeftOut>,
@@ -330,9 +330,9 @@ fn report_of(alloc: Global, task: &Task<'_>, lines: &Lines) -> Result<Vec<u8>, A
 /// The form in which it is told why programs fail.
 #[derive(Clone, Copy)]
 pub(crate) enum CauseForm {
-    /// As a text.
+    /// A text.
     Text,
-    /// As a page for a browser.
+    /// A page for a browser.
     Page,
 }
 
@@ -530,13 +530,13 @@ fn judge_log<G: Gate + Sync, R: Threads + Wait + Sync>(
 /// What a run is asked for.
 #[derive(Clone, Copy)]
 pub enum WantedAnswer {
-    /// To be told of its failing images.
+    /// Its failing images.
     Told(Telling),
-    /// To be told where flushes are missing, run by run.
+    /// Where flushes are missing, run by run.
     Cured,
-    /// To be told the same of any number of losses, by its cases.
+    /// Where flushes are missing with any number of losses, by its cases.
     CuredCases(AnyLosses),
-    /// To be told of any number of losses, by its failing cases.
+    /// Its failing cases, with any number of losses.
     Cases(AnyLosses),
 }
 

@@ -26,7 +26,7 @@ pub(crate) struct Task<'x> {
     pub(crate) plan: &'x Plan<'x>,
     pub(crate) checkers: &'x [Checker<'x>],
     pub(crate) options: &'x Options,
-    /// Which images are judged, of how many.
+    /// The images that are judged, and how many the run has.
     pub(crate) span: Span,
     pub ghost plan_is: { plan.now ≡ plan_of options.now log.now },
     pub ghost device: { log.now.sectors ≡ options.now.sectors },

@@ -1,4 +1,4 @@
-//! From pieces of the work to all lines.
+//! The lines of a run, made of the pieces of its work.
 
 ghost use Rattle.std.specs.Prelude.{◌≡◌, ◌<◌, ◌++◌, ◌∷◌, [], ℕ, All, List, length, position, IfOk, IfErr, OnOk};
 ghost use Rattle.std.specs.List.{flat_map};

@@ -110,7 +110,7 @@ fn put_told(
 }
 
 impl Entries {
-    /// Nothing is known.
+    /// Returns entries by which nothing is known.
     pub(crate) fn new(alloc: Global) -> Result<Entries, AllocError>
         ensures { IfOk result (λ entries. entries ≡ []) }
     {
@@ -123,7 +123,7 @@ impl Entries {
         })
     }
 
-    /// Nothing is known of another cut.
+    /// Empties the entries, since nothing is known of another cut.
     pub(crate) fn clear(&mut self)
         ensures { self.new ≡ [] }
     {

@@ -25,7 +25,7 @@ use std::sync::Wait;
 use std::thread::Threads;
 use verdict_cache::{Run, shards};
 
-/// What the work comes to.
+/// What the work gives.
 #[derive(Drop)]
 pub struct Work {
     /// The failing lines, by image and then by program.

@@ -1,16 +1,16 @@
 //! A gate through which every block of the work passes.
 
-/// Is told how many images are judged, before any of them is; then called by the worker that is
+/// What workers call as they go. It learns how many images are judged before any of them is. Then each worker calls it when it is
 /// about to judge a block, and when it has judged it or passed over it. A test holds workers by it, and a
 /// run may count by it how far it is.
 pub trait Gate {
-    /// That many images are to be judged. Where it is left out, nothing is done.
+    /// Is called with how many images are to be judged. It does nothing where an implementation leaves it out.
     fn begin(&self, _images: u64) {}
 
-    /// The worker takes the block.
+    /// Is called when the worker takes the block.
     fn before(&self, worker: u8, block: u32);
 
-    /// The worker has the piece of the block.
+    /// Is called when the worker has the piece of the block.
     fn after(&self, worker: u8, block: u32);
 }
 

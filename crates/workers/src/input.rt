@@ -169,7 +169,7 @@ impl<'a> Input<'a> {
         let _moved = picked.next(self.plan, self.asked.bound, self.asked.tears);
     }
 
-    /// How many images there are in a row, from that of a choice on and at most that many, in which its last departure alone changes.
+    /// Returns how many images in a row, from that of a choice on and at most `most`, differ from it in its last departure alone.
     #[inline(always)]
     pub(crate) fn reach(&self, picked: &Picked, most: u64) -> u64
         requires member { (image : ℕ) × IsRanked self.now.plan self.now.bound self.now.tears image picked.now }
@@ -187,7 +187,7 @@ impl<'a> Input<'a> {
         stretch(fates(self.asked.tears), picks[at], parts).min(most)
     }
 
-    /// Goes on from the picks of an image to those of the one that is that many after it, if there is one. Up to that one the last
+    /// Goes on from the picks of an image to those of the one that is `count` after it, if there is one. Up to that one the last
     /// departure alone changes.
     #[inline(always)]
     pub(crate) fn go_over(&self, picked: &mut Picked, count: u64)

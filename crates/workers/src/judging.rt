@@ -43,11 +43,11 @@ pub(crate) struct Seen<'v, 'a> {
 /// What is known of a checker and an image.
 #[derive(Drop)]
 pub(crate) enum Finding {
-    /// It finds the image good.
+    /// The checker finds the image good.
     Good,
-    /// It ends so there.
+    /// The checker ends so on the image.
     Ends(Outcome),
-    /// Nothing.
+    /// Nothing is known.
     Open,
 }
 

@@ -28,7 +28,7 @@ impl<'a> Model for Local<'a> {
 }
 
 impl<'a> Local<'a> {
-    /// Nothing is known.
+    /// Returns what a worker begins with: nothing is known.
     pub(crate) fn new(alloc: Global, input: &Input<'a>) -> Result<Local<'a>, AllocError>
         ensures { IfOk result (IsLocal input.now) }
     {

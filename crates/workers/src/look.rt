@@ -12,8 +12,8 @@ pub(crate) struct Stop {
 /// What entries say of an image.
 #[derive(Drop)]
 pub(crate) enum EntryLook {
-    /// That many images in a row, from that one on, are good.
+    /// From the image on, this many images in a row are good.
     Good(u64),
-    /// It isn't known to be good by this checker.
+    /// The image isn't known to be good by this checker.
     Stops(Stop),
 }

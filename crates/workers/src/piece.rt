@@ -94,7 +94,7 @@ impl Piece {
         }
     }
 
-    /// Those lines, and then its own.
+    /// Returns `lines`, followed by its own.
     pub(crate) fn appended_to(self, lines: Lines) -> Result<Lines, AllocError>
         ensures { IfOk result (λ all. all ≡ lines ++ lines_of self.found) }
     {

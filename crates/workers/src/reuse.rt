@@ -42,7 +42,7 @@ impl Model for Reuse {
 }
 
 impl Reuse {
-    /// Nothing is known.
+    /// Returns a reuse by which nothing is known.
     pub(crate) fn new(alloc: Global) -> Reuse
         ensures { (s : Subject) → IsTrueOf s result }
     {
@@ -108,8 +108,8 @@ impl Reuse {
         self.on
     }
 
-    /// How many images in a row from one on a checker finds good, without a run of their own. Of that many the last departure
-    /// alone changes.
+    /// Returns how many of `most` images in a row, from one on, a checker is known to find good without a run of their own. In these
+    /// images the last departure alone changes.
     fn look_by(
         &mut self,
         input: &Input<'_>,
@@ -228,7 +228,7 @@ fn are_vain(entries: &[Entries]) -> bool {
     true
 }
 
-/// That many lists of entries at least, all empty.
+/// Empties all lists of entries, and adds empty ones until there are at least `count`.
 fn empty_entries(entries: &mut Vec<Entries>, alloc: Global, count: usize) -> Result<(), AllocError>
     ensures empty { OnOk result (All (λ own. own ≡ []) entries.new.items) }
     ensures enough { OnOk result (count ≤ length entries.new.items) }
@@ -240,7 +240,7 @@ fn empty_entries(entries: &mut Vec<Entries>, alloc: Global, count: usize) -> Res
     Ok(())
 }
 
-/// Empties each.
+/// Empties each list of entries.
 fn clear_all(entries: &mut [Entries])
     ensures { All (λ own. own ≡ []) entries.new }
 {
@@ -249,8 +249,8 @@ fn clear_all(entries: &mut [Entries])
     }
 }
 
-/// Of that many images in a row from one on, in which the last departure alone changes, how many the entry that was found for the
-/// first of them speaks of.
+/// Returns of how many of `most` images in a row the entry speaks that was found for the first of them. In these images the last
+/// departure alone changes.
 fn alike(input: &Input<'_>, own: &Entries, found: &KnownEntry, picked: &Picked, most: u64) -> u64
     requires found { IsFound own.now picked.now.picks found.now }
     requires member { (n : ℕ) × IsRanked input.now.plan input.now.bound input.now.tears n picked.now }

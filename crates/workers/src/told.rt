@@ -1,4 +1,4 @@
-//! Which departures may be told.
+//! The departures that may be told.
 
 ghost use Rattle.std.specs.Prelude.{◌≡◌, ◌<◌, ◌≤◌, false, length, slice_get, IsTrue, MatchOption, Some};
 ghost use Rattle.std.specs.List.{slice_index_or};

@@ -78,7 +78,7 @@ fn lost_bytes(alloc: Global, at: &Cut<'_>, lost: &Lost) -> Result<Vec<u8>, Alloc
     Ok(bytes)
 }
 
-/// As many sets, of each of which the one fate is whole.
+/// Returns `count` sets, each with the one fate whole.
 fn whole_sets(alloc: Global, count: usize) -> Result<Vec<u16>, AllocError>
     ensures value { IfOk result (λ sets. sets.items ≡ replicate count 1) }
     ensures each { IfOk result (λ sets. length sets.items ≡ count) }

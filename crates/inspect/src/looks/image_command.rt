@@ -56,12 +56,12 @@ fn image_bytes<'x>(
     bytes_of(alloc, &view)
 }
 
-/// How a crash image is told.
+/// The form in which a crash image is printed.
 #[derive(Clone, Copy)]
 pub enum ImageForm {
-    /// As the bytes of its sectors.
+    /// The bytes of its sectors.
     Bytes,
-    /// In words.
+    /// A text in words.
     Words,
 }
 

@@ -114,7 +114,7 @@ fn text_with_parts(
     Ok(out.into_bytes())
 }
 
-/// Whether a run of that many images can be laid out so.
+/// Whether a run of `images` images can be laid out in these parts.
 fn can_be_laid_out(images: u64, parts: Option<u64>) -> bool
     ensures { MatchOption parts (result ≡ true) (λ count. result ≡ is_layout images count) }
 {
@@ -125,8 +125,8 @@ fn can_be_laid_out(images: u64, parts: Option<u64>) -> bool
 }
 
 /// A line for each wanted cut of a log, with its epoch, the marks before it, its volatile parts and
-/// how many images it has, and then their total (docs/COMMANDS.md, Commands). Where it is asked for, after these a line for each of
-/// that many parts in which the run is laid out.
+/// how many images it has, and then their total (docs/COMMANDS.md, Commands). Where parts are asked for, after these a line for each
+/// part in which the run is laid out.
 ///
 /// # Errors
 ///

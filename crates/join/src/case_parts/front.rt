@@ -1,4 +1,4 @@
-//! With which words the line of a case begins.
+//! The words with which the line of a case begins.
 
 ghost use Rattle.std.specs.Prelude.{◌≡◌};
 ghost use Rattle.join.specs.CaseReading.{ReadsFront};
@@ -15,7 +15,7 @@ pub struct CaseFront {
     pub(crate) number: u64,
 }
 
-/// With which words a line begins, and what stands after them; and something where it is no line.
+/// Returns what the words say with which a line begins, and the text after them; something where it is no line.
 #[tactic(auto, using(crate::proofs::CaseWords::front_read))]
 pub(crate) fn front_said(line: &str) -> (CaseFront, &str)
     ensures { ReadsFront line.now result.0 result.1.now }

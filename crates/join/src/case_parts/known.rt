@@ -15,9 +15,9 @@ pub struct KnownWords<'t> {
     pub(crate) lost: &'t str,
     /// The parts that are whole.
     pub(crate) kept: &'t str,
-    /// Those of which two fates or more are possible; nothing where there is none.
+    /// The parts of which two fates or more are possible; nothing where there is none.
     pub(crate) mixed: &'t str,
-    /// How many may have any fate.
+    /// How many parts may have any fate.
     pub(crate) free: &'t str,
     pub(crate) window: &'t str,
 }

@@ -21,7 +21,7 @@ pub struct CaseTally {
     pub(crate) last: Option<CaseFront>,
     /// How many lines there are.
     pub(crate) lines: u64,
-    /// At how many cuts.
+    /// At how many cuts they stand.
     pub(crate) cuts: u64,
     /// Whether each stands after the one before it.
     pub(crate) rising: bool,
@@ -55,7 +55,7 @@ fn is_new_cut(last: Option<CaseFront>, cut: u64) -> bool
 }
 
 impl CaseTally {
-    /// That of no line.
+    /// Returns the tally of no line.
     pub(crate) fn none() -> CaseTally
         ensures { result ≡ none_told }
     {
@@ -67,7 +67,7 @@ impl CaseTally {
         }
     }
 
-    /// That of one more line.
+    /// Returns the tally with one more line.
     pub(crate) fn more(self, front: CaseFront) -> CaseTally
         requires lines { self.lines + 1 < 2 ^ 64 }
         requires cuts { self.cuts + 1 < 2 ^ 64 }

@@ -25,9 +25,9 @@ pub(crate) struct CaseSaid<'t> {
     pub(crate) lost: Vec<Name>,
     /// The parts that are whole.
     pub(crate) kept: Vec<PartName>,
-    /// Those of which two fates or more are possible, and not all.
+    /// The parts of which two fates or more are possible, and not all.
     pub(crate) mixed: Vec<Mixed>,
-    /// How many may have any fate.
+    /// How many parts may have any fate.
     pub(crate) free: u64,
     pub(crate) window: Option<Window>,
 }

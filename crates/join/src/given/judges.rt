@@ -13,7 +13,7 @@ use crate::words::{beyond, parts};
 use report::{ProgramHead, put_programs};
 use std::alloc::{AllocError, Global};
 
-/// Of which programs a report is.
+/// The programs that a report is of.
 #[derive(Drop)]
 pub(crate) struct Judges {
     /// Whether it is one that is given images as files.

@@ -123,7 +123,7 @@ fn text_said<'t>(
     rest_said(alloc, run, text, titled, judged, line)
 }
 
-/// At which line the first byte stands that isn't ASCII.
+/// Returns the line at which the first byte stands that isn't ASCII.
 fn line_of_foreign(bytes: &[u8]) -> u64 {
     let mut line: u64 = 1;
     for byte in bytes {

@@ -24,7 +24,7 @@ fn line_len(text: &[u8]) -> usize
     text.len()
 }
 
-/// What stands after that many lines of a text.
+/// Returns what stands after the first `count` lines of a text.
 fn after_lines(text: &[u8], count: usize) -> &[u8]
     ensures { IsAfter text.now count result.now }
 {

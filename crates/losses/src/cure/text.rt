@@ -56,7 +56,7 @@ fn put_program(out: &mut String, program: usize, failures: &[Failure]) -> Result
     write!(out, " uncured {uncured}\n")
 }
 
-/// Appends a line for each of that many programs: on how many images it fails, and on how many of these no flush helps.
+/// Appends a line for each program: on how many images it fails, and on how many of these no flush helps.
 ///
 /// # Errors
 ///
@@ -116,7 +116,7 @@ fn put_missing(out: &mut String, flushes: &[MissingFlush]) -> Result<(), AllocEr
     Ok(())
 }
 
-/// Appends of each of that many programs how many of its failures have no window, and the flushes that are missing.
+/// Appends for each program how many of its failures have no window, and the flushes that are missing.
 ///
 /// # Errors
 ///

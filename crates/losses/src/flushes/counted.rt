@@ -20,7 +20,7 @@ pub struct MissingFlush {
     pub failing: usize,
 }
 
-/// Which of the places, rising, is the first that a window holds.
+/// Returns which of the places, rising, is the first that a window holds.
 fn first_in(places: &[u32], window: Window) -> usize
     requires order { IsNonDecreasing places.now }
     requires one { HoldsOne window places.now }

@@ -8,7 +8,7 @@ ghost use Rattle.losses.specs.Places.{AreWindows, AreStarts, ArePlaces};
 use crate::flushes::window::Window;
 use std::alloc::{AllocError, Global};
 
-/// Of the windows that end at each of that many entries the greatest start, or 0 where none ends there.
+/// Returns for each of `entries` entries the greatest start of the windows that end there, or 0 where none does.
 fn starts_of(alloc: Global, windows: &[Window], entries: usize) -> Result<Vec<u32>, AllocError>
     requires { AreWindows entries windows.now }
     ensures { IfOk result (λ starts. AreStarts entries windows.now starts.items) }

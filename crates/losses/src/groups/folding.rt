@@ -79,9 +79,9 @@ fn example_of(
     known_by(examples, key, part)
 }
 
-/// For each failing choice of a cut the place of the example under which it stands. The smallest failing choices are folded where
-/// the same parts are lost and the same parts are torn, and the first is the example; a choice stands under that of the first
-/// failing choice that is a part of it. A choice is the numbers of its departures: 15 times a part, and then 0 where it is lost
+/// Returns for each failing choice of a cut the place of the example under which it stands. The smallest failing choices are folded
+/// where the same parts are lost and the same parts are torn, and the first is the example. A choice stands under the example of the
+/// first failing choice that is a part of it. A choice is the numbers of its departures: 15 times a part, and then 0 where it is lost
 /// and 1 to 14 where it is torn.
 ///
 /// It takes what `groups` takes, and for each smallest choice a look into a map of the examples.

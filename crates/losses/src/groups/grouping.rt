@@ -19,8 +19,8 @@ fn part_among(keys: &[u128], numbers: &[u32]) -> Option<usize>
     first_of(keys, sought.as_slice())
 }
 
-/// For each failing choice of a cut the place of the one in whose group it stands: of the failing choices that are a
-/// part of it, the first. A choice is the numbers of its departures.
+/// Returns for each failing choice of a cut the place of the one in whose group it stands: the first of the failing
+/// choices that are a part of it. A choice is the numbers of its departures.
 ///
 /// It takes a search by halves for each part of each choice, and 24 bytes for each choice.
 ///

@@ -19,7 +19,7 @@ pub struct CutFailures {
     pub cut: u32,
     /// How many images it has.
     pub images: u64,
-    /// On how many of them the program fails.
+    /// How many of them the program fails on.
     pub failing: usize,
     /// The groups of these, by image.
     pub groups: Vec<FailingGroup>,
@@ -45,7 +45,7 @@ fn numbers_of(
     Ok(numbers)
 }
 
-/// For each of some failing images of a cut, whose images begin with `first`, the place of the example under which it stands.
+/// Returns for each of some failing images of a cut, whose images begin with `first`, the place of the example under which it stands.
 pub(crate) fn examples_of(
     alloc: Global,
     starts: &Starts<'_>,

@@ -22,7 +22,8 @@ fn both(so_far: bool, alike: bool) -> bool
     so_far && alike
 }
 
-/// For each place whether all images that stand under it have its outcome, where the outcome of the first image has that number.
+/// Returns for each place whether all images that stand under it have its outcome, where `begin` is the number of the first image's
+/// outcome.
 pub(crate) fn same_of(
     alloc: Global,
     places: &[usize],

@@ -441,7 +441,7 @@ fn with_fewer_images(by: By) -> &'static str {
     }
 }
 
-/// That there are too many images.
+/// Returns the words that there are too many images.
 fn too_many_images(images: Extent) -> &'static str {
     match images {
         Extent::Wide | Extent::Part { .. } => {
@@ -472,7 +472,7 @@ fn put_cases_notes(out: &mut String, options: OptionWords) -> Result<(), AllocEr
     )
 }
 
-/// With what the log that the first file holds has fewer images than by these options.
+/// Returns the options with which the log that the first file holds has fewer images than with these.
 fn fewer_of(alloc: Global, options: OptionWords, files: &[Option<Vec<u8>>]) -> Option<Fewer> {
     let options = options_of(options).ok()?;
     let recording = recording_of(files)?;

@@ -44,7 +44,7 @@ fn sector_of(bytes: &[u8]) -> usize
     }
 }
 
-/// How many bytes a header and its data take, in sectors of that many bytes.
+/// Returns how many bytes a header and its data take, in sectors of `sector` bytes.
 fn extent(header: &ShownHeader, sector: usize) -> Option<u64> {
     if header.flags / DISCARD % 2 == 1 {
         return Some(sector as u64);

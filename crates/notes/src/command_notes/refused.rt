@@ -10,7 +10,7 @@ use request::facts::{Breach, breach_of};
 use request::{OptionWords, Request, TrialWords, options_of, trial_of};
 use std::alloc::Global;
 
-/// How many sectors an image of that many bytes has, if it may have as many.
+/// Returns how many sectors an image of `bytes` bytes has, if it may have as many.
 fn sectors_of(bytes: usize) -> Option<u32>
     ensures some { IfSome result (λ sectors. 1 ≤ sectors) }
     ensures device { IfSome result (λ sectors. sectors ≤ most_sectors) }

@@ -25,7 +25,7 @@ pub struct LogFacts {
     pub flushes: usize,
     /// How many cuts are wanted.
     pub cuts: usize,
-    /// Which marks promise what nothing made durable; none where there was no memory to find them.
+    /// The marks that promise what nothing made durable; none where there was no memory to find them.
     pub promises: Option<Promises>,
 }
 

@@ -13,7 +13,7 @@ use verifier::Unreached;
 pub struct RunFacts {
     /// What no run reaches of each program, one after the other; none of one that isn't verified.
     pub unreached: ArrayVec<Option<Unreached>, 8>,
-    /// Of each program of a run that is told of, one after the other, whether it passes without looking at what the log writes.
+    /// Whether a program of a run passes without looking at what the log writes, for one program after the other.
     pub blind: ArrayVec<bool, 8>,
     /// How many cases a run of any number of losses left out, where none that it judged fails.
     pub left_out: Option<LeftOut>,

@@ -101,7 +101,7 @@ fn make_room(stamps: &mut Vec<u32>, sectors: usize) -> Result<(), AllocError>
 }
 
 impl Promises {
-    /// Nothing yet.
+    /// Returns promises with nothing found yet.
     fn new() -> Promises
         ensures { AreFirst [] result }
     {
