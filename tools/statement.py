@@ -68,7 +68,7 @@ PROMISES = [
             ("losses", "no_flush_helps", ""),
         ],
     ),
-    ("Every function is safe on any input, and returns, unless the stack runs out.", []),
+    ("Every function is safe on any input, and returns, unless it waits or the stack runs out.", []),
 ]
 # Definitions that are named and not followed: crate, file of specs/ or none for all, and names or none for all; and why.
 LEFT_OUT = [

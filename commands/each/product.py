@@ -16,6 +16,7 @@ MARK = re.compile(rb'entry \d+ .*\bmark\b.* text "(.*)"')
 PROMISES = ("note: marks that promise ", "note: a write before each of them ")
 RISK = re.compile(r"cut (\d+) epoch \d+ marks \d+ at risk (\d+) in flight \d+", re.A)
 PART_OF_CUTS = re.compile(r"part --from (\d+) --to (\d+)", re.A)
+PART_OF_IMAGES = re.compile(r"part (\d+)\.\.(\d+)", re.A)
 NO_IMAGE = "refused 13 at 17"
 # On which options the images hang of which records are.
 OF_RECORDS = ("--sectors", "--base", "--by", "--large")
@@ -74,6 +75,19 @@ def part(program, given, folder, words):
     if not found or lines[0] != "crash part 1" or not lines[2].startswith("sectors "):
         raise Refusal(f"crashbpf refuses the log {given.log}, or its options: {first_line(said)}")
     return lines, int(found[1]), int(found[2])
+
+
+def images_of_part(program, given, total):
+    """Returns the first of the images that are judged and the one after the last: all, or those of a part, of which there are none where there
+    are more parts than images."""
+    if given.part is None:
+        return 0, total
+    part, parts = given.part
+    status, printed, said = asked(program, ["images", *given.of_images(), "--images", "--parts", str(parts)])
+    if status != 0:
+        raise Refusal(first_line(said))
+    found = [(int(it[1]), int(it[2])) for it in map(PART_OF_IMAGES.fullmatch, printed.decode().splitlines()) if it]
+    return found[part - 1] if part <= len(found) else (total, total)
 
 
 def head(program, given, folder):

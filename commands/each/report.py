@@ -4,7 +4,7 @@ import shutil
 import sys
 import tempfile
 
-TITLE = "crash report 2\n"
+TITLE, PART = "crash report 2\n", "crash part 1\n"
 
 
 def escaped(word, also=""):
@@ -32,15 +32,20 @@ class Report:
         self.count += 1
         self.first = number if self.first is None else self.first
 
-    def write(self, options, given, total):
-        """Prints the report on standard output."""
+    def opening(self, given, images, total):
+        """Returns the lines before the options: those of the report, or of the text of a part of these images."""
+        if given.part:
+            return f"{PART}part {images.start}..{images.stop} of {total} inputs {self.inputs}\n"
+        return TITLE if given.first else f"{TITLE}inputs {self.inputs} programs 1\n"
+
+    def write(self, options, given, images, total):
+        """Prints the report of a range of images on standard output, of a run of so many."""
         if given.first:
-            last = f"images {total} first {'none' if self.first is None else self.first}\n"
+            last = f"images {len(images)} first {'none' if self.first is None else self.first}\n"
         else:
-            last = f"images {total} failing {self.count} lines {self.count}\n"
+            last = f"images {len(images)} failing {self.count} lines {self.count}\n"
         out = sys.stdout.buffer
-        said = "" if given.first else f"inputs {self.inputs} programs 1\n"
-        out.write(f"{TITLE}{said}{options}\nprogram 0 outside {told(given.program)}\n".encode())
+        out.write(f"{self.opening(given, images, total)}{options}\nprogram 0 outside {told(given.program)}\n".encode())
         self.lines.seek(0)
         shutil.copyfileobj(self.lines, out)
         out.write(last.encode())

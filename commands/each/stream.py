@@ -58,10 +58,10 @@ def inputs(file):
     return found[1].decode()
 
 
-def images(file, sectors, total=None):
-    """Yields the images of an export after its first line, and after them tests its last line, which has to count all that were there. `total`
-    is how many there have to be, where that is known."""
-    number, marks_of = 0, {}
+def images(file, sectors, total=None, start=0):
+    """Yields the images of an export after its first line, from the image `start` on, and after them tests its last line, which has to count all
+    that were there. `total` is how many there have to be, where that is known."""
+    number, marks_of = start, {}
     while True:
         line = file.readline(LONGEST)
         it = LINE.fullmatch(line)
@@ -76,5 +76,5 @@ def images(file, sectors, total=None):
         yield Image(number, int(it[2]), marks, it[5], records, None if fresh else value)
         number += 1
     last = LAST.fullmatch(line)
-    if not last or (int(last[1]), int(last[2])) != (number, len(marks_of)) or total not in (None, number) or file.read(1):
+    if not last or (int(last[1]), int(last[2])) != (number - start, len(marks_of)) or total not in (None, number - start) or file.read(1):
         raise cut_off(number)

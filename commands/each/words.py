@@ -11,7 +11,7 @@ from commands.shared import recording
 from commands.shared.faults import Refusal
 
 USAGE = "usage: crashbpf-each [-j N] [--keep DIR] [--timeout S] [--resume] LOG --sectors N [--bound K] .. -- PROGRAM {} .."
-USAGE += ", or with the folder of a recording in place of LOG --sectors N"
+USAGE += ", or with the folder of a recording in place of LOG --sectors N; or crashbpf-each --join PART .."
 # The options of `crashbpf images` that say which images there are, with a value and without one.
 VALUED = ("--sectors", "--flush", "--base", "--cuts", "--from", "--to", "--bound", "--by")
 FLAGS = ("--large", "--tears")
@@ -31,9 +31,11 @@ OWN_VALUED = {
 }
 OWN_FLAGS = {"--first": "first", "--resume": "resume", "--read-only": "read_only", "--cure": "cure", "--stay": "stay", "--again": "again"}
 # Those of both kinds that stand beside `--bound any` alone, and those that never do.
-ONLY_ANY = (*OF_ANY, *FLAGS_OF_ANY, "--runs", "--spot", "--part", "--cure", "--stay", "--again", "--recover")
+ONLY_ANY = (*OF_ANY, *FLAGS_OF_ANY, "--runs", "--spot", "--cure", "--stay", "--again", "--recover")
 NEVER_ANY = ("--first", "--read-only")
 MOST_RUNNERS, MOST_SECONDS, MOST_SECTORS, MOST_SPOTS, MOST_PARTS, MOST_CASES = 64, 86400, 33554432, 1000000, 10000, 16777216
+# Of a run with a bound, whose parts are joined at once.
+MOST_JOINED = 4096
 SECTOR = 512
 # What runs a program on the files of an image.
 FILES = str(Path(__file__).resolve().parents[1] / "record/crashbpf-files")
@@ -90,6 +92,7 @@ class Words:
     def told(self):
         """All that a verdict, or which of them are asked for, hangs on beside the log, the base and the program."""
         own = [f"first {self.first}", f"read only {self.read_only}", f"seconds {self.seconds}"]
+        own += [f"part {self.part}"] if self.part else []
         return [*own, *(f"{name} {value}" for name, value in self.options)]
 
 
@@ -128,11 +131,11 @@ def spotted(value):
     return number("--spot", count, MOST_SPOTS), int.from_bytes(os.urandom(4), "little") if seed == "" else number("the seed of --spot", seed, 1 << 32)
 
 
-def parted(value):
-    """Returns which part is judged, and of how many."""
+def parted(value, most):
+    """Returns which part is judged, and of how many, at most so many."""
     part, slash, parts = value.partition("/")
-    if not slash or not NUMBER.fullmatch(parts) or not 1 <= int(parts) <= MOST_PARTS:
-        raise Refusal(f"--part is I/N, part I of N, and N is 1 to {MOST_PARTS}")
+    if not slash or not NUMBER.fullmatch(parts) or not 1 <= int(parts) <= most:
+        raise Refusal(f"--part is I/N, part I of N, and N is 1 to {most}")
     return number("I of --part I/N", part, int(parts)), int(parts)
 
 
@@ -187,7 +190,7 @@ def of_recording(pairs, folder, program):
 
 def without_bound(given, names):
     """Returns the words with a bound, of which none was given: every loss, or one at a time where that can't be had, and why."""
-    if any(it in ONLY_ANY for it in names):
+    if any(it in (*ONLY_ANY, "--part") for it in names):
         return given.asking({"--bound": "any"})
     of_images = next((it for it in names if it in NEVER_ANY), None)
     why = f"{of_images} is of images" if of_images else missing()
@@ -199,8 +202,6 @@ def without_bound(given, names):
 def beside_any(given, names):
     """Tests what stands beside `--bound any`."""
     if not given.is_any():
-        if "--part" in names:
-            raise Refusal("--part is of every loss, with --bound any: join takes no reports of a program of yours, so a run with a bound has no parts")
         other = next((it for it in names if it in ONLY_ANY), None)
         if other:
             raise Refusal(f"{other} is of every loss, with --bound any")
@@ -276,7 +277,7 @@ def parse(words):
         elif name == "--runs":
             given.runs = number("--runs", value, MOST_CASES)
         elif name == "--part":
-            given.part = parted(value)
+            given.part = parted(value, MOST_PARTS if given.is_any() else MOST_JOINED)
         elif name == "--recover":
             given.recover = value
         elif name in OWN_FLAGS:

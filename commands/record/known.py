@@ -96,6 +96,7 @@ KINDS = {
     "mprotect": ("mprotect", "pkey_mprotect"),
     "mremap": ("mremap",),
     "msync": ("msync",),
+    "madvise": ("madvise", "process_madvise"),
     "range": RANGES,
     "lseek": ("lseek", "_llseek"),
     "truncate": ("truncate", "truncate64", "ftruncate", "ftruncate64"),

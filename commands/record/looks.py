@@ -50,6 +50,7 @@ TEXT = 1 << 20
 BEGUN = re.compile(rb"(?:\A|\n)(\d+) +(\w+)\(")
 RESUMED = re.compile(rb"(?:\A|\n)(\d+) +<\.\.\. (\w+) resumed>")
 MAKES = {it.encode() for it in known.MAKES}
+ADVISES = {it.encode() for it in known.KINDS["madvise"]}
 ENDS = {it.encode() for it in (*known.SYNCS, "msync", *known.WRITES)}
 MAPS = re.compile(rb"MAP_SHARED[^,]*, (\d+)<((?:\\x[0-9a-f]{2})*)>")
 WITHOUT = (
@@ -159,12 +160,12 @@ class Looks:
             self.begins(start + found.start(1), int(found[1]), found[2], piece[found.start() :])
 
     def begins(self, at, process, name, text):
-        """A call begins: one that maps a file, that has a mapping become writable, or that makes another process."""
+        """A call begins: one that maps a file, that has a mapping become writable or makes a hole by it, or that makes another process."""
         self.begun = name
         self.are_several |= name in MAKES
         if name in (b"mmap", b"mmap2", b"old_mmap"):
             self.hold(at, process, text)
-        elif name in (b"mprotect", b"pkey_mprotect") and b"PROT_WRITE" in text:
+        elif name in (b"mprotect", b"pkey_mprotect") and b"PROT_WRITE" in text or name in ADVISES and b"MADV_REMOVE" in text:
             for it in self.held.values():
                 self.watch(at, it)
 

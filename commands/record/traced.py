@@ -34,7 +34,7 @@ from commands.shared.recording import NAME, Recording
 # Calls that strace need not stop at: they write no file, move no place in one, and answer no descriptor of one.
 PASSED = (
     "pread64 preadv futex clock_gettime clock_nanosleep nanosleep gettimeofday time sched_yield rt_sigaction rt_sigprocmask "
-    "rt_sigreturn brk madvise getrandom getpid gettid getppid getuid geteuid getgid getegid getrlimit prlimit64 getrusage sysinfo "
+    "rt_sigreturn brk getrandom getpid gettid getppid getuid geteuid getgid getegid getrlimit prlimit64 getrusage sysinfo "
     "uname set_robust_list set_tid_address rseq epoll_wait epoll_pwait poll ppoll select pselect6 stat fstat lstat newfstatat statx "
     "access faccessat faccessat2 getdents64 sigaltstack sched_getaffinity sched_setaffinity timerfd_settime tgkill"
 ).split()

@@ -563,6 +563,17 @@ class Tracing(Copying):
             if self.mapped is None or not self.mapped.is_watched(it.file):
                 raise Refused(f"{call}: a shared mapping of a recorded file can be written unseen; {LOOKED_AT}")
 
+    def end_madvise(self, call, process, _flight):
+        """Refuses a hole that is made in a file by a mapping of it, where nobody looks at that. Linux makes one by a mapping for reading, too,
+        and where it says that a part of the range isn't mapped."""
+        if "MADV_REMOVE" not in call.text:
+            return
+        is_own = call.name == "madvise"
+        spaces = [process.space.within(call.number(0), call.number(1))] if is_own else [it.space.ranges for it in self.found.values()]
+        for it in (it for these in spaces for it in these):
+            if self.mapped is None or not self.mapped.is_watched(it.file):
+                raise Refused(f"{call}: a hole in a mapped file is made unseen; {LOOKED_AT}")
+
     def end_mremap(self, call, process, _flight):
         """Follows a mapping that gets another place or size."""
         if not call.failed() and call.result is not None:
@@ -660,7 +671,8 @@ class Tracing(Copying):
 
     def mark(self, call, data, entries):
         """A text for the marks: lines of a number, which isn't looked at, and a name. It is a promise from where the call began on: what was
-        made durable since then stands after it. `entries` is how many entries the log had then."""
+        made durable since then stands after it. `entries` is how many entries the log had then; calls in flight that began later are told of one
+        more."""
         if not data.endswith(b"\n"):
             raise Refused(f"{call}: a mark is one whole line")
         for line in data[:-1].split(b"\n"):
@@ -670,6 +682,8 @@ class Tracing(Copying):
             if found[1]:
                 self.still(call, "a mark is made")
                 self.disk.mark(found[1], entries)
+                for other in self.flights.values():
+                    other.entries += other.entries > entries
                 entries += 1
 
     def end_read(self, call, process, flight):

@@ -26,11 +26,14 @@ rooms.enter()
 
 from designs import DESIGNS
 from model import Run
-from notation import TOP, W, log
-from shells import differs, sh, try_all
+from notation import TOP, F, M, W, log
+from parts_model import PART_LINE, joined, layout
+from shells import differs, sh, try_all, wait_for_lines
 
 MACHINES = TOP / "examples/many_machines"
 LOGS = TOP / "examples"
+EACH = TOP / "commands/each/crashbpf-each"
+os.environ["EACH"] = str(EACH)
 
 
 def laid_out(folder, run, parts, options=""):
@@ -342,12 +345,114 @@ def cases_in_parts(folder):
     return found
 
 
+# A program of yours: by two bytes of the image it accepts it, rejects it, is killed, or takes too long. Without the file `go` it goes no further
+# than the image without a byte.
+JUDGE_OWN = """\
+first=$(od -A n -t u1 -N 1 "$1") last=$(od -A n -t u1 -j 1536 -N 1 "$1")
+[ $((first)) = 0 ] || [ -e go ] || exec sleep 60
+case $((first)).$CRASH_MARKS.$((last)) in 1.*) exit 201 ;; 2.0.*) kill -9 $$ ;; 3.*.7) sleep 60 ;; esac
+"""
+OWN = Run([W(0, 1, 1), W(1, 1, 2), F, W(0, 1, 2), M("one"), W(2, 1, 4), F, W(0, 1, 3), W(3, 1, 7)], 4, bound=2)
+OF_OWN = "--timeout 2 -- sh judge {}"
+
+
+def own_texts(folder, run, parts, options=""):
+    """Puts a log and a program of yours there. Returns the run by one process, and the texts of its parts, which are made of the report of all
+    failing images."""
+    Path(folder, "disk.log").write_bytes(log(run.recorded))
+    Path(folder, "judge").write_text(JUDGE_OWN)
+    Path(folder, "go").touch()
+    of_all = sh(folder, f'"$EACH" disk.log {run.options()} {OF_OWN}')
+    whole = sh(folder, f'"$EACH" disk.log {run.options()} {options} {OF_OWN}') if options else of_all
+    lines = of_all.stdout.splitlines(keepends=True)
+    head = [it for it in whole.stdout.splitlines(keepends=True) if it.startswith(("sectors ", "program "))]
+    total, texts = int(lines[-1].split()[1]), []
+    for start, end in layout(total, parts):
+        failing = [it for it in lines if it.startswith("image ") and start <= int(it.split()[1]) < end]
+        count = f"first {failing[0].split()[1] if failing else 'none'}" if options else f"failing {len(failing)} lines {len(failing)}"
+        failing = failing[:1] if options else failing
+        texts.append("".join([PART_LINE, f"part {start}..{end} of {total} inputs {lines[1].split()[1]}\n", *head, *failing, f"images {end - start} {count}\n"]))
+    return whole, texts
+
+
+def kills_own_part(folder, part):
+    """What is wrong where a part of a program of yours is killed after its first image."""
+    Path(folder, "go").unlink()
+    running = subprocess.Popen(["run/run_part", "run", str(part)], cwd=folder, stderr=subprocess.PIPE, text=True)
+    state = Path(folder, f"run/kept.{part}/state")
+    wait_for_lines(state, "image ", 1)
+    os.kill(int(Path(f"/proc/{running.pid}/task/{running.pid}/children").read_text().split()[0]), signal.SIGKILL)
+    found = differs("a part that was killed", (running.wait(), Path(folder, f"run/text.{part}").exists()), (2, False))
+    Path(folder, "go").touch()
+    # (what the killed process started ends by itself)
+    time.sleep(2)
+    return found + differs("what is left of it", state.read_text().count("\nimage "), 1)
+
+
+def judges_own_in_parts(folder, run, parts, options="", killed=None):
+    """What is wrong with the parts of a run of a program of yours with a bound, one of which may be killed and taken up again, and with their
+    join."""
+    whole, texts = own_texts(folder, run, parts, options)
+    done = sh(folder, f'"$1"/lay_out_each run {parts} disk.log {run.options()} {options} -j 1 {OF_OWN}', MACHINES)
+    found = differs(f"the status of lay_out_each: {done.stderr}", done.returncode, 0)
+    found += kills_own_part(folder, killed) if killed else []
+    none = sh(folder, '"$1"/join_each run', MACHINES)
+    found += differs("the status where no part is judged", (none.returncode, none.stdout), (2, ""))
+    found += differs("what is judged by processes", sh(folder, JUDGE, "run").returncode, 0)
+    judged = {it.name: it.read_text() for it in Path(folder, "run").glob("text.*")}
+    wanted = {f"text.{number}": text for number, text in enumerate([*texts, *[""] * (parts - len(texts))], 1)}
+    found += [f"{it} is {judged.get(it)!r}, and {wanted.get(it)!r} is right" for it in sorted(judged.keys() | wanted.keys()) if judged.get(it) != wanted.get(it)]
+    joined_by = sh(folder, '"$1"/join_each run', MACHINES)
+    return found + differs("the report", (joined_by.returncode, joined_by.stdout, joined_by.stderr), (whole.returncode, whole.stdout, ""))
+
+
+# Lines of a part of a program of yours, and what stands there in their place: no part has these, but the last two.
+CHANGED = {
+    "crash part 1\n": ["crash part 2\n", "crash report 2\n", "", "crash cases 1\n"],
+    "program 0 outside sh judge {}\n": ["program 0 slots 2 budget 2\n", "program 0 outside \n", "program 1 outside sh judge {}\n", "program 0 outside sh judge {}\nprogram 1 outside x\n"],
+    "signal 9 ": ["signal 0 ", "signal 128 ", "signal 09 ", "signal  9 ", "stray at slot 9 ", "fault 81 slot 0 ", "out of steps ", "answer 0 codes - ", "answer 256 codes - ", "answer 1 codes 1 "],
+    "program 0 signal 9 choice": ["program 1 signal 9 choice", "signal 9 choice"],
+    " bound 2 ": [" bound 4 ", " bound 1 "],
+    "of 23 inputs ": ["of 22 inputs ", "of 023 inputs ", "of 23 inputs 1"],
+    "outside sh judge {}": ["outside sh other {}", "outside sh judge  {}"],
+    "signal 9": ["signal 127", "out of time"],
+}
+
+
+def refuses_other_parts(folder):
+    """What is wrong with parts of a program of yours that aren't joined: all is compared with the model."""
+    whole, texts = own_texts(folder, OWN, 4)
+    other = own_texts(folder, Run(OWN.recorded[:-1] + [W(3, 1, 8)], 4, bound=2), 4)[1]
+    lists = [texts, texts[::-1], texts[:1], texts[1:], texts[:2] + texts[3:], [*texts, texts[1]], texts[:3], [texts[0], *other[1:]], [*other[:2], *texts[2:]], [other[3], *texts[:3]]]
+    failing = next(number for number, it in enumerate(texts) if " signal 9 " in it)
+    for line, others in CHANGED.items():
+        assert line in texts[failing], line
+        lists += [[*texts[:failing], texts[failing].replace(line, it, 1), *texts[failing + 1 :]] for it in others]
+    lists += [[texts[0][:-1], *texts[1:]], [texts[0] + "x", *texts[1:]], [*texts[:3], texts[3] + texts[3]]]
+    found = differs("the join of the model", joined([it.encode() for it in texts], outside=True), (1, whole.stdout.encode()))
+    for number, some in enumerate(lists):
+        for place, text in enumerate(some):
+            Path(folder, f"t{place}").write_text(text)
+        status, wanted = joined([it.encode() for it in some], outside=True)
+        done = sh(folder, '"$EACH" --join "$@"', *(f"t{it}" for it in range(len(some))))
+        if status < 2:
+            found += differs(f"join {number}", (done.returncode, done.stdout.encode(), done.stderr), (status, wanted, ""))
+        else:
+            said = f"crashbpf-each: refused {wanted[0]} at {wanted[1]}"
+            found += differs(f"join {number}", (done.returncode, done.stdout, done.stderr.startswith(said)), (2, "", True)) + ([] if done.stderr.startswith(said) else [f"{said}: {done.stderr}"])
+    return found + refused("no part", sh(folder, '"$EACH" --join'), "crashbpf-each", "--join takes ") + refused("no file", sh(folder, '"$EACH" --join absent'), "crashbpf-each", "")
+
+
 def rows():
     """Yields the name of each row and what looks at it."""
     writes = DESIGNS["two_slots/wrong"].recorded
     yield "a run in parts", lambda folder: judges_in_parts(folder, Run(writes, 4, bound=2, tears=True), 16, "--workers 2")
     yield "the first failing image of a run in parts", lambda folder: judges_in_parts(folder, Run(writes, 4, bound=2), 5, "--first")
     yield "the cases of a run in parts", cases_in_parts
+    yield "a program of yours in parts", lambda folder: judges_own_in_parts(folder, OWN, 5, killed=1)
+    yield "more parts than images", lambda folder: judges_own_in_parts(folder, Run([W(0, 1, 1)], 4), 5)
+    yield "the first failing image of a program of yours in parts", lambda folder: judges_own_in_parts(folder, OWN, 4, "--first")
+    yield "parts of a program of yours that aren't joined", refuses_other_parts
     yield "a part that is killed", lambda folder: kills_a_part(folder, Run(writes, 4, bound=2, tears=True))
     yield "runs that can't be laid out", lays_out_no_other
     yield "odd names of runs", takes_odd_folders

@@ -96,6 +96,8 @@ FOLLOWED = [
     ("execve takes the mapping away", MAPPED + "execve('/bin/x', ['x'], 0x7f /* 9 vars */) = 0\n" + SYNC, {4: {0: page(A)}}, [("w", "db", 0, A)]),
     ("a mapping that becomes writable", LONG + MAP.replace("|PROT_WRITE", "") + "mprotect(0x700000, 4096, PROT_READ|PROT_WRITE) = 0\n" + SYNC, {5: {0: page(A)}}, [("w", "db", 0, A), ("f",)]),
     ("a mapping for reading alone, and one that is private", OPEN.replace("O_RDWR|O_CREAT", "O_RDONLY|O_CREAT") + "mmap(NULL, 4096, PROT_READ, MAP_SHARED, 3<db>, 0) = 0x700000\nmmap(NULL, 4096, PROT_READ|PROT_WRITE, MAP_PRIVATE, 3<db>, 0) = 0x710000\ngetcwd(0x1, 9) = 9", {}, []),
+    ("a hole that is made by a mapping for reading", LONG + "pwrite64(3<db>, 'A*1024', 1024, 0) = 1024\n" + MAP.replace("|PROT_WRITE", "") + "madvise(0x700000, 4096, MADV_REMOVE) = 0\nfsync(3<db>) = 0", {6: {0: page()}},
+     [("w", "db", 0, A + A), ("w", "db", 0, Z + Z), ("f",)]),
     ("a file that is mapped twice", MAPPED + MAP.replace("0x700000", "0x800000") + "msync(0x800000, 4096, MS_SYNC) = 0", {5: {0: page(A), PAGE: page(B)}}, [("w", "db", 0, A), ("w", "db", 8, B), ("fua", "db", 0, A)]),
 ]
 
@@ -114,6 +116,7 @@ REFUSED = [
     ("a copy of what isn't known", MAPPED + THREAD + "splice(5</x>, NULL, 3<db>, NULL, 512, 0 <unfinished ...>\n101 getcwd(0x1, 9) = 9\n<... splice resumed>) = 512\n101 +++ exited with 0 +++", {6: (b"p", page(B))},
      "calls:5: .*can't be told from what it writes"),
     ("a store after a name was changed", MAPPED + "pwrite64(3<db>, 'A*512', 512, 0) = 512\nunlink('/r/files/db') = 0\ngetcwd(0x1, 9) = 9", {6: (b"p", page(B))}, "calls:6: .*db is written after a name"),
+    ("a hole in a file that nobody looks at", LONG + MAP.replace("|PROT_WRITE", "") + "madvise(0x700000, 4096, MADV_REMOVE) = 0", {4: (b"l", b"")}, "calls:4: .*a hole in a mapped file is made unseen; --mapped"),
     ("a file that nobody looks at from mprotect on", LONG + MAP.replace("|PROT_WRITE", "") + "mprotect(0x700000, 4096, PROT_WRITE) = 0", {4: (b"l", b"")}, "calls:4: .*written unseen; --mapped"),
 ]
 
@@ -137,7 +140,8 @@ def looks_of(text, seen, changed):
         if is_begin and b"MAP_SHARED" in line and (kind or number not in changed):
             records += record_of(kind or b"m", at, 0, 0, data)
             is_mapped = True
-        if is_begin and is_mapped and b"PROT_WRITE" in line and b"MAP_PRIVATE" not in line and not is_watched and number not in changed:
+        is_written = b"PROT_WRITE" in line and b"MAP_PRIVATE" not in line or b"MADV_REMOVE" in line
+        if is_begin and is_mapped and is_written and not is_watched and number not in changed:
             records += record_of(b"w", at)
             is_watched = True
         if number + 0.5 in seen:

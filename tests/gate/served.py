@@ -331,9 +331,8 @@ def test_options(_folder):
     wrong = (
         ("of images", [*WORDS, "--first"], [*WORDS, "--read-only"]),
         ("beside --cure", [*WORDS, "--cure", "--cases", "2"], [*WORDS, "--cure", "--part", "1/2"], [*WORDS, "--cure", "--cuts", "all"], [*USUAL, "--cure", "--runs", "9"]),
-        ("is 1 to ", [*WORDS, "--cases", "0"], [*WORDS, "--part", "3/2"], [*WORDS, "--spot", "0"], [*WORDS, "--runs", "0"]),
+        ("is 1 to ", [*WORDS, "--cases", "0"], [*WORDS, "--part", "3/2"], [*USUAL, "--bound", "1", "--part", "1/4097"], [*WORDS, "--spot", "0"], [*WORDS, "--runs", "0"]),
         ("with --bound any", *([*USUAL, "--bound", "1", *it] for it in (["--cure"], ["--at-most", "1"], ["--spot", "2"], ["--stay"], ["--runs", "9"]))),
-        ("join takes no reports", [*USUAL, "--bound", "1", "--part", "1/2"]),
         ("of images, and with --bound any", [*USUAL, "--first", "--cure"]),
     )
     return [it for says, *rows in wrong for words in rows for it in differs(f"{words} refused with {refused(words)}", says in refused(words), True)]

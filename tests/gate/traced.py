@@ -35,6 +35,7 @@ from commands.record import layout
 from commands.record import systems
 from commands.record import traced
 from commands.record.calls import Refused
+from commands.record.known import KINDS
 
 A, B, C = (bytes([it]) * SECTOR for it in b"ABC")
 KINDS = {disk.WRITE: "w", disk.FLUSH: "f", disk.FUA: "fua", disk.MARK: "m"}
@@ -112,6 +113,7 @@ FOLLOWED = [
     ("a mark", OPEN + "write(3<db>, 'A*512', 512) = 512\nopenat(AT_FDCWD</elsewhere>, 'm', O_WRONLY|O_APPEND) = 5</r/marks>\nwrite(5</r/marks>, '0 commit 1\n7 two\n', 17) = 17".replace("1\n7 two\n'", "1'").replace(", 17) = 17", ", 10) = 10"), None),
     ("a file that is skipped", OPEN.replace("<db>", "<lock>") + "mmap(NULL, 4096, PROT_READ|PROT_WRITE, MAP_SHARED, 3<lock>, 0) = 0x7f0000\nwrite(3<lock>, 'A*512', 512) = 512\nunlink('/r/files/lock') = 0", [], {}, None, ["lo*"]),
     ("mappings that are read", OPEN + "mmap(NULL, 4096, PROT_READ, MAP_SHARED, 3<db>, 0) = 0x700000\nmunmap(0x700000, 4096) = 0\nmprotect(0x700000, 4096, PROT_READ|PROT_WRITE) = 0\nmmap(NULL, 4096, PROT_READ|PROT_WRITE, MAP_PRIVATE, 3<db>, 0) = 0x700000\nmprotect(0x700000, 4096, PROT_READ|PROT_WRITE) = 0", []),
+    ("advice that makes no hole, and a hole in other memory", OPEN + "mmap(NULL, 4096, PROT_READ, MAP_SHARED, 3<db>, 0) = 0x700000\nmadvise(0x700000, 4096, MADV_DONTNEED) = 0\nmadvise(0x900000, 4096, MADV_REMOVE) = 0\nmunmap(0x700000, 4096) = 0\nmadvise(0x700000, 4096, MADV_REMOVE) = 0", []),
     ("calls that fail", OPEN + "write(3<db>, 'A*512', 512) = -1 ENOSPC (No space left on device)\nrename('/r/files/db', '/r/files/x') = -1 ENOENT (No such file or directory)\nio_uring_setup(8, {flags=0}) = -1 ENOSYS (Function not implemented)\nsyscall_0x1d7(0, 0) = -1 ENOSYS (Function not implemented)\nioctl(3<db>, FICLONE, 5</x>) = -1 EOPNOTSUPP (Operation not supported)", []),
     ("syncs that fail and had nothing to do", OPEN + "fsync(3<db>) = -1 EIO (Input/output error)\nwrite(3<db>, 'A*512', 512) = 512\nopenat(AT_FDCWD</elsewhere>, 'x', O_RDONLY|O_PATH) = 4<db>\nfsync(4<db>) = -1 EBADF (Bad file descriptor)\nfsync(9) = -1 EBADF (Bad file descriptor)", [("w", "db", 0, A)]),
     ("a last unlink", OPEN + "write(3<db>, 'A*512', 512) = 512\nfsync(3<db>) = 0\nunlink('/r/files/db') = 0\nfsync(3<db>(deleted)) = 0\nclose(3<db>(deleted)) = 0", [("w", "db", 0, A), ("f",)]),
@@ -138,6 +140,7 @@ FOLLOWED = [
     ("a write and a close within an open that gives the number again", OPEN + THREAD + "101 openat(AT_FDCWD</elsewhere>, 'x', O_RDWR|O_CREAT, 0644 <unfinished ...>\nwrite(3<db>, 'A*512', 512) = 512\nclose(3<db>) = 0\n101 <... openat resumed>) = 3<wal>\nwrite(3<wal>, 'B*512', 512) = 512\n" + GONE, [("w", "db", 0, A), ("w", "wal", 0, B)]),
     ("a dup2 of another number at once, and one of a process of its own", OPEN + WAL + THREAD + "fork() = 102\nwrite(3<db>, 'A*512', 512 <unfinished ...>\n101 dup2(4<wal>, 5) = 5<wal>\n102 dup2(4<wal>, 3) = 3<wal>\n<... write resumed>) = 512\n102 +++ exited with 0 +++\n" + GONE, [("w", "db", 0, A)]),
     ("a mark begins before a sync of another thread has ended", OPEN + THREAD + "write(3<db>, 'A*512', 512) = 512\nopenat(AT_FDCWD</elsewhere>, 'm', O_WRONLY|O_APPEND) = 5</r/marks>\n101 fsync(3<db> <unfinished ...>\nwrite(5</r/marks>, '0 one@0 two@', 12 <unfinished ...>\n101 <... fsync resumed>) = 0\n<... write resumed>) = 12\n" + GONE, [("w", "db", 0, A), ("m", "one"), ("m", "two"), ("f",)]),
+    ("a mark within which another thread syncs, and begins one of its own", OPEN + THREAD + "write(3<db>, 'A*512', 512) = 512\nopenat(AT_FDCWD</elsewhere>, 'm', O_WRONLY|O_APPEND) = 5</r/marks>\nwrite(5</r/marks>, '0 one@', 6 <unfinished ...>\n101 fsync(3<db>) = 0\n101 write(5</r/marks>, '0 two@', 6 <unfinished ...>\n<... write resumed>) = 6\n101 <... write resumed>) = 6\n" + GONE, [("w", "db", 0, A), ("m", "one"), ("f",), ("m", "two")]),
     ("signals and remarks", OPEN + "--- SIGCHLD {si_signo=SIGCHLD, si_code=CLD_EXITED} ---\nwrite(3<db>, 'A*512', 512) = 512", [("w", "db", 0, A)]),
 ]
 
@@ -157,6 +160,9 @@ REFUSED = [
     ("a mapping that becomes writable", OPEN + MAPPED + "mprotect(0x700000, 4096, PROT_READ|PROT_WRITE) = 0", "calls:3: .*can be written unseen"),
     ("a mapping that moves", OPEN + MAPPED + "mremap(0x700000, 4096, 8192, MREMAP_MAYMOVE) = 0x900000\nmprotect(0x901000, 4096, PROT_WRITE) = 0", "calls:4: .*can be written unseen"),
     ("a mapping of a child", OPEN + MAPPED + "fork() = 101\n101 mprotect(0x700000, 4096, PROT_WRITE) = 0\n101 +++ exited with 0 +++", "calls:4: .*can be written unseen"),
+    ("a hole that is made by a mapping for reading", OPEN + MAPPED + "madvise(0x700000, 4096, MADV_REMOVE) = 0", "calls:3: .*a hole in a mapped file is made unseen; --mapped looks"),
+    ("a hole in a part of a mapping, which is said to fail", OPEN + MAPPED + "madvise(0x6ff000, 8192, MADV_REMOVE) = -1 ENOMEM (Cannot allocate memory)", "calls:3: .*a hole in a mapped file is made unseen"),
+    ("a hole that another process makes by a mapping", OPEN + MAPPED + "fork() = 101\n101 process_madvise(5</elsewhere/pidfd>, [{iov_base=0x700000, iov_len=4096}], 1, MADV_REMOVE, 0) = 4096\n" + GONE, "calls:4: .*a hole in a mapped file is made unseen"),
     ("a file that is cut off where it is opened for reading", OPEN + "write(3<db>, 'A*512', 512) = 512\nopenat(AT_FDCWD</elsewhere>, 'x', O_RDONLY|O_TRUNC) = 4<db>\nwrite(3<db>, 'B*512', 512) = 512", "calls:4: .*is written after a name or a size was changed"),
     ("an unlink through /proc/self", OPEN + "write(3<db>, 'A*512', 512) = 512\nchdir('/r/files') = 0\nunlink('/proc/self/cwd/db') = 0\nwrite(3<db>, 'B*512', 512) = 512", "calls:5: .*it is unlinked|calls:5: .*after a name or a size was changed"),
     ("an unlink through the process itself", OPEN + "write(3<db>, 'A*512', 512) = 512\nchdir('/r/files') = 0\nunlink('/proc/100/cwd/db') = 0\nwrite(3<db>, 'B*512', 512) = 512", "calls:5: .*it is unlinked|calls:5: .*after a name or a size was changed"),
@@ -617,10 +623,15 @@ def refusal_of(act, *words):
     return None
 
 
+def passed_faults():
+    """Calls that are followed, and at which strace doesn't stop."""
+    return [f"{it} is followed, and strace doesn't stop there" for names in KINDS.values() for it in names if it in traced.PASSED]
+
+
 def main(words):
     seed, count = (int(it) for it in (*words, *("1", "3000")[len(words) :]))
     found = [row_fault(*it) for it in FOLLOWED] + [refused_fault(*it) for it in REFUSED] + [log_fault()]
-    several = [source_faults(), cut_faults(), damage_faults(seed, count // 2), map_faults(), files_faults(), system_faults(), machine_faults()]
+    several = [passed_faults(), source_faults(), cut_faults(), damage_faults(seed, count // 2), map_faults(), files_faults(), system_faults(), machine_faults()]
     several.append([it for it in (model_fault(seed + turn) for turn in range(count)) if it])
     wrong = [it for it in found if it] + [it for these in several for it in these]
     for line in wrong:

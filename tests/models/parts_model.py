@@ -177,10 +177,13 @@ PROGRAM = re.compile(f"program ({NUMBER}) slots ({NUMBER}) (budget|limit) ({NUMB
 SECTOR_NAME = f"({NUMBER})[.]({NUMBER}):(?:drop|head[1-7]|tail[1-7])"
 WRITE_NAME = f"({NUMBER}):(?:drop|head[1-7]|tail[1-7])"
 CHOICE = "(?P<choice>[^ ]+)"
+BEGUN = f"image ({NUMBER}) cut ({NUMBER}) program ({NUMBER}) "
 FAILING = re.compile(
-    f"image ({NUMBER}) cut ({NUMBER}) program ({NUMBER}) "
-    f"(?:answer (?P<answer>{NUMBER}) codes (?P<codes>-|{NUMBERS})|fault (?:8[0-8]) slot (?P<slot>{NUMBER})|stray at slot (?P<stray>{NUMBER})|out of steps) choice {CHOICE}"
+    f"{BEGUN}(?:answer (?P<answer>{NUMBER}) codes (?P<codes>-|{NUMBERS})|fault (?:8[0-8]) slot (?P<slot>{NUMBER})|stray at slot (?P<stray>{NUMBER})|out of steps) choice {CHOICE}"
 )
+# Of a program of yours
+OUTSIDE = re.compile("program 0 outside [ -~]+")
+FAILING_OUTSIDE = re.compile(f"{BEGUN}(?:answer (?P<answer>{NUMBER}) codes -|signal (?P<signal>{NUMBER})|out of time) choice {CHOICE}")
 LAST = re.compile(f"images ({NUMBER}) failing ({NUMBER}) lines ({NUMBER})")
 LAST_OF_FIRST = re.compile(f"images ({NUMBER}) first ({NUMBER}|none)")
 
@@ -218,6 +221,7 @@ class ReadHead:
     start: int
     end: int
     programs: int
+    outside: bool
 
 
 def is_choice(head, cut, text):
@@ -250,8 +254,8 @@ def is_program(line, number):
     return 1 <= slots <= 4096 and int(found[4]) <= 1_000_000_000 and (guards is None or (found[3] == "budget" and int(guards) <= slots))
 
 
-def read_head(lines):
-    """What the options and programs say with which these lines begin."""
+def read_head(lines, outside=False):
+    """What the options and programs say with which these lines begin; or the program of yours."""
     options = OPTIONS.fullmatch(lines[0])
     if not options:
         return None
@@ -261,21 +265,25 @@ def read_head(lines):
     right = 1 <= sectors <= 1 << 25 and entries <= 1 << 16 and bound <= 3 and below(64, options["base"])
     cuts = start <= end <= entries and len(flushes) <= 64 and all(it < entries for it in flushes)
     programs = list(takewhile(lambda line: line.startswith("program "), lines[1:]))
-    if not (right and cuts and 1 <= len(programs) <= 8 and all(is_program(it, number) for number, it in enumerate(programs))):
+    fit = len(programs) == 1 and OUTSIDE.fullmatch(programs[0]) if outside else 1 <= len(programs) <= 8 and all(is_program(it, number) for number, it in enumerate(programs))
+    if not (right and cuts and fit):
         return None
     tears, first = options["tears"] == "yes", options["first"] == "yes"
-    return ReadHead(1 + len(programs), entries, bound, tears, first, options["by"] is not None, start, end, len(programs))
+    return ReadHead(1 + len(programs), entries, bound, tears, first, options["by"] is not None, start, end, len(programs), outside)
 
 
 @lru_cache(100_000)
 def read_failing(head, line):
     """The image and the program of a failing line of a run with that head."""
-    found = FAILING.fullmatch(line)
+    found = (FAILING_OUTSIDE if head.outside else FAILING).fullmatch(line)
     if not found or found["answer"] == "0":
         return None
     cut = int(found[2])
     if not (head.start <= cut <= head.end and int(found[3]) < head.programs and is_choice(head, cut, found["choice"])):
         return None
+    if head.outside:
+        right = below(32, found[2]) and below(64, found[1]) and int(found["answer"] or 1) <= 255 and 1 <= int(found["signal"] or 1) <= 127
+        return (int(found[1]), 0) if right else None
     codes = found["codes"].split(",") if found["codes"] not in (None, "-") else []
     small = below(32, found[2]) and below(8, found[3]) and below(64, found[1], found["answer"], found["slot"], found["stray"], *codes)
     return (int(found[1]), int(found[3])) if small and len(codes) <= 16 else None
@@ -290,14 +298,14 @@ def last_of(start, end, first, marks):
 
 
 @lru_cache(10_000)
-def read_part(text):
-    """The part of a text, None where it isn't the text of one."""
+def read_part(text, outside=False):
+    """The part of a text, of checkers or of a program of yours, None where it isn't the text of one."""
     try:
         lines = text.decode().split("\n")
     except UnicodeDecodeError:
         return None
     span = read_span(lines[1]) if len(lines) >= 5 and lines[0] == PART_LINE[:-1] and lines[-1] == "" else None
-    head = read_head(lines[2:-2]) if span else None
+    head = read_head(lines[2:-2], outside) if span else None
     if not head:
         return None
     length, first = head.lines, head.first
@@ -319,15 +327,15 @@ def size_of(text):
     return len(text) if text.startswith(PART_LINE.encode()) else min(len(text), len(PART_LINE))
 
 
-def joined(texts, some=False):
-    """What `join` makes of texts, with `some` what `join --part` does: its status and the bytes, or 2 and the number and the place of the
-    refusal."""
+def joined(texts, some=False, outside=False):
+    """What `join` makes of texts, with `some` what `join --part` does, and with `outside` what `crashbpf-each --join` does: its status and the
+    bytes, or 2 and the number and the place of the refusal."""
     if len(texts) > MOST_JOINED:
         return 2, (65, MOST_JOINED)
     sizes = list(accumulate(map(size_of, texts)))
     if sizes[-1] > MOST_BYTES:
         return 2, (65, next(number for number, size in enumerate(sizes) if size > MOST_BYTES))
-    parts = [read_part(it) for it in texts]
+    parts = [read_part(it, outside) for it in texts]
     if None in parts:
         return 2, (61, parts.index(None))
     strange = [number for number, it in enumerate(parts) if it.run() != parts[0].run()]
@@ -341,16 +349,17 @@ def joined(texts, some=False):
         return 2, (63, row[0][0])
     if not some and row[-1][1].end < row[-1][1].images:
         return 2, (63, len(texts))
-    return joined_row([it for _file, it in row])
+    return joined_row([it for _file, it in row], outside)
 
 
-def joined_row(row):
+def joined_row(row, outside=False):
     """The status and the bytes of parts in a row."""
     start, end, of = row[0].start, row[-1].end, row[0]
     with_lines = [it for it in row if it.lines]
     lines = [line for it in (with_lines[:1] if of.first else with_lines) for line in it.lines]
     whole = (start, end) == (0, of.images)
     begun = FIRST_LINE if whole else PART_LINE + f"part {start}..{end} of {of.images} inputs {of.inputs}\n"
-    head = read_head(of.head)
+    begun += f"inputs {of.inputs} programs 1\n" if outside and not of.first else ""
+    head = read_head(of.head, outside)
     last = last_of(start, end, of.first, [read_failing(head, it) for it in lines])
     return (1 if lines else 0), (begun + "".join(f"{it}\n" for it in [*of.head, *lines, last])).encode()

@@ -282,6 +282,16 @@ def no_numbers():
                 yield Row(f"--{option} {word} of {command}", f"{words} --{option} {word}", FILES, status=2, error=Printable(fault))
 
 
+def given_twice():
+    """The runs with an option that stands there twice: a fault of the command line that names it."""
+    for option, found in PAIRS.items():
+        name = option.split()[0]
+        for command, it in found.items():
+            words = next(words for words in it["two"] if f" --{name}" in words)
+            again = re.search(rf" --{name}( (?!--)\S+)?(?= |$)", words)[0]
+            yield Row(f"--{option} twice of {command}", words + again, FILES, status=2, error=Printable(f"error: the argument '--{name}", "cannot be used multiple times"))
+
+
 # Options that want another one, or exclude it.
 TOGETHER = [
     Row(f"together: {words}", words, FILES, status=2, error=Printable("error: ", *texts))
@@ -296,4 +306,4 @@ TOGETHER = [
     ]
 ]
 
-ROWS = [*(pair for option in PAIRS for pair in pairs_of(option)), *no_numbers(), *TOGETHER]
+ROWS = [*(pair for option in PAIRS for pair in pairs_of(option)), *no_numbers(), *given_twice(), *TOGETHER]

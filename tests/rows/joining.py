@@ -210,6 +210,7 @@ BROKEN = {
     "with flushes that are none": with_line(OPTIONS, OPTIONS + " flush "),
     "with flushes and a comma after": with_line(OPTIONS, OPTIONS + " flush 1,"),
     "with the first cut after the last": with_line(OPTIONS, OPTIONS + " to 3 from 2"),
+    "of a program of yours": "\n".join([*LINES[:3], "program 0 outside ./check {}", f"images {LAST.split()[1]} failing 0 lines 0", ""]),
     "without programs": changed(MIDDLE, "".join(f"{it}\n" for it in LINES[3:6]), ""),
     "without its first program": changed(MIDDLE, LINES[3] + "\n", ""),
     "with programs in another order": changed(MIDDLE, f"{LINES[3]}\n{LINES[4]}\n", f"{LINES[4]}\n{LINES[3]}\n"),

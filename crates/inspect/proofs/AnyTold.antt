@@ -18,9 +18,8 @@ use Rattle.cases.specs.Cases.{representative, is_same}
 use Rattle.cases.specs.Sets.{fates_in, numbers_in}
 use Rattle.cases.specs.AtCut.{CutValue, parts_of, case_of, image_of}
 use Rattle.request.specs.declared.settings.Settings.{Settings}
-use Rattle.inspect.specs.Said.{NoneIsSaid, IsLostSo}
-use Rattle.inspect.specs.Lost.{IsLostOf}
-use Rattle.inspect.specs.AnyImage.{cut_of, NoneIsMeant, IsToldSo, any_text_in}
+use Rattle.lost_text.specs.Said.{NoneIsSaid, IsLostSo}
+use Rattle.inspect.specs.AnyImage.{cut_of, IsLostOf, NoneIsMeant, IsToldSo, any_text_in}
 use Rattle.inspect.specs.declared.looks.image_command.ImageForm.{ImageForm}
 use Rattle.inspect.specs.declared.looks.image_command.ImageForm.TheVariants as form
 use Rattle.inspect.specs.Image.{sector_bytes}
@@ -28,8 +27,8 @@ use Rattle.epochs.specs.Plan.{PlanValue}
 use Rattle.request.specs.Source.{plan_of}
 use Rattle.crash_text.specs.AnyShown.{any_shown_text}
 use Rattle.crash_text.specs.Sectors.{difference_text}
-use Rattle.inspect.proofs.LostParts.{none_of_all, nothing_departs}
-use Rattle.inspect.proofs.Matching.{at_some}
+use Rattle.lost_text.proofs.LostParts.{none_of_all, nothing_departs}
+use Rattle.lost_text.proofs.Matching.{at_some}
 
 -- as many sectors as the device has
 pub count_sectors : (at : CutValue) (ds : List Departure) → length (crash_image at.log at.cut ds) ≡ at.log.sectors

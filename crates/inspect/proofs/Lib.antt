@@ -10,10 +10,6 @@ pub mod Texts
 pub mod Printed
 pub mod Short
 pub mod Meant
-pub mod LostParts
-pub mod AnyNames
-pub mod LostSaid
-pub mod Matching
 pub mod AnyTold
 pub mod AnyShown
 -- Lemmas on images, on runs and their lines, and on refusals.

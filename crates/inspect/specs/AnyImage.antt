@@ -1,12 +1,15 @@
 -- One crash image with any number of lost or torn parts, as bytes or in words (docs/COMMANDS.md, Commands).
-use Rattle.std.specs.Prelude.{ℕ, ◌≡◌, List, [], slice_get, Some}
+use Rattle.std.specs.Prelude.{ℕ, ◌≡◌, Bool, List, [], slice_get, length, Some}
 use Rattle.base.specs.declared.refusal.Refusal.{Refusal}
 use Rattle.base.specs.Refusals.{memory_refusal}
 use Rattle.logfmt.specs.Bounds.{LogValue}
 use Rattle.epochs.specs.Cuts.{cuts_of}
 use Rattle.choices.specs.declared.choice.Departure.{Departure}
 use Rattle.images.specs.Images.{crash_image}
-use Rattle.cases.specs.AtCut.{CutValue}
+use Rattle.cases.specs.Choices.{departures}
+use Rattle.cases.specs.Cases.{representative}
+use Rattle.cases.specs.AtCut.{CutValue, parts_of, case_of}
+use Rattle.lost_text.specs.Said.{IsSaid}
 use Rattle.crash_text.specs.AnyShown.{any_shown_text}
 use Rattle.request.specs.declared.settings.Settings.{Settings}
 use Rattle.request.specs.declared.settings.OptionPlace.TheVariants as place
@@ -15,11 +18,16 @@ use Rattle.request.specs.Source.{Recording, plan_of, IsLogOf, RefusesLog}
 use Rattle.inspect.specs.declared.looks.image_command.ImageForm.{ImageForm}
 use Rattle.inspect.specs.declared.looks.image_command.ImageForm.TheVariants as form
 use Rattle.inspect.specs.Image.{sector_bytes}
-use Rattle.inspect.specs.Said.{IsSaid}
 
 -- a cut of a log
 abbrev pub cut_of : Settings → LogValue → ℕ → CutValue
 cut_of s value cut = record { log = value; way = s.by; cut = cut }
+
+-- what is lost and torn at a cut is that of the representative of a case, which has a set for each part at risk
+pub record IsLostOf (at : CutValue) (sets : List ℕ) (ds : List Departure) : Type 0 where
+  pub tears : Bool
+  pub each : length sets ≡ length (parts_of at)
+  pub departs : departures (representative (case_of tears (parts_of at) sets)) (parts_of at) ≡ ds
 
 -- the cut is a wanted one, and what a choice there loses and tears is printed so
 pub record IsMeantLoss (s : Settings) (value : LogValue) (cut : ℕ) (said : List ℕ) (ds : List Departure) : Type 0 where

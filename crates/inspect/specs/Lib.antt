@@ -1,9 +1,6 @@
 -- What the commands show that run no program.
 pub mod Which
 pub mod Image
-pub mod AnyNames
-pub mod Lost
-pub mod Said
 pub mod AnyImage
 pub mod Export
 pub mod Layout

@@ -2,8 +2,8 @@
 //!
 //! `which.rt` finds the choice of the image that is meant, by its number, or by its cut and its choice as the report prints it;
 //! `laws.rt` has what holds of the texts of choices, and of the parts of a run. `any_image_command.rt` has the image of a choice of any number
-//! of parts; `names.rt` reads the text of such a choice, and `lost.rt` finds what becomes of each part by it. `cuts_command.rt` tells of the cuts at which
-//! a run looks for cases: `risks.rt` finds what each leaves open, and `cut_layout.rt` lays the run out in parts.
+//! of parts, whose text `lost_text` reads. `cuts_command.rt` tells of the cuts at which a run looks for cases: `risks.rt` finds what each
+//! leaves open, and `cut_layout.rt` lays the run out in parts.
 #![tactic(auto)]
 
 mod any_image_command;
@@ -18,8 +18,6 @@ mod laws;
 mod layout;
 mod list_command;
 mod log_command;
-mod lost;
-mod names;
 mod risks;
 mod show_command;
 pub(crate) mod verify_command;

@@ -23,7 +23,8 @@ pub record IsLeftWithout (way : By) (log : LogValue) (bound : ℕ) (tears : Bool
   pub marks : marks_at log.entries cut ≡ marks_at (with_flushes places log).entries cut
   pub none : (w : Window) → IsWindow way log.entries cut ds w → HoldsNone w places
 
--- So with a flush in the window of each failing image that has one, only images without a window are left to fail.
+-- So with a flush in the window of each failing image that has one, only images without a window are left to fail, of a program that doesn't look
+-- at the epoch, in which the flushes count.
 abbrev pub ImagesAreLeft : Type 0
 ImagesAreLeft =
     (way : By) (log : LogValue) (cut bound : ℕ) (tears : Bool) (ds : List Departure) (places : List ℕ)

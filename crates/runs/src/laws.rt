@@ -39,8 +39,9 @@ pub fn told_cases_fail()
 }
 
 /// Each image of a log with added flushes is one of the log without them, by the same cut and by what is lost and torn, and none of the flushes
-/// stands in its window. So with a flush in the window of each failing image that has one, only images without a window are left to fail.
-/// With any number of losses each is one of the log without them too, by the same cut and choice.
+/// stands in its window. So with a flush in the window of each failing image that has one, only images without a window are left to fail, of a
+/// program that doesn't look at the epoch, in which the flushes count. With any number of losses each is one of the log without them too, by
+/// the same cut and choice.
 pub fn flushes_bring_nothing()
     ensures { FlushesBringNothing }
 {

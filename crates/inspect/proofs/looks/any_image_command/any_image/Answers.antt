@@ -1,7 +1,7 @@
 use Rattle.std.proofs.lemmas.Option.{MatchOption-at_none}
 use Rattle.std.proofs.lemmas.Result.{err_from_is_err_and}
 use Rattle.inspect.specs.AnyImage.{NoneIsMeant, IsToldSo, for_any_log, for_choice, for_any_memory}
-use Rattle.inspect.proofs.Matching.{at_some}
+use Rattle.lost_text.proofs.Matching.{at_some}
 use Rattle.inspect.proofs.looks.any_image_command.any_image.Goals as goal
 
 pub returns-in_err-log-clause-refused : goal.returns-in_err-log-clause-refused

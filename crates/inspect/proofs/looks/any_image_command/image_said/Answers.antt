@@ -3,7 +3,7 @@ use Rattle.std.proofs.lemmas.Option.{MatchOption-at_none}
 use Rattle.epochs.specs.Cuts.{cuts_of}
 use Rattle.epochs.specs.Plan.{PlanValue}
 use Rattle.choices.specs.Seeking.{LacksCut}
-use Rattle.inspect.proofs.Matching.{at_some}
+use Rattle.lost_text.proofs.Matching.{at_some}
 use Rattle.inspect.proofs.AnyTold.{no_cut}
 use Rattle.inspect.proofs.looks.any_image_command.image_said.Goals as goal
 

@@ -2,7 +2,7 @@ use Rattle.std.proofs.Common.{ℕ, ◌≡◌, Some, slice_get, subst}
 use Rattle.std.proofs.lemmas.Option.{MatchOption-at_none}
 use Rattle.choices.specs.Seeking.{LacksCut}
 use Rattle.choices.proofs.Naming.{cut_found, cut_is}
-use Rattle.inspect.proofs.Matching.{at_some}
+use Rattle.lost_text.proofs.Matching.{at_some}
 use Rattle.inspect.proofs.AnyTold.{wanted_place}
 use Rattle.inspect.proofs.looks.any_image_command.wanted_cut.Goals as goal
 

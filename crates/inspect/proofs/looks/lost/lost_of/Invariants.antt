@@ -1,5 +1,0 @@
-use Rattle.inspect.proofs.Matching.{Matched}
-use Rattle.inspect.proofs.looks.lost.lost_of.Given as goal
-
-abbrev pub invariant-loop-part : goal.invariant-loop-part
-invariant-loop-part l = Matched l.parts l.names l.part-index l.sets.items l.departures.items l.left
