@@ -40,9 +40,9 @@ root=/over/root
 mkdir -p /share /over && mount -t tmpfs over /over && mkdir /over/upper /over/work $root || exit 125
 mount -t 9p -o trans=virtio,version=9p2000.L,ro,cache=loose,msize=262144 share /share || exit 125
 mount -t overlay -o lowerdir=/share,upperdir=/over/upper,workdir=/over/work over $root || exit 125
-mkdir -p $root{top} $root/run/crashbpf $root/dev $root/proc $root/sys || exit 125
+mkdir -p $root{top} $root/run/crashbpf/bin $root/dev $root/proc $root/sys || exit 125
 mount -t devtmpfs dev $root/dev && mount -t proc proc $root/proc && mount -t sysfs sys $root/sys || exit 125
-cat >$root/run/crashbpf/mark <<'MARK'
+cat >$root/run/crashbpf/bin/mark <<'MARK'
 #!/bin/sh
 case $#$1 in
 1 | *[[:space:]]* | [!1]*) echo 'mark: in a guest a mark is one word' >&2; exit 2 ;;
@@ -55,7 +55,7 @@ cd "$1" || exit 125
 shift
 exec "$@"
 RUN
-chmod +x $root/run/crashbpf/mark $root/run/crashbpf/run
+chmod +x $root/run/crashbpf/bin/mark $root/run/crashbpf/run
 mount -t {kind} -o {options} $DEVICE $root{top} || exit 125
 echo '{begun}'
 chroot $root /usr/bin/env -i {environment} /run/crashbpf/run {at} {words} </dev/null
@@ -110,7 +110,7 @@ def lay_disk(folder, base, guest):
 
 def script_of(kind, at, words):
     """The script that runs the program in the machine."""
-    given = {**os.environ, "FILES": f"{TOP}/{FILES}", "PATH": f"{PATH}{os.pathsep}/run/crashbpf"}
+    given = {**os.environ, "FILES": f"{TOP}/{FILES}", "PATH": f"/run/crashbpf/bin{os.pathsep}{PATH}"}
     known = [f"{name}={value}" for name, value in given.items() if re.fullmatch(r"[A-Za-z_]\w*", name) and "\n" not in value]
     return SCRIPT.format(
         top=TOP,

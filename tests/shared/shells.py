@@ -21,7 +21,7 @@ def differs(what, found, wanted):
 
 
 def wait_for_lines(path, beginning, count, seconds=60):
-    """Waits until a file has as many lines with a beginning, but no longer than so many seconds."""
+    """Waits until `count` lines of a file have a beginning, for `seconds` seconds at most."""
     deadline = time.monotonic() + seconds
     while time.monotonic() < deadline:
         if path.exists() and sum(it.startswith(beginning) for it in path.read_text().splitlines()) >= count:
