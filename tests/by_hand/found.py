@@ -164,8 +164,10 @@ def version(package):
 
 
 def surroundings(room):
-    """The environment of a row: what is remembered elsewhere changes no answer."""
-    return {**os.environ, "HOME": room, "LC_ALL": "C", "GIT_CONFIG_NOSYSTEM": "1", "CRASHBPF": os.environ.get("CRASHBPF", str(TOP / "crates/crashbpf/out/crashbpf"))}
+    """The environment of a row: what is remembered elsewhere changes no answer. Nor does the clock: by it resize2fs and tune2fs write once more
+    where a second has passed."""
+    crashbpf = os.environ.get("CRASHBPF", str(TOP / "crates/crashbpf/out/crashbpf"))
+    return {**os.environ, "HOME": room, "LC_ALL": "C", "GIT_CONFIG_NOSYSTEM": "1", "E2FSPROGS_FAKE_TIME": "1000000000", "CRASHBPF": crashbpf}
 
 
 def options(row, room):
