@@ -127,8 +127,10 @@ ROWS = [
     kv("redis-always", "redis-server python3-redis", "redis:always", "--skip socket", varies=True),
     script("postgres", "postgresql-15", "postgres", varies=True),
     script("etcd", "etcd-server etcd-client", "etcd", options="--skip 0.tmp --skip .touch", varies=True),
-    script("git", "git", "git"),
+    script("git", "git", "git", bound="1"),
     script("git-all", "git", "git", base="all", bound="1"),
+    script("git-gc", "git", "git", "gc", bound="1"),
+    script("git-gc-all", "git", "git", "gc", "all", bound="1"),
     script("dpkg", "dpkg", "dpkg", "--no-force-unsafe-io", bound="1"),
     script("dpkg-unsafe", "dpkg", "dpkg", "--force-unsafe-io", bound="1"),
     script("sgdisk", "gdisk", "gpt", "sgdisk"),
@@ -162,8 +164,10 @@ def version(package):
 
 
 def surroundings(room):
-    """The environment of a row: what is remembered elsewhere changes no answer."""
-    return {**os.environ, "HOME": room, "LC_ALL": "C", "GIT_CONFIG_NOSYSTEM": "1", "CRASHBPF": os.environ.get("CRASHBPF", str(TOP / "crates/crashbpf/out/crashbpf"))}
+    """The environment of a row: what is remembered elsewhere changes no answer. Nor does the clock: by it resize2fs and tune2fs write once more
+    where a second has passed."""
+    crashbpf = os.environ.get("CRASHBPF", str(TOP / "crates/crashbpf/out/crashbpf"))
+    return {**os.environ, "HOME": room, "LC_ALL": "C", "GIT_CONFIG_NOSYSTEM": "1", "E2FSPROGS_FAKE_TIME": "1000000000", "CRASHBPF": crashbpf}
 
 
 def options(row, room):

@@ -78,6 +78,8 @@ PACES = {
     "sqlite-delete-normal": Pace(each=5),
     "git": Pace(1200, "rename,renameat,link,linkat", is_late=True),
     "git-all": Pace(0),
+    "git-gc": Pace(1200, "rename,renameat,unlink,unlinkat", is_late=True),
+    "postgres": Pace(1500, "openat,write", "postmaster.pid", is_late=True),
     "dpkg-unsafe": Pace(0, is_late=True),
     "sed": Pace(0, is_late=True),
     "ed": Pace(1500, "openat,write", "text", is_late=True),
