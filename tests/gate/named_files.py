@@ -38,6 +38,7 @@ from strace_texts import FILES, HERE, MARKS, strace
 RECORD = TOP / "commands/record"
 from commands.record import disk
 from commands.record import layout
+from commands.record import logs
 from commands.record import named_layout
 from commands.record import told as told_entries
 from commands.record import traced
@@ -741,6 +742,31 @@ def flags_fault(laid):
     return None if sets[0] == sets[1] and not any(one.kind == disk.FLUSH and other.count and not other.flushes for one, other in zip(these, these[1:])) else "flushes as flags give other images"
 
 
+def images_of(laid, entries, stretch):
+    """What a crash may leave, with as many marks, by what one of several logs has."""
+    these = [entries[it] for it in stretch.numbers]
+    found = [Entry(it.sector, it.count, it.flags, it.text, it.data) for it in entries_of(b"".join(layout.log_of(these, laid.firsts, laid.sectors)[0]))]
+    run = Run(found, laid.sectors, bound=len(found), by="write", first=stretch.first, base=stretch.base)
+    return {(run.marks(it.cut), it.content()) for it in run.images()}
+
+
+def logs_fault(laid, chance):
+    """What is wrong with a recording that has more than a log may have: all its logs together have other images than one log that may have more."""
+    entries = chance.choice((list, layout.with_flags))(list(laid.entries()))
+    if not 4 <= len(entries) <= 12:
+        return None
+    (whole,) = logs.split(entries, laid.firsts, laid.image())
+    try:
+        found = list(logs.split(entries, laid.firsts, laid.image(), chance.randrange(3, len(entries))))
+    except Refused:
+        return None
+    cuts = [it.whole_cut(cut) for it in found for cut in range(it.first, len(it.numbers) + 1)]
+    if len(found) < 2 or cuts != list(range(len(entries) + 1)):
+        return f"the logs of {len(entries)} entries have the cuts {cuts}"
+    images, wanted = set().union(*(images_of(laid, entries, it) for it in found)), images_of(laid, entries, whole)
+    return None if images == wanted else f"{len(found)} logs lack {len(wanted - images)} images, and have {len(images - wanted)} others"
+
+
 def folder_of(path):
     """What a folder holds: a map of paths to contents, where a folder has none."""
     found = {}
@@ -773,7 +799,7 @@ def bytes_faults(seed, count):
     for turn in range(count):
         chance = random.Random(seed + turn)
         laid = laid_of(plan_of(chance), chance.choice(list(TABLES)), chance)
-        found += [f"run {seed + turn}: {it}" for it in (log_fault(laid), image_fault(laid, chance), once_fault(laid), flags_fault(laid) if turn < 40 else None) if it]
+        found += [f"run {seed + turn}: {it}" for it in (log_fault(laid), image_fault(laid, chance), once_fault(laid), flags_fault(laid) if turn < 40 else None, logs_fault(laid, chance) if turn < 120 else None) if it]
     return found
 
 
