@@ -120,14 +120,14 @@ def split(entries, firsts, base, most=trace_log.ENTRIES):
     """Yields what each log of a recording has, one where that has no more than a log may have. `firsts` says where each file begins, `base`
     what the device holds at first, and `most` how many entries a log may have."""
     way, at = Way(entries, firsts, base), 0
-    while at < len(entries) or at == 0:
+    while True:
         head, room = [*way.marks, *way.come_along()], Room(most)
         end = way.end(at, room) if all(room.takes(entries[it]) for it in head) else at
         if end < len(entries) and end - at < max(most // LEAST, 1):
             raise Refused(why_not(len(entries), most, at, len(way.marks), len(head) - len(way.marks)))
-        yield Stretch((*head, *range(at, end)), len(head) + 1 if at else 0, bytes(way.device))
-        for number in range(at, end):
-            way.take(number)
+        yield Stretch((*head, *range(at, end)), len(head) + 1 if at else 0, bytes(way.device) if at else base)
         if end == len(entries):
             return
+        for number in range(at, end):
+            way.take(number)
         at = end

@@ -480,14 +480,12 @@ def agrees(folder):
     return [f"{len(wrong)} of {total} images differ, as {wrong[0]}"] if wrong else []
 
 
-# Where this folder and the file are named: the command, in which a log has few entries.
+# The command that is named, where a log has few entries.
 FEW = """\
 import runpy, sys
-top, sys.argv = sys.argv[1], sys.argv[2:]
-sys.path.insert(0, top)
-from commands.record import logs
-logs.split.__defaults__ = (16,)
-runpy.run_path(sys.argv[0], run_name="__main__")
+command = runpy.run_path(sys.argv[1], run_name="command")
+sys.modules["commands.record.logs"].split.__defaults__ = (16,)
+sys.exit(command["main"](sys.argv[2:]))
 """
 # One folder isn't synced of six.
 SAVES = """\
@@ -501,7 +499,7 @@ done
 def takes_several_logs(folder):
     """What is wrong where what was recorded is several logs for crashbpf: by any number of losses and by one it says what it says of one log."""
     Path(folder, "it.sh").write_text(SAVES)
-    few, found = (sys.executable, "-c", FEW, str(TOP), str(COMMAND)), []
+    few, found = (sys.executable, "-c", FEW, str(COMMAND)), []
     for options in ([], ["--bound", "1"]):
         words = ["--check", f"sh {SAVING}/check.sh", *options]
         (one, wanted, _), (done, answer, left) = (run(folder, words, ["sh", "it.sh"], it) for it in ((COMMAND,), few))
