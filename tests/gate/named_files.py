@@ -767,6 +767,22 @@ def logs_fault(laid, chance):
     return None if images == wanted else f"{len(found)} logs lack {len(wanted - images)} images, and have {len(images - wanted)} others"
 
 
+def written_twice_fault():
+    """What is wrong with several logs where two writes of a place, of which a part was made durable, are in flight where the second log begins."""
+    laid, file = Device(), Device()
+    laid.firsts, laid.sectors = {file: 0}, 8
+    written = [disk.Entry(disk.WRITE, file, 0, bytes([it]) * 2 * SECTOR) for it in (1, 2)]
+    entries = [*written, *(disk.Entry(disk.FUA, file, at, bytes([2 + at]) * SECTOR) for at in (0, 3, 4, 5, 6)), disk.Entry(disk.MARK, data=b"it")]
+    (whole,), found = (list(logs.split(entries, laid.firsts, bytes(SECTOR * laid.sectors), most)) for most in (8, 6))
+    images = set().union(*(images_of(laid, entries, it) for it in found))
+    good = [it.numbers for it in found] == [tuple(range(6)), (0, 1, 2, 6, 7)] and images == images_of(laid, entries, whole)
+    return None if good else f"two writes of a place in flight: the logs {[it.numbers for it in found]} have other images"
+
+
+class Device:
+    """What has the places of a log, or is one of them."""
+
+
 def folder_of(path):
     """What a folder holds: a map of paths to contents, where a folder has none."""
     found = {}
@@ -885,7 +901,7 @@ def main(words):
     rows = [row_faults(*it) for it in ROWS] + [refused_faults(*it) for it in REFUSED]
     rows += [again_faults(*it) for it in AGAIN_ROWS]
     rows += [plan_faults(*it, random.Random(seed)) for it in PLANS.items()]
-    rows += [comes_faults(), map_faults(), bytes_faults(seed, count), [it for it in [long_fault(), entries_fault(), kept_fault(), alone_fault()] if it]]
+    rows += [comes_faults(), map_faults(), bytes_faults(seed, count), [it for it in [long_fault(), entries_fault(), kept_fault(), alone_fault(), written_twice_fault()] if it]]
     rows += [[it for it in [at_once_fault(*row)] if it] for row in AT_ONCE]
     rows += [[it for it in [call_fault(call, text, wanted)] if it] for call, _, text, wanted in CALLS]
     rows += [[it for it in [beside_fault(*row)] if it] for row in BESIDE.items()]
