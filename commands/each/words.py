@@ -188,6 +188,32 @@ def of_recording(pairs, folder, program):
     return [(name, it.log()) if name == "" else (name, value) for name, value in pairs] + known, program, it.skipped
 
 
+# What is of one log alone, and so not of a recording that has several.
+OF_ONE = ("--resume", "--from", "--to", "--flush", "--part", "--spot", "--cure", "--again")
+
+
+def of_each_log(words):
+    """Returns the words for each log of a recording that has several, with its folder, and none where what is asked for isn't of one."""
+    pairs = split(words[: words.index("--")]) if "--" in words else []
+    folders = [value for name, value in pairs if name == "" and os.path.isdir(value)]
+    if len(folders) != 1:
+        return []
+    try:
+        it = recording.read(folders[0])
+    except recording.Unknown:
+        # (who takes one log says why)
+        return []
+    bad = next((name for name, _value in pairs if name in OF_ONE), None)
+    if it.logs and bad:
+        raise Refusal(f"{bad} is of one log, and {it.folder} has {it.logs}: name one of them, as {it.one(1)}")
+    found = []
+    for number in range(1, it.logs + 1):
+        kept = {"": it.one(number), "--keep": os.path.join(dict(pairs).get("--keep", ""), str(number))}
+        own = [(name, kept.get(name, value)) for name, value in pairs]
+        found.append((it.one(number), [word for name, value in own for word in (name, value) if word not in ("", None)] + words[words.index("--") :]))
+    return found
+
+
 def without_bound(given, names):
     """Returns the words with a bound, of which none was given: every loss, or one at a time where that can't be had, and why."""
     if any(it in (*ONLY_ANY, "--part") for it in names):

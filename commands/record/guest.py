@@ -86,7 +86,24 @@ def wanted(kernel, kind, sectors):
         raise Refused(f"the disk has 8 to {trace_log.LARGE.sectors} sectors, a multiple of 8: say how many by --sectors")
     if accelerator not in ACCELERATORS:
         raise Refused(f"ACCEL is {' or '.join(ACCELERATORS)}, and not {accelerator}")
+    refuse_no_kvm(kernel, accelerator)
     return Guest(os.path.realpath(kernel), kind, sectors, accelerator)
+
+
+def refuse_no_kvm(kernel, accelerator):
+    """Refuses a machine by KVM where that doesn't run, before anything is made."""
+    if accelerator == "kvm":
+        done = subprocess.run([str(GUEST), kernel], env={**os.environ, "PATH": PATH}, stdin=subprocess.DEVNULL, capture_output=True, text=True, errors="replace")
+        if done.returncode:
+            raise Refused(why_not(done.stderr))
+
+
+def why_not(said):
+    """Why a machine wasn't run, by what `guest` said on standard error."""
+    # (QEMU may say something after it, as that it was ended)
+    lines = said.strip().splitlines()
+    why = [it for it in lines if it.startswith("guest: ")] or lines or ["nothing was recorded"]
+    return why[-1].removeprefix("guest: ")
 
 
 def lay_disk(folder, base, guest):
@@ -158,9 +175,7 @@ def run(folder, guest, words):
                     os.replace(os.path.join(room, name), os.path.join(folder, name))
             shutil.rmtree(room, ignore_errors=True)
     if running.returncode not in (0, 1):
-        # (QEMU may say something after it, as that it was ended)
-        why = [it for it in said.splitlines() if it.startswith("guest: ")] or said.splitlines() or ["nothing was recorded"]
-        raise Refused(why[-1].removeprefix("guest: ").replace(room, folder))
+        raise Refused(why_not(said).replace(room, folder))
     console = Path(folder, CONSOLE).read_bytes()
     printed, status = said_by(console), re.search(rb"script ended with status (\d+)", console)
     if printed is None or status is None or status[1] == b"125" and not printed:

@@ -86,9 +86,9 @@ def with_flags(entries):
     return found + flush
 
 
-def fitting(entries):
+def fitting(entries, most=trace_log.ENTRIES):
     """The entries as they stand, or where a log can't have as many with the flushes at the writes. Returns them with what is to be said."""
-    if len(entries) <= trace_log.ENTRIES:
+    if len(entries) <= most:
         return entries, []
     found = with_flags(entries)
     return found, [f"each flush right before a write is a flag of it, so that {len(entries)} entries are {len(found)}"]

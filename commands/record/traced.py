@@ -13,11 +13,12 @@ import signal
 import stat
 import subprocess
 from contextlib import suppress
-from dataclasses import replace
+from dataclasses import dataclass, replace
 from pathlib import Path
 
 from commands.record import layout
 from commands.record import listening
+from commands.record import logs
 from commands.record import looks
 from commands.record import named_layout
 from commands.record.calls import Refused, makers, shown
@@ -29,7 +30,7 @@ from commands.record.named import NamedTracing, beginning
 from commands.record.orders import FILE, FOLDER, MOST_BETWEEN, TABLES
 from commands.record.told import entries_text, owners
 from commands.record.tracing import Tracing
-from commands.shared.recording import NAME, Recording
+from commands.shared.recording import LOGS, NAME, Recording
 
 # Calls that strace need not stop at: they write no file, move no place in one, and answer no descriptor of one.
 PASSED = (
@@ -44,12 +45,12 @@ STRING = 1 << 26
 OPTIONS = ["-f", "-q", "-xx", "-y", "-v", "-s", str(STRING), "-e", f"raw={RAW}"]
 MARKS, FILES, CALLS, LOOKS, BASE, LOG, ENTRIES = "marks", "files", "calls", "looks", "base.img", "writes.log", "entries"
 MAP, HEADER = "files.txt", "files.h"
-MADE = (LOG, BASE, MAP, HEADER, ENTRIES, NAME)
+MADE = (LOG, BASE, MAP, HEADER, ENTRIES, NAME, LOGS)
 # In which parts bytes are written that go through the page cache.
 PAGES = "pages"
 PARTS = ("calls", PAGES)
 # What stands in the folder of a recording that was refused.
-LEFT = (MARKS, FILES, CALLS, LOOKS, BASE, MAP, HEADER, ENTRIES, NAME)
+LEFT = (MARKS, FILES, CALLS, LOOKS, BASE, MAP, HEADER, ENTRIES, NAME, LOGS)
 
 
 def other_at(path, kind):
@@ -267,27 +268,34 @@ def is_device(tracing, base):
     return len(files) == 1 and files[0].most == len(files[0].initial) and files[0].most % SECTOR == 0
 
 
-def recorded(tracing, folder, base=None):
-    """Writes the log and its maps. Returns what the folder knows of itself, what is said of the maps, and the number of entries."""
+@dataclass
+class Whole:
+    """All of a recording on its device: the entries, where each file begins, the number of sectors, what stands there at first; the two maps
+    of the files, the files that places are of, and the table."""
+
+    entries: list
+    firsts: dict
+    sectors: int
+    image: bytes
+    map: str
+    header: str
+    owners: dict
+    table: object = None
+    # whether --base is wanted though it is all zeros
+    has_base: bool = False
+
+
+def recorded(tracing, base=None):
+    """Returns all of a recording without names, and what is said of the maps."""
     sizes, pages = {name: it.most for name, it in tracing.files.items() if it.most}, tracing.disk.pages
     found, sectors = layout.places(sizes, is_device(tracing, base), PAGE * SECTOR if pages else SECTOR)
     firsts = {tracing.files[it.name]: it.first for it in found}
     if not any(it.count for it in tracing.disk.entries):
         raise Refused("the program wrote no file of its folder, $FILES, so nothing was recorded")
     entries = cut_off(tracing.disk.entries, sectors) if pages and is_device(tracing, base) else tracing.disk.entries
-    entries, notes = layout.fitting(entries)
-    parts, large = layout.log_of(entries, firsts, sectors)
-    tracing.notes += notes
-    Path(folder, MAP).write_text(layout.map_text(found, sectors))
-    Path(folder, HEADER).write_text(layout.header_text(found))
-    made = Recording(folder, sectors, large, map=MAP)
-    initial = {it.name: tracing.files[it.name].initial for it in found}
-    if any(any(it) for it in initial.values()):
-        Path(folder, BASE).write_bytes(layout.image_of(found, initial, sectors))
-        made.base = BASE
-    trace_log.write_log(str(Path(folder, LOG)), parts)
-    Path(folder, ENTRIES).write_text(entries_text(entries, {}), errors="surrogateescape")
-    return made, [f"{layout.escaped(it.name)}: {it.length} bytes from sector {it.first} on" for it in found], len(entries)
+    image = layout.image_of(found, {it.name: tracing.files[it.name].initial for it in found}, sectors)
+    lines = [f"{layout.escaped(it.name)}: {it.length} bytes from sector {it.first} on" for it in found]
+    return Whole(entries, firsts, sectors, image, layout.map_text(found, sectors), layout.header_text(found), {}), lines
 
 
 def cut_off(entries, sectors):
@@ -295,24 +303,51 @@ def cut_off(entries, sectors):
     return [replace(it, data=it.data[: SECTOR * (sectors - it.sector)]) if it.file is not None else it for it in entries]
 
 
-def recorded_names(tracing, folder):
-    """Writes the log and what goes with it of a recording whose names and sizes count. Returns as `recorded`."""
+def recorded_names(tracing):
+    """Returns as `recorded`, of a recording whose names and sizes count."""
     laid = named_layout.Laid(tracing.tree)
     if not any(it.count for it in tracing.disk.entries):
         raise Refused("the program changed no file of its folder, $FILES, so nothing was recorded")
-    entries, notes = layout.fitting(list(laid.entries()))
-    parts, large = layout.log_of(entries, laid.firsts, laid.sectors)
-    tracing.notes += notes
-    Path(folder, MAP).write_text(laid.map_text())
-    Path(folder, HEADER).write_text(named_layout.header_text(laid))
-    Path(folder, BASE).write_bytes(laid.image())
-    trace_log.write_log(str(Path(folder, LOG)), parts)
-    Path(folder, ENTRIES).write_text(entries_text(entries, owners(tracing.tree)), errors="surrogateescape")
     lines = [
         *(f"names: sector {it.sector}" for it in laid.sets),
         *(f"{layout.escaped(it.name)}: its size in sector {it.size}, {it.sectors} sectors from {it.first} on" for it in laid.rooms),
     ]
-    return Recording(folder, laid.sectors, large, BASE, MAP, table=tracing.tree.table), lines, len(entries)
+    maps = laid.map_text(), named_layout.header_text(laid)
+    return Whole(list(laid.entries()), laid.firsts, laid.sectors, laid.image(), *maps, owners(tracing.tree), tracing.tree.table, True), lines
+
+
+def write_log(whole, made, entries, image):
+    """Writes a log with what belongs to it into its folder."""
+    written, made.large = layout.log_of(entries, whole.firsts, whole.sectors)
+    write_maps(whole, made, image)
+    trace_log.write_log(made.log(), written)
+    Path(made.path(ENTRIES)).write_text(entries_text(entries, whole.owners), errors="surrogateescape")
+
+
+def write_maps(whole, made, image):
+    """Writes into such a folder which files the device has, and what stands there at first."""
+    Path(made.path(MAP)).write_text(whole.map)
+    Path(made.path(HEADER)).write_text(whole.header)
+    if whole.has_base or any(image):
+        made.base = BASE
+        Path(made.path(BASE)).write_bytes(image)
+
+
+def write_logs(whole, folder, most):
+    """Writes the log of a recording, or several, each of at most so many entries. Returns what the folder knows of itself, what those of
+    several logs know, and what is to be said."""
+    entries, notes = layout.fitting(whole.entries, most)
+    made, found = Recording(folder, whole.sectors, map=MAP, table=whole.table), []
+    for it in logs.split(entries, whole.firsts, whole.image, most):
+        if len(it.numbers) == len(entries) and not it.first:
+            write_log(whole, made, entries, whole.image)
+            return made, [], notes
+        found.append(Recording(made.one(len(found) + 1), whole.sectors, map=MAP, table=whole.table, first=it.first))
+        os.makedirs(found[-1].folder)
+        write_log(whole, found[-1], [entries[number] for number in it.numbers], it.base)
+    write_maps(whole, made, whole.image)
+    made.logs, made.large = len(found), any(it.large for it in found)
+    return made, found, [*notes, f"a log can't have all that was recorded, so there are {len(found)} logs, in {LOGS}/1 and so on"]
 
 
 AGAIN_NOTE = (
@@ -352,9 +387,10 @@ def parts_note(tracing, parts):
     return ["--by write loses all that a call wrote, and --by sector what a disk of 512 bytes does; --parts pages is for one that writes 4,096 at once"]
 
 
-def record(folder, base, skipped, words, environment, say, table=None, is_mapped=False, parts=None):
+def record(folder, base, skipped, words, environment, say, table=None, is_mapped=False, parts=None, most=trace_log.ENTRIES):
     """Records a program. Returns its status, and what is said of the log. `say` tells a line of what is left out. With a table
-    names and sizes count. With `is_mapped` files may be mapped. `parts` is one of PARTS, or nothing where no note says the other."""
+    names and sizes count. With `is_mapped` files may be mapped. `parts` is one of PARTS, or nothing where no note says the other. A log has
+    at most so many entries, and where there are more there are several logs."""
     files, at = os.path.join(folder, FILES), os.path.realpath(".")
     os.mkdir(files)
     lay_base(base, files)
@@ -383,11 +419,16 @@ def record(folder, base, skipped, words, environment, say, table=None, is_mapped
         raise Refused("other folders are there than the calls that were seen made")
     if table is not None:
         note_modes(tracing, files)
-    made, lines, entries = recorded(tracing, folder, base) if table is None else recorded_names(tracing, folder)
-    made.files, made.at, made.begun, made.skipped, made.program = files, at, begun, list(skipped), list(words)
-    made.write()
-    marks, large = sum(1 for it in tracing.disk.entries if it.kind == layout.MARK), ", by the limits of --large" if made.large else ""
-    lines.append(f"entries {entries} marks {marks} sectors {made.sectors}{large}: crashbpf-each {shlex.quote(os.path.relpath(folder))} -- COMMAND")
+    whole, lines = recorded(tracing, base) if table is None else recorded_names(tracing)
+    made, found, notes = write_logs(whole, folder, most)
+    tracing.notes += notes
+    for it in (made, *found):
+        it.files, it.at, it.begun, it.skipped, it.program = files, at, begun, list(skipped), list(words)
+        it.write()
+    marks, large = sum(1 for it in whole.entries if it.kind == layout.MARK), ", by the limits of --large" if made.large else ""
+    entries = len(layout.fitting(whole.entries, most)[0])
+    several = f", in {made.logs} logs" if made.logs else ""
+    lines.append(f"entries {entries} marks {marks} sectors {made.sectors}{large}{several}: crashbpf-each {shlex.quote(os.path.relpath(folder))} -- COMMAND")
     for line in notes_of(tracing, before) + parts_note(tracing, parts):
         say(f"note: {line}")
     return status, "\n".join(lines)

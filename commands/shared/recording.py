@@ -11,13 +11,16 @@
     begun     when it was begun: nanoseconds, as the system has them of a file
     skipped   the names that were skipped
     program   the words of the program
+    logs      how many logs there are, or 0 where there is one: where there are several the folder has none, and logs/1 and so on are folders with one
+              each, as that of a recording
+    first     of such a log the first cut that it is judged at: those before belong to the log before
 """
 import json
 import os
 from dataclasses import asdict, dataclass, field
 from pathlib import Path
 
-NAME, LOG, VERSION = "recording.json", "writes.log", 1
+NAME, LOG, LOGS, VERSION = "recording.json", "writes.log", "logs", 1
 # The most bytes of the file.
 MOST = 16 << 20
 
@@ -41,6 +44,8 @@ class Recording:
     begun: int = 0
     skipped: list = field(default_factory=list)
     program: list = field(default_factory=list)
+    logs: int = 0
+    first: int = 0
 
     def path(self, name):
         """The path of a file of the recording."""
@@ -49,10 +54,15 @@ class Recording:
     def log(self):
         return self.path(LOG)
 
+    def one(self, number):
+        """The folder of one of several logs."""
+        return self.path(os.path.join(LOGS, str(number)))
+
     def options(self):
         """The options of crashbpf that the log takes, as pairs."""
         pairs = [("--sectors", str(self.sectors))]
         pairs += [("--large", None)] if self.large else []
+        pairs += [("--from", str(self.first))] if self.first else []
         return pairs + ([("--base", self.path(self.base))] if self.base else [])
 
     def write(self):
@@ -63,6 +73,8 @@ class Recording:
 
 # What each value is, for who reads a file that something else wrote.
 KINDS = {"sectors": int, "large": bool, "base": (str, type(None)), "map": (str, type(None)), "table": (str, type(None)), "files": str, "at": str, "begun": int}
+# What a folder of an earlier crashbpf-record doesn't say.
+LATER = {"logs": 0, "first": 0}
 
 
 def read(folder):
@@ -78,7 +90,8 @@ def read(folder):
     lists = ("skipped", "program")
     if not isinstance(found, dict) or found.pop("version", None) != VERSION:
         raise Unknown(f"{path} is of another version of crashbpf-record")
-    if set(found) != {*KINDS, *lists} or not all(isinstance(found[name], kind) for name, kind in KINDS.items()):
+    found = {**LATER, **found}
+    if set(found) != {*KINDS, *LATER, *lists} or not all(isinstance(found[name], kind) for name, kind in {**KINDS, **dict.fromkeys(LATER, int)}.items()):
         raise Unknown(f"{path} can't be read")
     if not all(isinstance(found[name], list) and all(isinstance(it, str) for it in found[name]) for name in lists):
         raise Unknown(f"{path} can't be read")

@@ -14,12 +14,12 @@ from commands.each.served_mount import missing
 from commands.each.spot import CASE
 from commands.shared import recording
 from commands.shared.faults import Refusal
-from commands.test.explore import Bounded, Case, Found, choice_of, lost_of
+from commands.test.explore import Bounded, Case, Found, choice_of, lost_of, whole_loss
 
 EACH, MAP = str(Path(__file__).resolve().parents[1] / "each/crashbpf-each"), "files.txt"
 # After as many runs a cut is left at its first failing case, and at as many cases: a check that reads all that is in flight has very many.
 MOST_RUNS, MOST_CASES = 500, 500
-TOTALS = re.compile(r"cuts \d+ cases (\d+) failing \d+ torn beyond \d+ lost beyond \d+ open \d+ stopped (\d+)( complete)?")
+TOTALS = re.compile(r"cuts \d+ cases (\d+) failing \d+ torn beyond \d+ lost beyond \d+ open \d+ stopped (\d+)( complete| of these cuts)?")
 RUNS = re.compile(r"note: the program was run (\d+) times")
 
 
@@ -49,32 +49,36 @@ class Every(Bounded):
     def every(self, log):
         """Judges every loss of a log."""
         self.say("every loss of any number of writes")
-        text, runs = self.judged(log)
-        lines = text.splitlines()
-        totals = TOTALS.fullmatch(lines[-1]) if lines else None
-        if not totals:
-            raise Refusal("crashbpf-each prints no text of cases")
-        self.judge.runs += runs
-        failing = [self.case(log, it) for it in map(CASE.fullmatch, lines) if it]
-        stopped = "" if totals[3] else f"; at {totals[2]} cuts not to the end"
+        failing, count, left = [], 0, 0
+        is_whole = True
+        for stretch in log.stretches():
+            text, runs = self.judged(log, stretch)
+            lines = text.splitlines()
+            totals = TOTALS.fullmatch(lines[-1]) if lines else None
+            if not totals:
+                raise Refusal("crashbpf-each prints no text of cases")
+            self.judge.runs += runs
+            failing += [self.case(log, it, stretch) for it in map(CASE.fullmatch, lines) if it]
+            count, left, is_whole = count + int(totals[1]), left + int(totals[2]), is_whole and bool(totals[3])
+        stopped = "" if is_whole else f"; at {left} cuts not to the end"
         scope = f"every loss of any number of writes, each of them whole{stopped}"
-        return Found(list(dict.fromkeys(failing)), int(totals[1]), scope, bool(totals[3]), cut_short=totals[2] != "0")
+        return Found(list(dict.fromkeys(failing)), count, scope, is_whole, cut_short=left != 0)
 
-    def case(self, log, line):
+    def case(self, log, line, stretch):
         """Returns a failing case, which has to fail alike where its files are laid out."""
-        cut, lost = int(line["cut"]), lost_of(line["choice"])
+        cut, lost = stretch.whole_cut(int(line["cut"])), whole_loss(lost_of(line["choice"]), stretch)
         seen = log.at(cut, lost)
         verdict = self.judge.of(seen, cut, choice_of(lost)).verdict
         if verdict.text() != line["ending"]:
             raise Refusal(f"the check ends otherwise on files that are laid out, {verdict.text()} and not {line['ending']}, at cut {cut} choice {choice_of(lost)}")
         return Case(cut, lost, seen.key)
 
-    def judged(self, log):
-        """Returns the text of cases that crashbpf-each prints of a log, and how often it ran the check."""
+    def judged(self, log, stretch):
+        """Returns the text of cases that crashbpf-each prints of what a log for it has, and how often it ran the check."""
         with tempfile.TemporaryDirectory(dir=self.judge.folder) as folder:
-            is_large = "--large" in log.write(folder)
+            is_large = "--large" in log.write(folder, stretch)
             Path(folder, MAP).write_text(log.map_text())
-            recording.Recording(folder, log.sectors, is_large, base="base.img", map=MAP).write()
+            recording.Recording(folder, log.sectors, is_large, base="base.img", map=MAP, first=stretch.first).write()
             words = [sys.executable, EACH, *self.options, folder, "--", *self.check]
             running = subprocess.Popen(words, cwd=folder, stdin=subprocess.DEVNULL, stdout=subprocess.PIPE, stderr=subprocess.PIPE, env={**os.environ, "CRASHBPF": self.program})
             try:

@@ -5,6 +5,7 @@ words, and whether that is every loss. `Bounded` takes the images of crashbpf wi
 at each mark the images that a user is told the most by: with all lost that a crash may lose there, and with each file and the names as
 they were before what is in flight of them.
 """
+import os
 import subprocess
 import tempfile
 from dataclasses import dataclass, field
@@ -55,6 +56,11 @@ def lost_of(choice):
     return frozenset((int(number), fate) for number, fate in pairs)
 
 
+def whole_loss(lost, stretch):
+    """What is lost or torn of all entries, by what is of those that one log for crashbpf has."""
+    return frozenset((stretch.numbers[number], fate) for number, fate in lost)
+
+
 def dropped(numbers):
     return frozenset((it, DROP) for it in numbers)
 
@@ -94,15 +100,24 @@ class Bounded:
         bounds = [self.bound] if self.bound is not None else range(1, MOST_BOUND + 1)
         found = None
         with tempfile.TemporaryDirectory(dir=self.judge.folder) as folder:
-            given = log.write(folder)
+            taken = list(self.written(log, folder))
             for bound in bounds:
-                total = self.total(given, bound)
-                if found is not None and (found.failing or found.complete or total > FEW):
+                totals = [self.total(given, bound) for _, given in taken]
+                if found is not None and (found.failing or found.complete or sum(totals) > FEW):
                     break
-                found = self.all(chain(self.first(log), self.exported(log, given, bound, total)), until)
+                images = (self.exported(log, stretch, given, bound, total) for (stretch, given), total in zip(taken, totals))
+                found = self.all(chain(self.first(log), *images), until)
                 found.complete = bound >= most and not found.stopped
                 found.scope = self.scope(log, bound, most)
         return found
+
+    @staticmethod
+    def written(log, folder):
+        """Yields each log for crashbpf, which it writes: what it has, and the words for it."""
+        for number, stretch in enumerate(log.stretches()):
+            room = os.path.join(folder, str(number))
+            os.mkdir(room)
+            yield stretch, log.write(room, stretch)
 
     def all(self, cases, until):
         """What is found of cases."""
@@ -137,23 +152,23 @@ class Bounded:
             self.judge.ask(seen, cut, choice_of(lost))
             yield Case(cut, lost, seen.key)
 
-    def exported(self, log, given, bound, total):
-        """The images that crashbpf exports, each handed to the judge."""
+    def exported(self, log, stretch, given, bound, total):
+        """The images of a log that crashbpf exports, each handed to the judge."""
         export = product.Export(self.program, self.words(given, bound))
-        device, keys = bytearray(log.base), {}
+        device, keys = bytearray(stretch.base), {}
         try:
             inputs(export.file)
             for it in images(export.file, log.sectors, total):
-                lost = lost_of(it.choice.decode())
+                lost, cut = whole_loss(lost_of(it.choice.decode()), stretch), stretch.whole_cut(it.cut)
                 if it.same is None:
                     for at in range(0, len(it.records), RECORD):
                         start = SECTOR * int.from_bytes(it.records[at : at + 8], "little")
                         device[start : start + SECTOR] = it.records[at + 8 : at + RECORD]
-                    seen = log.seen(device, it.cut)
+                    seen = log.seen(device, cut)
                     keys[it.number] = seen.key
-                    self.judge.ask(seen, it.cut, it.choice.decode())
+                    self.judge.ask(seen, cut, choice_of(lost))
                 self.say(f"{it.number} of {total} images, {self.judge.runs} runs of the check")
-                yield Case(it.cut, lost, keys[it.number if it.same is None else it.same])
+                yield Case(cut, lost, keys[it.number if it.same is None else it.same])
             export.end_in_order()
         except Refusal as error:
             raise export.refusal(error) from None

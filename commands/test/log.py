@@ -8,7 +8,7 @@ import io
 import re
 from pathlib import Path
 
-from commands.record import layout, named_layout
+from commands.record import layout, logs, named_layout
 from commands.record.disk import FLUSH, FUA, MARK, SECTOR, WRITE
 from commands.record.known import SYNCS
 from commands.record.orders import Names
@@ -92,13 +92,18 @@ class Log:
 
     # What crashbpf takes
 
-    def write(self, folder):
-        """Writes the log and its base into a folder. Returns crashbpf's words for it."""
-        parts, large = layout.log_of(self.entries, self.firsts, self.sectors)
+    def stretches(self):
+        """Yields what each log for crashbpf has: one has all, where that is no more than a log may have."""
+        return logs.split(self.entries, self.firsts, self.base)
+
+    def write(self, folder, stretch):
+        """Writes what a log for crashbpf has, and its base, into a folder. Returns crashbpf's words for it."""
+        parts, large = layout.log_of([self.entries[it] for it in stretch.numbers], self.firsts, self.sectors)
         log, base = Path(folder, "writes.log"), Path(folder, "base.img")
         log.write_bytes(b"".join(parts))
-        base.write_bytes(self.base)
-        return [str(log), "--sectors", str(self.sectors), *(["--large"] if large else []), "--base", str(base), "--by", "write"]
+        base.write_bytes(stretch.base)
+        first = ["--from", str(stretch.first)] if stretch.first else []
+        return [str(log), "--sectors", str(self.sectors), *(["--large"] if large else []), *first, "--base", str(base), "--by", "write"]
 
     # Calls
 

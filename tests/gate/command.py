@@ -179,9 +179,9 @@ for it in 1 2; do echo $it >new; sync new; mv cur old; mv new cur; sync .; mark 
 """
 
 
-def run(folder, words, program=(), **more):
+def run(folder, words, program=(), command=(COMMAND,), **more):
     """Runs crashbpf-test with an answer for machines. Returns what it did, and that answer, or nothing where there is none."""
-    words = [COMMAND, "--json", "answer", *words, *(["--", *program] if program else [])]
+    words = [*command, "--json", "answer", *words, *(["--", *program] if program else [])]
     done = subprocess.run(words, cwd=folder, capture_output=True, text=True, stdin=subprocess.DEVNULL, env={**os.environ, "TMPDIR": folder}, **more)
     path = Path(folder, "answer")
     answer = json.loads(path.read_text()) if path.exists() else None
@@ -466,7 +466,7 @@ def agrees(folder):
     made.mkdir()
     traced.record(str(made), None, [], ["sh", str(SAVING / "save.sh")], traced.surroundings(str(made)), print, "writeback")
     log = Source(str(made)).log("writeback", [(10**6, ("folder", 0))])
-    given = [*log.write(folder), "--bound", "1", "--tears"]
+    given = [*log.write(folder, next(log.stretches())), "--bound", "1", "--tears"]
     total = int(subprocess.run(["crashbpf", "images", *given], capture_output=True, text=True).stdout.split()[-1])
     export, device, wrong = product.Export("crashbpf", given), bytearray(log.base), []
     inputs(export.file)
@@ -478,6 +478,37 @@ def agrees(folder):
             wrong.append(f"cut {it.cut} choice {it.choice.decode()}")
     export.close()
     return [f"{len(wrong)} of {total} images differ, as {wrong[0]}"] if wrong else []
+
+
+# The command that is named, where a log has few entries.
+FEW = """\
+import runpy, sys
+command = runpy.run_path(sys.argv[1], run_name="command")
+sys.modules["commands.record.logs"].split.__defaults__ = (16,)
+sys.exit(command["main"](sys.argv[2:]))
+"""
+# One folder isn't synced of six.
+SAVES = """\
+for it in 1 2 3 4 5 6; do
+    yes "version $it" | head -n 200 >"$FILES/new"; sync "$FILES/new"
+    mv "$FILES/new" "$FILES/settings"; [ $it = 4 ] || sync "$FILES"; mark saved-$it
+done
+"""
+
+
+def takes_several_logs(folder):
+    """What is wrong where what was recorded is several logs for crashbpf: by any number of losses and by one it says what it says of one log."""
+    Path(folder, "it.sh").write_text(SAVES)
+    few, found = (sys.executable, "-c", FEW, str(COMMAND)), []
+    for options in ([], ["--bound", "1"]):
+        words = ["--check", f"sh {SAVING}/check.sh", *options]
+        (one, wanted, _), (done, answer, left) = (run(folder, words, ["sh", "it.sh"], it) for it in ((COMMAND,), few))
+        if wanted is None or answer is None:
+            return [f"{options}: {one.stderr} {done.stderr}"]
+        found += left + differs(f"what is missing, {options}", missing(answer), missing(wanted)) + differs("the status", done.returncode, one.returncode)
+        found += differs(f"how often, {options}", answer["explored"]["failing"], wanted["explored"]["failing"]) + differs("missing", len(missing(wanted)), 1)
+        found += differs(f"the cure, {options}", [it["tried"]["failing"] for it in (answer, wanted)], [0, 0])
+    return found
 
 
 # Of each command the file of its function main, and a module that it imports.
@@ -534,6 +565,7 @@ def rows():
     yield "what is kept", keeps
     yield "signals", ends_well
     yield "images", agrees
+    yield "several logs", takes_several_logs
 
 
 if __name__ == "__main__":

@@ -201,6 +201,28 @@ def takes_recordings(folder):
     return found
 
 
+def takes_several_logs(folder):
+    """What is wrong where a folder of a recording has several logs: a text for each, the status of all, and what wants one of them."""
+    (base, later), found, printed = (bytes(range(256)) * 8, bytes([5]) * 2048), [], ""
+    runs = [Run([W(0, 1, 1), F, M("one"), W(3, 1, 3)], by="write", base=base), Run([M("one"), W(3, 1, 3), F, W(1, 1, 2), M("two")], by="write", first=3, base=later)]
+    for number, run in enumerate(runs, 1):
+        put(folder, run)
+        at = Path(folder, "it", recording.LOGS, str(number))
+        at.mkdir(parents=True)
+        for name, to in (("disk.log", recording.LOG), ("base", "base.img")):
+            shutil.move(Path(folder, name), Path(at, to))
+        recording.Recording(str(at), 4, base="base.img", first=run.first or 0).write()
+        printed += report(run, sh_words('[ "$CRASH_MARKS" -lt 2 ]'), lambda of: None if of.marks() < 2 else "answer 1 codes -")
+    recording.Recording(str(Path(folder, "it")), 4, logs=2).write()
+    said = "".join(f"crashbpf-each: note: of 2 logs it/logs/{number}\n" for number in (1, 2))
+    found += ended("two logs", each(folder, ["it", "--bound", "1", "--keep", "kept"], sh_words('[ "$CRASH_MARKS" -lt 2 ]')), 1, printed, said)
+    found += differs("what is kept", sorted(it.name for it in Path(folder, "kept").iterdir()), ["1", "2"])
+    found += ended("one of them", each(folder, ["it/logs/2", "--bound", "1"], sh_words("true")), 0, report(runs[1], sh_words("true"), lambda of: None))
+    for name in ("--resume", "--from=1", "--cure", "--again", "--part=1/2"):
+        found += refused(name, each(folder, ["it", name], ["true"]), f"{name.split('=')[0]} is of one log, and it has 2: name one of them, as it/logs/1")
+    return found
+
+
 def image_blocks(path):
     data = path.read_bytes()
     return [data[at : at + 512 * BLOCK] for at in range(0, len(data), 512 * BLOCK)]
@@ -587,6 +609,7 @@ def rows():
     yield "images of a large device", gives_large
     yield "images of a device as large as its base", gives_sized
     yield "folders of recordings", takes_recordings
+    yield "folders with several logs", takes_several_logs
     yield "verdicts", tells_verdicts
     yield "a log of two slots", gives_design
     yield "reports that go back to why, page and cure", goes_back

@@ -5,9 +5,10 @@
 
 PROGRAM is as in run.py. The script speaks as guest_init does, and does what the first word of the device says. crashbpf-each gives
 it the images of a log, two at a time, and the report is compared with the model's. Then machines that stop, hang, or don't come up;
-tests that are ended in their midst; images of a wrong size, and with holes; and a Ctrl-C.
+tests that are ended in their midst; images of a wrong size, and with holes; and a Ctrl-C. Last guests of crashbpf-record by a KVM that runs
+none.
 
-Prints a line for each row that failed, and last `N passed, M failed`. It takes some five seconds.
+Prints a line for each row that failed, and last `N passed, M failed`. It takes some fifteen seconds.
 """
 import os
 import signal
@@ -226,8 +227,28 @@ def is_interrupted(folder):
     return found
 
 
+def runs_by_kvm(folder):
+    """What is wrong with a recording in a guest by KVM where that runs no machine, which is refused soon and before anything is made; and where it does."""
+    make(folder)
+    program, alive, found = Path(folder, "bin/qemu-system-x86_64"), Path(folder, "alive"), []
+    words = [sys.executable, TOP / "commands/record/crashbpf-record", "--guest", "kernel", "made", "--", "true"]
+    line = "crashbpf-record: with ACCEL=kvm the kernel says nothing within 6 seconds: this machine has no KVM that works; leave ACCEL out\n"
+    hangs = 'echo SeaBIOS; while date +%s >>"$ROOM/alive"; do sleep 0.1; done'
+    for name, text in (("hangs", hangs), ("isn't there", "echo no >&2; exit 1")):
+        program.write_text(f"#!/bin/sh\n{text}\n")
+        done = subprocess.run(words, cwd=folder, capture_output=True, text=True, env=surroundings(folder, ACCEL="kvm"))
+        found += differs(f"a machine by KVM that {name}", (done.returncode, done.stderr, sorted(os.listdir(Path(folder, "made")))), (2, line, ["refused"])) + left(folder)
+    # (how long the machine was there, since what else is done takes its time on a busy one)
+    times = [int(it) for it in alive.read_text().split()]
+    found += [] if times[-1] - times[0] <= 7 else [f"a machine by KVM is waited for {times[-1] - times[0]} seconds"]
+    program.write_text("#!/bin/sh\necho 'Linux version 1'\n")
+    done = subprocess.run([TOP / "examples/recording/guest", "kernel"], cwd=folder, capture_output=True, text=True, env=surroundings(folder, ACCEL="kvm"))
+    return found + differs("a machine by KVM that runs", (done.returncode, done.stdout, done.stderr), (0, "", ""))
+
+
 def rows():
     """Yields the name of each row and what looks at it."""
+    yield "a guest by KVM", runs_by_kvm
     yield "images, by two machines", judges_images
     yield "tests that are ended", goes_on_after_an_end
     yield "machines that don't come up", doesnt_come_up

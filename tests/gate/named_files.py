@@ -38,6 +38,7 @@ from strace_texts import FILES, HERE, MARKS, strace
 RECORD = TOP / "commands/record"
 from commands.record import disk
 from commands.record import layout
+from commands.record import logs
 from commands.record import named_layout
 from commands.record import told as told_entries
 from commands.record import traced
@@ -741,6 +742,47 @@ def flags_fault(laid):
     return None if sets[0] == sets[1] and not any(one.kind == disk.FLUSH and other.count and not other.flushes for one, other in zip(these, these[1:])) else "flushes as flags give other images"
 
 
+def images_of(laid, entries, stretch):
+    """What a crash may leave, with as many marks, by what one of several logs has."""
+    these = [entries[it] for it in stretch.numbers]
+    found = [Entry(it.sector, it.count, it.flags, it.text, it.data) for it in entries_of(b"".join(layout.log_of(these, laid.firsts, laid.sectors)[0]))]
+    run = Run(found, laid.sectors, bound=len(found), by="write", first=stretch.first, base=stretch.base)
+    return {(run.marks(it.cut), it.content()) for it in run.images()}
+
+
+def logs_fault(laid, chance):
+    """What is wrong with a recording that has more than a log may have: all its logs together have other images than one log that may have more."""
+    entries = chance.choice((list, layout.with_flags))(list(laid.entries()))
+    if not 4 <= len(entries) <= 12:
+        return None
+    (whole,) = logs.split(entries, laid.firsts, laid.image())
+    try:
+        found = list(logs.split(entries, laid.firsts, laid.image(), chance.randrange(3, len(entries))))
+    except Refused:
+        return None
+    cuts = [it.whole_cut(cut) for it in found for cut in range(it.first, len(it.numbers) + 1)]
+    if len(found) < 2 or cuts != list(range(len(entries) + 1)):
+        return f"the logs of {len(entries)} entries have the cuts {cuts}"
+    images, wanted = set().union(*(images_of(laid, entries, it) for it in found)), images_of(laid, entries, whole)
+    return None if images == wanted else f"{len(found)} logs lack {len(wanted - images)} images, and have {len(images - wanted)} others"
+
+
+def written_twice_fault():
+    """What is wrong with several logs where two writes of a place, of which a part was made durable, are in flight where the second log begins."""
+    laid, file = Device(), Device()
+    laid.firsts, laid.sectors = {file: 0}, 8
+    written = [disk.Entry(disk.WRITE, file, 0, bytes([it]) * 2 * SECTOR) for it in (1, 2)]
+    entries = [*written, *(disk.Entry(disk.FUA, file, at, bytes([2 + at]) * SECTOR) for at in (0, 3, 4, 5, 6)), disk.Entry(disk.MARK, data=b"it")]
+    (whole,), found = (list(logs.split(entries, laid.firsts, bytes(SECTOR * laid.sectors), most)) for most in (8, 6))
+    images = set().union(*(images_of(laid, entries, it) for it in found))
+    good = [it.numbers for it in found] == [tuple(range(6)), (0, 1, 2, 6, 7)] and images == images_of(laid, entries, whole)
+    return None if good else f"two writes of a place in flight: the logs {[it.numbers for it in found]} have other images"
+
+
+class Device:
+    """What has the places of a log, or is one of them."""
+
+
 def folder_of(path):
     """What a folder holds: a map of paths to contents, where a folder has none."""
     found = {}
@@ -773,7 +815,7 @@ def bytes_faults(seed, count):
     for turn in range(count):
         chance = random.Random(seed + turn)
         laid = laid_of(plan_of(chance), chance.choice(list(TABLES)), chance)
-        found += [f"run {seed + turn}: {it}" for it in (log_fault(laid), image_fault(laid, chance), once_fault(laid), flags_fault(laid) if turn < 40 else None) if it]
+        found += [f"run {seed + turn}: {it}" for it in (log_fault(laid), image_fault(laid, chance), once_fault(laid), flags_fault(laid) if turn < 40 else None, logs_fault(laid, chance) if turn < 120 else None) if it]
     return found
 
 
@@ -859,7 +901,7 @@ def main(words):
     rows = [row_faults(*it) for it in ROWS] + [refused_faults(*it) for it in REFUSED]
     rows += [again_faults(*it) for it in AGAIN_ROWS]
     rows += [plan_faults(*it, random.Random(seed)) for it in PLANS.items()]
-    rows += [comes_faults(), map_faults(), bytes_faults(seed, count), [it for it in [long_fault(), entries_fault(), kept_fault(), alone_fault()] if it]]
+    rows += [comes_faults(), map_faults(), bytes_faults(seed, count), [it for it in [long_fault(), entries_fault(), kept_fault(), alone_fault(), written_twice_fault()] if it]]
     rows += [[it for it in [at_once_fault(*row)] if it] for row in AT_ONCE]
     rows += [[it for it in [call_fault(call, text, wanted)] if it] for call, _, text, wanted in CALLS]
     rows += [[it for it in [beside_fault(*row)] if it] for row in BESIDE.items()]
