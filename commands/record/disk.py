@@ -8,6 +8,8 @@ crash leaves of each sector one of these, whichever files were synced in which o
   file has a version that isn't durable, this is a flush entry. Else a flush would promise too much, since it makes all files
   durable. So then it is a FUA entry for each run of adjoining sectors of the file, with what they held where the sync began.
   What was written to them in between is written once more after it, and isn't durable.
+- A write that was in flight where a sync of another call ended may have arrived before what that made durable. So its write entries stand
+  before those of the sync, too, and after these a FUA entry has what its sectors hold without it (`tracing.py`).
 - A write with O_DSYNC is a write entry, and then the same as a FUA entry: in flight it may be lost or torn.
 
 By pages a write, but for one past the page cache, is a write entry for each page of 4,096 bytes that it changed, with the whole page as it
@@ -55,6 +57,10 @@ class Entries(list):
     def insert(self, at, entry):
         entry.call, entry.slots = self.call, self.slots
         super().insert(at, entry)
+
+    def place(self, entry):
+        """The place of this very entry."""
+        return next(at for at in range(len(self) - 1, -1, -1) if self[at] is entry)
 
     def extend(self, more):
         for it in more:
@@ -126,6 +132,8 @@ class Disk:
         self.entries, self.sectors, self.unsure = Entries(), {}, {}
         # by pages: of each sector of a file which write made each of its versions
         self.pages, self.turns, self.turn = pages, {}, 0
+        # where that is asked for: of the sectors that are written, what they durably held before; nothing where a version was in flight
+        self.before = None
 
     def whole_pages(self, content, first, data, is_direct):
         """What a write of some sectors writes: by pages all of each page, as the file's content has it."""
@@ -163,8 +171,15 @@ class Disk:
         for at in range(0, len(data), SECTOR):
             number = first + at // SECTOR
             it = found.get(number) or found.setdefault(number, Sector())
+            if self.before is not None and not hasattr(file, "keeps_order"):
+                self.before.setdefault((file, number), None if it.since else self.settled(file, number))
             it.since.append(data[at : at + SECTOR])
         unsure.update(range(first, first + len(data) // SECTOR))
+
+    def settled(self, file, number):
+        """What a sector of a file durably holds."""
+        held = self.sectors[file][number].held
+        return bytes(file.initial[SECTOR * number :][:SECTOR]).ljust(SECTOR, b"\0") if held is None else held
 
     def force(self, file, first, data):
         """Whole sectors of a file, as they were just written, are durable."""

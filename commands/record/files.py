@@ -161,6 +161,17 @@ class Process:
     maker: Maker = None
 
 
+@dataclass(frozen=True)
+class Passed:
+    """A sync that ended while another call was in flight: its call, the first and the last of the entries that have something durable, and
+    which sectors had versions in flight when it had ended, by the places of the other call."""
+
+    call: object
+    first: object
+    last: object
+    unsure: dict
+
+
 @dataclass
 class Flight:
     """A call on a recorded file that has begun: what it found there."""
@@ -204,8 +215,8 @@ class Flight:
     version: int | None = None
     # how many entries the log had
     entries: int = 0
-    # the first sync of another that has ended since it began, and had something durable
-    passed: object = None
+    # the syncs of others that have ended since it began, and had something durable
+    passed: list = field(default_factory=list)
     # the descriptors of its process when it began, and the numbers of these that it uses; by such numbers, the calls that used them since
     # it began, and those that gave them to something else
     table: Table | None = None

@@ -357,6 +357,10 @@ class NamedTracing(Tracing):
 
     # Bytes and sizes
 
+    def places_of(self, file):
+        """As without names; none where blocks are used again, since a write is in flight with those of other files then."""
+        return [] if self.tree.again else list(file.rooms)
+
     def put(self, call, flight, opened, start, data, through):
         """Writes bytes of a file, and refuses those beyond an end that another call moved at once."""
         file = opened.file

@@ -16,8 +16,8 @@ from commands.record.calls import NAMED, Refused, brief, child_of, happened, hex
 from commands.record import links
 from commands.record import outside
 from commands.record.copies import CLONES, Copying
-from commands.record.disk import FLUSH, FUA, PAGE as PAGES, SECTOR, WRITE
-from commands.record.files import MARKS, File, Flight, Maker, Opened, Other, Process, Range, Space, Table, flags_of, skips
+from commands.record.disk import FLUSH, FUA, PAGE as PAGES, SECTOR, WRITE, Entry, runs
+from commands.record.files import MARKS, File, Flight, Maker, Opened, Other, Passed, Process, Range, Space, Table, flags_of, skips
 from commands.record.known import ASKED, BROKEN, CHANGES, COPIES, HARMLESS, KINDS, MADE_APART, MOVES, NOT_BEGUN, NOT_DONE, NOT_RESERVED, NOT_SYNCED, OPENS, READS, RWF
 from commands.record.known import SYNCS, THROUGH, UNSEEN, WRITES
 from commands.record.numbers import Numbers
@@ -33,6 +33,8 @@ MAGIC = re.compile(rb"/proc/(?:\d+|self|thread-self)(?:/task/\d+)?/(?:map_files|
 MOST_LINKS = 40
 PAGE = os.sysconf("SC_PAGESIZE")
 LOOKED_AT = "--mapped looks at such a file at each call"
+# Before so many syncs a write in flight may have arrived.
+MOST_PASSED = 16
 BY_CALLS = "without --parts pages it is recorded"
 DIRECT = {"O_DIRECT", "__O_DIRECT"}
 
@@ -169,12 +171,7 @@ class Tracing(Copying):
             if kind == "begin":
                 self.begin(it)
             elif kind == "end":
-                count, flight = len(self.disk.entries), self.flights.get(it.process) or Flight()
-                settles = flight.sync is not None and self.covers(flight.sync) or self.is_through(it, flight)
-                self.end(it)
-                if len(self.disk.entries) > count or it.name in SYNCS:
-                    it.told = told(self, it)
-                    self.note_passed(it, flight, settles, {entry.kind for entry in self.disk.entries[count:] if entry.call is it})
+                self.follow_end(it)
             elif kind == "over":
                 self.over(it)
             elif kind == "moved":
@@ -191,14 +188,65 @@ class Tracing(Copying):
             self.notes += self.mapped.finish().notes()
         self.notes += self.notes_of_passed()
 
-    def note_passed(self, call, flight, settles, kinds):
-        """A call has made entries of these kinds. One that was in flight where a sync ended stands after it, and may have arrived before.
-        `settles` says whether it is a sync that had something to make durable, or a write that makes its bytes so."""
-        if WRITE in kinds and flight.sync is None and flight.passed is not None:
-            self.passed.append((call, flight.passed))
-        if settles and kinds & {FLUSH, FUA}:
+    def follow_end(self, call):
+        """A call has ended."""
+        count, flight = len(self.disk.entries), self.flights.get(call.process) or Flight()
+        settles = flight.sync is not None and self.covers(flight.sync) or self.is_through(call, flight)
+        self.disk.before = {} if flight.passed else None
+        self.end(call)
+        if len(self.disk.entries) == count and call.name not in SYNCS:
+            return
+        call.told = told(self, call)
+        made = [it for it in self.disk.entries[count:] if it.call is call]
+        durable = [it for it in made if it.kind in (FLUSH, FUA)]
+        if any(it.kind == WRITE for it in made) and flight.sync is None:
+            self.pass_syncs(call, flight, made)
+        if settles and durable:
             for other in self.flights.values():
-                other.passed = other.passed or call
+                self.note_passed(other, call, durable[0], made[-1])
+
+    def note_passed(self, flight, call, first, last):
+        """A sync has ended, whose first and last entries these are, while another call is in flight."""
+        is_write = flight.call is not None and flight.call.name in WRITES and isinstance(flight.file, File)
+        if len(flight.passed) <= (MOST_PASSED if is_write else 0):
+            places = self.places_of(flight.file) if is_write else ()
+            flight.passed.append(Passed(call, first, last, {it: frozenset(self.disk.unsure.get(it, ())) for it in places}))
+
+    def places_of(self, file):
+        """Where the bytes of a file lie, of which a write is in flight by itself."""
+        return [file]
+
+    def pass_syncs(self, call, flight, made):
+        """A call has ended that was in flight where syncs of others ended. Its entries stand after theirs, and may have arrived before."""
+        for number, it in enumerate(flight.passed):
+            if number == MOST_PASSED or not self.arrives_before(call, it, made):
+                self.passed.append((call, it.call))
+                break
+
+    def arrives_before(self, call, passed, made):
+        """Puts the writes of a call before the entries of a sync, too, and after these what its sectors hold without them. Returns whether that
+        could be done: with whole writes of bytes alone, to sectors that had no other version in flight then."""
+        writes, without = [it for it in made if it.kind == WRITE], {}
+        places = [(it.file, it.sector + at) for it in writes for at in range(it.count)]
+        is_plain = call.name in WRITES and self.mapped is None and all(it.file in passed.unsure for it in made if it.kind != FLUSH)
+        if not is_plain or any(number in passed.unsure[file] or self.disk.before.get((file, number)) is None for file, number in places):
+            return False
+        for file, number in places:
+            without.setdefault(file, {})[number] = self.disk.before[file, number]
+        self.insert(passed.first, False, [Entry(WRITE, it.file, it.sector, it.data) for it in writes], call)
+        self.insert(passed.last, True, [Entry(FUA, *it) for it in runs(without)], passed.call)
+        return True
+
+    def insert(self, entry, after, more, call):
+        """Inserts entries of a call right before or after another one. Calls in flight that began after that one are told of them."""
+        entries = self.disk.entries
+        place, seen = entries.place(entry), entries.call
+        entries.call = call
+        for number, it in enumerate(more, place + after):
+            entries.insert(number, it)
+        entries.call = seen
+        for other in self.flights.values():
+            other.entries += len(more) if other.entries > place else 0
 
     def is_through(self, call, flight):
         """Whether a call is a write that makes its bytes durable."""

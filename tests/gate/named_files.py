@@ -6,7 +6,7 @@
 It needs Python alone. Rows are strace's texts, one for each call and each table, with the entries and with what a crash may leave.
 rows/file_calls.py has a row for each call and flag.
 Random runs, COUNT by each table, are told as texts of strace, each step by one of the calls that do it (file_runs.py). They are compared with a plain model of the tables (named_model.py): each state of the files that the
-model allows is one that an image of the log has, and no other. What a table allows the weaker ones allow too. `tests/by_hand/planted_calls.py` plants faults that these runs have to find.
+model allows is one that an image of the log has, and no other. What a table allows the weaker ones allow too. Calls of several threads at once are compared with crossed_calls.py. `tests/by_hand/planted_calls.py` plants faults that these runs have to find.
 
 Prints a line for each row that failed, and last `N passed, M failed`.
 """
@@ -28,6 +28,7 @@ import rooms
 
 rooms.enter()
 
+import crossed_calls
 import named_model
 from file_runs import content_of, plan_of, text_of
 from model import Run
@@ -448,6 +449,23 @@ def entries_fault():
 
 
 # Random runs
+
+def crossed_faults(seed):
+    """What is wrong with calls of several threads at once, by each table. Each state of the log has to be one that a crash leaves, and where no
+    note says otherwise each of these is one of the log."""
+    events, found = crossed_calls.chosen(random.Random(seed)), []
+    for table in BY_TABLE:
+        try:
+            tracing = followed(strace(crossed_calls.text_of(events)), table, crossed_calls.FILES)
+        except Refused:
+            continue
+        has_note = any("in flight where a sync ended" in it for it in tracing.notes)
+        states = {crossed_calls.disk_of(dict(tree)) for _, tree in log_states(named_layout.Laid(tracing.tree))}
+        wanted = crossed_calls.left(events)
+        if not (states <= wanted and (has_note or states == wanted)):
+            found.append(f"run {seed} by {table}: {len(wanted - states)} states are missing, {len(states - wanted)} impossible: {events}")
+    return found
+
 
 def model_of(steps, table, looked=None, unit=SECTOR):
     """What the model makes of it."""
@@ -906,6 +924,7 @@ def main(words):
     rows += [[it for it in [call_fault(call, text, wanted)] if it] for call, _, text, wanted in CALLS]
     rows += [[it for it in [beside_fault(*row)] if it] for row in BESIDE.items()]
     rows.append([it for turn in range(count) for it in run_faults(seed + turn)])
+    rows.append([it for turn in range(count) for it in crossed_faults(seed + turn)])
     rows += [by_pages_faults(*it) for it in BY_PAGES]
     rows += [pages_faults(*it, random.Random(seed)) for it in PLANS.items()]
     rows.append([it for turn in range(count) for it in run_faults(seed + turn, pages_faults)])

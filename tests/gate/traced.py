@@ -5,7 +5,7 @@
 
 It needs Python alone, neither strace nor the built program: the texts stand here, or are made of those by cutting them off and
 changing bytes. The files of an image of ext4 are taken out where e2fsprogs are there; a line says where that isn't run. The rule for several files on one device is compared with a plain model of files (files_model.py) on COUNT
-random runs, 3,000 where it isn't given. tests/by_hand/record.py records real programs, by hand.
+random runs, 3,000 where it isn't given; calls of several threads at once (crossed_calls.py) on a sixth of these. tests/by_hand/record.py records real programs, by hand.
 
 Prints a line for each row that failed, and last `N passed, M failed`. It takes some five seconds.
 """
@@ -24,6 +24,7 @@ import rooms
 
 rooms.enter()
 
+import crossed_calls
 import files_model
 from notation import FUA, SECTOR, TOP, F, M, S, log
 from strace_texts import FILES, HERE, MARKS, strace
@@ -625,21 +626,74 @@ def refusal_of(act, *words):
 
 
 def crossed_faults():
-    """What is wrong with the note of calls that were in flight where a sync of another one ended."""
+    """What is wrong with what becomes of calls that were in flight where a sync of another one ended: their entries, or the note of them."""
     start = OPEN + WAL + THREAD + "write(4<wal>, 'A*512', 512) = 512\n"
     within, after = "101 pwrite64(3<db>, 'B*512', 512, 0 <unfinished ...>\n", "101 <... pwrite64 resumed>) = 512\n" + GONE
-    says = "calls were in flight where a sync ended (calls:5 pwrite64 at calls:6 {}): that such a call has arrived, and what the sync was of is lost, isn't tested"
     through = "openat(AT_FDCWD</elsewhere>, 'x', O_RDWR|O_DSYNC) = 5<wal>\n"
+    wal, db, none = ("w", "wal", 0, A), ("w", "db", 0, B), ("fua", "db", 0, bytes(512))
+    more = ("w", "wal", 1, C)
+    note = "calls were in flight where a sync ended (calls:7 pwrite64 at calls:8 fsync): that such a call has arrived, and what the sync was of is lost, isn't tested"
+    over = "pwrite64(3<db>, 'C*512', 512, 0) = 512\n"
+    opened, mark = start + "openat(AT_FDCWD</elsewhere>, 'm', O_WRONLY|O_APPEND) = 7</r/marks>\n", "write(7</r/marks>, '0 one@', 6"
+    on, off = f"{mark} <unfinished ...>\n", "<... write resumed>) = 6\n"
     rows = [
-        ("a write within which another thread syncs", start + within + "fsync(4<wal>) = 0\n" + after, [says.format("fsync")]),
-        ("a write that ends within a sync", start + "fsync(4<wal> <unfinished ...>\n" + within + after.replace(GONE, "") + "<... fsync resumed>) = 0\n" + GONE, []),
-        ("a sync that has nothing to do", start + "fsync(4<wal>) = 0\n" + within + "fsync(4<wal>) = 0\n" + after, []),
-        ("a write that fails", start + within + "fsync(4<wal>) = 0\n" + after.replace("= 512", "= -1 EAGAIN (Resource temporarily unavailable)"), []),
-        ("a sync within another", start + "101 fsync(4<wal> <unfinished ...>\nfdatasync(4<wal>) = 0\n101 <... fsync resumed>) = 0\n" + GONE, []),
-        ("a write through O_DSYNC within a write", start.replace(THREAD, through + THREAD) + within + "pwrite64(5<wal>, 'C*512', 512, 512) = 512\n" + after, [says.format("pwrite64").replace("calls:6", "calls:7").replace("calls:5", "calls:6")]),
+        ("a write within which another thread syncs", start + within + "fsync(4<wal>) = 0\n" + after, [wal, db, ("f",), none, db], []),
+        ("a write that ends within a sync", start + "fsync(4<wal> <unfinished ...>\n" + within + after.replace(GONE, "") + "<... fsync resumed>) = 0\n" + GONE, None, []),
+        ("a sync that has nothing to do", start + "fsync(4<wal>) = 0\n" + within + "fsync(4<wal>) = 0\n" + after, [wal, ("f",), ("f",), db], []),
+        ("a write that fails", start + within + "fsync(4<wal>) = 0\n" + after.replace("= 512", "= -1 EAGAIN (Resource temporarily unavailable)"), [wal, ("f",)], []),
+        ("a sync within another", start + "101 fsync(4<wal> <unfinished ...>\nfdatasync(4<wal>) = 0\n101 <... fsync resumed>) = 0\n" + GONE, None, []),
+        (
+            "a write through O_DSYNC within a write",
+            start.replace(THREAD, through + THREAD) + within + "pwrite64(5<wal>, 'C*512', 512, 512) = 512\n" + after,
+            [wal, more, db, ("fua", *more[1:]), none, db],
+            [],
+        ),
+        ("a mark after the sync", opened + within + "fsync(4<wal>) = 0\n" + f"{mark}) = 6\n" + after, [wal, db, ("f",), none, ("m", "one"), db], []),
+        ("a mark that begins after the sync", opened + within + "fsync(4<wal>) = 0\n" + on + after.replace(GONE, "") + off + GONE, [wal, db, ("f",), none, ("m", "one"), db], []),
+        (
+            "a mark that begins before the sync ends",
+            opened.replace(THREAD, THREAD + THREAD.replace("101", "102")) + within + "102 fsync(4<wal> <unfinished ...>\n" + on + "102 <... fsync resumed>) = 0\n" + after + off + GONE.replace("101", "102"),
+            [wal, ("m", "one"), db, ("f",), none, db],
+            [],
+        ),
+        ("a write over one in flight", start + over + within + "fsync(4<wal>) = 0\n" + after, None, [note.replace("calls:7", "calls:6").replace("calls:8", "calls:7")]),
     ]
-    found = [(name, [it for it in followed(strace(text)).notes if "in flight" in it], wanted) for name, text, wanted in rows]
-    return [f"{name}: {notes}" for name, notes, wanted in found if notes != wanted]
+    found = []
+    for name, text, entries, notes in rows:
+        made = followed(strace(text).replace(rb"\x40", rb"\x0a"))
+        said = [it for it in made.notes if "in flight" in it]
+        shown = [(*it[:3], it[3][:1]) if len(it) == 4 else it for it in entries_of(made)]
+        found += [] if said == notes and entries in (None, entries_of(made)) else [f"{name}: {said} {shown}"]
+    return found
+
+
+def crossed_model_fault(seed, noted):
+    """What is wrong with the entries of random calls of several threads. Each disk of the log has to be one that a crash leaves, and where no
+    note says otherwise each of these is one of the log. `noted` takes in whether a run had that note, or was refused."""
+    events = crossed_calls.chosen(random.Random(seed))
+    try:
+        made = followed(strace(crossed_calls.text_of(events)), crossed_calls.FILES)
+    except Refused:
+        noted.append("refused")
+        return None
+    has_note = any("in flight where a sync ended" in it for it in made.notes)
+    noted.append("noted" if has_note else "whole")
+    names, numbers, entries = {disk.WRITE: "write", disk.FLUSH: "flush", disk.FUA: "fua"}, {b"db": 0, b"wal": 1}, []
+    for it in made.disk.entries:
+        values = [it.data[SECTOR * at] - 64 for at in range(it.count)]
+        entries.append((names[it.kind], numbers[it.file.name] if it.file else None, it.sector, values))
+    found = {it for _, it in files_model.log_leaves(entries, [2, 2])}
+    wanted = crossed_calls.left(events)
+    if found <= wanted and (has_note or found == wanted):
+        return None
+    return f"run {seed}: {len(wanted - found)} disks are missing, {len(found - wanted)} impossible: {events} {entries}"
+
+
+def crossed_model_faults(seed, count):
+    """What is wrong in many such runs, of which most have to be compared whole."""
+    noted = []
+    found = [it for it in (crossed_model_fault(seed + turn, noted) for turn in range(count)) if it]
+    return found + ([f"of {count} runs {noted}"] if count > 100 and noted.count("whole") < count // 2 else [])
 
 
 def passed_faults():
@@ -650,7 +704,7 @@ def passed_faults():
 def main(words):
     seed, count = (int(it) for it in (*words, *("1", "3000")[len(words) :]))
     found = [row_fault(*it) for it in FOLLOWED] + [refused_fault(*it) for it in REFUSED] + [log_fault()]
-    several = [passed_faults(), crossed_faults(), source_faults(), cut_faults(), damage_faults(seed, count // 2), map_faults(), files_faults(), system_faults(), machine_faults()]
+    several = [passed_faults(), crossed_faults(), crossed_model_faults(seed, count // 6), source_faults(), cut_faults(), damage_faults(seed, count // 2), map_faults(), files_faults(), system_faults(), machine_faults()]
     several.append([it for it in (model_fault(seed + turn) for turn in range(count)) if it])
     wrong = [it for it in found if it] + [it for these in several for it in these]
     for line in wrong:
