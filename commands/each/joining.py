@@ -62,7 +62,7 @@ class Part:
 
 
 def read(path, left):
-    """Returns the bytes of a file of at most so many bytes."""
+    """Returns the bytes of a file, and refuses one that has more than `left`."""
     with open(path, "rb", opener=lambda name, flags: os.open(name, flags | os.O_NONBLOCK)) as file:
         content = file.read(left + 1)
     if len(content) > left:

@@ -39,7 +39,7 @@ class Report:
         return TITLE if given.first else f"{TITLE}inputs {self.inputs} programs 1\n"
 
     def write(self, options, given, images, total):
-        """Prints the report of a range of images on standard output, of a run of so many."""
+        """Prints the report of a range of the images of a run on standard output. `total` is how many the run has."""
         if given.first:
             last = f"images {len(images)} first {'none' if self.first is None else self.first}\n"
         else:

@@ -132,7 +132,7 @@ def spotted(value):
 
 
 def parted(value, most):
-    """Returns which part is judged, and of how many, at most so many."""
+    """Returns which part is judged, and how many parts there are: no more than `most`."""
     part, slash, parts = value.partition("/")
     if not slash or not NUMBER.fullmatch(parts) or not 1 <= int(parts) <= most:
         raise Refusal(f"--part is I/N, part I of N, and N is 1 to {most}")

@@ -334,7 +334,7 @@ def write_maps(whole, made, image):
 
 
 def write_logs(whole, folder, most):
-    """Writes the log of a recording, or several, each of at most so many entries. Returns what the folder knows of itself, what those of
+    """Writes the log of a recording, or several logs, each of at most `most` entries. Returns what the folder knows of itself, what those of
     several logs know, and what is to be said."""
     entries, notes = layout.fitting(whole.entries, most)
     made, found = Recording(folder, whole.sectors, map=MAP, table=whole.table), []
@@ -390,7 +390,7 @@ def parts_note(tracing, parts):
 def record(folder, base, skipped, words, environment, say, table=None, is_mapped=False, parts=None, most=trace_log.ENTRIES):
     """Records a program. Returns its status, and what is said of the log. `say` tells a line of what is left out. With a table
     names and sizes count. With `is_mapped` files may be mapped. `parts` is one of PARTS, or nothing where no note says the other. A log has
-    at most so many entries, and where there are more there are several logs."""
+    at most `most` entries, and where there are more there are several logs."""
     files, at = os.path.join(folder, FILES), os.path.realpath(".")
     os.mkdir(files)
     lay_base(base, files)

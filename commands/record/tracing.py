@@ -33,7 +33,7 @@ MAGIC = re.compile(rb"/proc/(?:\d+|self|thread-self)(?:/task/\d+)?/(?:map_files|
 MOST_LINKS = 40
 PAGE = os.sysconf("SC_PAGESIZE")
 LOOKED_AT = "--mapped looks at such a file at each call"
-# Before so many syncs a write in flight may have arrived.
+# The most syncs before which a write in flight is put, too.
 MOST_PASSED = 16
 BY_CALLS = "without --parts pages it is recorded"
 DIRECT = {"O_DIRECT", "__O_DIRECT"}
